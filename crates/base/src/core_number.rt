@@ -1,3 +1,4 @@
+//! The number of a processor core.
 ghost use Rattle.std.specs.{Fmt.decimal, Prelude.{ℕ, ◌<◌, ◌↔◌, ◌≡◌, IfSome, IsSome, Some}};
 
 use std::fmt;
@@ -23,10 +24,10 @@ impl Model for CoreNo {
 }
 
 impl CoreNo {
-    /// How many cores there can be.
+    /// The number of cores that there can be.
     pub const COUNT: u64 = 16;
 
-    /// The core of this number, which is below [`CoreNo::COUNT`].
+    /// Returns the core of this number, if the number is below [`CoreNo::COUNT`].
     pub fn new(number: u64) -> Option<CoreNo>
         ensures valid { IsSome result ↔ (number < CoreNo.COUNT) }
         ensures value { IfSome result (λ core. core ≡ number) }
@@ -40,7 +41,7 @@ impl CoreNo {
         }
     }
 
-    /// The core's number.
+    /// Returns the core's number.
     pub fn number(self) -> u8
         ensures value { result ≡ self }
         ensures below { result < CoreNo.COUNT }

@@ -1,3 +1,4 @@
+//! An edge of authority between two labels.
 use crate::{Kind, Label};
 
 /// An edge of authority: objects of the label `from` may use objects of the label `to` in the way

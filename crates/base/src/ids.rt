@@ -1,3 +1,5 @@
+//! The numbers of objects, and the places of slots.
+
 /// The number of an object.
 ///
 /// Initial objects are numbered from 0 in the order of the capability table, and objects that the

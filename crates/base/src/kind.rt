@@ -1,3 +1,4 @@
+//! The kinds of authority, their names, and sets of them.
 ghost use Rattle.std.specs.{Int.RustNames.bit_and, Prelude.{[], ℕ, ⊤, ◌<◌, ◌==◌, ◌^◌, ◌↔◌, ◌∷◌, ◌≡◌, Bool, List, None, Some, codes}};
 ghost use Rattle.std.specs.Prelude.{length, slice_get};
 ghost use Rattle.base.specs.{declared.kind.Kind.Kind as KindOf, Kinds.{is_among, is_structural, kind_bit, kind_name, kind_named}};
@@ -70,21 +71,21 @@ impl Kind {
         Kind::Holds,
     ];
 
-    /// The number of the kind, from 0 to 16.
+    /// Returns the number of the kind, from 0 to 16.
     pub fn number(self) -> u8
         ensures { result ≡ kind_number self }
     {
         self as u8
     }
 
-    /// Whether the kind says how objects hang together, and not what may be done to them.
+    /// Returns whether the kind says how objects hang together, and not what may be done to them.
     pub fn is_structural(self) -> bool
         ensures { result ≡ is_structural self }
     {
         matches!(self, Kind::Space | Kind::Derive | Kind::Runs | Kind::Holds)
     }
 
-    /// The kind's name, as policies spell it.
+    /// Returns the kind's name, as policies spell it.
     pub fn name(self) -> &'static str
         ensures { result.now ≡ kind_name self }
     {
@@ -109,7 +110,7 @@ impl Kind {
         }
     }
 
-    /// The kind of this name.
+    /// Returns the kind of this name, if it is a kind's name.
     pub fn from_name(name: &[u8]) -> Option<Kind>
         ensures { result ≡ kind_named name.now }
     {
@@ -196,7 +197,7 @@ impl Flags for Kinds {
 }
 
 impl Kinds {
-    /// Whether the kind is in the set.
+    /// Returns whether the kind is in the set.
     pub fn has(self, kind: Kind) -> bool
         ensures { result ≡ is_among self.0 kind }
     {
@@ -232,9 +233,10 @@ impl From<Kind> for Kinds {
     }
 }
 
-/// A law about the names of kinds, with nothing to run: a word names a kind just where it is that
-/// kind's name. So different kinds have different names. They have different numbers too, all below
-/// 17, in the order of [`Kind::ALL`]; and the set of a kind alone is the bit at its number.
+/// A law: a word names a kind exactly where it is that kind's name.
+///
+/// So different kinds have different names. They have different numbers too, all below 17, in the
+/// order of [`Kind::ALL`]. The set of a kind alone is the bit at its number.
 pub fn kind_names_are_read_back()
     ensures named { (word : List ℕ) (kind : KindOf)
         → (kind_named word ≡ Some kind) ↔ (word ≡ kind_name kind) }

@@ -1,3 +1,4 @@
+//! The security label of an object.
 ghost use Rattle.std.specs.Prelude.{ℕ, ◌<◌, ◌↔◌, ◌≡◌, IfSome, IsSome};
 
 use std::marker::Model;
@@ -22,10 +23,10 @@ impl Model for Label {
 }
 
 impl Label {
-    /// How many labels there can be.
+    /// The number of labels that there can be.
     pub const COUNT: u16 = 256;
 
-    /// The label of this number, which is below [`Label::COUNT`].
+    /// Returns the label of this number, if the number is below [`Label::COUNT`].
     pub fn new(number: u16) -> Option<Label>
         ensures valid { IsSome result ↔ (number < Label.COUNT) }
         ensures value { IfSome result (λ label. label ≡ number) }
@@ -37,7 +38,7 @@ impl Label {
         }
     }
 
-    /// The label's number.
+    /// Returns the label's number.
     pub fn number(self) -> u16
         ensures value { result ≡ self }
         ensures below { result < Label.COUNT }

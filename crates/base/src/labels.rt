@@ -1,3 +1,4 @@
+//! Sets of labels.
 mod part;
 
 ghost use Rattle.std.specs.Prelude.{ℕ, ◌%◌, ◌&&◌, ◌/◌, ◌<◌, ◌==◌, ◌||◌, ◌≡◌, IfNone, IfSome, false, not, true};
@@ -14,7 +15,7 @@ pub struct Labels {
 }
 
 impl Labels {
-    /// No label.
+    /// Returns the set without labels.
     pub fn none() -> Labels
         ensures { (label : ℕ) → is_in result label ≡ false }
     {
@@ -23,7 +24,7 @@ impl Labels {
         }
     }
 
-    /// This label alone.
+    /// Returns the set of this label alone.
     pub fn only(label: Label) -> Labels
         ensures { (other : ℕ) → is_in result other ≡ (other == label) }
     {
@@ -33,7 +34,7 @@ impl Labels {
         Labels { parts }
     }
 
-    /// Whether the label is in the set.
+    /// Returns whether the label is in the set.
     pub fn has(self, label: Label) -> bool
         ensures { result ≡ is_in self label }
     {
@@ -41,7 +42,7 @@ impl Labels {
         self.parts[part].has(number)
     }
 
-    /// The labels of either set.
+    /// Returns the labels that are in either set.
     pub fn union(self, other: Labels) -> Labels
         ensures { (label : ℕ) → is_in result label ≡ (is_in self label || is_in other label) }
     {
@@ -55,7 +56,7 @@ impl Labels {
         }
     }
 
-    /// The labels that are in both sets.
+    /// Returns the labels that are in both sets.
     pub fn intersection(self, other: Labels) -> Labels
         ensures { (label : ℕ) → is_in result label ≡ (is_in self label && is_in other label) }
     {
@@ -69,7 +70,7 @@ impl Labels {
         }
     }
 
-    /// The labels of this set that aren't in the other.
+    /// Returns the labels of this set that aren't in the other.
     pub fn difference(self, other: Labels) -> Labels
         ensures { (label : ℕ) → is_in result label ≡ (is_in self label && not (is_in other label)) }
     {
@@ -83,7 +84,7 @@ impl Labels {
         }
     }
 
-    /// The label of the least number, if the set has any.
+    /// Returns the label with the least number, if the set has any.
     pub fn first(self) -> Option<Label>
         ensures some { IfSome result (λ least. (is_in self least ≡ true) × ((label : ℕ) → label < least → is_in self label ≡ false)) }
         ensures none { IfNone result ((label : ℕ) → is_in self label ≡ false) }

@@ -1,10 +1,11 @@
+//! Refusals: why a call isn't done, and the numbers by which that is written.
 ghost use Rattle.std.specs.Prelude.{◌≡◌, ◌≢◌};
 ghost use Rattle.base.specs.declared.refusal.{Cause.Cause as Why, LookupFailure.LookupFailure as Failure, Misuse.Misuse as Wrong};
 ghost use Rattle.base.specs.Refusals.{IsOfCondition, failure_detail, misuse_refusal, out_of_memory, refusal_of};
 
 use std::alloc::{AllocError, AllocFailed};
 
-/// Why the lookup of an address failed (seL4 manual, "Lookup Failure Description").
+/// The reason why the lookup of an address failed (seL4 manual, "Lookup Failure Description").
 #[derive(Clone, Copy, PartialEq, Eq, Debug)]
 pub enum LookupFailure {
     /// The thread has no root, or its root is no CNode.
@@ -17,8 +18,9 @@ pub enum LookupFailure {
     GuardMismatch,
 }
 
-/// The condition of a call that fails, so that the call is refused. The first seven are the errors of
-/// the seL4 manual, "Error Codes".
+/// The condition of a call that fails, so that the call is refused.
+///
+/// The first seven are the errors of the seL4 manual, "Error Codes".
 #[derive(Clone, Copy, PartialEq, Eq, Debug)]
 pub enum Cause {
     InvalidArgument,
@@ -37,8 +39,9 @@ pub enum Cause {
     TooMany,
 }
 
-/// Why what is asked of a running kernel, or of the checker, isn't begun. No call of a thread is
-/// refused so.
+/// The reason why what is asked of a running kernel, or of the checker, isn't begun.
+///
+/// No call of a thread is refused so.
 #[derive(Clone, Copy, PartialEq, Eq, Debug)]
 pub enum Misuse {
     /// The log of a running kernel is full.
@@ -61,7 +64,7 @@ pub struct Refusal {
 }
 
 impl Refusal {
-    /// An allocation failed.
+    /// The refusal of a call whose allocation failed: 40.
     pub const OUT_OF_MEMORY: Refusal = Refusal {
         code: 40,
         detail: 0,
@@ -69,7 +72,7 @@ impl Refusal {
 }
 
 impl LookupFailure {
-    /// The number that stands for the failure in a [`Refusal`].
+    /// Returns the number that stands for the failure in a [`Refusal`].
     pub fn detail(self) -> u64
         ensures { result ≡ failure_detail self }
     {
@@ -139,10 +142,11 @@ impl<T: Drop> From<AllocFailed<T>> for Refusal {
     }
 }
 
-/// A law about refusals as they are written, with nothing to run: different causes have different
-/// refusals, and so have different misuses; different failures of a lookup have different details. So a
-/// refusal tells its cause. No condition is refused as a misuse or as want of memory, and want of memory
-/// isn't a misuse.
+/// A law: different causes have different refusals, so a refusal tells its cause.
+///
+/// Different misuses have different refusals too, and different failures of a lookup have different
+/// details. No condition is refused as a misuse or for want of memory, and want of memory isn't a
+/// misuse.
 pub fn a_refusal_tells_its_cause()
     ensures cause { (one other : Why) → refusal_of one ≡ refusal_of other → one ≡ other }
     ensures misuse { (one other : Wrong) → misuse_refusal one ≡ misuse_refusal other → one ≡ other }

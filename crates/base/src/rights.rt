@@ -1,3 +1,4 @@
+//! The rights of a capability.
 ghost use Rattle.std.specs.{Int.RustNames.bit_and, Prelude.{[], ℕ, ⊤, ◌<◌, ◌==◌, ◌↔◌, ◌∷◌, ◌≡◌, IfSome, List, None, Some, codes}};
 ghost use Rattle.base.specs.{declared.rights.Rights.Rights as Set, Rights.{IsRights, bit_in, letter_of, rights_of_word, rights_with, rights_word}};
 
@@ -41,8 +42,10 @@ impl Flags for Rights {
 }
 
 impl Rights {
-    /// The rights that a word names: `-` for none, or the letters of those that are in the set, in
-    /// the order `r`, `w`, `g`, `y`.
+    /// Returns the set of rights that a word names, if it names one.
+    ///
+    /// The word is `-` for none, or the letters of those that are in the set, in the order `r`,
+    /// `w`, `g`, `y`.
     pub fn from_word(word: &[u8]) -> Option<Rights>
         ensures { result ≡ rights_of_word word.now }
     {
@@ -117,9 +120,10 @@ impl fmt::Display for Rights {
     }
 }
 
-/// A law about the words of rights, with nothing to run: what is read from a word is written as
-/// that word, and the word of a set is read as that set. So a word names a set just where it is the
-/// word of that set of the four rights, and different sets have different words.
+/// A law: a word names a set exactly where it is the word of that set of the four rights.
+///
+/// What is read from a word is written as that word, and the word of a set is read as that set. So
+/// different sets have different words.
 pub fn rights_words_are_read_back()
     ensures written { (word : List ℕ) → IfSome (rights_of_word word) (λ rights. word ≡ rights_word rights) }
     ensures read { (n : ℕ) → n < 16 → rights_of_word (rights_word (rights_with n)) ≡ Some (rights_with n) }

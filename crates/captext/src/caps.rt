@@ -1,3 +1,4 @@
+//! The lines of a capability table from `cap` on: capabilities, pairs and bindings.
 ghost use Rattle.std.specs.Prelude.{◌≡◌, OnErr, Some, true};
 ghost use Rattle.words.specs.Reading.{GivesOrStops};
 ghost use Rattle.table.specs.Building.{is_above_caps, is_above_pairs};
@@ -12,7 +13,7 @@ use machine::{Badged, Binding, Cap, Detail, Filled, Guard, Object, ObjectKind, P
 use table::Draft;
 use words::{LineError, Words, Wrong};
 
-/// The slot at a place of a holder.
+/// Returns the slot at a place of a holder.
 pub fn slot_in(holder: ObjId, place: Place) -> SlotRef
     ensures { result ≡ text.slot_in holder place }
 {
@@ -33,7 +34,7 @@ fn cap_rises(draft: &Draft, holder: Option<ObjId>, place: Place) -> bool
     }
 }
 
-/// Whether a place fits its holder: an index a CNode, and the root slot a TCB.
+/// Returns whether a place fits its holder: an index a CNode, and the root slot a TCB.
 pub fn fits_holder(holder: Option<ObjectKind>, place: Place) -> bool
     ensures { result ≡ text.fits_holder holder place }
 {
@@ -212,6 +213,11 @@ fn fill_named(
 }
 
 /// Reads `SLOT NAME` and what the capability says, after the word `cap`.
+///
+/// # Errors
+///
+/// [`LineError::Text`] with the fault of the line, or [`LineError::Memory`] where memory is
+/// refused. Then the draft hasn't changed.
 #[tactic(auto, unfolding(crate::specs::Tables::cap_line, crate::specs::Tables::cap_at, words::specs::Parts::in_turn, words::specs::Reading::bind))]
 pub fn cap_line(draft: &mut Draft, words: &mut Words<'_>) -> Result<(), LineError>
     ensures exact { GivesOrStops (λ _. draft.new) result (text.cap_line draft.old words.old) }
@@ -274,6 +280,11 @@ fn pair_named(
 }
 
 /// Reads `SLOT SLOT`, of a parent and its child, after the word `child`.
+///
+/// # Errors
+///
+/// [`LineError::Text`] with the fault of the line, or [`LineError::Memory`] where memory is
+/// refused. Then the draft hasn't changed.
 #[tactic(auto, unfolding(crate::specs::Tables::child_line, crate::specs::Tables::pair_at, words::specs::Parts::in_turn, words::specs::Reading::bind))]
 pub fn child_line(draft: &mut Draft, words: &mut Words<'_>) -> Result<(), LineError>
     ensures exact { GivesOrStops (λ _. draft.new) result (text.child_line draft.old words.old) }
@@ -295,7 +306,7 @@ fn thread_rises(draft: &Draft, thread: Option<ObjId>) -> bool
     }
 }
 
-/// Whether the objects are a thread and a context.
+/// Returns whether the objects are a thread and a context.
 pub fn is_thread_and_context(thread: Option<ObjectKind>, context: Option<ObjectKind>) -> bool
     ensures { result ≡ text.is_thread_and_context thread context }
 {
@@ -327,6 +338,11 @@ fn bind(draft: &mut Draft, thread: &str, context: &str) -> Result<(), LineError>
 }
 
 /// Reads `NAME NAME`, after the word `bind`.
+///
+/// # Errors
+///
+/// [`LineError::Text`] with the fault of the line, or [`LineError::Memory`] where memory is
+/// refused. Then the draft hasn't changed.
 #[tactic(auto, unfolding(crate::specs::Tables::bind_line, words::specs::Reading::bind))]
 pub fn bind_line(draft: &mut Draft, words: &mut Words<'_>) -> Result<(), LineError>
     ensures exact { GivesOrStops (λ _. draft.new) result (text.bind_line draft.old words.old) }

@@ -1,3 +1,4 @@
+//! The lines of a capability table for labels and objects.
 ghost use Rattle.std.specs.Prelude.{◌<◌, ◌≡◌, IfOk, None, OnErr, OnOk, false, if◌then◌else◌, is_some, length, true};
 ghost use Rattle.words.specs.{Name.is_name, Parts.read_as, Reading.{Gives, GivesOrStops}};
 ghost use Rattle.table.specs.{Building.repeats_control, Names.object_named, Rules.IsBlank};
@@ -13,6 +14,11 @@ use table::{Draft, is_addressable, is_aligned};
 use words::{LineError, Words, Wrong, decimal_of};
 
 /// Reads `NAME`, after the word `label`.
+///
+/// # Errors
+///
+/// [`LineError::Text`] with the fault of the line, or [`LineError::Memory`] where memory is
+/// refused. Then the draft hasn't changed.
 #[tactic(auto, unfolding(crate::specs::Tables::label_line, crate::specs::Tables::labelled, words::specs::Reading::bind))]
 pub fn label_line(draft: &mut Draft, words: &mut Words<'_>) -> Result<(), LineError>
     ensures exact { GivesOrStops (λ _. draft.new) result (text.label_line draft.old words.old) }
@@ -47,14 +53,14 @@ fn takes_objects(draft: &Draft) -> bool
     draft.caps().is_empty() && takes_caps(draft)
 }
 
-/// Whether a capability may come now.
+/// Returns whether a capability may come now.
 pub fn takes_caps(draft: &Draft) -> bool
     ensures { result ≡ text.takes_caps draft.now }
 {
     draft.pairs().is_empty() && takes_pairs(draft)
 }
 
-/// Whether a pair of the derivation tree may come now.
+/// Returns whether a pair of the derivation tree may come now.
 pub fn takes_pairs(draft: &Draft) -> bool
     ensures { result ≡ text.takes_pairs draft.now }
 {
@@ -117,6 +123,11 @@ fn repeats_control(draft: &Draft, object: &Object) -> bool
 }
 
 /// Reads an object's `NAME LABEL` and its kind's own words, after the kind's word.
+///
+/// # Errors
+///
+/// [`LineError::Text`] with the fault of the line, or [`LineError::Memory`] where memory is
+/// refused. Then the draft hasn't changed.
 #[tactic(auto, unfolding(crate::specs::Tables::object_line, words::specs::Reading::bind))]
 pub fn object_line(
     draft: &mut Draft,

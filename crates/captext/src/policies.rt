@@ -1,3 +1,4 @@
+//! How the text of a policy is read.
 ghost use Rattle.std.specs.Prelude.{ℕ, ◌<◌, ◌↔◌, ◌≡◌, ◌≢◌, Err, IfErr, IfOk, List, Ok, OnErr, Some, length};
 ghost use Rattle.base.specs.declared.edge.Edge.{Edge as EdgeOf};
 ghost use Rattle.machine.specs.Layout.{Layout};
@@ -102,7 +103,7 @@ fn edge_line(table: &Table, policy: &mut Policy, words: &mut Words<'_>) -> Resul
 ///
 /// # Errors
 ///
-/// The fault of the first faulty line, or 40 where memory is refused.
+/// The first fault of the text, 50 or 51; or 40, at line 0, where memory is refused.
 pub fn read_policy(alloc: Global, text: &[u8], table: &Table) -> Result<Policy, Fault>
     ensures exact { Reads (λ policy. policy) result (policies.read_policy_of table.now text.now) }
 
@@ -156,9 +157,10 @@ impl<'a> Reader for Edges<'a> {
     }
 }
 
-/// A law about the texts of policies for a table: a name is read as a label just where it is that
-/// label's own, and a text as a policy just where it is that policy's text. So different policies
-/// have different texts.
+/// A law: for a table, a text is read as a policy exactly where it is that policy's text.
+///
+/// A name is read as a label exactly where it is that label's own. So different policies have
+/// different texts.
 pub fn policies_are_read_back()
     ensures label { (t : Layout) (name : List ℕ) (label : ℕ) → IsLawful t
         → (label_named t name ≡ Some label) ↔ ((name ≡ label_name t label) × (label < length t.labels)) }

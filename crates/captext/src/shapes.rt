@@ -1,3 +1,4 @@
+//! The words of slots and rights, and how they are read.
 ghost use Rattle.std.specs.Prelude.{◌==◌, ◌≡◌, IfOk, option_map, position, true};
 ghost use Rattle.words.specs.{Name.is_name, Reading.Gives};
 ghost use Rattle.captext.specs.Shapes as shape;
@@ -52,7 +53,11 @@ fn slot_of(word: &[u8]) -> Option<(&str, Place)>
     Some((name, place))
 }
 
-/// The next two words as names.
+/// Takes the next two words as names.
+///
+/// # Errors
+///
+/// [`Wrong::Syntax`] where one of them is missing or isn't a name.
 #[tactic(auto, unfolding(crate::specs::Shapes::names_at, words::specs::Parts::in_turn, words::specs::Reading::bind))]
 pub fn names<'a>(words: &mut Words<'a>) -> Result<(&'a str, &'a str), Wrong>
     ensures exact { Gives (λ names. ((names.0.now, names.1.now), words.new)) result (shape.names_at words.old) }
@@ -63,7 +68,11 @@ pub fn names<'a>(words: &mut Words<'a>) -> Result<(&'a str, &'a str), Wrong>
     Ok((first, second))
 }
 
-/// The next word as a slot.
+/// Takes the next word as a slot.
+///
+/// # Errors
+///
+/// [`Wrong::Syntax`] where no word is left, or the next one isn't a slot.
 #[tactic(auto, unfolding(crate::specs::Shapes::slot_at, words::specs::Reading::word_at, words::specs::Reading::or_syntax, words::specs::Reading::bind))]
 pub fn slot<'a>(words: &mut Words<'a>) -> Result<(&'a str, Place), Wrong>
     ensures { Gives (λ slot. ((slot.0.now, slot.1), words.new)) result (shape.slot_at words.old) }
@@ -97,7 +106,11 @@ fn next_term(words: &mut Words<'_>) -> Result<Option<Term>, Wrong>
     }
 }
 
-/// At most two terms.
+/// Takes at most two words as terms.
+///
+/// # Errors
+///
+/// [`Wrong::Syntax`] where one of them isn't a term.
 #[tactic(auto, unfolding(crate::specs::Shapes::terms_at, words::specs::Parts::in_turn, words::specs::Reading::bind))]
 pub fn terms(words: &mut Words<'_>) -> Result<(Option<Term>, Option<Term>), Wrong>
     ensures { Gives (λ terms. (terms, words.new)) result (shape.terms_at words.old) }

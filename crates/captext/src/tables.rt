@@ -1,3 +1,4 @@
+//! How the text of a capability table is read.
 ghost use Rattle.std.specs.Prelude.{[], ℕ, ◌++◌, ◌+◌, ◌<◌, ◌^◌, ◌↔◌, ◌∷◌, ◌≡◌, ◌≢◌, Err, IfErr, IfOk, List, MatchResult, Ok, OnErr, length};
 ghost use Rattle.machine.specs.Layout.{Layout};
 ghost use Rattle.words.specs.{declared.faults.Wrong.{Wrong, TheVariants.Tree}, Fault.{fault_at, no_memory}, FirstFault.IsFirstFault};
@@ -125,7 +126,7 @@ fn table_of(alloc: Global, text: &[u8]) -> Result<Table, Fault>
 ///
 /// # Errors
 ///
-/// The fault of the first faulty line, or 40 where memory is refused.
+/// The first fault of the text, 50 to 56; or 40, at line 0, where memory is refused.
 pub fn read_table(alloc: Global, text: &[u8]) -> Result<Table, Fault>
     ensures exact { Reads (λ table. table) result (tables.read_table_of text.now) }
 
@@ -152,8 +153,10 @@ pub fn lines_are_read_back()
         → (tables.table_line t words ≡ Ok next) ↔ ((item : Item) × IsLineOf t words next item) }
 {}
 
-/// A law: a text is read as a table just where the table keeps the rules, and the text is its text. So
-/// different tables have different texts.
+/// A law: a text is read as a table exactly where the table keeps the rules, and the text is its
+/// text.
+///
+/// So different tables have different texts.
 pub fn tables_are_read_back()
     ensures named { (bytes : List ℕ) (t : Layout) → (tables.read_table_of bytes ≡ Ok t)
         ↔ (IsLawful t × (bytes ≡ table_text t)) }

@@ -1,3 +1,4 @@
+//! How capability tables and policies are written.
 ghost use Rattle.std.specs.{Fmt.decimal, List.AllByRecursion, Prelude.{[], ℕ, ◌++◌, ◌∷◌, ◌≡◌, IfErr, IfOk, List, Ok, OnOk, Some}};
 ghost use Rattle.std.specs.Prelude.{map, string_bytes};
 ghost use Rattle.base.specs.Refusals.{out_of_memory};
@@ -21,7 +22,9 @@ use std::alloc::{AllocError, Global};
 use std::fmt;
 use table::Table;
 
-/// The text of a capability table. A text that was read as this table is this one.
+/// Returns the text of a capability table.
+///
+/// A text that was read as this table is this one.
 ///
 /// # Errors
 ///
@@ -39,8 +42,9 @@ pub fn write_table(alloc: Global, table: &Table) -> Result<Vec<u8>, Refusal>
     Ok(table_string(alloc, table)?.into_bytes())
 }
 
-/// The text of a policy, with the names that its labels have in the table. A label that the table
-/// lacks has no name there. A text that was read as this policy is this one.
+/// Returns the text of a policy, with the names that its labels have in the table.
+///
+/// A label that the table lacks has no name there. A text that was read as this policy is this one.
 ///
 /// # Errors
 ///
@@ -60,7 +64,8 @@ pub fn write_policy(alloc: Global, policy: &Policy, table: &Table) -> Result<Vec
     Ok(policy_string(alloc, &edges, table)?.into_bytes())
 }
 
-/// The lines of edges as a policy has them, with the names that their labels have in the table.
+/// Returns the lines of edges as a policy has them, with the names that their labels have in the
+/// table.
 ///
 /// # Errors
 ///
@@ -157,7 +162,7 @@ fn write_objects(text: &mut String, table: &Table) -> Result<(), AllocError>
     Ok(())
 }
 
-/// The label's name, which is empty where the table lacks the label.
+/// Returns the label's name, which is empty where the table lacks the label.
 #[tactic(auto, using(crate::proofs::Written::nameless))]
 pub fn label_name(table: &Table, label: Label) -> &str
     ensures { result.now ≡ label_name table.now label }
@@ -168,7 +173,7 @@ pub fn label_name(table: &Table, label: Label) -> &str
     }
 }
 
-/// The object's name, which is empty where the table lacks the object.
+/// Returns the object's name, which is empty where the table lacks the object.
 #[tactic(auto, using(crate::proofs::Written::nameless))]
 pub fn object_name(table: &Table, id: ObjId) -> &str
     ensures { result.now ≡ object_name table.now id }

@@ -6,7 +6,7 @@ use machine::{Event, ObjectKind, Outcome};
 use std::alloc::{AllocError, Global};
 use std::fmt;
 
-/// The object that an event has call, which is to be a thread.
+/// The object that makes the call of an event, which should be a thread.
 #[derive(Clone, Copy)]
 pub struct Caller<'a> {
     pub id: ObjId,
@@ -28,7 +28,13 @@ impl fmt::Display for Caller<'_> {
     }
 }
 
-/// Why a call is refused, in a sentence: that of the line of this number in the text `name`.
+/// Returns a sentence that says why a call is refused.
+///
+/// The call is that of the line of this number in the text `name`.
+///
+/// # Errors
+///
+/// [`AllocError`] where memory is refused.
 pub fn explain_refusal(
     alloc: Global,
     caller: Caller<'_>,
@@ -48,8 +54,14 @@ pub fn explain_refusal(
     format!(in alloc; "{name}:{line}: `{call}` is refused {code} {detail}: {why}")
 }
 
-/// What the kernel answers to an entry that is no step, in a sentence: that of the number `entry`, from 1, in the
-/// log `name`, whose outcome is `told` there; `came` is what the kernel answers.
+/// Returns a sentence that says what the kernel answers to an entry that is no step.
+///
+/// The entry is that of the number `entry`, from 1, in the log `name`, whose outcome is `told`
+/// there; `came` is what the kernel answers.
+///
+/// # Errors
+///
+/// [`AllocError`] where memory is refused.
 pub fn explain_illegal(
     alloc: Global,
     caller: Caller<'_>,

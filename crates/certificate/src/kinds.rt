@@ -1,3 +1,4 @@
+//! Sets of kinds of authority, as the lines of a certificate have them.
 ghost use Rattle.std.specs.{List.slice_split, Prelude.{◌==◌, ◌≡◌, IfOk, position, string_bytes}};
 ghost use Rattle.words.specs.Reading.{Gives};
 ghost use Rattle.certificate.specs.Kinds as spelled;

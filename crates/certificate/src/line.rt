@@ -1,3 +1,4 @@
+//! Certificates and their lines.
 ghost use Rattle.std.specs.Prelude.{[], ◌++◌, ◌∷◌, ◌≡◌, OnErr, OnOk};
 
 use base::{Kinds, Label, ObjId, SlotRef};
@@ -62,7 +63,7 @@ impl Certificate {
         Certificate { lines }
     }
 
-    /// The lines, as they were made or read.
+    /// Returns the lines, as they were made or read.
     pub fn lines(&self) -> &[Line]
         ensures { result.now ≡ self.now }
     {

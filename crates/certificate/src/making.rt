@@ -1,3 +1,4 @@
+//! How the certificate of a table is made.
 ghost use Rattle.std.specs.Prelude.{◌++◌, ◌≡◌, IfErr, IfOk, OnOk, filter, map};
 ghost use Rattle.base.specs.Refusals.{out_of_memory};
 ghost use Rattle.table.specs.Rules.{kind_at};
@@ -10,7 +11,7 @@ use machine::{Binding, Filled, ObjectKind, Pair};
 use std::alloc::{AllocError, Global};
 use table::Table;
 
-/// The one right certificate of a capability table, whatever the policy.
+/// Returns the one right certificate of a capability table, whatever the policy.
 ///
 /// # Errors
 ///

@@ -1,3 +1,4 @@
+//! How the text of a certificate is read.
 ghost use Rattle.std.specs.Prelude.{ℕ, ◌≡◌, ◌≢◌, Err, IfErr, IfOk, List, Ok};
 ghost use Rattle.words.specs.{declared.faults.Wrong.Wrong, Fault.{fault_at, no_memory}, FirstFault.{IsFirstFault, TellsFirst}};
 ghost use Rattle.words.specs.{Reading.Reads, Text.lines_of};
@@ -191,8 +192,9 @@ impl<'a> Reader for Lines<'a> {
     }
 }
 
-/// Reads the text of a certificate, whose slots, objects and labels are those of the table. Its lines
-/// may come in any order, and more than once.
+/// Reads the text of a certificate, whose slots, objects and labels are those of the table.
+///
+/// The certificate's lines may come in any order, and more than once.
 ///
 /// # Errors
 ///

@@ -1,3 +1,4 @@
+//! How a certificate is written.
 ghost use Rattle.std.specs.Prelude.{◌++◌, ◌≡◌, IfErr, IfOk, Ok, OnOk, string_bytes};
 ghost use Rattle.base.specs.Refusals.{out_of_memory};
 ghost use Rattle.words.specs.Text.{line_text};
@@ -10,8 +11,10 @@ use captext::{SlotName, label_name, object_name};
 use std::alloc::{AllocError, Global};
 use table::Table;
 
-/// The text of a certificate, with the names that its slots, objects and labels have in the table. A
-/// text that was read as this certificate is this one.
+/// Returns the text of a certificate, with the names that its slots, objects and labels have in the
+/// table.
+///
+/// A text that was read as this certificate is this one.
 ///
 /// # Errors
 ///

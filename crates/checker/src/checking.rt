@@ -1,3 +1,4 @@
+//! The verdict on a table and a policy.
 ghost use Rattle.std.specs.Prelude.{ℕ, ◌<◌, ◌↔◌, ◌≡◌, ◌≤◌, Err, IfOk};
 ghost use Rattle.policy.specs.Policy.{allows};
 ghost use Rattle.integrity.specs.Safe.{GuardsBudgets, KeepsBounds, KeepsIntegrity, LabelsObjects, RefusesOthers, StaysConfined};
@@ -12,7 +13,7 @@ use std::thread::Threads;
 use table::Table;
 use verdict::{Accepted, Denial, judge};
 
-/// What is decided of a capability table and a policy.
+/// The decision on a capability table and a policy.
 #[derive(Drop)]
 pub enum Verdict<'a> {
     /// No rule is broken; with the table's certificate.
@@ -21,7 +22,7 @@ pub enum Verdict<'a> {
     Deny(Denial),
 }
 
-/// Why there is no verdict.
+/// The reason why there is no verdict.
 #[derive(Clone, Copy, PartialEq, Eq, Debug)]
 pub enum CheckError {
     /// Memory was refused.
@@ -41,19 +42,22 @@ impl From<CheckError> for Refusal {
     }
 }
 
-/// The verdict on a capability table and a policy, by 1 to 16 workers, each of which arrives at the gate
-/// first. It is the same for every number of them. With an acceptance comes the table's certificate.
+/// Returns the verdict on a capability table and a policy, which 1 to 16 workers find.
 ///
-/// Where they are accepted, then after every list of kernel calls by any threads in any interleaving
-/// every capability lies within the policy; no step changes an object of a label on which its caller's
-/// label has no modifying authority, nor one of a label from which it may not take but by full
-/// authority; and a context's configured budget or period changes only by a caller whose label has the
-/// policy's SchedControl edge. Each object that is there then has a label, so that no authority goes
-/// unseen.
+/// Each worker arrives at the gate first. The verdict is the same for every number of workers. With
+/// an acceptance comes the table's certificate.
+///
+/// Where they are accepted, then after every list of kernel calls by any threads in any
+/// interleaving every capability lies within the policy; no step changes an object of a label on
+/// which its caller's label has no modifying authority, nor one of a label from which it may not
+/// take but by full authority; and a context's configured budget or period changes only by a caller
+/// whose label has the policy's SchedControl edge. Each object that is there then has a label, so
+/// that no authority goes unseen.
 ///
 /// # Errors
 ///
-/// 45 where the number of workers is outside 1 to 16, and 40 where memory is refused.
+/// [`CheckError::WorkerCount`] (45) where the number of workers is outside 1 to 16, and
+/// [`CheckError::NoMemory`] (40) where memory is refused.
 pub fn check<'a, R: Threads + Sync, G: Gate + Sync>(
     rt: &R,
     alloc: Global,

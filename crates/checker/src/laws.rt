@@ -1,3 +1,4 @@
+//! A law about upgraded tables.
 ghost use Rattle.std.specs.Prelude.{◌↔◌, ◌≡◌, List};
 ghost use Rattle.machine.specs.Layout.{Layout, upgraded};
 ghost use Rattle.policy.specs.Domain.{EdgeTest};

@@ -1,3 +1,4 @@
+//! The verdict on a table, a policy and a certificate.
 ghost use Rattle.std.specs.Prelude.{◌↔◌, ◌≡◌, IfNone, IfOk, IfSome, IsTrue};
 ghost use Rattle.policy.specs.Policy.{allows};
 ghost use Rattle.integrity.specs.Safe.{GuardsBudgets, KeepsBounds, KeepsIntegrity, LabelsObjects, RefusesOthers, StaysConfined};
@@ -11,7 +12,7 @@ use std::thread::Threads;
 use table::Table;
 use verdict::{Accepted, Denial, judge};
 
-/// Why a table, a policy and a certificate aren't accepted.
+/// The reason why a table, a policy and a certificate aren't accepted.
 #[derive(Clone, Copy, PartialEq, Eq, Debug)]
 pub enum NotAccepted {
     /// A rule is broken: P1 to P8 or A1 to A4, or C1 where the certificate isn't the right one.
@@ -20,15 +21,18 @@ pub enum NotAccepted {
     NoMemory,
 }
 
-/// The verdict on a capability table, a policy and a certificate for the table: accepted, if
-/// [`judge`] accepts the table with the policy and the certificate is the one that [`make`] makes of the
-/// table; else the denial of the first two, or C1 with the first line that differs.
+/// Returns the acceptance of a capability table and a policy, if a certificate for the table is
+/// right too.
+///
+/// The system is accepted if [`judge`] accepts the table with the policy and the certificate is the
+/// one that [`make`] makes of the table.
 ///
 /// What is promised of an accepted system is what `judge` promises.
 ///
 /// # Errors
 ///
-/// [`NotAccepted::NoMemory`] where memory is refused.
+/// [`NotAccepted::Denied`] with the denial of the table and the policy, or with C1 and the first
+/// line that differs; [`NotAccepted::NoMemory`] where memory is refused.
 #[tactic(auto, using(crate::proofs::Differences::rules_deny))]
 pub fn verify<'a, R: Threads + Sync>(
     rt: &R,

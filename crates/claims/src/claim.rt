@@ -1,3 +1,4 @@
+//! Claims, each on the authority of one label on another.
 ghost use Rattle.std.specs.Prelude.{[], ◌++◌, ◌∷◌, ◌≡◌, OnErr, OnOk};
 ghost use Rattle.claims.specs.Claims.{last_claim, most_named, most_word};
 
@@ -15,7 +16,7 @@ pub enum Most {
 }
 
 impl Most {
-    /// The word that begins the line of such a claim.
+    /// Returns the word that begins the line of such a claim.
     pub fn word(self) -> &'static str
         ensures { result.now ≡ most_word self }
     {
@@ -25,7 +26,7 @@ impl Most {
         }
     }
 
-    /// What this word leaves.
+    /// Returns what this word leaves, if it begins the line of a claim.
     #[tactic(auto, unfolding(crate::specs::Claims::most_named))]
     pub fn from_word(word: &[u8]) -> Option<Most>
         ensures { result ≡ most_named word.now }
@@ -64,7 +65,7 @@ impl Model for Claims {
 }
 
 impl Claims {
-    /// No claim.
+    /// Returns a list without claims.
     pub fn new(alloc: Global) -> Claims
         ensures { result ≡ [] }
     {
@@ -73,14 +74,14 @@ impl Claims {
         }
     }
 
-    /// The claims, as they were made or read.
+    /// Returns the claims, as they were made or read.
     pub fn as_slice(&self) -> &[Claim]
         ensures { result.now ≡ self.now }
     {
         self.claims.as_slice()
     }
 
-    /// The last claim, if there is one.
+    /// Returns the last claim, if there is one.
     pub fn last(&self) -> Option<Claim>
         ensures { result ≡ last_claim self.now }
     {
@@ -88,6 +89,10 @@ impl Claims {
     }
 
     /// Adds a claim behind the others.
+    ///
+    /// # Errors
+    ///
+    /// [`AllocError`] where memory is refused. Then nothing has changed.
     pub fn push(&mut self, claim: Claim) -> Result<(), AllocError>
         ensures ok { OnOk result (self.new ≡ self.old ++ claim ∷ []) }
         ensures err { OnErr result (self.new ≡ self.old) }

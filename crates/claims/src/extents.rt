@@ -1,3 +1,4 @@
+//! How far the authority of a label goes on each label.
 ghost use Rattle.std.specs.Prelude.{◌≡◌, IfSome};
 ghost use Rattle.policy.specs.{Domain.EdgeTest, Policy.allows};
 ghost use Rattle.verdict.specs.Extents.{GoesTo};
@@ -16,7 +17,7 @@ pub(crate) struct Extents {
 }
 
 impl Extents {
-    /// How far it goes by a policy.
+    /// Returns how far the authority of a label goes by a policy.
     pub fn of(policy: &Policy, actor: Label) -> Extents
         ensures actor { result.actor ≡ actor }
         ensures extents { AreExtents (allows policy.now) result }
@@ -28,7 +29,9 @@ impl Extents {
         }
     }
 
-    /// How far it goes by a policy; those that were found last, if they are the label's.
+    /// Returns how far the authority of a label goes by a policy.
+    ///
+    /// Returns the extents that were found last, if they are the label's.
     pub fn again(last: Option<Extents>, policy: &Policy, actor: Label) -> Extents
         requires { IfSome last (AreExtents (allows policy.now)) }
         ensures actor { result.actor ≡ actor }
@@ -40,7 +43,7 @@ impl Extents {
         }
     }
 
-    /// How far it goes on this label.
+    /// Returns how far the authority goes on this label.
     pub fn on(&self, object: Label) -> Extent
         ensures { (test : EdgeTest) → AreExtents test self.now → GoesTo test self.now.actor object result }
     {

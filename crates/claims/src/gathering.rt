@@ -1,3 +1,4 @@
+//! The strongest claims that hold of a system.
 ghost use Rattle.std.specs.Prelude.{◌+◌, ◌<◌, ◌≡◌, All, IfErr, IfOk, OnOk, length};
 ghost use Rattle.base.specs.Refusals.{out_of_memory};
 ghost use Rattle.machine.specs.Layout.{Layout};
@@ -12,8 +13,10 @@ use std::alloc::{AllocError, Global};
 use table::Table;
 use verdict::{Accepted, Extent, accepted_systems_keep_labels_apart};
 
-/// The strongest claims that hold of a system that is accepted, on all pairs of labels that differ. What
-/// they claim is kept in every run.
+/// Returns the strongest claims that hold of a system that is accepted, on all pairs of labels that
+/// differ.
+///
+/// What they claim is kept in every run.
 ///
 /// # Errors
 ///

@@ -1,3 +1,4 @@
+//! Whether claims hold of a system.
 ghost use Rattle.std.specs.Prelude.{◌≡◌, All, IfNone, IfSome};
 ghost use Rattle.policy.specs.Policy.{allows};
 ghost use Rattle.claims.specs.Holding.{Holds, IsFirstBroken, IsKept, is_within};
@@ -17,8 +18,9 @@ pub struct BrokenClaim {
     pub extent: Extent,
 }
 
-/// The first claim that doesn't hold of a system that is accepted. Where all hold, what they claim is kept
-/// in every run.
+/// Returns the first claim that doesn't hold of a system that is accepted, if there is one.
+///
+/// Where all hold, what they claim is kept in every run.
 pub fn first_broken(accepted: &Accepted<'_>, claims: &Claims) -> Option<BrokenClaim>
     ensures broken { IfSome result (IsFirstBroken (allows accepted.now.policy) claims.now) }
     ensures hold { IfNone result (All (Holds (allows accepted.now.policy)) claims.now) }

@@ -1,3 +1,4 @@
+//! How the text of claims is read.
 ghost use Rattle.std.specs.Prelude.{ℕ, ◌<◌, ◌↔◌, ◌≡◌, ◌≢◌, Err, IfErr, IfOk, List, Ok, OnErr};
 ghost use Rattle.machine.specs.Layout.{Layout};
 ghost use Rattle.words.specs.{declared.faults.Wrong.Wrong, Fault.{fault_at, no_memory}, FirstFault.{IsFirstFault, TellsFirst}};
@@ -172,7 +173,8 @@ impl<'a> Reader for Lines<'a> {
     }
 }
 
-/// A law about the texts of claims for a table: a text is read as claims just where it is the text of these.
+/// A law: for a table, a text is read as claims exactly where it is the text of these claims.
+///
 /// So different claims have different texts.
 pub fn claims_are_read_back()
     ensures named { (t : Layout) (text : List ℕ) (claims : List ClaimOf) → IsLawful t

@@ -1,3 +1,4 @@
+//! How claims are written.
 ghost use Rattle.std.specs.Prelude.{◌≡◌, IfErr, IfOk, Ok, string_bytes};
 ghost use Rattle.base.specs.Refusals.{out_of_memory};
 ghost use Rattle.claims.specs.{Claims.AreClaimsOf, ClaimsText.claims_text, Reading.read_claims_of};
@@ -8,8 +9,9 @@ use captext::label_name;
 use std::alloc::{AllocError, Global};
 use table::Table;
 
-/// The text of claims, with the names that their labels have in the table. A text that was read as these
-/// claims is this one.
+/// Returns the text of claims, with the names that their labels have in the table.
+///
+/// A text that was read as these claims is this one.
 ///
 /// # Errors
 ///

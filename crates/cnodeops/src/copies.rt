@@ -1,3 +1,4 @@
+//! What a copy of a capability says, and where it comes in the derivation tree.
 ghost use Rattle.std.specs.Prelude.{◌≡◌, ◌≢◌, IsTrue, None, Some};
 ghost use Rattle.machine.specs.declared.object.ObjectKind.TheVariants as kind;
 ghost use Rattle.machine.specs.{Capabilities.kind_of_detail, Machine.{cap_of, has_slot, parent_of}, Step.Copy.{copyable, masked}};
@@ -9,7 +10,12 @@ use derivation::insert_child;
 use machine::{Badged, Cap, Detail, Ends};
 use objects::State;
 
-/// Refuses to copy untyped memory (seL4 manual, "Capability Derivation Tree": it has one capability).
+/// Refuses to copy untyped memory (seL4 manual, "Capability Derivation Tree": it has one
+/// capability).
+///
+/// # Errors
+///
+/// [`Cause::IllegalOperation`] (3) for untyped memory.
 pub fn copyable(detail: &Detail) -> Result<(), Cause>
     ensures { result ≡ copyable detail.now }
 {
@@ -19,7 +25,7 @@ pub fn copyable(detail: &Detail) -> Result<(), Cause>
     }
 }
 
-/// What a capability says with those of its rights alone that are in the mask.
+/// Returns what a capability says, with only those of its rights that are in the mask.
 pub fn masked(mask: Rights, detail: Detail) -> Detail
     ensures { result ≡ masked mask detail }
 {
@@ -59,13 +65,15 @@ fn parent_of_copy(state: &State, slot: SlotRef, source: &Cap) -> Option<SlotRef>
     }
 }
 
-/// Fills the target, an empty slot that is there, with a copy of what the source holds that says this,
-/// and puts it into the derivation tree: as a child of the source where that is original, else of the
-/// source's parent, if it has one (seL4 manual, "Capability Derivation Tree").
+/// Fills the target with a copy of what the source holds, and puts it into the derivation tree
+/// (seL4 manual, "Capability Derivation Tree").
 ///
-/// No memory is taken. Whether the kind may be copied, and what a copy may say, is the caller's to see
-/// to: of the same kind, which isn't untyped memory, and in a root slot of a CNode, it leaves the state
-/// well formed.
+/// The target is an empty slot that is there, and the copy says `detail`. It becomes a child of the
+/// source where that is original, else of the source's parent, if it has one.
+///
+/// No memory is taken. Whether the kind may be copied, and what a copy may say, is the caller's to
+/// see to: of the same kind, which isn't untyped memory, and in a root slot of a CNode, it leaves
+/// the state well formed.
 pub fn derive(state: &mut State, ends: Ends, detail: Detail)
     requires well_formed { IsWellFormed state.old }
     requires there { IsTrue (has_slot state.old ends.target) }

@@ -1,3 +1,4 @@
+//! The call Copy, which copies a capability.
 ghost use Rattle.std.specs.Prelude.{◌≡◌};
 ghost use Rattle.machine.specs.{Makes.Makes, Step.Copy.copy_of, WellFormed.IsWellFormed};
 
@@ -7,11 +8,22 @@ use base::{Cause, ObjId, Rights};
 use machine::{Answer, Made, SlotAddress};
 use objects::State;
 
-/// Copies the capability in the slot that the caller names as `from` to the empty slot that it names as
-/// `to`, with those of its rights that are among `rights` (seL4 manual, seL4_CNode_Copy).
+/// Copies the capability in the slot that the caller names as `from` to the empty slot that it
+/// names as `to`, with those of its rights that are among `rights` (seL4 manual, seL4_CNode_Copy).
 ///
 /// The copy is a child of its source where that is original, else of the source's parent; it isn't
 /// original.
+///
+/// # Errors
+///
+/// In this order:
+///
+/// - [`Cause::FailedLookup`] (6), [`Cause::InvalidCapability`] (2) or [`Cause::RangeError`] (4),
+///   where the slot `to` isn't found
+/// - [`Cause::DeleteFirst`] (8), where it is filled
+/// - [`Cause::FailedLookup`] (6) or [`Cause::RangeError`] (4), where the slot `from` isn't found or
+///   is empty
+/// - [`Cause::IllegalOperation`] (3), where that holds a capability for untyped memory.
 #[tactic(auto, unfolding(machine::specs::Step::Copy::copy_of))]
 pub fn copy(
     state: &mut State,

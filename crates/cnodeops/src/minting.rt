@@ -1,3 +1,4 @@
+//! The call Mint, which copies a capability with a badge or a guard.
 ghost use Rattle.std.specs.Prelude.{◌%◌, ◌==◌, ◌^◌, ◌≡◌, ◌≤◌, Err, Ok, if◌then◌else◌};
 ghost use Rattle.base.specs.declared.refusal.Cause.TheVariants.{IllegalOperation};
 ghost use Rattle.machine.specs.{Makes.Makes, Step.Mint.{guarded, mint_of, minted}, WellFormed.IsWellFormed};
@@ -61,8 +62,18 @@ fn minted(object: Option<Object>, given: CapData, detail: Detail) -> Result<Deta
     }
 }
 
-/// Copies a capability as [`copy`](crate::copy) does, and gives the copy a badge or a guard (seL4 manual,
-/// seL4_CNode_Mint). Where its badge is another than the source's, the copy is original.
+/// Copies a capability as [`copy`](crate::copy) does, and gives the copy a badge or a guard (seL4
+/// manual, seL4_CNode_Mint).
+///
+/// Where its badge is another than the source's, the copy is original.
+///
+/// # Errors
+///
+/// Those of [`copy`](crate::copy), and then [`Cause::IllegalOperation`] (3) where the capability
+/// takes no such badge or guard:
+///
+/// - a badge, if it isn't for an endpoint or a notification, or has one that isn't 0
+/// - a guard, if it isn't for a CNode, or the guard and the radix have more than 64 bits together.
 #[tactic(auto, unfolding(machine::specs::Step::Mint::mint_of))]
 pub fn mint(
     state: &mut State,

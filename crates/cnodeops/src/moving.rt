@@ -1,3 +1,4 @@
+//! The call Move, which moves a capability.
 ghost use Rattle.std.specs.Prelude.{◌≡◌, IsTrue, None, Some};
 ghost use Rattle.machine.specs.{Machine.{cap_of, has_slot}, Makes.Makes, Step.Move.move_of, Tree.with_moved, WellFormed.IsWellFormed};
 
@@ -21,8 +22,18 @@ fn relocate(state: &mut State, ends: Ends)
     state.take_cap(ends.source);
 }
 
-/// Moves a capability to the empty slot that the caller names as `to`, with its place in the derivation
-/// tree (seL4 manual, seL4_CNode_Move).
+/// Moves a capability to the empty slot that the caller names as `to`, with its place in the
+/// derivation tree (seL4 manual, seL4_CNode_Move).
+///
+/// # Errors
+///
+/// In this order:
+///
+/// - [`Cause::FailedLookup`] (6), [`Cause::InvalidCapability`] (2) or [`Cause::RangeError`] (4),
+///   where the slot `to` isn't found
+/// - [`Cause::DeleteFirst`] (8), where it is filled
+/// - [`Cause::FailedLookup`] (6) or [`Cause::RangeError`] (4), where the slot `from` isn't found or
+///   is empty.
 #[tactic(auto, unfolding(machine::specs::Step::Move::move_of))]
 pub fn move_cap(
     state: &mut State,

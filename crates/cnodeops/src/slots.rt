@@ -1,3 +1,4 @@
+//! The slots that a call names, to fill one or to take from one.
 ghost use Rattle.std.specs.Prelude.{◌≡◌, IsOkAnd, Some};
 ghost use Rattle.machine.specs.{Lookup.{level_at, lookup_of}, Machine.cap_of, Step.Target.{ends_of, of_cnode, source_of, target_of}};
 ghost use Rattle.machine.specs.Step.Target.{vacant};
@@ -19,11 +20,16 @@ fn of_cnode(detail: &Detail) -> Result<(), Cause>
     }
 }
 
-/// The slot that a caller names as the target.
+/// Returns the slot that a caller names as the target.
 ///
 /// # Errors
 ///
-/// Those of the look-up, and that what is named as the root is no CNode's capability.
+/// In this order:
+///
+/// - [`Cause::FailedLookup`] (6), where the slot of the root isn't found
+/// - [`Cause::InvalidCapability`] (2), where that holds no CNode's capability
+/// - [`Cause::RangeError`] (4) or [`Cause::FailedLookup`] (6), where the look-up from there fails,
+///   as in [`cspace::resolve_target`].
 #[tactic(auto, unfolding(machine::specs::Lookup::level_at, machine::specs::Step::Find::find_cap, machine::specs::Step::Target::target_of, machine::specs::Step::Target::lookup_target_of, cspace::specs::Below::target_below))]
 pub fn target(state: &State, caller: ObjId, address: SlotAddress) -> Result<SlotRef, Cause>
     ensures { result ≡ target_of state.now caller address }
@@ -41,6 +47,10 @@ pub fn target(state: &State, caller: ObjId, address: SlotAddress) -> Result<Slot
 
 /// Refuses to fill a slot that is filled, where this is what it holds (seL4 manual,
 /// seL4_DeleteFirst).
+///
+/// # Errors
+///
+/// [`Cause::DeleteFirst`] (8) where the slot holds a capability.
 pub fn vacant(filling: Option<Cap>) -> Result<(), Cause>
     ensures { result ≡ vacant filling }
 {
@@ -72,8 +82,8 @@ fn source_below(state: &State, level: &Level, address: SlotAddress) -> Result<(S
     }
 }
 
-/// The slot that a caller names as the source, and the capability in it. Where its root is the target's, that isn't looked up again: it
-/// led to the CNode `level`.
+/// The slot that a caller names as the source, and the capability in it. Where its root is the
+/// target's, that isn't looked up again: it led to the CNode `level`.
 #[tactic(auto, unfolding(machine::specs::Step::Target::source_of, machine::specs::Step::Target::lookup_target_of, cspace::specs::Below::target_below, crate::specs::Below::source_below))]
 fn source(
     state: &State,
@@ -95,7 +105,16 @@ fn source(
     source_below(state, &own, address)
 }
 
-/// The slots that a caller names to fill one from the other.
+/// Returns the slots that a caller names to fill one from the other.
+///
+/// # Errors
+///
+/// In this order:
+///
+/// - those of [`target`], for the slot `to`
+/// - [`Cause::DeleteFirst`] (8), where that slot is filled
+/// - [`Cause::FailedLookup`] (6) or [`Cause::RangeError`] (4), where the slot `from` isn't found
+/// - [`Cause::FailedLookup`] (6) with `MissingCapability`, where it is empty.
 #[tactic(auto, unfolding(machine::specs::Lookup::level_at, machine::specs::Step::Find::find_cap, machine::specs::Step::Target::ends_of, machine::specs::Step::Target::target_of, machine::specs::Step::Target::lookup_target_of, cspace::specs::Below::target_below))]
 pub fn ends(state: &State, caller: ObjId, to: SlotAddress, from: SlotAddress) -> Result<Ends, Cause>
     ensures { result ≡ ends_of state.now caller to from }

@@ -8,7 +8,7 @@ use std::alloc::Global;
 use std::marker::{Brand, PhantomData};
 use std::snapshot::Snapshot;
 
-/// What the word is told when it is made: the first state, and the core of each seat.
+/// The values that the word gets when it is made: the first state, and the core of each seat.
 #[derive(Drop)]
 pub struct Key {
     pub boot: Snapshot<State>,
@@ -26,10 +26,12 @@ impl TableRule<(), View, Key> for Law {
     ghost first = { λ key. first_view key.boot.value key.cores.value.items };
 }
 
-/// One word, and no slots.
+/// A table of one word and no slots.
 pub type Board = Table<(), View, Key, Law, Global>;
 
-/// What a seat steps with. It has no bytes.
+/// The token that a seat steps with.
+///
+/// A token has no bytes.
 pub type Token = Seat<(), View>;
 
 /// The keeper deals a seat of the next number.

@@ -2,8 +2,10 @@
 
 use std::marker::Brand;
 
-/// Which kernel a [`Kernel`](crate::Kernel) is. Nothing is known of what lies under a lock but what its type tells, so the
-/// kernel's type names it. Each call of a program's generic function picks it.
+/// A name for a kernel: it says which kernel a [`Kernel`](crate::Kernel) is.
+///
+/// Nothing is known of what lies under a lock but what its type tells, so the kernel's type names
+/// it. Each call of a program's generic function picks it.
 pub trait Naming {
     ghost use Rattle.cores.specs.Seats.{Ticket};
 

@@ -23,7 +23,9 @@ use verdict::Accepted;
 /// The most seats that a kernel has.
 pub const MAX_SEATS: usize = 64;
 
-/// A kernel in its boot state, which nobody calls yet. [`named`](Opened::named) makes it one that threads can call.
+/// A kernel in its boot state, which nobody calls yet.
+///
+/// [`named`](Opened::named) makes it one that threads can call.
 #[derive(Drop)]
 pub struct Opened {
     board: Board,
@@ -133,15 +135,17 @@ fn begun(
 }
 
 impl Opened {
-    /// Opens a kernel in the boot state of an accepted table, with a seat for each of these cores, in their order. Its log has
-    /// room for `size` entries, 1 to 1,000,000.
+    /// Opens a kernel in the boot state of an accepted table, with a seat for each of these cores,
+    /// in their order.
     ///
-    /// Kernels whose seats could be mixed up are to have different names.
+    /// The kernel's log has room for `size` entries, 1 to 1,000,000.
+    ///
+    /// Kernels whose seats could be mixed up must have different names.
     ///
     /// # Errors
     ///
-    /// 43 where the size is outside its limits, else 46 where there are no cores or more than [`MAX_SEATS`], and 40 where memory
-    /// is refused.
+    /// 43 where the size is outside its limits, else 46 where there are no cores or more than
+    /// [`MAX_SEATS`], and 40 where memory is refused.
     pub fn open(
         alloc: Global,
         accepted: &Accepted,
@@ -165,7 +169,7 @@ impl Opened {
         Ok(begun(alloc, state, size, cores, name)?)
     }
 
-    /// The kernel by the name that its type has.
+    /// Returns the kernel by the name that its type has.
     pub fn named<J: Naming>(self) -> Kernel<J>
         requires { self ≡ J.ticket }
         ensures { result ≡ self }

@@ -15,8 +15,9 @@ use objects::State;
 use std::marker::Model;
 use std::sync::{Mutex, Wait};
 
-/// A kernel that several threads call at once, each by a seat of its own. All calls stand in one history, whose log
-/// [`close`](Kernel::close) gives.
+/// A kernel that several threads call at once, each by a seat of its own.
+///
+/// All calls stand in one history, whose log [`close`](Kernel::close) gives.
 ///
 /// One lock lies round each call, so that a call is one step.
 #[derive(Drop)]
@@ -86,12 +87,13 @@ fn are_all_called(seats: &[Seat], name: u64) -> bool
 impl<J: Naming> Kernel<J> {
     /// Makes a call of a thread, on the seat's core.
     ///
-    /// It waits for the lock. What it promises holds if it returns.
+    /// The call waits for the lock. What is promised holds if it returns.
     ///
     /// # Errors
     ///
-    /// 42 where the seat is of another kernel, and then nothing changes. 41 where the log is full: no call is made, and the seat
-    /// has seen the whole history. Every other refusal is the call's own.
+    /// 42 where the seat is of another kernel, and then nothing changes. 41 where the log is full:
+    /// no call is made, and the seat has seen the whole history. Every other refusal is the call's
+    /// own.
     pub fn call<R: Wait>(&self, rt: &R, seat: &mut Seat, thread: ObjId, call: Call) -> Outcome
         requires { seat.old.name ≡ J.ticket.name → IsOf J.ticket seat.old }
         ensures foreign { (result ≡ Refused (plain 42)) ↔ (seat.old.name ≢ J.ticket.name) }
@@ -109,7 +111,9 @@ impl<J: Naming> Kernel<J> {
             .call(&self.board, self.size, seat, thread, call)
     }
 
-    /// Shows two seats one history, which begins with all that both have seen. It takes no lock, and waits for nobody.
+    /// Shows two seats one history, which begins with all that both have seen.
+    ///
+    /// The call takes no lock, and waits for nobody.
     ///
     /// # Errors
     ///
@@ -130,7 +134,9 @@ impl<J: Naming> Kernel<J> {
         Ok(())
     }
 
-    /// Ends it: its state, and its log. Each of these seats has then seen the whole history.
+    /// Closes the kernel, and returns its state and its log.
+    ///
+    /// Each of these seats has then seen the whole history.
     ///
     /// # Errors
     ///

@@ -58,14 +58,14 @@ impl Seat {
         }
     }
 
-    /// The seat's number: its place in the list of cores that the kernel was opened with.
+    /// Returns the seat's number: its place in the list of cores that the kernel was opened with.
     pub fn number(&self) -> u64
         ensures { result ≡ self.now.number }
     {
         self.number
     }
 
-    /// The core that its calls are on.
+    /// Returns the core that its calls are on.
     pub fn core(&self) -> CoreNo
         ensures { result ≡ self.now.core }
     {

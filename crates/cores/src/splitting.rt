@@ -55,11 +55,15 @@ fn split_named<J: Naming + Send + Sync, R: Threads + Wait + Sync, G: Gate + Sync
     }
 }
 
-/// Makes the script's events on a kernel in the boot state, by a worker for each core, side by side. Each worker makes the events
-/// of its core, in their order; the log tells all of them, in the order in which they were made.
+/// Makes the script's events on a kernel in the boot state, by a worker for each core, side by
+/// side.
 ///
-/// A worker that has events arrives at the gate before them. At the gate workers are numbered from 0, in the order of their
-/// cores. What is promised holds if it returns: a call waits for the calls of other workers.
+/// Each worker makes the events of its core, in their order; the log tells all of them, in the
+/// order in which they were made.
+///
+/// A worker that has events arrives at the gate before them. At the gate workers are numbered from
+/// 0, in the order of their cores. What is promised holds if it returns: a call waits for the calls
+/// of other workers.
 ///
 /// It differs from threads by hand: where a thread can't be started, its worker works in turn.
 ///

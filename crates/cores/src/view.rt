@@ -14,7 +14,9 @@ pub struct Noted {
     pub outcome: Outcome,
 }
 
-/// What a kernel was opened with. It never changes, and every seat knows it.
+/// The facts that a kernel was opened with.
+///
+/// They never change, and every seat knows them.
 pub struct About {
     /// The state before the first entry.
     pub boot: State,
@@ -22,14 +24,14 @@ pub struct About {
     pub cores: LinkedList<CoreNo>,
 }
 
-/// What the keeper knows, the one seat that adds to the history.
+/// The knowledge of the keeper, the one seat that adds to the history.
 pub struct Keeping {
     pub history: LinkedList<Noted>,
     /// Seats from this number on have not been dealt.
     pub next: u64,
 }
 
-/// What a caller's seat knows of the history.
+/// The knowledge of a caller's seat about the history.
 pub struct Hand {
     pub number: u64,
     /// The beginning of the history that it has seen.
@@ -38,7 +40,9 @@ pub struct Hand {
     pub mine: LinkedList<Noted>,
 }
 
-/// What a seat of the board knows: the keeper keeps the history, a caller's has a hand, and a seat that is visited has the
+/// The knowledge of a seat of the board.
+///
+/// The keeper keeps the history, a caller's seat has a hand, and a seat that is visited has the
 /// visitor's hand as its guest.
 pub struct View {
     pub about: Option<About>,

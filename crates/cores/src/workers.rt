@@ -18,8 +18,8 @@ pub(crate) const CORES: usize = CoreNo::COUNT as usize;
 /// For each core, whether the script has events on it.
 pub(crate) type Busy = [bool; CORES];
 
-// The seat's core, whose worker has arrived at the gate, makes its events of the script. It ends before their end only where the log
-// is full.
+// The seat's core, whose worker has arrived at the gate, makes its events of the script. It ends
+// before their end only where the log is full.
 fn work<J: Naming, R: Wait, G: Gate>(
     rt: &R,
     kernel: &Kernel<J>,

@@ -1,3 +1,4 @@
+//! Laws that reasons of authority and rules of policies are needed.
 ghost use Rattle.std.specs.Prelude.{ℕ, ◌≡◌, ◌≢◌, None, Some, false, true};
 ghost use Rattle.base.specs.declared.ids.{ObjId.ObjId as Id, SlotRef.SlotRef as Slot};
 ghost use Rattle.base.specs.declared.kind.Kind.TheVariants as authority;
@@ -14,11 +15,17 @@ ghost use Rattle.policy.specs.{Needed.{derive_by_grant, grant_shares, lent_runs,
 ghost use Rattle.integrity.specs.{Allowed.IsAllowedStep, Confined.IsConfined};
 ghost use Rattle.counterexamples.specs.Counterexamples.{TakesOut, UnallowedSignal, UnsafeWithout};
 
-/// A law: each reason of authority counts. There is a confined state that isn't confined any more once
-/// a slot of a CNode, a thread's root slot or the derivation tree is changed, and nothing else; and one
-/// for each link of an object that gives authority: a thread runs on a context, or lent it; is a sender,
-/// may grant, or calls; is a receiver, or names a reply; waits for a notification; and a reply holds a
-/// thread that waits with it, or has called through it.
+/// A law: each reason of authority counts.
+///
+/// There is a confined state that isn't confined any more once a slot of a CNode, a thread's root
+/// slot or the derivation tree is changed, and nothing else. There is one too for each link of an
+/// object that gives authority:
+///
+/// - a thread runs on a context, or lent it
+/// - a thread is a sender, may grant, or calls
+/// - a thread is a receiver, or names a reply
+/// - a thread waits for a notification
+/// - a reply holds a thread that waits with it, or has called through it.
 pub fn each_reason_of_authority_counts()
     ensures capability { (t : Layout) × (allowed : EdgeTest) × (m : Machine) × (slot : Slot) × (held : Cap)
         × (kind_of m slot.holder ≡ Some kind.CNode)
@@ -59,9 +66,11 @@ pub fn each_reason_of_authority_counts()
         × TakesOut (o.Reply (record answer { state = answers.Free })) (o.Reply (record answer { state = answers.Called thread })) }
 {}
 
-/// A law: a signal needs authority. No step is allowed that changes the word of a notification on
-/// whose label the caller's label doesn't have full authority; and there is a signal that is done,
-/// from the boot state of a lawful table, and isn't allowed by a policy without the edge for it.
+/// A law: a signal needs authority.
+///
+/// No step is allowed that changes the word of a notification on whose label the caller's label
+/// doesn't have full authority. There is a signal that is done, from the boot state of a lawful
+/// table, and isn't allowed by a policy without the edge for it.
 pub fn a_signal_needs_authority()
     ensures word { (t : Layout) (allowed : EdgeTest) (m next : Machine) (event : Event)
         → (id : Id) (old new : Notification) (caller label : ℕ)
@@ -75,30 +84,37 @@ pub fn a_signal_needs_authority()
     ensures signal { UnallowedSignal }
 {}
 
-/// A law: safety needs that labels of one domain may do the same (the rule P1). There is a system
-/// whose policy obeys all other rules of closed policies and whose boot state is confined, and which
-/// isn't safe.
+/// A law: safety needs that labels of one domain may do the same (the rule P1).
+///
+/// There is a system whose policy obeys all other rules of closed policies and whose boot state is
+/// confined, and which isn't safe.
 pub fn safety_needs_agreeing_subjects()
     ensures { UnsafeWithout subjects_agree }
 {}
 
-/// A law: safety needs that control gives all (the rule P2). There is a system that breaks no other rule
-/// and whose boot state is confined, and a thread of it makes an endpoint of untyped memory that its label
-/// controls, so that it can reset what it has no edge for.
+/// A law: safety needs that control gives all (the rule P2).
+///
+/// There is a system that breaks no other rule and whose boot state is confined. A thread of it
+/// makes an endpoint of untyped memory that its label controls, so that it can reset what it has no
+/// edge for.
 pub fn safety_needs_control_to_give_all()
     ensures { UnsafeWithout control_gives_all }
 {}
 
-/// A law: safety needs that who may be granted a label's capabilities may do what that label may (the rule
-/// P3). There is a system that breaks no other rule and whose boot state is confined, and a thread of it
+/// A law: safety needs that who may be granted a label's capabilities may do what that label may
+/// (the rule P3).
+///
+/// There is a system that breaks no other rule and whose boot state is confined. A thread of it
 /// sends another a capability, so that the other's label can do what it has no edge for.
 pub fn safety_needs_grants_to_share()
     ensures { UnsafeWithout grant_shares }
 {}
 
-/// A law: P5 is needed, as far as it says that what may be granted may be derived. There is a system that
-/// breaks no other rule, in whose policy derive is transitive, and whose boot state is confined; and a
-/// thread of it sends another a capability, so that a label derives where it has no edge for it.
+/// A law: P5 is needed, as far as it says that what may be granted may be derived.
+///
+/// There is a system that breaks no other rule, in whose policy derive is transitive, and whose
+/// boot state is confined. A thread of it sends another a capability, so that a label derives where
+/// it has no edge for it.
 pub fn safety_needs_derivation_over_grants()
     ensures { (system : UnsafeWithout derive_by_grant)
         × ((x middle y : ℕ)
@@ -107,10 +123,12 @@ pub fn safety_needs_derivation_over_grants()
         → allows system.edges x authority.Derive y ≡ true) }
 {}
 
-/// A law: P5 is needed, as far as it says that derive is transitive. There is a system that breaks no
-/// other rule, in whose policy all that may be granted may be derived, and whose boot state is confined;
-/// and a thread of it copies a derived capability into another label's CNode, so that a label derives
-/// where it has no edge for it.
+/// A law: P5 is needed, as far as it says that derive is transitive.
+///
+/// There is a system that breaks no other rule, in whose policy all that may be granted may be
+/// derived, and whose boot state is confined;
+/// and a thread of it copies a derived capability into another label's CNode, so that a label
+/// derives where it has no edge for it.
 pub fn safety_needs_transitive_derivation()
     ensures { (system : UnsafeWithout derive_by_grant)
         × ((x y giver taker : ℕ)
@@ -120,23 +138,28 @@ pub fn safety_needs_transitive_derivation()
         → allows system.edges x authority.Derive y ≡ true) }
 {}
 
-/// A law: safety needs that a reply may hold who uses it (the rule P7). There is a system that breaks no other
-/// rule and whose boot state is confined, and a thread of it receives with a reply, which then holds the
-/// thread where its label has no edge for it.
+/// A law: safety needs that a reply may hold who uses it (the rule P7).
+///
+/// There is a system that breaks no other rule and whose boot state is confined. A thread of it
+/// receives with a reply, which then holds the thread where its label has no edge for it.
 pub fn safety_needs_replies_to_hold()
     ensures { UnsafeWithout reply_holds }
 {}
 
-/// A law: safety needs that who may bind a context may run on it (the rule P6). There is a system that breaks
-/// no other rule and whose boot state is confined, and a thread of it binds another label's context to a
-/// second thread, which then runs on it where its label has no edge for it.
+/// A law: safety needs that who may bind a context may run on it (the rule P6).
+///
+/// There is a system that breaks no other rule and whose boot state is confined. A thread of it
+/// binds another label's context to a second thread, which then runs on it where its label has no
+/// edge for it.
 pub fn safety_needs_contexts_to_run()
     ensures { UnsafeWithout context_runs }
 {}
 
-/// A law: safety needs that who may be lent a context may run on it (the rule P8). There is a system that
-/// breaks no other rule and whose boot state is confined, and a thread of it calls another that waits
-/// without a context, which then runs on the caller's where its label has no edge for it.
+/// A law: safety needs that who may be lent a context may run on it (the rule P8).
+///
+/// There is a system that breaks no other rule and whose boot state is confined. A thread of it
+/// calls another that waits without a context, which then runs on the caller's where its label has
+/// no edge for it.
 pub fn safety_needs_lenders_to_share()
     ensures { UnsafeWithout lent_runs }
 {}

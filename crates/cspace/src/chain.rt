@@ -1,3 +1,4 @@
+//! A law about the chain of capabilities that a look-up follows.
 ghost use Rattle.std.specs.Prelude.{ℕ, ◌++◌, ◌↔◌, ◌≡◌, ◌⊎◌, Bool, Err, List, None, Ok, Some, length};
 ghost use Rattle.base.specs.declared.{ids.{ObjId.ObjId as Id, SlotRef.SlotRef as Slot}, refusal.Cause.TheVariants.FailedLookup};
 ghost use Rattle.base.specs.declared.refusal.LookupFailure.{LookupFailure as Failure, TheVariants.MissingCapability};
@@ -5,8 +6,10 @@ ghost use Rattle.machine.specs.{Bits.bits, Lookup.{Level, lookup_of}, Machine.{M
 ghost use Rattle.cspace.specs.Chain.{Fails, Finds, IsWhole, Leads, Link, Misses, Resolves, TakesBits, selected, spelled, taken};
 ghost use Rattle.cspace.specs.Roots.{root_level};
 
-/// A law: a lookup ends just where a chain of CNode capabilities does whose guards and indices,
-/// joined, are a beginning of the address. So it ends in one way only, and by one chain.
+/// A law: a lookup ends exactly where a chain of CNode capabilities does whose guards and indices,
+/// joined, are a beginning of the address.
+///
+/// So a lookup ends in one way only, and by one chain.
 ///
 /// Some clauses need that each CNode takes a bit, `TakesBits`. Every [`State`](objects::State) does
 /// so, and [`resolve`](crate::resolve) says the same of it without that premise.

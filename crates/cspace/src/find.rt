@@ -1,3 +1,4 @@
+//! What a thread finds at an address: a capability, or an object of one kind.
 ghost use Rattle.std.specs.Prelude.{◌≡◌};
 ghost use Rattle.machine.specs.Step.Find.{find_cap, find_context, find_control, find_endpoint, find_frame, find_notification, find_reply};
 ghost use Rattle.machine.specs.Step.Find.{find_tcb, permitted};
@@ -7,9 +8,11 @@ use base::{Cause, ObjId, Rights, SlotRef};
 use machine::{Badged, Cap, Detail};
 use objects::State;
 
-/// The slot at an address in a thread's capability space, and the capability that it holds.
+/// Returns the slot at an address in a thread's capability space, and the capability that it holds.
 ///
-/// It fails as [`resolve`] does, and with an invalid capability where the slot is empty.
+/// # Errors
+///
+/// Those of [`resolve`], and [`Cause::InvalidCapability`] (2) where the slot is empty.
 #[tactic(auto, unfolding(machine::specs::Step::Find::find_cap))]
 pub fn find_cap(state: &State, caller: ObjId, address: u64) -> Result<(SlotRef, Cap), Cause>
     ensures { result ≡ find_cap state.now caller address }
@@ -21,10 +24,12 @@ pub fn find_cap(state: &State, caller: ObjId, address: u64) -> Result<(SlotRef, 
     }
 }
 
-/// The notification at an address in a thread's capability space, with the rights and the badge of the
-/// capability (seL4 manual, "Notifications").
+/// Returns the notification at an address in a thread's capability space, with the rights and the
+/// badge of the capability (seL4 manual, "Notifications").
 ///
-/// It fails as [`find_cap`] does, and with an invalid capability where the capability is of another
+/// # Errors
+///
+/// Those of [`find_cap`], and [`Cause::InvalidCapability`] (2) where the capability is of another
 /// kind.
 #[tactic(auto, unfolding(machine::specs::Step::Find::find_notification))]
 pub fn find_notification(
@@ -41,10 +46,13 @@ pub fn find_notification(
     }
 }
 
-/// The endpoint at an address in a thread's capability space, with the rights and the badge of the
-/// capability (seL4 manual, "Endpoints").
+/// Returns the endpoint at an address in a thread's capability space, with the rights and the badge
+/// of the capability (seL4 manual, "Endpoints").
 ///
-/// It fails as [`find_notification`] does.
+/// # Errors
+///
+/// Those of [`find_cap`], and [`Cause::InvalidCapability`] (2) where the capability is of another
+/// kind.
 #[tactic(auto, unfolding(machine::specs::Step::Find::find_endpoint))]
 pub fn find_endpoint(state: &State, caller: ObjId, address: u64) -> Result<(ObjId, Badged), Cause>
     ensures { result ≡ find_endpoint state.now caller address }
@@ -56,9 +64,12 @@ pub fn find_endpoint(state: &State, caller: ObjId, address: u64) -> Result<(ObjI
     }
 }
 
-/// The reply at an address in a thread's capability space (seL4 manual, "Reply objects").
+/// Returns the reply at an address in a thread's capability space (seL4 manual, "Reply objects").
 ///
-/// It fails as [`find_notification`] does.
+/// # Errors
+///
+/// Those of [`find_cap`], and [`Cause::InvalidCapability`] (2) where the capability is of another
+/// kind.
 #[tactic(auto, unfolding(machine::specs::Step::Find::find_reply))]
 pub fn find_reply(state: &State, caller: ObjId, address: u64) -> Result<ObjId, Cause>
     ensures { result ≡ find_reply state.now caller address }
@@ -70,10 +81,13 @@ pub fn find_reply(state: &State, caller: ObjId, address: u64) -> Result<ObjId, C
     }
 }
 
-/// The frame at an address in a thread's capability space, with the rights of the capability (seL4
-/// manual, "Virtual Memory").
+/// Returns the frame at an address in a thread's capability space, with the rights of the
+/// capability (seL4 manual, "Virtual Memory").
 ///
-/// It fails as [`find_notification`] does.
+/// # Errors
+///
+/// Those of [`find_cap`], and [`Cause::InvalidCapability`] (2) where the capability is of another
+/// kind.
 #[tactic(auto, unfolding(machine::specs::Step::Find::find_frame))]
 pub fn find_frame(state: &State, caller: ObjId, address: u64) -> Result<(ObjId, Rights), Cause>
     ensures { result ≡ find_frame state.now caller address }
@@ -85,10 +99,13 @@ pub fn find_frame(state: &State, caller: ObjId, address: u64) -> Result<(ObjId, 
     }
 }
 
-/// The thread at an address in another's capability space, and the slot with its capability (seL4
-/// manual, "Threads and Execution").
+/// Returns the thread at an address in another's capability space, and the slot with its capability
+/// (seL4 manual, "Threads and Execution").
 ///
-/// It fails as [`find_notification`] does.
+/// # Errors
+///
+/// Those of [`find_cap`], and [`Cause::InvalidCapability`] (2) where the capability is of another
+/// kind.
 #[tactic(auto, unfolding(machine::specs::Step::Find::find_tcb))]
 pub fn find_tcb(state: &State, caller: ObjId, address: u64) -> Result<(SlotRef, ObjId), Cause>
     ensures { result ≡ find_tcb state.now caller address }
@@ -100,10 +117,13 @@ pub fn find_tcb(state: &State, caller: ObjId, address: u64) -> Result<(SlotRef, 
     }
 }
 
-/// The scheduling context at an address in a thread's capability space (seL4 manual, "Scheduling
-/// Contexts").
+/// Returns the scheduling context at an address in a thread's capability space (seL4 manual,
+/// "Scheduling Contexts").
 ///
-/// It fails as [`find_notification`] does.
+/// # Errors
+///
+/// Those of [`find_cap`], and [`Cause::InvalidCapability`] (2) where the capability is of another
+/// kind.
 #[tactic(auto, unfolding(machine::specs::Step::Find::find_context))]
 pub fn find_context(state: &State, caller: ObjId, address: u64) -> Result<ObjId, Cause>
     ensures { result ≡ find_context state.now caller address }
@@ -115,9 +135,13 @@ pub fn find_context(state: &State, caller: ObjId, address: u64) -> Result<ObjId,
     }
 }
 
-/// The control of a core at an address in a thread's capability space (seL4 manual, "SchedControl").
+/// Returns the control of a core at an address in a thread's capability space (seL4 manual,
+/// "SchedControl").
 ///
-/// It fails as [`find_notification`] does.
+/// # Errors
+///
+/// Those of [`find_cap`], and [`Cause::InvalidCapability`] (2) where the capability is of another
+/// kind.
 #[tactic(auto, unfolding(machine::specs::Step::Find::find_control))]
 pub fn find_control(state: &State, caller: ObjId, address: u64) -> Result<ObjId, Cause>
     ensures { result ≡ find_control state.now caller address }
@@ -130,6 +154,10 @@ pub fn find_control(state: &State, caller: ObjId, address: u64) -> Result<ObjId,
 }
 
 /// Refuses where a capability lacks the right that a call needs (seL4 manual, "Access Rights").
+///
+/// # Errors
+///
+/// [`Cause::InvalidCapability`] (2) where `allowed` is false.
 pub fn permit(allowed: bool) -> Result<(), Cause>
     ensures { result ≡ permitted allowed }
 {

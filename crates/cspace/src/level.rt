@@ -1,3 +1,4 @@
+//! A CNode as one step of a look-up.
 ghost use Rattle.std.specs.{Option.option_map, Prelude.{◌<◌, ◌≡◌, ◌≤◌, IfOk, IfSome}};
 ghost use Rattle.machine.specs.{Bits.{after, bits}, Lookup.hop};
 ghost use Rattle.cspace.specs.Strings.{level_shown, place_shown};
@@ -34,7 +35,13 @@ fn after_guard(guard: Guard, address: u64, left: u32) -> Option<u32>
 }
 
 impl Level {
-    /// The slot that the low `left` bits of an address select here, and how many bits are left then.
+    /// Returns the slot that the low `left` bits of an address select here, and the number of bits
+    /// that are left then.
+    ///
+    /// # Errors
+    ///
+    /// [`LookupFailure::GuardMismatch`] where the bits don't begin with the guard, and
+    /// [`LookupFailure::DepthMismatch`] where fewer are left after it than the radix.
     pub fn select(self, address: u64, left: u32) -> Result<(SlotRef, u32), LookupFailure>
         requires { left ≤ 64 }
         ensures value { place_shown address result ≡ hop (level_shown self) (bits left address) }

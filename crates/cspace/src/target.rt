@@ -1,3 +1,4 @@
+//! The slot that a call names by an index and a depth.
 ghost use Rattle.std.specs.Prelude.{◌↔◌, ◌≡◌, ◌≢◌, ◌⊎◌, IfErr, IfOk, IsErrAnd};
 ghost use Rattle.base.specs.declared.{ids.SlotRef.SlotRef as Slot, refusal.Cause.{Cause as Why, TheVariants.FailedLookup}};
 ghost use Rattle.base.specs.{declared.refusal.LookupFailure.TheVariants.MissingCapability, Refusals.refusal_of};
@@ -19,8 +20,11 @@ fn exactly(slot: SlotRef, left: u32) -> Result<SlotRef, Cause>
     Ok(slot)
 }
 
-/// The slot where a walk ends that takes the low `depth` bits of an index, from a CNode on. It fails as [`resolve_target`] does where
-/// the CNode is that of the slot's capability.
+/// Returns the slot where a walk ends that takes the low `depth` bits of an index, from a CNode on.
+///
+/// # Errors
+///
+/// Those of [`resolve_target`], where the CNode is that of the slot's capability.
 #[tactic(auto, unfolding(crate::specs::Below::target_below))]
 pub fn target_below(state: &State, level: &Level, index: u64, depth: u64) -> Result<SlotRef, Cause>
     ensures { result ≡ target_below state.now (level_shown level.now) index depth }
@@ -43,14 +47,22 @@ fn walk_target(state: &State, from: SlotRef, index: u64, depth: u64) -> Result<S
     target_below(state, &level, index, depth)
 }
 
-/// The slot to which the low `depth` bits of an index lead, from the CNode whose capability the
-/// slot `from` holds (seL4 manual, "Capability Address Lookup"). The slot may be empty.
+/// Returns the slot to which the low `depth` bits of an index lead, from the CNode whose capability
+/// the slot `from` holds (seL4 manual, "Capability Address Lookup").
 ///
-/// It finds a slot exactly where a chain of CNode capabilities ends whose guards and indices,
-/// joined, are these bits, and there is one such chain. It fails with an invalid root where
-/// `from` holds no CNode capability, with a range error where the depth isn't from 1 to 64, with
-/// a guard or depth mismatch where a CNode on the way selects no slot, and with a depth mismatch
-/// where bits are left at a slot that holds no CNode capability.
+/// The slot may be empty. It is found exactly where a chain of CNode capabilities ends whose guards
+/// and indices, joined, are these bits, and there is one such chain.
+///
+/// # Errors
+///
+/// In this order:
+///
+/// - [`Cause::FailedLookup`] (6) with `InvalidRoot`, where `from` holds no CNode capability
+/// - [`Cause::RangeError`] (4), where the depth isn't from 1 to 64
+/// - [`Cause::FailedLookup`] (6) with `GuardMismatch` or `DepthMismatch`, where a CNode on the way
+///   selects no slot
+/// - [`Cause::FailedLookup`] (6) with `DepthMismatch`, where bits are left at a slot that holds no
+///   CNode capability.
 pub fn resolve_target(
     state: &State,
     from: SlotRef,
@@ -71,7 +83,11 @@ pub fn resolve_target(
     walk_target(state, from, index, depth)
 }
 
-/// The same as [`resolve_target`], but a failure is a refusal as it is written.
+/// Returns the slot that [`resolve_target`] finds, or its failure as a refusal.
+///
+/// # Errors
+///
+/// Those of [`resolve_target`] as a [`Refusal`]: 4, or 6 with the detail of the failure.
 pub fn lookup_target(
     state: &State,
     from: SlotRef,

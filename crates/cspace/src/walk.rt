@@ -1,3 +1,4 @@
+//! Look-ups of addresses in a thread's capability space.
 ghost use Rattle.std.specs.{Option.option_map, Prelude.{ℕ, ◌<◌, ◌↔◌, ◌≡◌, ◌≢◌, ◌≤◌, ◌⊎◌, IfErr, IfOk, IsErrAnd, Some}};
 ghost use Rattle.base.specs.declared.{ids.SlotRef.SlotRef as Slot, refusal.Cause.TheVariants.FailedLookup};
 ghost use Rattle.base.specs.{declared.refusal.LookupFailure.{LookupFailure as Failure, TheVariants.MissingCapability}, Refusals.refusal_of};
@@ -9,7 +10,7 @@ use base::{Cause, LookupFailure, ObjId, Refusal, SlotRef};
 use machine::{Cap, Detail, Object};
 use objects::State;
 
-/// The CNode that a capability shows, if it is a CNode's.
+/// Returns the CNode that a capability shows, if it is a CNode's.
 pub fn level_of_cap(state: &State, cap: &Cap) -> Option<Level>
     ensures { option_map level_shown result ≡ level_of_cap state.now (Some cap.now) }
 {
@@ -26,7 +27,7 @@ pub fn level_of_cap(state: &State, cap: &Cap) -> Option<Level>
     })
 }
 
-/// The CNode whose capability the slot holds.
+/// Returns the CNode whose capability the slot holds, if it holds one.
 #[tactic(auto, unfolding(machine::specs::Lookup::level_at))]
 pub fn level_at(state: &State, slot: SlotRef) -> Option<Level>
     ensures { option_map level_shown result ≡ level_at state.now slot }
@@ -66,13 +67,19 @@ pub(crate) fn walk(
     }
 }
 
-/// The slot at an address in a thread's capability space, and how many of the address's 64 bits are
-/// left there (seL4 manual, "Capability Address Lookup"). The slot may be empty.
+/// Returns the slot at an address in a thread's capability space, and the number of the address's
+/// 64 bits that are left there (seL4 manual, "Capability Address Lookup").
 ///
-/// It fails with an invalid root where the number is no thread's or the thread's root holds no CNode
-/// capability, and with a guard or depth mismatch where a CNode on the way selects no slot. It finds
-/// a slot exactly where a chain of CNode capabilities ends whose guards and indices, joined, begin the
-/// address, and there is one such chain.
+/// The slot may be empty. It is found exactly where a chain of CNode capabilities ends whose guards
+/// and indices, joined, begin the address, and there is one such chain.
+///
+/// # Errors
+///
+/// [`Cause::FailedLookup`] (6):
+///
+/// - with `InvalidRoot`, where the number is no thread's or the thread's root holds no CNode
+///   capability
+/// - with `GuardMismatch` or `DepthMismatch`, where a CNode on the way selects no slot.
 pub fn resolve(state: &State, thread: ObjId, address: u64) -> Result<(SlotRef, u32), Cause>
     ensures value { result ≡ lookup_of state.now thread address }
     ensures found { (slot : Slot) (left : ℕ) → (result ≡ Ok (slot, left)) ↔ Finds state.now thread address slot left }
@@ -91,8 +98,11 @@ pub fn resolve(state: &State, thread: ObjId, address: u64) -> Result<(SlotRef, u
     walk(state, root, address, u64::BITS).map_err(Cause::FailedLookup)
 }
 
-/// The same as [`resolve`], but a failure is a refusal as it is written: code 6, with the detail of
-/// the failure.
+/// Returns what [`resolve`] finds, or its failure as a refusal.
+///
+/// # Errors
+///
+/// Those of [`resolve`] as a [`Refusal`]: 6, with the detail of the failure.
 pub fn lookup(state: &State, thread: ObjId, address: u64) -> Result<(SlotRef, u32), Refusal>
     ensures value { IfOk result (λ place. lookup_of state.now thread address ≡ Ok place) }
     ensures refusal { IfErr result (λ refusal.

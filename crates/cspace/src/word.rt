@@ -1,6 +1,7 @@
+//! The bits of a word.
 ghost use Rattle.std.specs.Prelude.{◌%◌, ◌+◌, ◌/◌, ◌^◌, ◌≡◌, ◌≤◌};
 
-/// The `size` bits of a word from bit `low` on.
+/// Returns the `size` bits of a word from bit `low` on.
 pub fn field(word: u64, low: u32, size: u32) -> u64
     requires { low + size ≤ 64 }
     ensures { result ≡ word / 2 ^ low % 2 ^ size }

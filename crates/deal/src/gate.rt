@@ -1,10 +1,12 @@
 //! The gate that workers pass before they work.
 ghost use Rattle.std.specs.Prelude.{ℕ};
 
-/// What each worker passes before it works. It returns; a test may hold a worker in it for a while, to
-/// see that others work beside it.
+/// A gate that each worker passes before it works.
+///
+/// The gate returns; a test may hold a worker in it for a while, to see that others work beside it.
 pub trait Gate {
-    // That the worker of a number has arrived. No caller knows it but by `arrive`: so work that asks for it comes after that.
+    // That the worker of a number has arrived. No caller knows it but by `arrive`: so work that
+    // asks for it comes after that.
     ghost HasArrived: { Self → ℕ → Type 0 } = { λ gate worker. Unit {0} };
 
     /// Lets the worker of this number, from 0, arrive.

@@ -1,9 +1,10 @@
+//! The work that is dealt to workers.
 ghost use Rattle.std.specs.Prelude.{◌≡◌, IfErr, IfOk};
 ghost use Rattle.base.specs.Refusals.{out_of_memory};
 
 use base::Refusal;
 
-/// What is done with each item: a function of the item, unless memory is refused.
+/// The work that is done with each item: a function of the item, unless memory is refused.
 pub trait Work<T> {
     type Out;
 

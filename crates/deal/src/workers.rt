@@ -1,3 +1,4 @@
+//! How items are shared among workers.
 ghost use Rattle.std.specs.Prelude.{ℕ, ◌%◌, ◌*◌, ◌+◌, ◌/◌, ◌<◌, ◌≡◌, ◌≤◌, IfErr, IfOk, IfSome, length, map, min, slice_get};
 ghost use Rattle.base.specs.Refusals.{out_of_memory};
 ghost use Rattle.deal.specs.Shares.{share_of, start_of};
@@ -8,12 +9,13 @@ use std::alloc::Global;
 use std::thread;
 use std::thread::Threads;
 
-/// The results of the work on all items, in their order, by 1 to 16 workers side by side. Each worker
-/// arrives at the gate, and then works its own share: the shares are contiguous, and their lengths
-/// differ by at most one.
+/// Returns the results of the work on all items, in their order, by 1 to 16 workers side by side.
 ///
-/// It differs from a pool of threads by hand: where a thread can't be started, its share is worked in
-/// turn, so that a gate that waits for another worker may wait in vain.
+/// Each worker arrives at the gate, and then works its own share: the shares are contiguous, and
+/// their lengths differ by at most one.
+///
+/// It differs from a pool of threads by hand: where a thread can't be started, its share is worked
+/// in turn, so that a gate that waits for another worker may wait in vain.
 ///
 /// # Errors
 ///

@@ -1,3 +1,4 @@
+//! The descendants of a slot, one after another.
 ghost use Rattle.std.specs.Prelude.{Decides, List, None};
 ghost use Rattle.base.specs.declared.ids.SlotRef.{SlotRef as Slot};
 ghost use Rattle.machine.specs.Machine.{Machine};
@@ -8,11 +9,14 @@ use crate::tree::descends;
 use base::{ObjId, SlotRef};
 use objects::State;
 
-/// The lowest slot behind `last`, or of all where none is named, that descends from `above`. Slots rise by their holders, then by their
-/// indices.
+/// Returns the lowest slot behind `last`, or of all where none is named, that descends from
+/// `above`.
 ///
-/// So from no slot on, and given its last answer, it names each slot that descends from `above` once, and then none
-/// ([`descendants_are_named_once`]). It goes through the slots of all objects, and up the tree from each.
+/// Slots rise by their holders, then by their indices.
+///
+/// So from no slot on, and given its last answer, it names each slot that descends from `above`
+/// once, and then none ([`descendants_are_named_once`]). It goes through the slots of all objects,
+/// and up the tree from each.
 pub fn next_descendant(state: &State, above: SlotRef, last: Option<SlotRef>) -> Option<SlotRef>
     ensures { IsNextDescendant state.now above last result }
 {
@@ -54,7 +58,8 @@ fn is_behind(last: Option<SlotRef>, slot: SlotRef) -> bool
     }
 }
 
-/// A law: the answers of [`next_descendant`], from none on and each given the one before, are all that descends from a slot, each once.
+/// A law: the answers of [`next_descendant`], from none on and each given the one before, are all
+/// that descends from a slot, each once.
 pub fn descendants_are_named_once()
     ensures { (m : Machine) (above : Slot) (slots : List Slot) → AreNamed m above None slots → AreAllDescendants m above slots }
 {}

@@ -1,3 +1,4 @@
+//! How the slots of objects that are going leave the derivation tree.
 ghost use Rattle.std.specs.Prelude.{◌≡◌, Contains, None, Some};
 ghost use Rattle.base.specs.declared.ids.SlotRef.{SlotRef as Slot};
 ghost use Rattle.machine.specs.Machine.{cap_of, parent_of};
@@ -7,8 +8,10 @@ use crate::raising::raise_slots_of;
 use crate::removing::remove_slots_of;
 use objects::State;
 
-/// Takes each slot of the objects that are going out of the tree. Those of them that have children are
-/// empty. It takes time in the number of these slots and of their children.
+/// Takes each slot of the objects that are going out of the tree.
+///
+/// The slots that have children are empty. It takes time in the number of these slots and of their
+/// children.
 pub fn leave_tree(state: &mut State)
     requires { (slot parent : Slot) → parent_of state.old slot ≡ Some parent
         → Contains state.old.going parent.holder → cap_of state.old parent ≡ None }

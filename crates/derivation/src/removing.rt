@@ -1,3 +1,4 @@
+//! How one slot leaves the derivation tree.
 ghost use Rattle.std.specs.Prelude.{◌≡◌, None, Some};
 ghost use Rattle.base.specs.declared.ids.SlotRef.{SlotRef as Slot};
 ghost use Rattle.machine.specs.Machine.{parent_of, same_slot};
@@ -8,8 +9,10 @@ use crate::tree::hand_over;
 use base::{ObjId, SlotRef};
 use objects::State;
 
-/// Takes a slot out of the tree. Its children come under its parent; where it has none, they have
-/// none. It takes time in the number of children.
+/// Takes a slot out of the tree.
+///
+/// The slot's children come under its parent; where it has none, they have none. The call takes
+/// time in the number of children.
 pub fn remove_node(state: &mut State, slot: SlotRef)
     ensures { HasParents state.old state.new (parent_without state.old slot) }
 {

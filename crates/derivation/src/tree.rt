@@ -1,3 +1,4 @@
+//! How capabilities enter the derivation tree and move in it.
 ghost use Rattle.std.specs.Prelude.{◌↔◌, ◌≡◌, ◌≢◌, IsSome, IsTrue, Some};
 ghost use Rattle.base.specs.declared.ids.SlotRef.{SlotRef as Slot};
 ghost use Rattle.machine.specs.{Machine.{cap_of, has_slot, parent_of, with_parent}, Tree.{IsAlone, with_exchanged}, WellFormed.Descends};
@@ -22,7 +23,9 @@ pub fn insert_child(state: &mut State, slot: SlotRef, parent: SlotRef)
 }
 
 /// Gives the place of `from` in the tree to `to`, which is in no pair: its parent, and its
-/// children. It takes time in the number of children.
+/// children.
+///
+/// The call takes time in the number of children.
 pub fn move_node(state: &mut State, from: SlotRef, to: SlotRef)
     requires target { IsSome (cap_of state.old to) }
     requires alone { IsAlone state.old to }
@@ -64,8 +67,10 @@ pub(crate) fn hand_over(state: &mut State, from: SlotRef, to: SlotRef)
     }
 }
 
-/// Whether one slot descends from another: is its child, or a child of what descends from it. It
-/// takes time in the length of the way up.
+/// Returns whether one slot descends from another: is its child, or a child of what descends from
+/// it.
+///
+/// The call takes time in the length of the way up.
 pub fn descends(state: &State, slot: SlotRef, above: SlotRef) -> bool
     ensures { IsTrue result ↔ Descends state.now slot above }
 {

@@ -1,9 +1,12 @@
+//! A reader with a limit.
 ghost use Rattle.std.specs.{Io.{ReadsAtMost, KnownBytes.ReadConsumes}, Prelude.{◌≡◌, IfNone, IfOk, IfSome, IsErr, OnErr}};
 
 use std::io::{self, ErrorKind, Read};
 
-/// A reader of which so many bytes can be read. Once more were read it fails, as a device does: so of one that has more, or that
-/// never ends, nobody takes a beginning for the whole.
+/// A reader of which only a limited number of bytes can be read.
+///
+/// Once more were read it fails, as a device does. So nobody takes a beginning for the whole, of a
+/// reader that has more or that never ends.
 #[derive(Drop)]
 pub struct Bounded<R> {
     reader: R,
@@ -13,7 +16,7 @@ pub struct Bounded<R> {
 impl<R> Bounded<R> {
     ghost use Rattle.devices.specs.Bounded.{bounded};
 
-    /// A reader of which `limit` bytes can be read.
+    /// Returns a reader of which `limit` bytes can be read.
     pub fn new(reader: R, limit: u64) -> Bounded<R>
         ensures { result ≡ bounded reader limit }
     {

@@ -1,3 +1,4 @@
+//! A file as a source, also where it couldn't be opened.
 ghost use Rattle.std.specs.{Io.{ReadsAtMost, KnownBytes.ReadConsumes}, IoError.error_kind, Prelude.{◌≡◌, IsErrAnd, None}};
 ghost use Rattle.devices.specs.Opened.{opened, unopened};
 
@@ -20,7 +21,9 @@ impl Read for Unopened {
     }
 }
 
-/// What opening a file gave, as a source: one that couldn't be opened fails as it is read.
+/// Returns what opening a file gave, as a source.
+///
+/// A file that couldn't be opened fails as it is read.
 pub fn open_result<F>(file: io::Result<F>) -> Watched<Either<F, Unopened>>
     ensures { result ≡ opened file }
 {

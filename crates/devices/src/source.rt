@@ -1,3 +1,4 @@
+//! The sources that texts are read from.
 ghost use Rattle.std.specs.{Io.{ReadsAtMost, KnownBytes.ReadConsumes}, IoError.error_kind, Prelude.{ℕ, ◌≡◌, Bool, IfOk, IfSome, List}};
 ghost use Rattle.std.specs.Prelude.{Option, false};
 ghost use Rattle.devices.specs.Devices.{is_failure, read_error_of};
@@ -6,7 +7,7 @@ use std::alloc::Global;
 use std::io::{self, ErrorKind};
 use thiserror::Error;
 
-/// Why a source wasn't read.
+/// The reason why a source wasn't read.
 #[derive(Clone, Copy, PartialEq, Eq, Debug, Error)]
 pub enum ReadError {
     #[error("no memory")]
@@ -30,7 +31,9 @@ impl From<io::Error> for ReadError {
 /// How many bytes a source is asked for at a time.
 const MOST: usize = 8 * 1024;
 
-/// What a text is read from. A source that failed isn't asked again.
+/// A device that a text is read from.
+///
+/// A source that failed isn't asked again.
 pub trait Source {
     // The bytes that are left to read, where they are known.
     ghost remaining: { Self → Option (List ℕ) };
@@ -38,6 +41,11 @@ pub trait Source {
     ghost failed: { Self → Bool };
 
     /// Reads as many bytes as the device gives, at most as many as `buf` has room for.
+    ///
+    /// # Errors
+    ///
+    /// [`ReadError::Failed`] where the device fails, and [`ReadError::NoMemory`] where memory is
+    /// refused.
     fn read(&mut self, buf: &mut [u8]) -> Result<usize, ReadError>
         requires { failed self.old ≡ false }
         ensures bound { ReadsAtMost result buf.new }
@@ -45,6 +53,11 @@ pub trait Source {
         ensures told { failed self.new ≡ is_failure result };
 
     /// Reads all the bytes that are left.
+    ///
+    /// # Errors
+    ///
+    /// [`ReadError::Failed`] where the device fails, and [`ReadError::NoMemory`] where memory is
+    /// refused.
     #[tactic(auto, using(crate::proofs::Reading::none_read, crate::proofs::Reading::more_read, crate::proofs::Reading::all_read))]
     final fn read_whole(&mut self, alloc: Global) -> Result<Vec<u8>, ReadError>
     where

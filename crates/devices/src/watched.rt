@@ -1,11 +1,14 @@
+//! A device that keeps whether it failed.
 ghost use Rattle.std.specs.{Io.{ReadsAtMost, WritesAtMost, KnownBytes.{Keeps, ReadConsumes, WriteAppends}}, IoError.error_kind};
 ghost use Rattle.std.specs.Prelude.{◌<◌, ◌↔◌, ◌≡◌, ◌≢◌, IfErr, IfOk, IsErr, IsErrAnd, IsOk, IsTrue, Ok, OnErr, OnOk};
 
 use crate::{ReadError, Sink, Source, WriteError};
 use std::io::{self, ErrorKind, Read, Write};
 
-/// A reader or a writer that keeps whether one of its calls failed. One that was interrupted is asked
-/// again, as by the calls of `std::io`, and has failed only if it is interrupted 2^64 - 1 times.
+/// A reader or a writer that keeps whether one of its calls failed.
+///
+/// A call that was interrupted is made again, as by the calls of `std::io`, and has failed only if
+/// it is interrupted 2^64 - 1 times.
 #[derive(Drop)]
 pub struct Watched<D> {
     device: D,
@@ -18,7 +21,7 @@ pub struct Watched<D> {
 impl<D> Watched<D> {
     ghost use Rattle.devices.specs.Watched.{device_of, watched, why_unread};
 
-    /// A device that hasn't failed.
+    /// Returns a device that hasn't failed.
     pub fn new(device: D) -> Watched<D>
         ensures { result ≡ watched device }
     {
@@ -30,14 +33,14 @@ impl<D> Watched<D> {
         }
     }
 
-    /// Why the last read failed that did, if one did.
+    /// Returns why the last read that failed did so, if one failed.
     pub fn why_unread(&self) -> Option<ErrorKind>
         ensures { result ≡ why_unread self.now }
     {
         self.why
     }
 
-    /// The device itself.
+    /// Returns the device itself.
     pub fn into_inner(self) -> D
         ensures { result ≡ device_of self }
     {

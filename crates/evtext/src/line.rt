@@ -1,3 +1,4 @@
+//! An event as a line of a script or a log has it.
 ghost use Rattle.std.specs.{Prelude.◌≡◌, Str.bytes_eq};
 ghost use Rattle.words.specs.Reading.{Gives};
 ghost use Rattle.evtext.specs.Event.{event_at, within_limits};

@@ -1,3 +1,4 @@
+//! How logs are read and written.
 ghost use Rattle.std.specs.{List.zip, Prelude.{ℕ, ◌++◌, ◌≡◌, ◌≢◌, Err, IfErr, IfOk, List, Ok, OnOk}};
 ghost use Rattle.base.specs.Refusals.{out_of_memory};
 ghost use Rattle.machine.specs.declared.call.{Event.Event as EventOf, Outcome.Outcome as OutcomeOf};
@@ -13,10 +14,12 @@ use machine::{Event, Log, Outcome};
 use std::alloc::{AllocError, Global};
 use words::{Fault, LineError, Reader, Words, Wrong, read_text};
 
-/// Reads a log, whichever outcomes its events have.
+/// Reads the text of a log, whichever outcomes its events have.
 ///
-/// Fault 50 is for a line that isn't a line of a log, 54 for a core that is none or an event too
-/// many, and 40, which has line 0, for want of memory.
+/// # Errors
+///
+/// The first fault of the text: 50 for a line that isn't a line of a log, and 54 for a core that is
+/// none or an event too many. It is 40, at line 0, where memory is refused.
 pub fn read_log(alloc: Global, text: &[u8]) -> Result<Log, Fault>
     ensures exact { Reads (λ log. log.items) result (read_log_of text.now) }
 
@@ -83,9 +86,11 @@ fn log_line(words: &mut Words<'_>, before: usize) -> Result<(Event, Outcome), Wr
     Ok((event, outcome))
 }
 
-/// The text of the log.
+/// Returns the text of the log.
 ///
-/// Refused with 40 for want of memory alone.
+/// # Errors
+///
+/// 40 where memory is refused.
 #[tactic(auto, using(crate::proofs::LogTexts::log_is_read))]
 pub fn write_log(alloc: Global, log: &Log) -> Result<Vec<u8>, Refusal>
     ensures text { IfOk result (λ text. text.items ≡ log_text log.now.items) }
@@ -97,10 +102,14 @@ pub fn write_log(alloc: Global, log: &Log) -> Result<Vec<u8>, Refusal>
     Ok(log_bytes(alloc, log)?)
 }
 
-/// The text of the log of these events with these outcomes, the first with the first and so on, as far as
-/// there are both. No list of pairs is made for it.
+/// Returns the text of the log of these events with these outcomes.
 ///
-/// Refused with 40 for want of memory alone.
+/// The first event has the first outcome and so on, as far as there are both. No list of pairs is
+/// made for it.
+///
+/// # Errors
+///
+/// 40 where memory is refused.
 pub fn write_run(alloc: Global, events: &[Event], outcomes: &[Outcome]) -> Result<Vec<u8>, Refusal>
     ensures text { IfOk result (λ text. text.items ≡ log_text (zip events.now outcomes.now)) }
     ensures memory { IfErr result (λ refusal. refusal ≡ out_of_memory) }
@@ -108,7 +117,11 @@ pub fn write_run(alloc: Global, events: &[Event], outcomes: &[Outcome]) -> Resul
     Ok(run_bytes(alloc, events, outcomes)?)
 }
 
-/// The line of a log that has the event and its outcome.
+/// Returns the line of a log that has the event and its outcome.
+///
+/// # Errors
+///
+/// [`AllocError`] where memory is refused.
 pub fn entry_line(alloc: Global, event: &Event, outcome: &Outcome) -> Result<Vec<u8>, AllocError>
     ensures { IfOk result (λ line. line.items ≡ line_text (entry_words (event.now, outcome.now))) }
 {

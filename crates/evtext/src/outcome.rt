@@ -1,3 +1,4 @@
+//! Outcomes as the lines of a log have them.
 ghost use Rattle.std.specs.Prelude.{◌≡◌};
 ghost use Rattle.machine.specs.declared.call.Outcome.TheVariants.{Done};
 ghost use Rattle.words.specs.{Number.number_at, Parts.{in_turn, read_as}, Reading.Gives};

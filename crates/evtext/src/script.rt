@@ -1,3 +1,4 @@
+//! How scripts are read and written.
 ghost use Rattle.std.specs.Prelude.{ℕ, ◌++◌, ◌≡◌, ◌≢◌, IfErr, IfOk, List, Ok, OnOk};
 ghost use Rattle.base.specs.Refusals.{out_of_memory};
 ghost use Rattle.machine.specs.declared.call.Event.{Event as EventOf};
@@ -12,10 +13,12 @@ use machine::Event;
 use std::alloc::{AllocError, Global};
 use words::{Fault, LineError, Reader, Words, Wrong, read_text};
 
-/// Reads a script.
+/// Reads the text of a script.
 ///
-/// Fault 50 is for a line that isn't a line of a script, 54 for a core that is none or an event too
-/// many, and 40, which has line 0, for want of memory.
+/// # Errors
+///
+/// The first fault of the text: 50 for a line that isn't a line of a script, and 54 for a core that
+/// is none or an event too many. It is 40, at line 0, where memory is refused.
 pub fn read_script(alloc: Global, text: &[u8]) -> Result<Vec<Event>, Fault>
     ensures exact { Reads (λ events. events.items) result (read_script_of text.now) }
 
@@ -81,8 +84,9 @@ fn script_line(words: &mut Words<'_>, before: usize) -> Result<Event, Wrong>
     })
 }
 
-/// The text of a script, which has at most 1,000,000 events. A text that was read as these events is
-/// this one.
+/// Returns the text of a script, which has at most 1,000,000 events.
+///
+/// A text that was read as these events is this one.
 ///
 /// # Errors
 ///

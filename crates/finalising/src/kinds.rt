@@ -1,3 +1,4 @@
+//! The links of an object that is going, kind by kind.
 ghost use Rattle.std.specs.Prelude.{◌≡◌};
 ghost use Rattle.machine.specs.{Releasing.{IsInItsQueue, with_halted, with_unbound}, WellFormed.LinksAgree};
 ghost use Rattle.finalising.specs.Finalised.{with_link_cut, with_links_cut, with_waiters_aborted};

@@ -1,3 +1,4 @@
+//! The release of who waits for objects that are going.
 ghost use Rattle.std.specs.{List.list_any, Prelude.◌≡◌};
 ghost use Rattle.machine.specs.{Machine.same_id, WellFormed.LinksAgree};
 ghost use Rattle.finalising.specs.Pass.{IsFinalised};
@@ -6,8 +7,9 @@ use crate::kinds::cut_links;
 use objects::State;
 use replies::unlink;
 
-/// Releases who waits for an object that is going, and cuts all links to such objects. Who is reached
-/// by a reply is halted first, so that it isn't aborted.
+/// Releases who waits for an object that is going, and cuts all links to such objects.
+///
+/// Who is reached by a reply is halted first, so that it isn't aborted.
 pub fn finalise(state: &mut State)
     requires { LinksAgree state.old }
     ensures { IsFinalised state.old (λ id. list_any (same_id id) state.old.going) state.new }

@@ -1,3 +1,4 @@
+//! The calls Read and Write, on the words of a frame.
 ghost use Rattle.std.specs.Prelude.{◌≡◌};
 ghost use Rattle.machine.specs.{Machine.words_of, Makes.Makes, Step.Words.{in_frame, read_of, word_in, write_of}, WellFormed.IsWellFormed};
 
@@ -26,13 +27,15 @@ fn word(state: &State, id: ObjId, index: u64) -> u64
     state.word(id, index).unwrap_or(0)
 }
 
-/// Reads the word of 64 bits at an index of the frame at an address. (confine's own: seL4 maps frames,
-/// and threads read them by their own instructions; seL4 manual, "Virtual Memory".)
+/// Reads the word of 64 bits at an index of the frame at an address.
+///
+/// (confine's own: seL4 maps frames, and threads read them by their own instructions; seL4 manual,
+/// "Virtual Memory".)
 ///
 /// # Errors
 ///
-/// Those of [`find_frame`], an invalid capability where the right Read is missing, and then a range
-/// error where the index isn't below 512.
+/// Those of [`find_frame`], [`Cause::InvalidCapability`] (2) where the right Read is missing, and
+/// then [`Cause::RangeError`] (4) where the index isn't below 512.
 #[tactic(auto, unfolding(machine::specs::Step::Words::read_of))]
 pub fn read_word(state: &State, caller: ObjId, address: u64, index: u64) -> Result<Made, Cause>
     ensures { Makes state.now state.now result (read_of state.now caller address index) }
@@ -61,13 +64,14 @@ fn make_write_word(
     Ok(Made::Done(Answer::Nothing))
 }
 
-/// Writes the word of 64 bits at an index of the frame at an address. (confine's own, as
-/// [`read_word`].)
+/// Writes the word of 64 bits at an index of the frame at an address.
+///
+/// (confine's own, as [`read_word`].)
 ///
 /// # Errors
 ///
-/// Those of [`find_frame`], an invalid capability where the right Write is missing, and then a range
-/// error where the index isn't below 512.
+/// Those of [`find_frame`], [`Cause::InvalidCapability`] (2) where the right Write is missing, and
+/// then [`Cause::RangeError`] (4) where the index isn't below 512.
 pub fn write_word(
     state: &mut State,
     caller: ObjId,

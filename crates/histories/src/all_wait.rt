@@ -62,7 +62,11 @@ fn has_all(rt: &impl Abort, ended: &Ended) {
     has_words_and_a_queue(rt, &ended.state);
 }
 
-/// Each of three threads sets a word of a frame, and waits for the same notification.
+/// Plays three threads that each set a word of a frame, and wait for the same notification.
+///
+/// # Errors
+///
+/// [`Fail`] where something that the test needs isn't made, or the kernel isn't closed.
 pub fn play_all_wait<J: Naming + Send + Sync, R: Abort + AllocGlobal + Threads + Wait + Sync>(
     rt: &R,
     table: &Table,

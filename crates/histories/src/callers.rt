@@ -53,22 +53,22 @@ impl<J: Naming> Caller<J> {
         self.seat
     }
 
-    /// The core that its calls are on.
+    /// Returns the core that its calls are on.
     pub fn core(&self) -> CoreNo {
         self.seat.core()
     }
 
-    /// Its place in the list of cores that the kernel was opened with.
+    /// Returns its place in the list of cores that the kernel was opened with.
     pub fn number(&self) -> u64 {
         self.seat.number()
     }
 
-    /// How many of its calls the log had room for.
+    /// Returns the number of its calls that the log had room for.
     pub fn entered(&self) -> u64 {
         self.entered
     }
 
-    /// How many of its calls found the log full.
+    /// Returns the number of its calls that found the log full.
     pub fn full(&self) -> u64 {
         self.full
     }
@@ -104,6 +104,10 @@ impl<J: Naming> Caller<J> {
     }
 
     /// Meets another of the same kernel.
+    ///
+    /// # Errors
+    ///
+    /// 42 where a seat is of another kernel.
     pub fn meet(&mut self, kernel: &Kernel<J>, other: &mut Caller<J>) -> Result<(), Refusal> {
         kernel.meet(&mut self.seat, &mut other.seat)?;
         Ok(())
@@ -123,6 +127,10 @@ impl<J: Naming> Caller<J> {
     }
 
     /// Meets one of another kernel, which comes second.
+    ///
+    /// # Errors
+    ///
+    /// 42 where a seat is of another kernel.
     pub fn meet_stranger<K: Naming>(
         &mut self,
         kernel: &Kernel<J>,
@@ -135,6 +143,10 @@ impl<J: Naming> Caller<J> {
     }
 
     /// Meets one of another kernel, which comes first.
+    ///
+    /// # Errors
+    ///
+    /// 42 where a seat is of another kernel.
     pub fn be_met<K: Naming>(
         &mut self,
         kernel: &Kernel<J>,
@@ -154,7 +166,7 @@ pub struct Running<J: Naming> {
     pub callers: Vec<Caller<J>>,
 }
 
-/// What is left of a kernel that was closed.
+/// The state and the log that are left of a kernel that was closed.
 #[derive(Drop)]
 pub struct Ended {
     pub state: State,
@@ -193,7 +205,11 @@ fn seats_of<J: Naming + Send + Sync, R: Threads + Sync>(
     )
 }
 
-/// The kernel by its name, with a caller for each seat.
+/// Returns the kernel by its name, with a caller for each seat.
+///
+/// # Errors
+///
+/// [`AllocError`] where memory is refused.
 pub fn with_callers<J: Naming + Send + Sync, R: Threads + Sync>(
     rt: &R,
     opened: Opened,
@@ -228,6 +244,10 @@ fn closed_with<J: Naming>(kernel: Kernel<J>, seats: &mut [Seat]) -> Result<Ended
 }
 
 /// Closes the kernel with the callers that are left.
+///
+/// # Errors
+///
+/// [`Fail`] where memory is refused, or the kernel isn't closed.
 pub fn closed<J: Naming + Send + Sync, R: Threads + Sync>(
     rt: &R,
     running: Running<J>,
@@ -247,6 +267,10 @@ pub fn closed<J: Naming + Send + Sync, R: Threads + Sync>(
 }
 
 /// Closes a kernel with no seat.
+///
+/// # Errors
+///
+/// [`Fail`] where the kernel isn't closed.
 pub fn closed_alone<J: Naming>(alloc: Global, kernel: Kernel<J>) -> Result<Ended, Fail> {
     let mut none: Vec<Seat> = Vec::new(alloc);
     closed_with(kernel, none.as_mut_slice())
@@ -293,7 +317,8 @@ fn kept<J: Naming>(kernel: Kernel<J>, seats: &mut [Seat]) -> Option<(Kernel<J>, 
     }
 }
 
-/// Tries to close the kernel with its callers and with one of another kernel: what comes back, the kernel and a refusal.
+/// Tries to close the kernel with its callers and with one of another kernel: what comes back, the
+/// kernel and a refusal.
 pub fn kept_with<J: Naming + Send + Sync, K: Naming, R: Threads + Sync>(
     rt: &R,
     running: Running<J>,

@@ -96,7 +96,11 @@ fn report(room: u64) -> &'static str {
     }
 }
 
-/// Rounds over a log that has room for so many of their 1,600 calls.
+/// Plays rounds over a log that has room for `room` of their 1,600 calls.
+///
+/// # Errors
+///
+/// [`Fail`] where something that the test needs isn't made, or the kernel isn't closed.
 pub fn play_rounds<J: Naming + Send + Sync, R: Abort + AllocGlobal + Threads + Wait + Sync>(
     rt: &R,
     table: &Table,

@@ -19,7 +19,7 @@ use table::Table;
 
 type Entry = (Event, Outcome);
 
-/// How many entries are on the core of this number.
+/// Returns the number of entries on the core of this number.
 pub fn entries_on(log: &[Entry], core: u8) -> usize {
     log.iter()
         .filter(|entry: &&Entry| -> bool { entry.0.core.number() == core })
@@ -111,8 +111,13 @@ fn is_run<R: Abort + AllocGlobal>(rt: &R, table: &Table, ended: &mut Ended) -> R
     is_run_on(rt, &mut state, ended)
 }
 
-/// Asserts that the log is read back from its text, is that of a run with this state at its end, and that the engine of `replay`
-/// writes this report of it. All queues of the state are empty afterwards.
+/// Asserts that the log is read back from its text, is that of a run with this state at its end,
+/// and that the engine of `replay` writes this report of it. All queues of the state are empty
+/// afterwards.
+///
+/// # Errors
+///
+/// [`Fail`] where something that the test needs isn't made.
 pub fn is_legal<R: Abort + AllocGlobal>(
     rt: &R,
     system: &System,
@@ -137,6 +142,10 @@ fn leaves<R: Abort + AllocGlobal>(
 }
 
 /// Closes the kernel with its callers, and asserts all that of what is left.
+///
+/// # Errors
+///
+/// [`Fail`] where something that the test needs isn't made, or the kernel isn't closed.
 pub fn ends_in<J: Naming + Send + Sync, R: Abort + AllocGlobal + Threads + Sync>(
     rt: &R,
     system: &System,
@@ -148,6 +157,10 @@ pub fn ends_in<J: Naming + Send + Sync, R: Abort + AllocGlobal + Threads + Sync>
 }
 
 /// Closes the kernel with no seat, and asserts all that of what is left.
+///
+/// # Errors
+///
+/// [`Fail`] where something that the test needs isn't made, or the kernel isn't closed.
 pub fn ends_alone_in<J: Naming, R: Abort + AllocGlobal>(
     rt: &R,
     system: &System,

@@ -47,7 +47,11 @@ fn has_code<R: Abort + AllocGlobal>(
     Ok(())
 }
 
-/// What is refused, and what isn't.
+/// Asserts which sizes and numbers of seats are refused, and which aren't.
+///
+/// # Errors
+///
+/// [`Fail`] where something that the test needs isn't made.
 pub fn refuse_sizes_and_seats<R: Abort + AllocGlobal>(
     rt: &R,
     accepted: &Accepted<'_>,
@@ -83,7 +87,11 @@ fn all_signal<J: Naming, R: Abort + Wait>(rt: &R, kernel: &Kernel<J>, callers: &
     }
 }
 
-/// 64 seats of one core, and a log of one entry less.
+/// Plays 64 seats of one core, over a log of one entry less.
+///
+/// # Errors
+///
+/// [`Fail`] where something that the test needs isn't made, or the kernel isn't closed.
 pub fn play_one_core<J: Naming + Send + Sync, R: Abort + AllocGlobal + Threads + Wait + Sync>(
     rt: &R,
     table: &Table,
@@ -121,7 +129,11 @@ fn is_refused<J: Naming, R: Abort + Wait>(rt: &R, kernel: &Kernel<J>, callers: &
     }
 }
 
-/// A seat of a core on which no thread runs. It is gone when the kernel is closed.
+/// Plays a seat of a core on which no thread runs. It is gone when the kernel is closed.
+///
+/// # Errors
+///
+/// [`Fail`] where something that the test needs isn't made, or the kernel isn't closed.
 pub fn play_no_thread<J: Naming + Send + Sync, R: Abort + AllocGlobal + Threads + Wait + Sync>(
     rt: &R,
     table: &Table,
@@ -186,7 +198,11 @@ fn one_removes_the_other<J: Naming, R: Abort + Wait>(
     }
 }
 
-/// A thread that another removes between its calls, by seats of which one is gone by then.
+/// Plays a thread that another removes between its calls, by seats of which one is gone by then.
+///
+/// # Errors
+///
+/// [`Fail`] where something that the test needs isn't made, or the kernel isn't closed.
 pub fn play_vanished<J: Naming + Send + Sync, R: Abort + AllocGlobal + Threads + Wait + Sync>(
     rt: &R,
     table: &Table,

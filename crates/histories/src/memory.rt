@@ -3,15 +3,23 @@ ghost use Rattle.std.specs.Prelude.{◌≡◌, IfOk, Ok};
 
 use std::test::Fail;
 
-/// What a test needs, and has memory for.
+/// Returns what a test needs, and has memory for.
+///
+/// # Errors
+///
+/// [`Fail`] where it isn't made.
 pub fn made<T, E: Drop>(answer: Result<T, E>) -> Result<T, Fail>
     ensures { IfOk result (λ value. answer ≡ Ok value) }
 {
     answer.map_err(|_| Fail::new("it isn't made"))
 }
 
-/// Lends a value. It is let go here, as one of any type: a function that lets go of a `Table` or a `State` by name has a step for
-/// each of its fields, at each way out.
+/// Lends a value. It is let go here, as one of any type: a function that lets go of a `Table` or a
+/// `State` by name has a step for each of its fields, at each way out.
+///
+/// # Errors
+///
+/// [`Fail`] where the value isn't made, or that of the test.
 pub fn lend<T: Drop, F: FnOnce(&T) -> Result<(), Fail> + Drop>(
     made: Result<T, Fail>,
     test: F,
@@ -23,6 +31,10 @@ pub fn lend<T: Drop, F: FnOnce(&T) -> Result<(), Fail> + Drop>(
 }
 
 /// Lends a value as [`lend`] does, to be changed.
+///
+/// # Errors
+///
+/// [`Fail`] where the value isn't made, or that of the test.
 pub fn lend_mut<T: Drop, F: FnOnce(&mut T) -> Result<(), Fail> + Drop>(
     made: Result<T, Fail>,
     test: F,

@@ -39,8 +39,8 @@ fn have_same_objects(rt: &impl Abort, state: &State, other: &State) {
     }
 }
 
-// Takes the threads out of both queues, first to last. A thread waits in at most one queue, so no queue is longer than the number of
-// threads.
+// Takes the threads out of both queues, first to last. A thread waits in at most one queue, so no
+// queue is longer than the number of threads.
 fn empty_same_queue(rt: &impl Abort, state: &mut State, other: &mut State, id: ObjId) {
     for _ in 0..state.thread_count() {
         assert_eq!(rt; state.pop_waiting(id), other.pop_waiting(id), "{id:?}");
@@ -57,7 +57,8 @@ fn empty_same_queues(rt: &impl Abort, state: &mut State, other: &mut State) {
 
 /// Asserts that two states are the same, and that no removal is under way in them.
 ///
-/// It reads a queue by taking the threads out, first to last. So all queues of both states are empty afterwards.
+/// The function reads a queue by taking the threads out, first to last. So all queues of both
+/// states are empty afterwards.
 pub fn are_same(rt: &impl Abort, state: &mut State, other: &mut State) {
     assert_eq!(rt; state.next_id(), other.next_id());
     assert_eq!(rt; state.object_count(), other.object_count());

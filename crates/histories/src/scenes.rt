@@ -24,7 +24,7 @@ use std::thread::Threads;
 use table::Table;
 use verdict::{Accepted, judge};
 
-/// What a test does with a kernel.
+/// A use of a kernel by a test.
 #[derive(Clone, Copy)]
 pub enum Scene {
     /// A signal and two polls, over a log of so many entries.
@@ -41,7 +41,7 @@ pub enum Scene {
     AllWait,
 }
 
-/// What a test does with a system.
+/// A use of a system by a test.
 #[derive(Clone, Copy)]
 pub enum Plan<'a> {
     /// Kernels of many sizes and numbers of seats are asked for.
@@ -56,7 +56,11 @@ pub enum Plan<'a> {
     },
 }
 
-/// The cores of these numbers.
+/// Returns the cores of these numbers.
+///
+/// # Errors
+///
+/// [`AllocError`] where memory is refused.
 pub fn cores_of(alloc: Global, numbers: &[u64]) -> Result<Vec<CoreNo>, AllocError> {
     let mut cores = Vec::with_capacity(alloc, numbers.len())?;
     for number in numbers {
@@ -162,6 +166,10 @@ fn carry_out_with<R: Abort + AllocGlobal + Threads + Wait + Sync>(
 }
 
 /// Carries out what a test does with this system.
+///
+/// # Errors
+///
+/// [`Fail`] where something that the test needs isn't made, accepted, opened or closed.
 pub fn carry_out<R: Abort + AllocGlobal + Threads + Wait + Sync>(
     rt: &R,
     system: &System,

@@ -204,7 +204,11 @@ fn stranger_opened<R: Abort + AllocGlobal + Threads + Wait + Sync>(
     }
 }
 
-/// Two kernels, of numbers 0 and 1: a seat of the second is refused by the first.
+/// Asserts of two kernels, of numbers 0 and 1, that a seat of the second is refused by the first.
+///
+/// # Errors
+///
+/// [`Fail`] where something that the test needs isn't made, opened or handed back.
 pub fn refuse_a_stranger<R: Abort + AllocGlobal + Threads + Wait + Sync>(
     rt: &R,
     accepted: &Accepted<'_>,

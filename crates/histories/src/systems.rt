@@ -19,13 +19,15 @@ pub const EIGHT_CORES: System = System {
     policy: ONE_LABEL_POLICY,
 };
 
-/// Thread 1 on core 0 has the only capability of thread 2 on core 1, in slot 1 of their CNode.
+/// A system where thread 1 on core 0 has the only capability of thread 2 on core 1, in slot 1 of
+/// their CNode.
 pub const ONE_HAS_THE_OTHER: System = System {
     table: ONE_HAS_THE_OTHER_TABLE,
     policy: ONE_LABEL_POLICY,
 };
 
-/// Threads 1 to 3 on cores 0 to 2, which share a notification and a frame, objects 7 and 8.
+/// A system of threads 1 to 3 on cores 0 to 2, which share a notification and a frame, objects 7
+/// and 8.
 pub const THREE_CORES: System = System {
     table: THREE_CORES_TABLE,
     policy: ONE_LABEL_POLICY,

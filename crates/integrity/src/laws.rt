@@ -1,3 +1,4 @@
+//! Laws about what a label may change, and about what its authority leads to.
 ghost use Rattle.std.specs.Prelude.{[], ℕ, ◌++◌, ◌<◌, ◌∷◌, ◌≡◌, ◌≢◌, ◌⊎◌, All, List, None, Some, false, length, true};
 ghost use Rattle.base.specs.{declared.{ids.{ObjId.ObjId as Id, SlotRef.SlotRef as Slot}, kind.Kind.Kind}, Kinds.is_structural};
 ghost use Rattle.base.specs.declared.kind.Kind.TheVariants as authority;
@@ -11,10 +12,17 @@ ghost use Rattle.machine.specs.declared.thread.RunState.TheVariants as run;
 ghost use Rattle.policy.specs.{Cut.{IsBase, IsCut, IsHolding, IsNear, is_link}, Domain.EdgeTest};
 ghost use Rattle.integrity.specs.{Budgets.KeepsBudgets, Shrinks.{IsBlocked, Shrinks}};
 
-/// A law: an object doesn't shrink whose pending word, or whose core, budget or period changes; at
-/// which more threads wait than before; which gets a capability, a message, a word, a context or a
-/// thread; whose memory changes, or of which more is taken; a thread whose run state changes though it
-/// wasn't blocked, or that comes to wait; a reply that comes to hold a thread; or what is made.
+/// A law: by some changes an object doesn't shrink.
+///
+/// These changes are:
+///
+/// - its pending word, or its core, budget or period changes
+/// - more threads wait at it than before
+/// - it gets a capability, a message, a word, a context or a thread
+/// - its memory changes, or more of it is taken
+/// - it is a thread whose run state changes though it wasn't blocked, or that begins to wait
+/// - it is a reply that begins to hold a thread
+/// - it is made.
 pub fn gains_are_no_shrinking()
     ensures word { (m next : Machine) (id : Id) (old new : Notification)
         → object_of m id ≡ Some (o.Notification old)
@@ -88,9 +96,10 @@ pub fn gains_are_no_shrinking()
         → ¬ Shrinks m next id }
 {}
 
-/// A law: a change of a context's core, budget or period needs authority. No step guards budgets that
-/// makes one, where the caller's label has no schedcontrol edge, or no context edge to the context's
-/// label.
+/// A law: a change of a context's core, budget or period needs authority.
+///
+/// No step guards budgets that makes such a change, where the caller's label has no schedcontrol
+/// edge, or no context edge to the context's label.
 pub fn a_budget_needs_authority()
     ensures schedcontrol { (t : Layout) (allowed : EdgeTest) (m next : Machine) (event : Event)
         → (id : Id) (old new : Context) (caller : ℕ)
@@ -111,9 +120,15 @@ pub fn a_budget_needs_authority()
         → ¬ KeepsBudgets t allowed m event next }
 {}
 
-/// A law: an object shrinks that vanishes; of which only a capability is removed, or one of the threads
-/// that wait at it, or its link to a thread or a context; a reply that becomes free; and a thread that
-/// waits for something, and is aborted or halted.
+/// A law: by some changes an object shrinks.
+///
+/// These changes are:
+///
+/// - it vanishes
+/// - only a capability of it is removed, or one of the threads that wait at it, or its link to a
+///   thread or a context
+/// - it is a reply that becomes free
+/// - it is a thread that waits for something, and is aborted or halted.
 pub fn losses_are_shrinking()
     ensures vanished { (m next : Machine) (id : Id) → object_of next id ≡ None → Shrinks m next id }
     ensures capability { (m next : Machine) (slot : Slot) (object : Object) (threads : List Id)
@@ -155,9 +170,10 @@ pub fn losses_are_shrinking()
         → Shrinks m (with_object m id (o.Context (record context { thread = None }))) id }
 {}
 
-/// A law: a label has cut authority on each label that it leads to by at most one control edge, then at
-/// most one derive edge, then at most one edge by which a capability is held, and then at most two steps
-/// along links, either way.
+/// A law: a label has cut authority on each label that it leads to by a path of this form.
+///
+/// The path has at most one control edge, then at most one derive edge, then at most one edge by
+/// which a capability is held, and then at most two steps along links, either way.
 pub fn cuts_follow_paths()
     ensures base { (allowed : EdgeTest) (a controlled base : ℕ)
         → (a ≡ controlled) ⊎ (allowed a authority.Control controlled ≡ true)

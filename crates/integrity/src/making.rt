@@ -1,3 +1,4 @@
+//! A law about the objects that a thread makes.
 ghost use Rattle.std.specs.Prelude.{ℕ, ◌≡◌, ◌⊎◌, Ok, Some};
 ghost use Rattle.base.specs.declared.ids.ObjId.{ObjId as Id};
 ghost use Rattle.machine.specs.{declared.{call.Made.Made, object.MemoryKind.MemoryKind}, Authority.label_of, Layout.Layout};

@@ -1,3 +1,4 @@
+//! Laws about removals: what they change, and whose it is.
 ghost use Rattle.std.specs.Prelude.{ℕ, ◌≡◌, ◌⊎◌, Bool, None, Ok, Some};
 ghost use Rattle.base.specs.declared.ids.{ObjId.ObjId as Id, SlotRef.SlotRef as Slot};
 ghost use Rattle.machine.specs.declared.{call.Made.Made, object.Context.Context as Bound, slot_address.SlotAddress.SlotAddress as Place};
@@ -38,8 +39,9 @@ pub fn a_removal_changes_what_may_be_taken()
 {}
 
 /// A law: where a label may remove the chosen slots' capabilities, the machine stays sound, and no
-/// object changes but within the bounds of the label. Nothing comes to be, and contexts keep their
-/// cores, budgets and periods.
+/// object changes but within the bounds of the label.
+///
+/// Nothing is made, and contexts keep their cores, budgets and periods.
 pub fn removals_stay_within_authority()
     ensures sound { (t : Layout) (allowed : EdgeTest) (m : Machine) (chosen : Slot → Bool)
         → IsSound t allowed m

@@ -1,3 +1,4 @@
+//! The headline and its laws: which systems are safe, and what that says of labels.
 ghost use Rattle.std.specs.Prelude.{ℕ, ◌≡◌, ◌≢◌, ◌↔◌, ◌⊎◌, Some, true};
 ghost use Rattle.base.specs.declared.{ids.ObjId.ObjId as Id, kind.Kind.Kind as authority};
 ghost use Rattle.machine.specs.declared.call.{Event.Event, Outcome.Outcome};
@@ -9,8 +10,8 @@ ghost use Rattle.integrity.specs.{Safe.{IsReached, IsSafe, KeepsBounds, RefusesO
 
 use table::boot_states_are_well_formed;
 
-/// The headline over the definitions alone: where a policy is closed and has all authority of a lawful table's boot state, every
-/// run from there is safe.
+/// The headline over the definitions alone: where a policy is closed and has all authority of a
+/// lawful table's boot state, every run from there is safe.
 pub fn confined_systems_are_safe()
     ensures { (t : Layout) (allowed : EdgeTest)
         → IsLawful t
@@ -21,9 +22,12 @@ pub fn confined_systems_are_safe()
     boot_states_are_well_formed();
 }
 
-/// A law: where steps keep their bounds in every run from a table's boot state, no step of a thread of a label changes, makes or
-/// removes an object of a label on which it has no full authority and from which it may not take; and where it has no full
-/// authority, each object stays as it is, or shrinks.
+/// A law: if steps keep their bounds in every run from a table's boot state, they keep labels
+/// apart.
+///
+/// No step of a thread of a label changes, makes or removes an object of a label on which it has no
+/// full authority and from which it may not take. Where it has no full authority, each object stays
+/// as it is, or shrinks.
 pub fn bounded_systems_keep_labels_apart()
     ensures apart { (t : Layout) (allowed : EdgeTest) (a l : ℕ)
         → KeepsBounds t allowed
@@ -36,10 +40,12 @@ pub fn bounded_systems_keep_labels_apart()
         → OnlyTakes t a l }
 {}
 
-/// A law: where in every run from a table's boot state only labels that may act have calls that aren't
-/// refused, a step that changes an object, makes one or removes one is of a thread whose label may act.
-/// So a thread of a label that may not act never changes, makes or removes an object, whatever authority
-/// the label has.
+/// A law: if only labels that may act have calls that aren't refused, only threads of these labels
+/// change objects.
+///
+/// The condition is on every run from a table's boot state. A step that changes an object, makes
+/// one or removes one is then of a thread whose label may act. So a thread of a label that may not
+/// act never changes, makes or removes an object, whatever authority the label has.
 pub fn changes_are_of_labels_that_act()
     ensures changed { (t : Layout) (allowed : EdgeTest) (m next : Machine) (event : Event) (outcome : Outcome) (id : Id)
         → RefusesOthers t allowed
@@ -59,10 +65,11 @@ pub fn changes_are_of_labels_that_act()
         → NeverChanges t a l }
 {}
 
-/// A law: where steps keep their bounds too, a label's authority counts only if the label may act. A
-/// thread of a label that may not act, or that has no full authority on another label and may not take
-/// from it, never changes, makes or removes an object of the other. If it may not act, or has no full
-/// authority, each object of the other stays as it is, or shrinks.
+/// A law: where steps keep their bounds too, a label's authority counts only if the label may act.
+///
+/// A thread of a label that may not act, or that has no full authority on another label and may not
+/// take from it, never changes, makes or removes an object of the other. If it may not act, or has
+/// no full authority, each object of the other stays as it is, or shrinks.
 pub fn only_labels_that_act_use_their_authority()
     ensures apart { (t : Layout) (allowed : EdgeTest) (a l : ℕ)
         → RefusesOthers t allowed

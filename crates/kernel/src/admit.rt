@@ -1,3 +1,4 @@
+//! How a thread is admitted to make a call on a core.
 ghost use Rattle.std.specs.Prelude.{◌≡◌};
 ghost use Rattle.machine.specs.{Machine.object_of, Step.{admitted, running_share, share_of, thread_in}};
 
@@ -37,6 +38,12 @@ fn running(state: &State, thread: &Tcb) -> Result<Share, Cause>
 
 /// Admits a thread to make a call on a core: it is there, is ready, and runs on a context that is
 /// configured for that core.
+///
+/// # Errors
+///
+/// The first of these: [`Cause::NoSuchThread`] (34) where there is no such thread,
+/// [`Cause::NotRunnable`] (32) where it isn't ready or has no context that is configured, and
+/// [`Cause::WrongCore`] (33) where that is for another core.
 #[tactic(auto, unfolding(machine::specs::Step::admitted))]
 pub fn admit(state: &State, core: CoreNo, caller: ObjId) -> Result<Share, Cause>
     ensures { result ≡ admitted state.now core caller }

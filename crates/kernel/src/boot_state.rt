@@ -1,3 +1,4 @@
+//! The boot state of a capability table.
 ghost use Rattle.std.specs.Prelude.{◌≡◌, IfErr, IfOk};
 ghost use Rattle.base.specs.Refusals.{plain};
 ghost use Rattle.machine.specs.{Boot.{IsBoot, IsFresh, bound}, WellFormed.IsWellFormed};
@@ -66,10 +67,12 @@ fn derive(state: &mut State, table: &Table)
     }
 }
 
-/// The boot state of a capability table. It is well formed, and as the boot rule says: nothing is made
-/// of untyped memory, nobody waits or has received anything, each thread is ready or inactive as it
-/// was declared, no notification has a word, replies are free, frames are zero, and a capability
-/// without a parent is original.
+/// Returns the boot state of a capability table.
+///
+/// The state is well formed, and as the boot rule says: nothing is made of untyped memory, nobody
+/// waits or has received anything, each thread is ready or inactive as it was declared, no
+/// notification has a word, replies are free, frames are zero, and a capability without a parent is
+/// original.
 ///
 /// # Errors
 ///

@@ -1,3 +1,4 @@
+//! One kernel call, from its event to its outcome.
 ghost use Rattle.std.specs.Prelude.{◌≡◌, ◌≢◌, Bool};
 ghost use Rattle.base.specs.{declared.refusal.Misuse.Misuse, Refusals.misuse_refusal};
 ghost use Rattle.machine.specs.{declared.call.Outcome.TheVariants.Refused, Makes.{Makes, MakesWithMemory}, Outcomes.IsRefused, Step.MayEnd};
@@ -105,11 +106,12 @@ fn make_with_memory(state: &mut State, event: &Event) -> Result<Made, Unmade>
     retype(state, caller, untyped, kind, bits, to, offset, count)
 }
 
-/// One kernel call, whole: what it answers, and the state after it. A refused call leaves the state
-/// as it was.
+/// Makes one whole kernel call, and returns how it ended.
 ///
-/// No call but a retype takes memory, and is refused 40 where there is none. Every other refusal is by a
-/// condition of the call: a code of the seL4 manual from 1 to 10, or 32, 33, 34 or 44.
+/// A refused call leaves the state as it was.
+///
+/// No call but a retype takes memory, and is refused 40 where there is none. Every other refusal is
+/// by a condition of the call: a code of the seL4 manual from 1 to 10, or 32, 33, 34 or 44.
 pub fn step(state: &mut State, event: Event) -> Outcome
     requires { IsWellFormed state.old }
     ensures stepped { Step state.old event result state.new }
@@ -176,8 +178,9 @@ fn settle_call(state: &mut State, event: &Event) -> Outcome
     Outcome::Done(answer)
 }
 
-/// Why a retype is refused, however much memory there is; none where [`step`] could make it, and none
-/// for any other call.
+/// Returns why a retype is refused, however much memory there is.
+///
+/// The answer is `None` where [`step`] could make the retype, and for any other call.
 #[tactic(auto, unfolding(machine::specs::Step::made_by))]
 pub fn retype_refusal(state: &State, event: Event) -> Option<Refusal>
     requires { IsWellFormed state.now }

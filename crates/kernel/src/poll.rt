@@ -1,3 +1,4 @@
+//! The call Poll, which takes a notification's word.
 ghost use Rattle.machine.specs.{Makes.Makes, Step.Poll.poll_of};
 
 use crate::signal::pending;
@@ -9,6 +10,11 @@ use objects::State;
 
 /// Takes the word of the notification at an address, which is 0 where it has none (seL4 manual,
 /// "Notifications").
+///
+/// # Errors
+///
+/// Those of [`find_notification`], and [`Cause::InvalidCapability`] (2) where the right Read is
+/// missing.
 #[tactic(auto, unfolding(machine::specs::Step::Poll::poll_of))]
 pub fn poll(state: &mut State, caller: ObjId, address: u64) -> Result<Made, Cause>
     ensures { Makes state.old state.new result (poll_of state.old caller address) }

@@ -1,3 +1,4 @@
+//! How a log is replayed.
 ghost use Rattle.std.specs.Prelude.{ℕ, ◌≡◌, All, Bool, Decides, IfErr, IfOk, List, MatchOption, OnErr, take};
 ghost use Rattle.base.specs.Refusals.{out_of_memory};
 ghost use Rattle.machine.specs.{declared.call.Outcome.TheVariants.Refused, Machine.Machine, Step.{MayEnd, takes_memory}};
@@ -10,17 +11,18 @@ use machine::{Event, Outcome};
 use objects::State;
 use steps::calls_are_refused_by_conditions;
 
-/// Makes the steps of a log, entry after entry: none where each is the step that its entry tells, and
-/// else the index, from 0, of the first that isn't.
+/// Replays a log, entry after entry, up to the first entry that isn't the step that it tells.
 ///
-/// A retype that was refused memory is a step that changes nothing, wherever it could be made.
+/// Returns `None` where all are, and else the index, from 0, of the first that isn't. A retype that
+/// was refused memory is a step that changes nothing, wherever it could be made.
 ///
-/// Where it stops at an entry, the event of that entry was made, and came to something else than is told.
+/// Where it stops at an entry, the event of that entry was made, and its outcome is another than
+/// the log tells.
 ///
 /// # Errors
 ///
-/// 40, where a retype could be done that the log tells otherwise, and is refused memory here. Then the entries
-/// before it were made.
+/// 40, where a retype could be done that the log tells otherwise, and is refused memory here. Then
+/// the entries before it were made.
 pub fn replay(state: &mut State, entries: &[(Event, Outcome)]) -> Result<Option<usize>, Refusal>
     requires { IsWellFormed state.old }
     ensures found { IfOk result (λ stop. MatchOption stop (Leads state.old entries.now state.new) (StopsAt state.old entries.now)) }

@@ -1,3 +1,4 @@
+//! How a script is run.
 ghost use Rattle.std.specs.{List.zip, Prelude.{◌++◌, ◌+◌, ◌≡◌, ◌≤◌, All, IfErr, IsOk, List, OnErr, OnOk, drop, length, vec_capacity}};
 ghost use Rattle.std.specs.Prelude.{vec_len};
 ghost use Rattle.base.specs.Refusals.{plain};

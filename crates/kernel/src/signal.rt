@@ -1,3 +1,4 @@
+//! The call Signal, which gives a badge to a notification or to the thread that waits first.
 ghost use Rattle.std.specs.Prelude.{◌≡◌};
 ghost use Rattle.machine.specs.{Machine.object_of, Makes.Makes, Step.Signal.{pending_in, signal_of, signalled, woken}};
 
@@ -8,7 +9,7 @@ use machine::{Answer, Inbox, Made, Notification, Object, RunState, Tcb};
 use objects::State;
 use queues::pop_first;
 
-/// The word of a notification, if it has one.
+/// Returns the word of a notification, if it has one.
 pub fn pending(state: &State, id: ObjId) -> Option<u64>
     ensures { result ≡ pending_in (object_of state.now id) }
 {
@@ -49,6 +50,11 @@ fn notify(state: &mut State, id: ObjId, badge: u64)
 
 /// Signals the notification at an address: the first thread that waits gets the capability's badge,
 /// else the badge joins the notification's word (seL4 manual, "Notifications").
+///
+/// # Errors
+///
+/// Those of [`find_notification`], and [`Cause::InvalidCapability`] (2) where the right Write is
+/// missing.
 #[tactic(auto, unfolding(machine::specs::Step::Signal::signal_of))]
 pub fn signal(state: &mut State, caller: ObjId, address: u64) -> Result<Made, Cause>
     ensures { Makes state.old state.new result (signal_of state.old caller address) }

@@ -1,3 +1,4 @@
+//! The call Wait, which takes a notification's word or waits for one.
 ghost use Rattle.machine.specs.{Makes.Makes, Step.Wait.wait_of};
 ghost use Rattle.objects.specs.Waiting.{WaitsNowhere};
 
@@ -11,6 +12,11 @@ use queues::block;
 
 /// Takes the word of the notification at an address; where it has none, the caller waits for one
 /// (seL4 manual, "Notifications").
+///
+/// # Errors
+///
+/// Those of [`find_notification`], and [`Cause::InvalidCapability`] (2) where the right Read is
+/// missing.
 #[tactic(auto, unfolding(machine::specs::Step::Wait::wait_of))]
 pub fn wait(state: &mut State, caller: ObjId, address: u64) -> Result<Made, Cause>
     requires { WaitsNowhere state.old caller }

@@ -1,3 +1,4 @@
+//! The authority of a table's boot state.
 ghost use Rattle.std.specs.Prelude.{ℕ, ◌||◌, ◌↔◌, ◌≡◌, IfErr, IfOk, OnOk, true};
 ghost use Rattle.base.specs.{declared.kind.Kind.Kind as KindOf, Refusals.out_of_memory};
 ghost use Rattle.machine.specs.{Authority.HasAuthority, Boot.IsBoot, Machine.Machine};
@@ -12,7 +13,7 @@ use policy::Policy;
 use std::alloc::Global;
 use table::Table;
 
-/// The edges of authority of the table's boot state, each once, in rising order.
+/// Returns the edges of authority of the table's boot state, each once, in rising order.
 ///
 /// # Errors
 ///

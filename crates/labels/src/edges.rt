@@ -1,3 +1,4 @@
+//! The edges of authority that one slot gives.
 ghost use Rattle.std.specs.Prelude.{[], ◌++◌, ◌≡◌, IfErr, IfOk, OnOk, Some, filter, flat_map, if◌then◌else◌, option_to_list};
 ghost use Rattle.base.specs.declared.kind.TheConstants.Kind as Kinds;
 ghost use Rattle.base.specs.Refusals.{out_of_memory};
@@ -10,8 +11,10 @@ use machine::{Cap, Filled, ObjectKind};
 use std::alloc::Global;
 use table::Table;
 
-/// The edges of authority that a slot gives at boot: those of its capability, by rising kinds, and
-/// then that of the pair of the derivation tree whose child it is. An empty slot gives none.
+/// Returns the edges of authority that a slot gives at boot.
+///
+/// First come those of its capability, by rising kinds, and then that of the pair of the derivation
+/// tree whose child it is. An empty slot gives none.
 ///
 /// # Errors
 ///
@@ -28,7 +31,7 @@ pub fn slot_edges(alloc: Global, table: &Table, slot: SlotRef) -> Result<Vec<Edg
     Ok(edges)
 }
 
-/// The same of a slot whose capability is at hand.
+/// Returns the edges of authority that a filled slot gives at boot, as [`slot_edges`] does.
 ///
 /// # Errors
 ///

@@ -1,3 +1,4 @@
+//! The labels of objects.
 ghost use Rattle.std.specs.Prelude.{◌≡◌};
 ghost use Rattle.machine.specs.{Authority.label_of, Layout.declared_label};
 
@@ -5,7 +6,7 @@ use base::{Label, ObjId};
 use objects::State;
 use table::Table;
 
-/// The label that the table declares for an initial object.
+/// Returns the label that the table declares for an initial object, if it declares that object.
 #[tactic(auto, unfolding(machine::specs::Layout::declared_label, machine::specs::Layout::initial_of))]
 pub fn declared_label(table: &Table, id: ObjId) -> Option<Label>
     ensures { result ≡ declared_label table.now id }
@@ -14,8 +15,10 @@ pub fn declared_label(table: &Table, id: ObjId) -> Option<Label>
     Some(initial.label)
 }
 
-/// The label of a present object: an initial object's is declared, and a made one's is that of the
-/// initial untyped memory that it lies in.
+/// Returns the label of a present object.
+///
+/// An initial object's is declared, and a made one's is that of the initial untyped memory that it
+/// lies in.
 #[tactic(auto, unfolding(machine::specs::Authority::label_of))]
 pub fn label_of(table: &Table, state: &State, id: ObjId) -> Option<Label>
     ensures { result ≡ label_of table.now state.now id }

@@ -1,12 +1,15 @@
+//! Laws about the authority that capabilities give.
 ghost use Rattle.std.specs.Prelude.{ℕ, ◌≡◌, false, true};
 ghost use Rattle.base.specs.{declared.kind.Kind.Kind, Kinds.is_structural};
 ghost use Rattle.machine.specs.{declared.cap.{Badged.Badged, Detail.Detail, Guard.Guard}, Authority.HasAuthority, Capabilities.gives};
 ghost use Rattle.machine.specs.declared.cap.Detail.TheVariants as d;
 ghost use Rattle.machine.specs.{Layout.Layout, Machine.Machine, Narrower.{HasMoreCaps, IsNarrower}};
 
-/// A law: a capability with fewer rights gives no kind of authority that one with more doesn't give;
-/// badges and guards don't matter; and every capability in a CNode gives at least one kind of
-/// authority that is no mere structure, and none that is.
+/// A law: a capability with fewer rights gives no kind of authority that one with more doesn't
+/// give.
+///
+/// Badges and guards don't matter. Every capability in a CNode gives at least one kind of authority
+/// that isn't structural, and none that is.
 pub fn rights_alone_decide_kinds()
     ensures fewer { (few many : Detail) (k : Kind)
         → IsNarrower few many

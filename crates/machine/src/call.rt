@@ -1,10 +1,12 @@
+//! Kernel calls, their events and their outcomes.
 ghost use Rattle.std.specs.Prelude.{◌≡◌};
 ghost use Rattle.machine.specs.{declared.call.Unmade.TheVariants.Refused, Outcomes.{outcome_of, unmade_refusal}, Step.takes_memory};
 
 use crate::{MemoryKind, Message, SlotAddress};
 use base::{Cause, CoreNo, ObjId, Refusal, Rights};
 
-/// What a mint gives to the copy (seL4 manual, seL4_CNode_Mint: "badge or guard").
+/// A badge or a guard, which a mint gives to the copy (seL4 manual, seL4_CNode_Mint: "badge or
+/// guard").
 #[derive(Clone, Copy, PartialEq, Eq, Debug)]
 pub enum CapData {
     Badge(u64),
@@ -161,7 +163,7 @@ pub enum Call {
 }
 
 impl Call {
-    /// Whether it takes memory to make it: a retype does.
+    /// Returns whether it takes memory to make the call: a retype does.
     pub fn takes_memory(&self) -> bool
         ensures { result ≡ takes_memory self.now }
     {
@@ -177,7 +179,7 @@ pub struct Event {
     pub call: Call,
 }
 
-/// What a call that is done answers.
+/// The answer of a call that is done.
 #[derive(Clone, Copy, PartialEq, Eq, Debug)]
 pub enum Answer {
     Nothing,
@@ -185,11 +187,11 @@ pub enum Answer {
     Message(Message),
     /// How many objects were made.
     Count(u64),
-    /// The thread was blocked, and what it waited for went away.
+    /// The thread was blocked, and what it waited for is gone.
     Aborted,
 }
 
-/// What a call comes to that isn't refused.
+/// The end of a call that isn't refused.
 #[derive(Clone, Copy, PartialEq, Eq, Debug)]
 pub enum Made {
     Done(Answer),
@@ -197,7 +199,7 @@ pub enum Made {
     Blocked,
 }
 
-/// Why a call that takes memory isn't made.
+/// The reason why a call that takes memory isn't made.
 #[derive(Clone, Copy, PartialEq, Eq, Debug)]
 pub enum Unmade {
     /// A condition of the call fails, however much memory there is.
@@ -206,7 +208,7 @@ pub enum Unmade {
     OutOfMemory,
 }
 
-/// How a call ends.
+/// The end of a call.
 #[derive(Clone, Copy, PartialEq, Eq, Debug)]
 pub enum Outcome {
     Done(Answer),
@@ -214,7 +216,7 @@ pub enum Outcome {
     Refused(Refusal),
 }
 
-/// A log: events with what they came to.
+/// A log: events with their outcomes.
 pub type Log = Vec<(Event, Outcome)>;
 
 impl From<Cause> for Unmade {

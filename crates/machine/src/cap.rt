@@ -1,3 +1,4 @@
+//! Capabilities, and the authority that they give.
 ghost use Rattle.std.specs.Prelude.{◌<◌, ◌^◌, ◌≡◌, filter};
 ghost use Rattle.base.specs.{declared.kind.{Kind.Kind as KindOf, TheConstants.Kind.ALL}, Kinds.is_among};
 ghost use Rattle.machine.specs.Capabilities.{badge_of, gives, kind_of_detail};
@@ -5,7 +6,7 @@ ghost use Rattle.machine.specs.Capabilities.{badge_of, gives, kind_of_detail};
 use crate::ObjectKind;
 use base::{Kind, Kinds, ObjId, Rights, kind_names_are_read_back};
 
-/// Bits that an address has to begin with: the low `size` bits of `value` (seL4 manual, "CNode
+/// The bits that an address must begin with: the low `size` bits of `value` (seL4 manual, "CNode
 /// Guards").
 #[derive(Clone, Copy, PartialEq, Eq, Debug)]
 pub struct Guard {
@@ -14,14 +15,14 @@ pub struct Guard {
     pub value: u64,
 }
 
-/// Rights, and a badge that tells the capability's users apart (seL4 manual, "Badges").
+/// The rights of a capability, and a badge that tells its users apart (seL4 manual, "Badges").
 #[derive(Clone, Copy, PartialEq, Eq, Debug)]
 pub struct Badged {
     pub rights: Rights,
     pub badge: u64,
 }
 
-/// What a capability says beside its object, by the object's kind.
+/// The part of a capability that depends on the kind of its object.
 #[derive(Clone, Copy, PartialEq, Eq, Debug)]
 pub enum Detail {
     Untyped,
@@ -46,7 +47,7 @@ pub struct Cap {
 }
 
 impl Detail {
-    /// The kind of object that the capability is for.
+    /// Returns the kind of object that the capability is for.
     pub fn kind(&self) -> ObjectKind
         ensures { result ≡ kind_of_detail self.now }
     {
@@ -63,7 +64,7 @@ impl Detail {
         }
     }
 
-    /// The badge; a kind without badges has badge 0.
+    /// Returns the badge; a kind without badges has badge 0.
     pub fn badge(&self) -> u64
         ensures { result ≡ badge_of self.now }
     {
@@ -73,8 +74,10 @@ impl Detail {
         }
     }
 
-    /// The kinds of authority that such a capability may give from a slot of a CNode, in the order of
-    /// their numbers. Which of them it gives, its rights say.
+    /// Returns the kinds of authority that such a capability may give from a slot of a CNode.
+    ///
+    /// The kinds come in the order of their numbers. The capability's rights say which of them it
+    /// gives.
     pub fn possible_kinds(&self) -> &'static [Kind]
         ensures { filter (gives self.now) result.now ≡ filter (gives self.now) ALL }
     {
@@ -97,7 +100,8 @@ impl Detail {
 }
 
 impl Cap {
-    /// Whether the capability, in a slot of a CNode, gives this kind of authority over its object.
+    /// Returns whether the capability, in a slot of a CNode, gives this kind of authority over its
+    /// object.
     pub fn gives(&self, kind: Kind) -> bool
         ensures { result ≡ gives self.now.detail kind }
     {
@@ -127,7 +131,8 @@ impl Cap {
         }
     }
 
-    /// All kinds of authority that the capability, in a slot of a CNode, gives over its object.
+    /// Returns all kinds of authority that the capability, in a slot of a CNode, gives over its
+    /// object.
     pub fn kinds(&self) -> Kinds
         ensures each { (kind : KindOf) → is_among result.0 kind ≡ gives self.now.detail kind }
         ensures alone { result.0 < 2 ^ 17 }

@@ -1,3 +1,4 @@
+//! The names of the kinds of objects.
 ghost use Rattle.std.specs.Prelude.{◌≡◌, IfSome, Some};
 ghost use Rattle.machine.specs.{declared.object.MemoryKind.MemoryKind as Kind, KindWords.{memory_kind_in, memory_kind_of}};
 ghost use Rattle.machine.specs.KindWords.{memory_kind_word, object_kind_of, object_kind_word};
@@ -6,7 +7,7 @@ use crate::{MemoryKind, ObjectKind};
 use std::fmt;
 
 impl ObjectKind {
-    /// The kind of this name, as tables and scripts spell it.
+    /// Returns the kind of this name, as tables and scripts spell it, if it is one.
     #[tactic(auto, unfolding(crate::specs::KindWords::object_kind_of))]
     pub fn from_name(name: &[u8]) -> Option<ObjectKind>
         ensures kind { result ≡ object_kind_of name.now }
@@ -37,7 +38,7 @@ impl ObjectKind {
 }
 
 impl MemoryKind {
-    /// The kind's name, as scripts spell it.
+    /// Returns the kind's name, as scripts spell it.
     pub fn name(self) -> &'static str
         ensures { result.now ≡ memory_kind_word self }
     {
@@ -70,7 +71,9 @@ impl MemoryKind {
         }
     }
 
-    /// The kind of this name. Controls aren't made, and have no kind here.
+    /// Returns the kind of this name, if it is one.
+    ///
+    /// Controls aren't made, and have no kind here.
     #[tactic(auto, using(crate::proofs::KindWords::memory_again), unfolding(crate::specs::KindWords::memory_kind_of))]
     pub fn from_name(name: &[u8]) -> Option<MemoryKind>
         ensures kind { result ≡ memory_kind_of name.now }

@@ -1,3 +1,4 @@
+//! The items that a capability table declares.
 ghost use Rattle.std.specs.Prelude.{◌≡◌, ◌≤◌};
 ghost use Rattle.base.specs.declared.label.TheConstants.Label as LabelLimits;
 ghost use Rattle.machine.specs.Layout.{most_labels};
@@ -13,7 +14,7 @@ pub enum Version {
 }
 
 impl Version {
-    /// How many labels a table of this version may have.
+    /// Returns the number of labels that a table of this version may have.
     pub fn most_labels(self) -> usize
         ensures most { result ≡ most_labels self }
         ensures limit { result ≤ LabelLimits.COUNT }

@@ -1,3 +1,4 @@
+//! The kinds of objects, and the content of an object of each kind.
 ghost use Rattle.std.specs.Prelude.{◌^◌, ◌≡◌, ◌≤◌};
 ghost use Rattle.base.specs.declared.limits.TheConstants.{MAX_RADIX};
 ghost use Rattle.machine.specs.Objects.{address_of, kind_of_object, slot_count, thread_count, word_count};
@@ -32,8 +33,8 @@ pub enum MemoryKind {
     Frame,
 }
 
-/// Memory from which objects can be made: `2^bits` bytes from `base` on, of which those below
-/// `watermark` are in use.
+/// A piece of memory from which objects can be made: `2^bits` bytes from `base` on, of which those
+/// below `watermark` are in use.
 #[derive(Clone, Copy, PartialEq, Eq, Debug)]
 pub struct Untyped {
     pub base: u64,
@@ -49,7 +50,9 @@ pub struct CNode {
     pub radix: Radix,
 }
 
-/// Where threads send and receive messages. Its queue has either senders or receivers.
+/// An object at which threads send and receive messages.
+///
+/// The endpoint's queue has either senders or receivers.
 #[derive(Clone, Copy, PartialEq, Eq, Debug)]
 pub struct Endpoint {
     pub address: u64,
@@ -63,7 +66,7 @@ pub struct Notification {
     pub pending: Option<u64>,
 }
 
-/// What a reply object holds.
+/// The state of a reply object.
 #[derive(Clone, Copy, PartialEq, Eq, Debug)]
 pub enum ReplyState {
     Free,
@@ -73,7 +76,7 @@ pub enum ReplyState {
     Called(ObjId),
 }
 
-/// What a receiver answers a call with.
+/// An object by which a receiver answers a call.
 #[derive(Clone, Copy, PartialEq, Eq, Debug)]
 pub struct Reply {
     pub address: u64,
@@ -99,7 +102,7 @@ pub struct Context {
     pub thread: Option<ObjId>,
 }
 
-/// Memory of 512 words of 64 bits each.
+/// A piece of memory of 512 words of 64 bits each.
 #[derive(Clone, Copy, PartialEq, Eq, Debug)]
 pub struct Frame {
     pub address: u64,
@@ -128,7 +131,7 @@ pub enum Object {
 }
 
 impl Object {
-    /// The object's kind.
+    /// Returns the object's kind.
     pub fn kind(&self) -> ObjectKind
         ensures { result ≡ kind_of_object self.now }
     {
@@ -145,7 +148,9 @@ impl Object {
         }
     }
 
-    /// Where the object lies; a control takes no memory, and has address 0.
+    /// Returns the address at which the object lies.
+    ///
+    /// A control takes no memory, and has address 0.
     pub fn address(&self) -> u64
         ensures { result ≡ address_of self.now }
     {
@@ -162,7 +167,9 @@ impl Object {
         }
     }
 
-    /// How many slots the object has: a CNode `2^radix`, a TCB its root slot alone.
+    /// Returns the number of slots of the object.
+    ///
+    /// A CNode has `2^radix`, and a TCB its root slot alone.
     pub fn slot_count(&self) -> u64
         ensures count { result ≡ slot_count self.now }
         ensures most { result ≤ 2 ^ MAX_RADIX }
@@ -174,7 +181,7 @@ impl Object {
         }
     }
 
-    /// How many threads the object is: a TCB one, and others none.
+    /// Returns the number of threads that the object is: a TCB is one, and others are none.
     pub fn thread_count(&self) -> u64
         ensures count { result ≡ thread_count self.now }
         ensures most { result ≤ 1 }
@@ -185,7 +192,9 @@ impl Object {
         }
     }
 
-    /// How many words of memory the object has: a frame 512.
+    /// Returns the number of words of memory that the object has.
+    ///
+    /// A frame has 512.
     pub fn word_count(&self) -> u64
         ensures { result ≡ word_count self.now }
     {

@@ -1,10 +1,13 @@
+//! The radix of a CNode.
 ghost use Rattle.std.specs.Prelude.{ℕ, ◌<◌, ◌^◌, ◌↔◌, ◌≡◌, ◌≤◌, IfSome, IsSome};
 ghost use Rattle.base.specs.declared.limits.TheConstants.{MAX_RADIX};
 
 use base::MAX_RADIX;
 use std::marker::Model;
 
-/// How many bits of an address a CNode takes to select a slot: 1 to 12. It has `2^radix` slots.
+/// The number of bits of an address that a CNode takes to select a slot, from 1 to 12.
+///
+/// A CNode of a radix has `2^radix` slots.
 #[derive(Clone, Copy, PartialEq, Eq, Debug)]
 pub struct Radix {
     bits: u8,
@@ -21,7 +24,7 @@ impl Model for Radix {
 }
 
 impl Radix {
-    /// The radix of that many bits.
+    /// Returns the radix of this number of bits, if it is from 1 to [`MAX_RADIX`].
     pub fn new(bits: u64) -> Option<Radix>
         ensures valid { IsSome result ↔ ((0 < bits) × (bits ≤ MAX_RADIX)) }
         ensures value { IfSome result (λ radix. radix ≡ bits) }
@@ -33,7 +36,7 @@ impl Radix {
         }
     }
 
-    /// How many bits.
+    /// Returns the number of bits.
     pub fn bits(self) -> u8
         ensures value { result ≡ self }
         ensures least { 0 < result }
@@ -42,7 +45,7 @@ impl Radix {
         self.bits
     }
 
-    /// How many slots a CNode of this radix has.
+    /// Returns the number of slots that a CNode of this radix has.
     pub fn slots(self) -> u64
         ensures value { result ≡ 2 ^ self }
         ensures most { result ≤ 2 ^ MAX_RADIX }

@@ -1,3 +1,4 @@
+//! A slot as a call names it.
 ghost use Rattle.std.specs.{Fmt.decimal, List.join_with_byte, Prelude.{[], ◌∷◌, Some}};
 
 use crate::Cap;

@@ -1,3 +1,4 @@
+//! Threads: what they run on, what they wait for, and what they were given.
 use crate::SlotAddress;
 use base::ObjId;
 
@@ -10,18 +11,18 @@ pub struct Message {
     pub capability: bool,
 }
 
-/// What a thread was given and has not fetched yet.
+/// The thing that a thread was given and has not fetched yet.
 #[derive(Clone, Copy, PartialEq, Eq, Debug)]
 pub enum Inbox {
     Empty,
     Message(Message),
     /// The word of a notification.
     Word(u64),
-    /// The thread was blocked, and what it waited for went away.
+    /// The thread was blocked, and what it waited for is gone.
     Aborted,
 }
 
-/// What is recorded of a thread that waits to send.
+/// The record of a thread that waits to send.
 #[derive(Clone, Copy, PartialEq, Eq, Debug)]
 pub struct Sending {
     pub endpoint: ObjId,
@@ -36,7 +37,7 @@ pub struct Sending {
     pub capability: Option<u64>,
 }
 
-/// What is recorded of a thread that waits to receive.
+/// The record of a thread that waits to receive.
 #[derive(Clone, Copy, PartialEq, Eq, Debug)]
 pub struct Receiving {
     pub endpoint: ObjId,
@@ -52,7 +53,7 @@ pub struct Lent {
     pub borrower: ObjId,
 }
 
-/// What is recorded of a thread that called and waits for the answer.
+/// The record of a thread that called and waits for the answer.
 #[derive(Clone, Copy, PartialEq, Eq, Debug)]
 pub struct Calling {
     /// The reply object through which it is answered.
@@ -60,8 +61,8 @@ pub struct Calling {
     pub lent: Option<Lent>,
 }
 
-/// Whether a thread can run, and what it waits for if it can't (seL4 manual, "Threads and
-/// Execution").
+/// The state of a thread: whether it can run, and what it waits for if it can't (seL4 manual,
+/// "Threads and Execution").
 #[derive(Clone, Copy, PartialEq, Eq, Debug)]
 pub enum RunState {
     Inactive,

@@ -1,3 +1,4 @@
+//! The numbers of objects, slots and threads.
 ghost use Rattle.std.specs.{List.fold, Prelude.{◌*◌, ◌+◌, ◌<◌, ◌^◌, ◌≡◌, ◌≤◌, length}};
 ghost use Rattle.base.specs.declared.limits.TheConstants.{MAX_RADIX};
 ghost use Rattle.machine.specs.Objects.{slot_count, thread_count};
@@ -5,7 +6,7 @@ ghost use Rattle.objects.specs.Counts.{one_less, one_more};
 
 use machine::Object;
 
-/// How many objects there are, and how many slots and threads they come to.
+/// The numbers of objects, of their slots, and of threads among them.
 #[derive(Clone, Copy)]
 pub struct Counts {
     pub objects: u64,
@@ -14,13 +15,14 @@ pub struct Counts {
 }
 
 impl Counts {
+    /// The counts of no objects.
     pub const NONE: Counts = Counts {
         objects: 0,
         slots: 0,
         threads: 0,
     };
 
-    /// The counts with more objects.
+    /// Returns the counts with more objects.
     pub fn with_all(self, objects: &[Object]) -> Counts
         requires objects { self.objects + length objects.now < 2 ^ 64 }
         requires slots { self.slots + length objects.now * 2 ^ MAX_RADIX < 2 ^ 64 }
@@ -36,7 +38,7 @@ impl Counts {
         counts
     }
 
-    /// The counts without one of the objects that they count.
+    /// Returns the counts without one of the objects that they count.
     pub fn without(self, object: &Object) -> Counts
         requires objects { 1 ≤ self.objects }
         requires slots { slot_count object.now ≤ self.slots }

@@ -1,3 +1,4 @@
+//! An object with all that belongs to it.
 ghost use Rattle.std.specs.{List.AllByRecursion, Prelude.{◌≡◌, IfOk, OnOk, Some, map, option_copied}};
 ghost use Rattle.objects.specs.{Entries.new_entry, Radices.HasRadix, Roots.root_in};
 
@@ -22,7 +23,7 @@ pub struct Entry {
 }
 
 impl Entry {
-    /// What the root slot holds, if the object is a thread.
+    /// Returns the capability in the root slot, if the object is a thread and has one there.
     pub fn root(&self) -> Option<&Cap>
         ensures { option_copied result ≡ root_in (Some self.now) }
     {
@@ -47,7 +48,11 @@ fn new_entry(alloc: Global, object: Object) -> Result<Entry, AllocError>
     })
 }
 
-/// The entries of new objects.
+/// Returns the entries of new objects.
+///
+/// # Errors
+///
+/// [`AllocError`] where memory is refused.
 pub fn new_entries(alloc: Global, objects: &[Object]) -> Result<Vec<Entry>, AllocError>
     ensures made { IfOk result (λ made. made.items ≡ map new_entry objects.now) }
     ensures radices { OnOk result (AllByRecursion HasRadix objects.now) }
@@ -60,7 +65,7 @@ pub fn new_entries(alloc: Global, objects: &[Object]) -> Result<Vec<Entry>, Allo
     Ok(made)
 }
 
-/// A CNode takes 1 to 12 bits of an address, as the type of its radix says.
+/// Shows that a CNode takes 1 to 12 bits of an address, as the type of its radix says.
 pub fn cnode_takes_bits(object: &Object)
     ensures { HasRadix object.now }
 {

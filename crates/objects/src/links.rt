@@ -1,3 +1,4 @@
+//! The links of queues and of the derivation tree.
 use base::{ObjId, SlotRef};
 
 /// The ends of the queue of the threads that wait at an object; none where nobody waits.
@@ -8,14 +9,16 @@ pub struct Ends {
 }
 
 impl Ends {
+    /// The ends of a queue where nobody waits.
     pub const NOBODY: Ends = Ends {
         first: None,
         last: None,
     };
 }
 
-/// Where a thread stands in a queue: at which object it waits, and behind and before whom. None of
-/// the three where it waits nowhere.
+/// The place of a thread in a queue: at which object it waits, and behind and before whom.
+///
+/// All three are `None` where the thread waits nowhere.
 #[derive(Clone, Copy)]
 pub struct Standing {
     pub at: Option<ObjId>,
@@ -24,6 +27,7 @@ pub struct Standing {
 }
 
 impl Standing {
+    /// The place of a thread that waits nowhere.
     pub const NOWHERE: Standing = Standing {
         at: None,
         previous: None,
@@ -31,9 +35,10 @@ impl Standing {
     };
 }
 
-/// Where a slot stands in the derivation tree: its parent, the first of its children, and the children
-/// of its parent after and before it. None of the four where it is empty, or has neither parent nor
-/// children.
+/// The place of a slot in the derivation tree: its parent, the first of its children, and the
+/// children of its parent after and before it.
+///
+/// All four are `None` where the slot is empty, or has neither parent nor children.
 #[derive(Clone, Copy)]
 pub struct TreeLinks {
     pub parent: Option<SlotRef>,
@@ -43,6 +48,7 @@ pub struct TreeLinks {
 }
 
 impl TreeLinks {
+    /// The place of a slot that is in no pair of the derivation tree.
     pub const NONE: TreeLinks = TreeLinks {
         parent: None,
         first: None,

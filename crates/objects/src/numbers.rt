@@ -11,7 +11,7 @@ use std::marker::Model;
 /// How many numbers have a table at most: 16 bytes each.
 const WIDEST: u64 = 1 << 20;
 
-/// The place of each number from 0 on, for so many numbers; none of a number that isn't in use.
+/// A table of the places of the numbers from 0 on; a number that isn't in use has none.
 #[derive(Drop)]
 pub struct Table {
     items: Vec<Option<usize>>,
@@ -28,7 +28,7 @@ impl Model for Table {
 impl Table {
     ghost use Rattle.std.specs.Prelude.{[]};
 
-    /// For no numbers.
+    /// Returns a table for no numbers.
     pub fn new(alloc: Global) -> Table
         ensures { result ≡ [] }
     {
@@ -37,14 +37,20 @@ impl Table {
         }
     }
 
-    /// For how many numbers it is.
+    /// Returns the number of numbers that the table is for.
     pub fn len(&self) -> usize
         ensures { result ≡ length self.now }
     {
         self.items.len()
     }
 
-    /// Makes it for so many numbers in all, if it is for fewer: those that come to it aren't in use.
+    /// Widens the table to `count` numbers, if it is for fewer.
+    ///
+    /// New numbers aren't in use.
+    ///
+    /// # Errors
+    ///
+    /// [`AllocError`] where memory is refused. Then nothing has changed.
     pub fn widen(&mut self, count: usize) -> Result<(), AllocError>
         requires { length self.old ≤ count }
         ensures widened { OnOk result (self.new ≡ self.old ++ replicate (count - length self.old) None) }
@@ -53,7 +59,7 @@ impl Table {
         self.items.resize(count, None)
     }
 
-    /// The place of the number, if the table is for it.
+    /// Returns the place of the number, if the table is for it.
     pub fn get(&self, number: u64) -> Option<Option<usize>>
         ensures { result ≡ slice_get self.now number }
     {
@@ -70,15 +76,17 @@ impl Table {
     }
 }
 
-/// The places of the numbers in use. The first numbers have a table, so that the objects of a table of capabilities are found at once,
-/// and many that are made later; those after them are hashed.
+/// The places of the numbers in use.
+///
+/// The first numbers have a table, so that the objects of a table of capabilities are found at
+/// once, and many that are made later; those after them are hashed.
 #[derive(Drop)]
 pub struct Places {
     pub early: Table,
     pub late: HashMap<u64, usize>,
 }
 
-/// No number is in use.
+/// Returns the places where no number is in use.
 pub fn no_places(alloc: Global) -> Places
     ensures early { result.early ≡ [] }
     ensures late { hash.IsEmpty result.late }
@@ -89,7 +97,7 @@ pub fn no_places(alloc: Global) -> Places
     }
 }
 
-/// The place of the number, if it is in use.
+/// Returns the place of the number, if it is in use.
 #[inline]
 pub fn place_of(places: &Places, number: u64) -> Option<usize>
     ensures { result ≡ places_in places.now number }
@@ -100,7 +108,9 @@ pub fn place_of(places: &Places, number: u64) -> Option<usize>
     }
 }
 
-/// The place of a number that the table isn't for, if it is in use. It stands apart, so that what finds an early one stays small.
+/// Returns the place of a number that the table isn't for, if it is in use.
+///
+/// The function stands apart, so that the one that finds an early number stays small.
 #[inline(never)]
 pub fn late_place_of(late: &HashMap<u64, usize>, number: u64) -> Option<usize>
     ensures { result ≡ hash.get nat_eq late.now number }
@@ -108,10 +118,14 @@ pub fn late_place_of(late: &HashMap<u64, usize>, number: u64) -> Option<usize>
     late.get(&number).copied()
 }
 
-/// Makes the table wide enough for the number, at least twice as wide as it was, unless the number is too high for it or a number is
-/// hashed already.
+/// Makes the table wide enough for the number, and at least twice as wide as it was.
 ///
-/// No place has changed, even on an error.
+/// Does nothing where the number is too high for it, or where a number is hashed already. No place
+/// has changed, even on an error.
+///
+/// # Errors
+///
+/// [`AllocError`] where memory is refused.
 #[tactic(auto, using(crate::proofs::NumberLemmas::widened))]
 pub fn widen(places: &mut Places, number: u64) -> Result<(), AllocError>
     ensures { (other : ℕ) → places_in places.new other ≡ places_in places.old other }
@@ -133,9 +147,13 @@ fn width_for(len: usize, number: usize) -> usize
         .max(len.saturating_mul(2).min(WIDEST as usize))
 }
 
-/// Makes room for so many more numbers.
+/// Makes room for `count` more numbers.
 ///
 /// No place has changed, even on an error.
+///
+/// # Errors
+///
+/// [`AllocError`] where memory is refused.
 pub fn make_room(places: &mut Places, count: usize) -> Result<(), AllocError>
     ensures same { (number : ℕ) → places_in places.new number ≡ places_in places.old number }
     ensures room { OnOk result (count ≤ hash.spare places.new.late) }
@@ -159,7 +177,7 @@ pub fn set_place(places: &mut Places, number: u64, place: usize)
     }
 }
 
-/// Takes the place of a number away, if it is in use.
+/// Removes the place of a number, if it is in use.
 pub fn take_place(places: &mut Places, number: u64) -> Option<usize>
     ensures taken { result ≡ places_in places.old number }
     ensures gone { places_in places.new number ≡ None }

@@ -12,7 +12,7 @@ use machine::{Cap, Object};
 use slab::Slab;
 use std::alloc::AllocError;
 
-/// The object's entry.
+/// Returns the object's entry, if the object is present.
 pub fn entry<'a>(places: &Places, entries: &'a Slab<Entry>, id: ObjId) -> Option<&'a Entry>
     ensures { option_copied result ≡ placed (places_in places.now) entries.now id }
 {
@@ -23,7 +23,7 @@ pub fn entry<'a>(places: &Places, entries: &'a Slab<Entry>, id: ObjId) -> Option
     entries.get(place)
 }
 
-/// Says what the slot holds, if it is there.
+/// Sets what the slot holds, if it is there.
 pub fn set_cap(places: &Places, entries: &mut Slab<Entry>, at: SlotRef, cap: Option<Cap>)
     ensures { entries.new
         ≡ with_placed (places_in places.now) entries.old at.holder (change_slot_in at.index (λ slot. record slot { cap = cap })) }
@@ -35,7 +35,7 @@ pub fn set_cap(places: &Places, entries: &mut Slab<Entry>, at: SlotRef, cap: Opt
     }
 }
 
-/// Says which the slot's first child is, if the slot is there.
+/// Sets the slot's first child, if the slot is there.
 pub fn set_first(places: &Places, entries: &mut Slab<Entry>, at: SlotRef, first: Option<SlotRef>)
     ensures { entries.new
         ≡ with_placed (places_in places.now) entries.old at.holder (change_slot_in at.index (λ slot. record slot { links = record slot.links { first = first } })) }
@@ -47,7 +47,7 @@ pub fn set_first(places: &Places, entries: &mut Slab<Entry>, at: SlotRef, first:
     }
 }
 
-/// Says which sibling follows the slot, if it is there.
+/// Sets the sibling that follows the slot, if the slot is there.
 pub fn set_next(places: &Places, entries: &mut Slab<Entry>, at: SlotRef, next: Option<SlotRef>)
     ensures { entries.new
         ≡ with_placed (places_in places.now) entries.old at.holder (change_slot_in at.index (λ slot. record slot { links = record slot.links { next = next } })) }
@@ -59,7 +59,7 @@ pub fn set_next(places: &Places, entries: &mut Slab<Entry>, at: SlotRef, next: O
     }
 }
 
-/// Says which sibling the slot follows, if it is there.
+/// Sets the sibling that the slot follows, if the slot is there.
 pub fn set_previous(
     places: &Places,
     entries: &mut Slab<Entry>,
@@ -76,7 +76,9 @@ pub fn set_previous(
     }
 }
 
-/// Says whose child the slot is, if it is there, and which sibling follows it. It follows none.
+/// Sets the parent of the slot, if the slot is there, and the sibling that follows it.
+///
+/// The slot then follows no sibling.
 pub fn set_under(
     places: &Places,
     entries: &mut Slab<Entry>,
@@ -116,7 +118,7 @@ pub fn set_ends(places: &Places, entries: &mut Slab<Entry>, id: ObjId, ends: End
     }
 }
 
-/// Says where the thread stands, if it is present.
+/// Sets where the thread stands, if it is present.
 pub fn set_standing(places: &Places, entries: &mut Slab<Entry>, thread: ObjId, standing: Standing)
     ensures { entries.new ≡ with_placed (places_in places.now) entries.old thread (set_standing_in standing) }
 {
@@ -164,7 +166,7 @@ pub fn count_less(places: &Places, entries: &mut Slab<Entry>, id: ObjId)
     }
 }
 
-/// Empties the slot, if it is there, and tells for which object its capability was.
+/// Empties the slot, if it is there, and returns the object that its capability was for.
 pub fn empty_slot(places: &Places, entries: &mut Slab<Entry>, at: SlotRef) -> Option<ObjId>
     ensures value { result ≡ option_map (λ cap. cap.object) (cap_in (slot_at (placed (places_in places.now) entries.old) at)) }
     ensures emptied { entries.new
@@ -174,9 +176,13 @@ pub fn empty_slot(places: &Places, entries: &mut Slab<Entry>, at: SlotRef) -> Op
     entries.get_mut(place)?.slots.empty_at(at.index)
 }
 
-/// Makes room for so many more entries, under numbers from a first on.
+/// Makes room for `count` more entries, under numbers from `first` on.
 ///
 /// No entry has changed, even on an error.
+///
+/// # Errors
+///
+/// [`AllocError`] where memory is refused.
 pub fn reserve(
     places: &mut Places,
     entries: &mut Slab<Entry>,

@@ -1,3 +1,4 @@
+//! The slots of an object.
 ghost use Rattle.std.specs.Prelude.{◌≡◌, IfOk, None, option_copied, option_map, replicate, slice_get};
 ghost use Rattle.objects.specs.{Edits.edited, Entries.empty_slot, Family.cap_in};
 
@@ -7,7 +8,7 @@ use machine::Cap;
 use std::alloc::{AllocError, Global};
 use std::marker::Model;
 
-/// What a slot has.
+/// A slot: the capability in it, and its links.
 #[derive(Clone, Copy)]
 pub struct Slot {
     pub cap: Option<Cap>,
@@ -15,6 +16,7 @@ pub struct Slot {
 }
 
 impl Slot {
+    /// An empty slot, which is in no pair of the derivation tree.
     pub const EMPTY: Slot = Slot {
         cap: None,
         links: TreeLinks::NONE,
@@ -37,7 +39,11 @@ impl Model for Slots {
 }
 
 impl Slots {
-    /// So many empty slots.
+    /// Returns `count` empty slots.
+    ///
+    /// # Errors
+    ///
+    /// [`AllocError`] where memory is refused.
     pub fn empty(alloc: Global, count: u64) -> Result<Slots, AllocError>
         ensures { IfOk result (λ slots. slots ≡ replicate count empty_slot) }
     {
@@ -46,14 +52,14 @@ impl Slots {
         Ok(Slots { items })
     }
 
-    /// The slot at the index.
+    /// Returns the slot at the index, if there is one.
     pub fn get(&self, index: u64) -> Option<&Slot>
         ensures { option_copied result ≡ slice_get self.now index }
     {
         self.items.get(index as usize)
     }
 
-    /// Says what the slot at the index holds, if there is one.
+    /// Sets what the slot at the index holds, if there is one.
     pub fn set_cap(&mut self, index: u64, cap: Option<Cap>)
         ensures { self.new ≡ edited (λ slot. record slot { cap = cap }) self.old index }
     {
@@ -62,7 +68,7 @@ impl Slots {
         }
     }
 
-    /// Says which the first child of the slot at the index is, if there is such a slot.
+    /// Sets the first child of the slot at the index, if there is such a slot.
     pub fn set_first(&mut self, index: u64, first: Option<SlotRef>)
         ensures { self.new ≡ edited (λ slot. record slot { links = record slot.links { first = first } }) self.old index }
     {
@@ -71,7 +77,7 @@ impl Slots {
         }
     }
 
-    /// Says which sibling follows the slot at the index, if there is such a slot.
+    /// Sets the sibling that follows the slot at the index, if there is such a slot.
     pub fn set_next(&mut self, index: u64, next: Option<SlotRef>)
         ensures { self.new ≡ edited (λ slot. record slot { links = record slot.links { next = next } }) self.old index }
     {
@@ -80,7 +86,7 @@ impl Slots {
         }
     }
 
-    /// Says which sibling the slot at the index follows, if there is such a slot.
+    /// Sets the sibling that the slot at the index follows, if there is such a slot.
     pub fn set_previous(&mut self, index: u64, previous: Option<SlotRef>)
         ensures { self.new ≡ edited (λ slot. record slot { links = record slot.links { previous = previous } }) self.old index }
     {
@@ -89,7 +95,9 @@ impl Slots {
         }
     }
 
-    /// Says whose child the slot at the index is, if there is one, and which sibling follows it. It follows none.
+    /// Sets the parent of the slot at the index, if there is one, and the sibling that follows it.
+    ///
+    /// The slot then follows no sibling.
     pub fn set_under(&mut self, index: u64, parent: Option<SlotRef>, next: Option<SlotRef>)
         ensures { self.new ≡ edited (λ slot. record slot { links = record slot.links { parent = parent; next = next; previous = None } }) self.old index }
     {
@@ -107,7 +115,8 @@ impl Slots {
         Some(self.get(index)?.cap.as_ref()?.object)
     }
 
-    /// Empties the slot at the index, if there is one, and tells for which object its capability was.
+    /// Empties the slot at the index, if there is one, and returns the object that its capability
+    /// was for.
     pub fn empty_at(&mut self, index: u64) -> Option<ObjId>
         ensures value { result ≡ option_map (λ cap. cap.object) (cap_in (slice_get self.old index)) }
         ensures emptied { self.new ≡ edited (λ slot. record slot { cap = None }) self.old index }

@@ -1,3 +1,4 @@
+//! The kernel's state, with its look-ups and changes.
 ghost use Rattle.std.specs.Prelude.{◌≡◌, slice_get};
 
 use crate::counts::Counts;
@@ -54,7 +55,7 @@ impl State {
     ghost use Rattle.objects.specs.{Pairs.{AreFilled, AreFilledOrGoing, IsFilledOrGoing, MayEmpty}, Roots.root_cap};
     ghost use Rattle.objects.specs.Waiting.{WaitsNowhere, WaitsThere};
 
-    /// A state with no objects, which takes its memory from the allocator.
+    /// Returns a state without objects, which takes its memory from the allocator.
     pub fn new(alloc: Global) -> State
         ensures { result ≡ empty_machine }
     {
@@ -66,7 +67,7 @@ impl State {
         }
     }
 
-    /// The number that the next object gets.
+    /// Returns the number that the next object gets.
     pub fn next_id(&self) -> u64
         ensures value { result ≡ self.now.next }
         ensures bounded { result ≤ OBJECT_NUMBERS }
@@ -74,7 +75,7 @@ impl State {
         self.next
     }
 
-    /// How many objects there are.
+    /// Returns the number of objects.
     pub fn object_count(&self) -> u64
         ensures value { result ≡ objects_in self.now }
         ensures bounded { result ≤ OBJECT_NUMBERS }
@@ -82,7 +83,7 @@ impl State {
         self.counts.objects
     }
 
-    /// How many slots the objects have together, filled or not.
+    /// Returns the number of slots that the objects have together, filled or not.
     pub fn slot_count(&self) -> u64
         ensures value { result ≡ slots_in self.now }
         ensures bounded { result ≤ OBJECT_NUMBERS * 2 ^ MAX_RADIX }
@@ -90,7 +91,7 @@ impl State {
         self.counts.slots
     }
 
-    /// How many of the objects are threads.
+    /// Returns the number of objects that are threads.
     pub fn thread_count(&self) -> u64
         ensures value { result ≡ threads_in self.now }
         ensures bounded { result ≤ OBJECT_NUMBERS }
@@ -98,7 +99,7 @@ impl State {
         self.counts.threads
     }
 
-    /// How many slots hold a capability for the object; none if it isn't there.
+    /// Returns the number of slots that hold a capability for the object; 0 if it isn't there.
     pub fn cap_count(&self, id: ObjId) -> u64
         ensures value { result ≡ caps_to self.now id }
         ensures bounded { result ≤ OBJECT_NUMBERS * 2 ^ MAX_RADIX }
@@ -106,7 +107,7 @@ impl State {
         self.store.caps(id)
     }
 
-    /// Each capability is for an object that is there.
+    /// Shows that each capability is for an object that is there.
     pub fn caps_are_for_objects(&self)
         ensures { (slot : Slot) (held : Cap) → cap_of self.now slot ≡ Some held → IsSome (object_of self.now held.object) }
     {
@@ -114,7 +115,7 @@ impl State {
         let _ = &self.next;
     }
 
-    /// Each capability is in a slot that is there.
+    /// Shows that each capability is in a slot that is there.
     pub fn caps_are_in_slots(&self)
         ensures { (slot : Slot) (held : Cap) → cap_of self.now slot ≡ Some held → IsTrue (has_slot self.now slot) }
     {
@@ -122,7 +123,7 @@ impl State {
         let _ = &self.next;
     }
 
-    /// Each CNode takes 1 to 12 bits of an address to select a slot.
+    /// Shows that each CNode takes 1 to 12 bits of an address to select a slot.
     pub fn cnodes_take_bits(&self)
         ensures { (id : Id) (node : CNode) → object_of self.now id ≡ Some (o.CNode node)
             → (0 < node.radix) × (node.radix ≤ MAX_RADIX) }
@@ -131,7 +132,7 @@ impl State {
         let _ = &self.next;
     }
 
-    /// The number of each object is below the next one.
+    /// Shows that the number of each object is below the next one.
     pub fn objects_are_numbered(&self)
         ensures { (id : Id) → IsSome (object_of self.now id) → id.0 < self.now.next }
     {
@@ -139,43 +140,46 @@ impl State {
         let _ = &self.next;
     }
 
-    /// The object of that number, if there is one.
+    /// Returns the object of that number, if there is one.
     pub fn object(&self, id: ObjId) -> Option<&Object>
         ensures { option_copied result ≡ object_of self.now id }
     {
         self.store.object(id)
     }
 
-    /// The capability in the slot; none where the slot is empty or isn't there.
+    /// Returns the capability in the slot; none where the slot is empty or isn't there.
     pub fn cap(&self, slot: SlotRef) -> Option<Cap>
         ensures { result ≡ cap_of self.now slot }
     {
         self.store.cap(slot)
     }
 
-    /// The same capability, where it is: [`State::cap`] copies it.
+    /// Returns a reference to the capability in the slot, if there is one.
+    ///
+    /// [`State::cap`] copies it.
     pub fn held(&self, slot: SlotRef) -> Option<&Cap>
         ensures { option_copied result ≡ cap_of self.now slot }
     {
         self.store.held(slot)
     }
 
-    /// The capability in a thread's root slot, where it is; none where that slot is empty or the object is no thread.
+    /// Returns the capability in a thread's root slot; none where that slot is empty or the object
+    /// is no thread.
     pub fn root(&self, thread: ObjId) -> Option<&Cap>
         ensures { option_copied result ≡ root_cap self.now thread }
     {
         self.store.root(thread)
     }
 
-    /// The slot whose capability that in this one was derived from, if it was derived (seL4 manual,
-    /// "Capability Derivation Tree").
+    /// Returns the slot whose capability that in this one was derived from, if it was derived (seL4
+    /// manual, "Capability Derivation Tree").
     pub fn parent(&self, slot: SlotRef) -> Option<SlotRef>
         ensures { result ≡ parent_of self.now slot }
     {
         self.store.parent(slot)
     }
 
-    /// Whether there is such a slot, filled or not.
+    /// Returns whether there is such a slot, filled or not.
     pub fn has_slot(&self, slot: SlotRef) -> bool
         ensures { result ≡ has_slot self.now slot }
     {
@@ -185,24 +189,28 @@ impl State {
         }
     }
 
-    /// The object's word at the index; none where the object isn't there or has fewer words.
+    /// Returns the object's word at the index; none where the object isn't there or has fewer
+    /// words.
     pub fn word(&self, id: ObjId, index: u64) -> Option<u64>
         ensures { result ≡ option_and_then (λ words. slice_get words index) (words_of self.now id) }
     {
         self.store.word(id, index)
     }
 
-    /// The thread that has waited longest at the object, if one waits.
+    /// Returns the thread that has waited longest at the object, if one waits.
     pub fn first_waiting(&self, id: ObjId) -> Option<ObjId>
         ensures { result ≡ first_waiting self.now id }
     {
         self.store.first(id)
     }
 
-    /// Adds an object under the next number. Its slots are empty, nobody waits at it, and its words
-    /// are zero.
+    /// Adds an object under the next number.
     ///
-    /// Fails where memory runs out.
+    /// The object's slots are empty, nobody waits at it, and its words are zero.
+    ///
+    /// # Errors
+    ///
+    /// [`AllocError`] where memory is refused. Then nothing has changed.
     pub fn add_object(&mut self, object: Object) -> Result<ObjId, AllocError>
         requires { self.old.next < OBJECT_NUMBERS }
         ensures made { OnOk result (self.new ≡ with_new self.old object) }
@@ -216,7 +224,9 @@ impl State {
 
     /// Adds objects as [`State::add_object`] does, one after another.
     ///
-    /// Fails where memory runs out, and then adds none.
+    /// # Errors
+    ///
+    /// [`AllocError`] where memory is refused. Then nothing has changed.
     pub fn add_objects(&mut self, objects: &[Object]) -> Result<(), AllocError>
         requires { self.old.next + length objects.now ≤ OBJECT_NUMBERS }
         ensures ok { OnOk result (self.new ≡ fold with_new self.old objects.now) }
@@ -230,9 +240,10 @@ impl State {
         Ok(())
     }
 
-    /// Removes the object, for which there is no capability. Its slots are empty and in no pair of the
-    /// derivation tree, nobody waits at it, and it waits nowhere. Its number isn't used again. Does
-    /// nothing where there is no such object.
+    /// Removes the object, for which there is no capability.
+    ///
+    /// The object's slots are empty and in no pair of the derivation tree, nobody waits at it, and
+    /// it waits nowhere. Its number isn't used again. Does nothing where there is no such object.
     pub fn remove_object(&mut self, id: ObjId)
         requires unheld { caps_to self.old id ≡ 0 }
         requires hollow { (slot : Slot) → slot.holder ≡ id → cap_of self.old slot ≡ None }
@@ -269,15 +280,17 @@ impl State {
         }
     }
 
-    /// The object at an index among those that have lost their last capability in a removal that is
-    /// under way, if there are as many.
+    /// Returns the object at an index among those that are going, if there are as many.
+    ///
+    /// These objects have lost their last capability in a removal that is under way.
     pub fn going(&self, index: u64) -> Option<ObjId>
         ensures { result ≡ slice_get self.now.going index }
     {
         at_index(&self.going, index)
     }
 
-    /// How many those are.
+    /// Returns the number of objects that have lost their last capability in a removal that is
+    /// under way.
     pub fn going_count(&self) -> u64
         ensures { result ≡ length self.now.going }
     {
@@ -294,8 +307,9 @@ impl State {
         self.going.push_reserved(id);
     }
 
-    /// Forgets which objects have lost their last capability. No pair of the derivation tree has an empty
-    /// slot.
+    /// Forgets which objects have lost their last capability.
+    ///
+    /// No pair of the derivation tree has an empty slot.
     pub fn clear_going(&mut self)
         requires { AreFilled self.old }
         ensures { self.new ≡ with_none_going self.old }
@@ -303,7 +317,7 @@ impl State {
         self.going.clear();
     }
 
-    /// A child of the slot in the derivation tree, if it has one.
+    /// Returns a child of the slot in the derivation tree, if it has one.
     pub fn first_child(&self, slot: SlotRef) -> Option<SlotRef>
         ensures some { IfSome result (λ child. parent_of self.now child ≡ Some slot) }
         ensures none { IfNone result ((child : Slot) → parent_of self.now child ≢ Some slot) }
@@ -312,8 +326,10 @@ impl State {
     }
 
     /// Makes `slot`, which has no parent, a child of `parent` in the derivation tree (seL4 manual,
-    /// "Capability Derivation Tree"). The slot keeps its children, so the parent may not descend from
-    /// it. Each of the two is filled, or its holder is going.
+    /// "Capability Derivation Tree").
+    ///
+    /// The slot keeps its children, so the parent may not descend from it. Each of the two is
+    /// filled, or its holder is going.
     pub fn attach(&mut self, slot: SlotRef, parent: SlotRef)
         requires below { IsTrue (has_slot self.old slot) }
         requires above { IsTrue (has_slot self.old parent) }
@@ -333,8 +349,10 @@ impl State {
         self.store.detach(slot);
     }
 
-    /// Pairs of the derivation tree join slots that are there, each of which is filled, or its holder is
-    /// going; and no slot descends from itself.
+    /// Shows that pairs of the derivation tree join slots that are there, and that no slot descends
+    /// from itself.
+    ///
+    /// Each of these slots is filled, or its holder is going.
     pub fn keeps_a_forest(&self)
         ensures below { (slot parent : Slot) → parent_of self.now slot ≡ Some parent → IsTrue (has_slot self.now slot) }
         ensures above { (slot parent : Slot) → parent_of self.now slot ≡ Some parent → IsTrue (has_slot self.now parent) }
@@ -415,16 +433,18 @@ impl State {
         }
     }
 
-    /// Sets the object's word at the index. Does nothing where the object isn't there or has fewer
-    /// words.
+    /// Sets the object's word at the index.
+    ///
+    /// Does nothing where the object isn't there or has fewer words.
     pub fn set_word(&mut self, id: ObjId, index: u64, word: u64)
         ensures { self.new ≡ with_word self.old id index word }
     {
         self.store.set_word(id, index, word);
     }
 
-    /// Puts the thread behind those that wait at the object. Does nothing where there is no such
-    /// object.
+    /// Puts the thread behind those that wait at the object.
+    ///
+    /// Does nothing where there is no such object.
     pub fn push_waiting(&mut self, id: ObjId, thread: ObjId)
         requires present { IsSome (object_of self.old thread) }
         requires free { WaitsNowhere self.old thread }
@@ -443,9 +463,11 @@ impl State {
         Some(first)
     }
 
-    /// Takes a thread out of those that wait at the object. The others stay in their order.
+    /// Takes a thread out of those that wait at the object.
     ///
-    /// It takes the same time however many wait.
+    /// The others stay in their order.
+    ///
+    /// The call takes the same time however many wait.
     pub fn take_waiting(&mut self, id: ObjId, thread: ObjId)
         requires { WaitsThere self.old id thread }
         ensures { self.new ≡ without_waiting self.old id thread }

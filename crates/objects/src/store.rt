@@ -51,7 +51,7 @@ impl Store {
     ghost use Rattle.objects.specs.{Family.{leaving, links_at, parent_in, with_links, with_slot}, Links.{pushed, quitted, standing_of}};
     ghost use Rattle.objects.specs.{Links.with_standing, Radices.HasRadix, Roots.root_in};
 
-    /// No entries.
+    /// Returns a store without entries.
     pub fn new(alloc: Global) -> Store
         ensures { result ≡ finite.empty }
     {
@@ -62,56 +62,56 @@ impl Store {
         }
     }
 
-    /// The object's entry.
+    /// Returns the object's entry, if the object is present.
     pub fn entry(&self, id: ObjId) -> Option<&Entry>
         ensures { option_copied result ≡ entry_of self.now id }
     {
         places::entry(&self.places, &self.entries, id)
     }
 
-    /// The object's content.
+    /// Returns the object's content, if the object is present.
     pub fn object(&self, id: ObjId) -> Option<&Object>
         ensures { option_copied result ≡ option_map (λ entry. entry.object) (entry_of self.now id) }
     {
         Some(&self.entry(id)?.object)
     }
 
-    /// The slot, if it is there.
+    /// Returns the slot, if it is there.
     pub fn slot(&self, at: SlotRef) -> Option<&Slot>
         ensures { option_copied result ≡ slot_at (entry_of self.now) at }
     {
         self.entry(at.holder)?.slots.get(at.index)
     }
 
-    /// The capability in the slot.
+    /// Returns the capability in the slot, if there is one.
     pub fn cap(&self, at: SlotRef) -> Option<Cap>
         ensures { result ≡ cap_in (slot_at (entry_of self.now) at) }
     {
         self.slot(at)?.cap
     }
 
-    /// The same, where it is.
+    /// Returns a reference to the capability in the slot, if there is one.
     pub fn held(&self, at: SlotRef) -> Option<&Cap>
         ensures { option_copied result ≡ cap_in (slot_at (entry_of self.now) at) }
     {
         self.slot(at)?.cap.as_ref()
     }
 
-    /// What the root slot of the thread holds.
+    /// Returns the capability in the root slot of the thread, if there is one.
     pub fn root(&self, thread: ObjId) -> Option<&Cap>
         ensures { option_copied result ≡ root_in (entry_of self.now thread) }
     {
         self.entry(thread)?.root()
     }
 
-    /// The parent of the slot.
+    /// Returns the parent of the slot, if it has one.
     pub fn parent(&self, at: SlotRef) -> Option<SlotRef>
         ensures { result ≡ parent_in (slot_at (entry_of self.now) at) }
     {
         self.slot(at)?.links.parent
     }
 
-    /// The first child of the slot.
+    /// Returns the first child of the slot, if it has one.
     pub fn first_child(&self, at: SlotRef) -> Option<SlotRef>
         ensures { result ≡ (links_at (entry_of self.now) at).first }
     {
@@ -121,7 +121,7 @@ impl Store {
         }
     }
 
-    /// The links of the slot; one that is absent has none.
+    /// Returns the links of the slot; one that is absent has none.
     pub fn links(&self, at: SlotRef) -> TreeLinks
         ensures { result ≡ links_at (entry_of self.now) at }
     {
@@ -138,14 +138,14 @@ impl Store {
         Some(self.entry(id)?.ends)
     }
 
-    /// The object's word at the index.
+    /// Returns the object's word at the index, if both are present.
     pub fn word(&self, id: ObjId, index: u64) -> Option<u64>
         ensures { result ≡ option_and_then (λ entry. slice_get entry.words index) (entry_of self.now id) }
     {
         self.entry(id)?.words.get(index)
     }
 
-    /// How many capabilities there are for the object.
+    /// Returns the number of capabilities for the object.
     pub fn caps(&self, id: ObjId) -> u64
         ensures { result ≡ caps_in (entry_of self.now id) }
     {
@@ -155,7 +155,7 @@ impl Store {
         }
     }
 
-    /// Who waits first at the object.
+    /// Returns the thread that waits first at the object, if one waits.
     pub fn first(&self, id: ObjId) -> Option<ObjId>
         ensures { result ≡ option_and_then (λ entry. entry.ends.first) (entry_of self.now id) }
     {
@@ -172,7 +172,7 @@ impl Store {
         }
     }
 
-    /// Says what the slot holds, if it is there.
+    /// Sets what the slot holds, if it is there.
     pub fn set_cap(&mut self, at: SlotRef, cap: Option<Cap>)
         ensures { self.new ≡ with_slot self.old at (λ slot. record slot { cap = cap }) }
     {
@@ -292,7 +292,7 @@ impl Store {
         places::count_less(&self.places, &mut self.entries, id);
     }
 
-    /// Empties the slot, if it is there, and tells for which object its capability was.
+    /// Empties the slot, if it is there, and returns the object that its capability was for.
     pub fn empty_slot(&mut self, at: SlotRef) -> Option<ObjId>
         ensures value { result ≡ option_map (λ cap. cap.object) (cap_in (slot_at (entry_of self.old) at)) }
         ensures emptied { self.new ≡ with_slot self.old at (λ slot. record slot { cap = None }) }
@@ -359,8 +359,9 @@ impl Store {
         }
     }
 
-    /// Takes a thread out of the object's queue, if the object is present. Its neighbours come
-    /// together.
+    /// Takes a thread out of the object's queue, if the object is present.
+    ///
+    /// The neighbours of the thread come together.
     pub fn take_out(&mut self, id: ObjId, thread: ObjId)
         ensures { self.new
             ≡ quitted self.old id thread (option_map (λ entry. entry.ends) (entry_of self.old id)) }
@@ -385,8 +386,13 @@ impl Store {
         places::remove(&mut self.places, &mut self.entries, id.0);
     }
 
-    /// Adds the entries of new objects under one number after another, from a first on that none in
-    /// use reaches.
+    /// Adds the entries of new objects under one number after another, from `first` on.
+    ///
+    /// No number in use reaches `first`.
+    ///
+    /// # Errors
+    ///
+    /// [`AllocError`] where memory is refused. Then nothing has changed.
     pub fn add_all(&mut self, first: u64, objects: &[Object]) -> Result<(), AllocError>
         requires { first + length objects.now ≤ OBJECT_NUMBERS }
         ensures ok { OnOk result (self.new ≡ with_more self.old first (map new_entry objects.now)) }

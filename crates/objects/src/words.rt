@@ -1,3 +1,4 @@
+//! The words of an object's memory.
 ghost use Rattle.std.specs.Prelude.{◌≡◌, IfOk, replicate, slice_get, slice_set};
 
 use std::alloc::{AllocError, Global};
@@ -18,7 +19,11 @@ impl Model for Words {
 }
 
 impl Words {
-    /// So many words of zero.
+    /// Returns `count` words of zero.
+    ///
+    /// # Errors
+    ///
+    /// [`AllocError`] where memory is refused.
     pub fn zeros(alloc: Global, count: u64) -> Result<Words, AllocError>
         ensures { IfOk result (λ words. words ≡ replicate count 0) }
     {
@@ -27,7 +32,7 @@ impl Words {
         Ok(Words { items })
     }
 
-    /// The word at the index.
+    /// Returns the word at the index, if there is one.
     pub fn get(&self, index: u64) -> Option<u64>
         ensures { result ≡ slice_get self.now index }
     {

@@ -22,8 +22,10 @@ pub fn push_last(state: &mut State, id: ObjId, thread: ObjId)
     state.push_waiting(id, thread);
 }
 
-/// Has a thread wait at an object in a run state, after those that wait there (seL4 manual, "Threads
-/// and Execution"). Does nothing where there is no such thread.
+/// Has a thread wait at an object in a run state, after those that wait there (seL4 manual,
+/// "Threads and Execution").
+///
+/// Does nothing where there is no such thread.
 pub fn block(state: &mut State, thread: ObjId, id: ObjId, run: RunState)
     requires { WaitsNowhere state.old thread }
     ensures blocked { state.new ≡ with_blocked state.old thread id run }
@@ -55,8 +57,10 @@ fn wait_at(state: &mut State, thread: ObjId, id: ObjId, run: RunState)
     }
 }
 
-/// Takes the first of the threads that wait at an object, and says which it was. The others stay in
-/// their order.
+/// Takes the first of the threads that wait at an object, and returns which it was, if there was
+/// one.
+///
+/// The others stay in their order.
 #[tactic(auto, using(machine::proofs::Queues::nobody_leaves))]
 pub fn pop_first(state: &mut State, id: ObjId) -> Option<ObjId>
     ensures first { result ≡ first_waiting state.old id }

@@ -4,6 +4,7 @@ use crate::memory::{NO_MEMORY, Stopped, are_made, are_made_again, met};
 use labels::{authority, slot_edges};
 use table::Table;
 
+/// Lists the authority of the table's boot state, and once more if memory was refused.
 pub fn lists_authority<R: AllocGlobal>(rt: &R, table: &Table) -> Result<(), Stopped> {
     let expected = table_edges()?;
     match met(NO_MEMORY, authority(rt.alloc(), table))? {
@@ -12,6 +13,7 @@ pub fn lists_authority<R: AllocGlobal>(rt: &R, table: &Table) -> Result<(), Stop
     }
 }
 
+/// Lists the edges of the notification's slot, and once more if memory was refused.
 pub fn lists_edges_of_a_slot<R: AllocGlobal>(rt: &R, table: &Table) -> Result<(), Stopped> {
     let expected = bell::slot_edges()?;
     match met(NO_MEMORY, slot_edges(rt.alloc(), table, SLOT))? {

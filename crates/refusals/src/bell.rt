@@ -8,6 +8,7 @@ use machine::{Answer, Call, Event, Object, Outcome};
 use objects::State;
 use table::Table;
 
+/// The text of the system's table.
 pub const TABLE: &str = "\
 confine-table 1
 label a
@@ -21,6 +22,7 @@ bind t x
 end
 ";
 
+/// The text of its policy.
 pub const POLICY: &str = "\
 confine-policy 1
 edge a reset a
@@ -32,6 +34,7 @@ edge a runs a
 end
 ";
 
+/// The text of its script.
 pub const SCRIPT: &str = "\
 confine-script 1
 0 1 signal 0
@@ -39,6 +42,7 @@ confine-script 1
 end
 ";
 
+/// The text of the log of its run.
 pub const LOG: &str = "\
 confine-log 1
 0 1 signal 0 = done
@@ -46,6 +50,7 @@ confine-log 1
 end
 ";
 
+/// The text of its certificate.
 pub const CERTIFICATE: &str = "\
 confine-cert 1
 cap c.0 a reset,notify,await a
@@ -82,11 +87,12 @@ fn label() -> Result<Label, Stopped> {
     Ok(Label::new(0).ok_or(Stopped::Wrong(Wrong::Label))?)
 }
 
+/// Returns the core that the thread runs on.
 pub fn core() -> Result<CoreNo, Stopped> {
     Ok(CoreNo::new(0).ok_or(Stopped::Wrong(Wrong::Core))?)
 }
 
-/// The edges of the policy.
+/// Returns the edges of the policy.
 pub fn edges() -> Result<[Edge; 6], Stopped> {
     let a = label()?;
     let edge = |kind| Edge {
@@ -104,13 +110,13 @@ pub fn edges() -> Result<[Edge; 6], Stopped> {
     ])
 }
 
-/// The edges that the table gives: those of the policy but derive, which no pair gives.
+/// Returns the edges that the table gives: those of the policy but derive, which no pair gives.
 pub fn table_edges() -> Result<[Edge; 5], Stopped> {
     let [reset, notify, await_, space, _, runs] = edges()?;
     Ok([reset, notify, await_, space, runs])
 }
 
-/// The edges that the notification's capability gives.
+/// Returns the edges that the notification's capability gives.
 pub fn slot_edges() -> Result<[Edge; 3], Stopped> {
     let [reset, notify, await_, ..] = edges()?;
     Ok([reset, notify, await_])
@@ -121,7 +127,7 @@ fn kinds_given() -> Kinds {
     Kinds::RESET.union(Kinds::NOTIFY).union(Kinds::AWAIT)
 }
 
-/// The certificate's lines.
+/// Returns the certificate's lines.
 pub fn certificate_lines() -> Result<[Line; 3], Stopped> {
     let a = label()?;
     Ok([
@@ -153,7 +159,7 @@ fn event(call: Call) -> Result<Event, Stopped> {
     })
 }
 
-/// The script's events.
+/// Returns the script's events.
 pub fn events() -> Result<[Event; 2], Stopped> {
     Ok([
         event(Call::Signal { address: 0 })?,
@@ -161,10 +167,10 @@ pub fn events() -> Result<[Event; 2], Stopped> {
     ])
 }
 
-/// What a signal answers.
+/// The outcome of a signal.
 pub const DONE: Outcome = Outcome::Done(Answer::Nothing);
 
-/// What a poll answers after it.
+/// The outcome of a poll after it.
 pub const WORD: Outcome = Outcome::Done(Answer::Word(4));
 
 /// Asserts that a table is the system's.

@@ -17,7 +17,7 @@ read_table read_policy read_script read_log write_table write_policy write_scrip
 edges close authority slot_edges make_certificate read_certificate write_certificate verify \
 judge check open boot run step step_cnode step_frame step_sixteen run_retype replay";
 
-/// Makes a call after so many allocations.
+/// Makes a call after `count` allocations.
 pub fn make<R: AllocGlobal + Threads + Wait + Sync>(
     rt: &R,
     call: &str,

@@ -15,6 +15,7 @@ pub fn is_the_certificate(certificate: &Certificate) -> Result<(), Stopped> {
     are(certificate.lines(), &certificate_lines()?)
 }
 
+/// Makes the system's certificate, and once more if memory was refused.
 pub fn makes_a_certificate<R: AllocGlobal>(rt: &R, table: &Table) -> Result<(), Stopped> {
     match met(NO_MEMORY, make(rt.alloc(), table))? {
         Some(made) => passes(made, is_the_certificate),
@@ -22,6 +23,7 @@ pub fn makes_a_certificate<R: AllocGlobal>(rt: &R, table: &Table) -> Result<(), 
     }
 }
 
+/// Reads the system's certificate, and once more if memory was refused.
 pub fn reads_a_certificate<R: AllocGlobal>(rt: &R, table: &Table) -> Result<(), Stopped> {
     match met(UNREAD, read(rt.alloc(), CERTIFICATE.as_bytes(), table))? {
         Some(made) => passes(made, is_the_certificate),
@@ -47,6 +49,7 @@ fn writes<R: AllocGlobal>(rt: &R, certificate: &Certificate, table: &Table) -> R
     }
 }
 
+/// Writes the system's certificate, and once more if memory was refused.
 pub fn writes_a_certificate<R: AllocGlobal>(rt: &R, table: &Table) -> Result<(), Stopped> {
     match certificate_of(rt, table) {
         Ok(certificate) => {
@@ -76,6 +79,7 @@ fn verifies<R: AllocGlobal + Threads + Sync>(
     }
 }
 
+/// Verifies the system's certificate, and once more if memory was refused.
 pub fn verifies_a_certificate<R: AllocGlobal + Threads + Sync>(
     rt: &R,
     table: &Table,

@@ -21,7 +21,8 @@ pub fn has_all_edges(policy: &Policy) -> Result<(), Stopped> {
     has_edges(policy, &edges()?)
 }
 
-/// Adds the first of these edges to a policy of the others: an edge that is refused isn't in it, and comes in the second time.
+/// Adds the first of these edges to a policy of the others: an edge that is refused isn't in it,
+/// and comes in the second time.
 fn adds_the_first(policy: &mut Policy, rising: &[Edge]) -> Result<(), Stopped> {
     let (first, others) = rising.split_first().ok_or(Stopped::Wrong(Wrong::NoEdge))?;
     match policy.add(*first) {
@@ -46,6 +47,7 @@ fn adds_edges_to(policy: &mut Policy) -> Result<(), Stopped> {
     Ok(())
 }
 
+/// Adds the system's edges to a policy, and one once more if memory was refused for it.
 pub fn adds_edges<R: AllocGlobal>(rt: &R, count: u64) -> Result<(), Stopped> {
     spend(rt.alloc(), count)?;
     let mut policy = Policy::new(rt.alloc());
@@ -69,6 +71,7 @@ fn fills_and_lists<R: AllocGlobal>(rt: &R, policy: &mut Policy) -> Result<(), St
     lists_the_edges(rt, policy)
 }
 
+/// Lists the edges of a policy, and once more if memory was refused.
 pub fn lists_edges<R: AllocGlobal>(rt: &R, count: u64) -> Result<(), Stopped> {
     spend(rt.alloc(), count)?;
     let mut policy = Policy::new(rt.alloc());
@@ -86,6 +89,7 @@ fn closes_the<R: AllocGlobal>(rt: &R, empty: &Policy) -> Result<(), Stopped> {
     }
 }
 
+/// Closes a policy, and once more if memory was refused.
 pub fn closes<R: AllocGlobal>(rt: &R, count: u64) -> Result<(), Stopped> {
     spend(rt.alloc(), count)?;
     let empty = Policy::new(rt.alloc());

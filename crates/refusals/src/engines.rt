@@ -11,7 +11,7 @@ use report::{
 use std::sync::Wait;
 use std::thread::Threads;
 
-/// What is asked of the files.
+/// The engine that is asked.
 #[derive(Clone, Copy)]
 pub enum Engine {
     Run,
@@ -386,7 +386,8 @@ fn goes_on(call: EngineCall, written: &[u8]) -> bool {
     call.text == retypes::LOG && written == LOG_WITHOUT_MEMORY.as_bytes()
 }
 
-/// Whether an engine was refused memory: then it has written nothing, or what it may write without. Else it has answered.
+/// Whether an engine was refused memory: then it has written nothing, or what it may write without.
+/// Else it has answered.
 fn was_refused(end: End, written: &[u8], call: EngineCall) -> Result<bool, Stopped> {
     if end == End::NoMemory {
         holds(written.len() == 0, Wrong::Written)?;
@@ -416,7 +417,9 @@ fn is_refused<R: AllocGlobal + Threads + Wait + Sync>(
     }
 }
 
-/// Makes a call of an engine after so many allocations. One that is refused memory is made again, and has to be answered then.
+/// Makes a call of an engine after `count` allocations.
+///
+/// A call that is refused memory is made again, and has to be answered then.
 pub fn answers<R: AllocGlobal + Threads + Wait + Sync>(
     rt: &R,
     count: u64,
@@ -430,7 +433,7 @@ pub fn answers<R: AllocGlobal + Threads + Wait + Sync>(
     Ok(())
 }
 
-/// The call of this name.
+/// Returns the call of this name, if there is one.
 pub fn call_named(name: &str) -> Option<EngineCall> {
     for call in &CALLS {
         if call.name == name {

@@ -11,6 +11,7 @@ fn writes_the<R: AllocGlobal>(rt: &R, log: &Log) -> Result<(), Stopped> {
     }
 }
 
+/// Writes the system's log, and once more if memory was refused.
 pub fn writes_the_log<R: AllocGlobal>(rt: &R, count: u64) -> Result<(), Stopped> {
     spend(rt.alloc(), count)?;
     let [signal, poll] = events()?;

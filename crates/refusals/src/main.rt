@@ -1,10 +1,12 @@
-//! The calls of a run, of a replay, of a check, of a verification, of a closing and of claims, and the opening of a kernel that threads
-//! share, whose memory is refused: for `tests/refuse-memory`, which has their allocations refused one by one.
+//! The calls of a run, of a replay, of a check, of a verification, of a closing and of claims, and
+//! the opening of a kernel that threads share, whose memory is refused: for `tests/refuse-memory`,
+//! which has their allocations refused one by one.
 //!
-//! Asked for `CALL COUNT`, the program makes so many allocations of its own, then prepares what the call is given, which may take some
-//! more, and then makes the call. A call that meets a refusal has to say so, with all that it was given as it was, and to answer its
-//! value when it is made again; else it has to answer its value at once. The program says which it was. Asked for nothing it makes each
-//! call once.
+//! Asked for `CALL COUNT`, the program makes `COUNT` allocations of its own, then prepares what the
+//! call is given, which may take some more, and then makes the call. A call that meets a refusal
+//! has to say so, with all that it was given as it was, and to answer its value when it is made
+//! again; else it has to answer its value at once. The program says which it was. Asked for nothing
+//! it makes each call once.
 #![tactic(auto)]
 
 mod authority;

@@ -17,7 +17,7 @@ pub const UNREAD: Fault = Fault {
     line: 0,
 };
 
-/// Why a call isn't one that met no refusal and answered its value.
+/// The reason why a call isn't one that met no refusal and answered its value.
 #[derive(Clone, Copy)]
 pub enum Stopped {
     /// Memory was refused before the call.
@@ -28,7 +28,7 @@ pub enum Stopped {
     Wrong(Wrong),
 }
 
-/// What isn't as it has to be: something else than was expected, or something that is left.
+/// A fault of a call: something else than was expected, or something that is left.
 #[derive(Clone, Copy)]
 pub enum Wrong {
     Address,
@@ -62,7 +62,7 @@ pub enum Wrong {
 }
 
 impl Wrong {
-    /// What is wrong, in words.
+    /// Returns what is wrong, in words.
     pub fn words(self) -> &'static str {
         match self {
             Wrong::Address => "another address",
@@ -106,7 +106,7 @@ pub fn holds(is_so: bool, wrong: Wrong) -> Result<(), Stopped> {
     }
 }
 
-/// Makes so many allocations, and gives them back.
+/// Makes `count` allocations, and gives them back.
 pub fn spend(alloc: Global, count: u64) -> Result<(), Stopped> {
     for number in 0..count {
         prepared(Box::new(alloc, number))?;
@@ -114,7 +114,7 @@ pub fn spend(alloc: Global, count: u64) -> Result<(), Stopped> {
     Ok(())
 }
 
-/// What was made before the call.
+/// Returns what was made before the call.
 pub fn prepared<T, E: Drop>(made: Result<T, E>) -> Result<T, Stopped>
     ensures { IfOk result (λ value. made ≡ Ok value) }
 {
@@ -124,7 +124,8 @@ pub fn prepared<T, E: Drop>(made: Result<T, E>) -> Result<T, Stopped>
     }
 }
 
-/// What a call has made, or nothing where it was refused memory. Then it has to say so by this error, and is to be made again.
+/// Returns what a call has made, or nothing where it was refused memory. Then it has to say so by
+/// this error, and must be made again.
 pub fn met<T, E: PartialEq + Drop>(
     no_memory: E,
     answer: Result<T, E>,
@@ -138,7 +139,7 @@ pub fn met<T, E: PartialEq + Drop>(
     }
 }
 
-/// What a call answered that was made again.
+/// Returns what a call answered that was made again.
 pub fn again<T, E: Drop>(answer: Result<T, E>) -> Result<T, Stopped> {
     match answer {
         Ok(value) => Ok(value),
@@ -146,8 +147,8 @@ pub fn again<T, E: Drop>(answer: Result<T, E>) -> Result<T, Stopped> {
     }
 }
 
-/// Asserts that what a call has made passes a test. It is let go here, as a value of any type: a function that lets go of a
-/// `Table` by name has a step for each of its fields, at each way out.
+/// Asserts that what a call has made passes a test. It is let go here, as a value of any type: a
+/// function that lets go of a `Table` by name has a step for each of its fields, at each way out.
 pub fn passes<T: Drop, F: Fn(&T) -> Result<(), Stopped> + Drop>(
     made: T,
     test: F,

@@ -21,6 +21,7 @@ fn opens_for<R: AllocGlobal>(rt: &R, accepted: &Accepted<'_>) -> Result<(), Stop
     }
 }
 
+/// Opens a kernel with one seat, and once more if memory was refused.
 pub fn opens<R: AllocGlobal + Threads + Sync>(
     rt: &R,
     table: &Table,

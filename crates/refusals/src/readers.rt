@@ -3,6 +3,7 @@ use crate::bell::{DONE, LOG, SCRIPT, WORD, events};
 use crate::memory::{Stopped, UNREAD, are_made, are_made_again, met, spend};
 use evtext::{read_log, read_script};
 
+/// Reads the system's script, and once more if memory was refused.
 pub fn reads_the_script<R: AllocGlobal>(rt: &R, count: u64) -> Result<(), Stopped> {
     spend(rt.alloc(), count)?;
     let events = events()?;
@@ -12,6 +13,7 @@ pub fn reads_the_script<R: AllocGlobal>(rt: &R, count: u64) -> Result<(), Stoppe
     }
 }
 
+/// Reads the system's log, and once more if memory was refused.
 pub fn reads_the_log<R: AllocGlobal>(rt: &R, count: u64) -> Result<(), Stopped> {
     spend(rt.alloc(), count)?;
     let [signal, poll] = events()?;

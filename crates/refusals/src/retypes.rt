@@ -254,7 +254,8 @@ fn runs_again(
     Err(Stopped::Refused)
 }
 
-/// Runs an event that makes an object, twice. A run that is refused memory leaves no outcome, and comes to its end the second time.
+/// Runs an event that makes an object, twice. A run that is refused memory leaves no outcome, and
+/// comes to its end the second time.
 fn runs_into(state: &mut State, outcomes: &mut Vec<Outcome>) -> Result<(), Stopped>
     requires { IsWellFormed state.old }
 {
@@ -302,7 +303,7 @@ fn replays_on(state: &mut State) -> Result<(), Stopped>
     }
 }
 
-/// What is tried in a boot state.
+/// The thing that is tried in a boot state.
 #[derive(Clone, Copy)]
 pub enum Trial {
     /// An endpoint and a thread are made, one after the other.
@@ -317,7 +318,7 @@ pub enum Trial {
     Replays,
 }
 
-/// What the call of this name tries.
+/// Returns what the call of this name tries, if it is one of these.
 pub fn trial_of(call: &str) -> Option<Trial> {
     match call {
         "step" => Some(Trial::Twice),
@@ -354,7 +355,7 @@ fn try_after_boot<R: AllocGlobal>(rt: &R, table: &Table, trial: Trial) -> Result
     }
 }
 
-/// Tries it in the boot state of a table, after so many allocations.
+/// Tries it in the boot state of a table, after `count` allocations.
 pub fn tried<R: AllocGlobal>(rt: &R, count: u64, trial: Trial) -> Result<(), Stopped> {
     spend(rt.alloc(), count)?;
     let text = match trial {
@@ -393,6 +394,7 @@ edge a holds a
 end
 ";
 
+/// A script that makes an object, and tries to make another in the same slot.
 pub const SCRIPT: &str = "\
 confine-script 1
 0 1 retype 0 endpoint 0 1 2 1
@@ -400,6 +402,7 @@ confine-script 1
 end
 ";
 
+/// The log of its run.
 pub const LOG: &str = "\
 confine-log 1
 0 1 retype 0 endpoint 0 1 2 1 = done count 1
@@ -407,7 +410,7 @@ confine-log 1
 end
 ";
 
-/// Where the first is refused memory, the run goes on.
+/// The log of its run where the first event is refused memory, and the run goes on.
 pub const LOG_WITHOUT_MEMORY: &str = "\
 confine-log 1
 0 1 retype 0 endpoint 0 1 2 1 = refused 40 0

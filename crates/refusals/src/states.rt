@@ -11,6 +11,7 @@ use machine::Outcome;
 use objects::State;
 use table::Table;
 
+/// Makes the system's boot state, and once more if memory was refused.
 pub fn boots<R: AllocGlobal>(rt: &R, table: &Table) -> Result<(), Stopped> {
     match met(NO_MEMORY, boot(rt.alloc(), table))? {
         Some(made) => passes(made, is_booted),
@@ -45,13 +46,14 @@ fn runs_on<R: AllocGlobal>(rt: &R, state: &mut State) -> Result<(), Stopped>
     result
 }
 
-/// The boot state of a table.
+/// Returns the boot state of a table.
 pub fn booted<R: AllocGlobal>(rt: &R, table: &Table) -> Result<State, Stopped>
     ensures { IfOk result IsWellFormed }
 {
     prepared(boot(rt.alloc(), table))
 }
 
+/// Runs the system's script, and once more if memory was refused.
 pub fn runs<R: AllocGlobal>(rt: &R, table: &Table) -> Result<(), Stopped> {
     match booted(rt, table) {
         Ok(mut state) => {

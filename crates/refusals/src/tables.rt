@@ -5,6 +5,7 @@ use crate::memory::{Stopped, UNREAD, met, passes, passes_again, spend};
 use captext::{read_policy, read_table};
 use table::Table;
 
+/// Reads the system's table, and once more if memory was refused.
 pub fn reads_the_table<R: AllocGlobal>(rt: &R, count: u64) -> Result<(), Stopped> {
     spend(rt.alloc(), count)?;
     match met(UNREAD, read_table(rt.alloc(), TABLE.as_bytes()))? {
@@ -13,6 +14,7 @@ pub fn reads_the_table<R: AllocGlobal>(rt: &R, count: u64) -> Result<(), Stopped
     }
 }
 
+/// Reads the system's policy, and once more if memory was refused.
 pub fn reads_the_policy<R: AllocGlobal>(rt: &R, table: &Table) -> Result<(), Stopped> {
     match met(UNREAD, read_policy(rt.alloc(), POLICY.as_bytes(), table))? {
         Some(made) => passes(made, has_all_edges),

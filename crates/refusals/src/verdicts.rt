@@ -12,6 +12,7 @@ fn is_granted(verdict: &Result<Accepted<'_>, Denial>) -> Result<(), Stopped> {
     holds(verdict.is_ok(), Wrong::Denied)
 }
 
+/// Judges the system, and once more if memory was refused.
 pub fn accepts<R: AllocGlobal + Threads + Sync>(
     rt: &R,
     table: &Table,
@@ -30,6 +31,7 @@ fn is_accepted(verdict: &Verdict<'_>) -> Result<(), Stopped> {
     }
 }
 
+/// Checks the system, and once more if memory was refused.
 pub fn checks<R: AllocGlobal + Threads + Sync>(
     rt: &R,
     table: &Table,

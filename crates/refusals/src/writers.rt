@@ -6,6 +6,7 @@ use evtext::write_script;
 use policy::Policy;
 use table::Table;
 
+/// Writes the system's table, and once more if memory was refused.
 pub fn writes_a_table<R: AllocGlobal>(rt: &R, table: &Table) -> Result<(), Stopped> {
     match met(NO_MEMORY, write_table(rt.alloc(), table))? {
         Some(made) => are_made(made, TABLE.as_bytes()),
@@ -13,6 +14,7 @@ pub fn writes_a_table<R: AllocGlobal>(rt: &R, table: &Table) -> Result<(), Stopp
     }
 }
 
+/// Writes the system's policy, and once more if memory was refused.
 pub fn writes_a_policy<R: AllocGlobal>(
     rt: &R,
     policy: &Policy,
@@ -24,6 +26,7 @@ pub fn writes_a_policy<R: AllocGlobal>(
     }
 }
 
+/// Writes the system's script, and once more if memory was refused.
 pub fn writes_a_script<R: AllocGlobal>(rt: &R, count: u64) -> Result<(), Stopped> {
     spend(rt.alloc(), count)?;
     let events = events()?;

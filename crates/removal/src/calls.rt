@@ -1,3 +1,4 @@
+//! The calls Delete and Revoke, which remove capabilities.
 ghost use Rattle.std.specs.Prelude.{◌≡◌};
 ghost use Rattle.machine.specs.{Makes.Makes, Step.{Delete.delete_of, Revoke.revoke_of}, WellFormed.IsWellFormed};
 
@@ -8,11 +9,17 @@ use machine::{Answer, Made, SlotAddress};
 use objects::State;
 use steps::removals_keep_machines_well_formed;
 
-/// Removes the capability in the slot that the caller names, and all that can't stay without it (seL4
-/// manual, seL4_CNode_Delete): the slots of CNodes and threads that lose their last capability, and what
-/// these hold. An empty slot stays as it is.
+/// Removes the capability in the slot that the caller names, and all that can't stay without it
+/// (seL4 manual, seL4_CNode_Delete).
+///
+/// The slots of CNodes and threads that lose their last capability are removed too, and what these
+/// hold. An empty slot stays as it is.
 ///
 /// It takes time in what goes and in what is linked to that, and no memory.
+///
+/// # Errors
+///
+/// Those of [`target`].
 #[tactic(auto, unfolding(machine::specs::Step::Delete::delete_of))]
 pub fn delete(state: &mut State, caller: ObjId, address: SlotAddress) -> Result<Made, Cause>
     requires well_formed { IsWellFormed state.old }
@@ -28,11 +35,16 @@ pub fn delete(state: &mut State, caller: ObjId, address: SlotAddress) -> Result<
     Ok(Made::Done(Answer::Nothing))
 }
 
-/// Removes all that descends from the capability in the slot that the caller names, and what can't stay
-/// without it (seL4 manual, seL4_CNode_Revoke). The capability itself stays, unless its slot is one of
-/// those that go.
+/// Removes all that descends from the capability in the slot that the caller names, and what can't
+/// stay without it (seL4 manual, seL4_CNode_Revoke).
+///
+/// The capability itself stays, unless its slot is one of those that go.
 ///
 /// It takes time in what goes and in what is linked to that, and no memory.
+///
+/// # Errors
+///
+/// Those of [`target`].
 #[tactic(auto, unfolding(machine::specs::Step::Revoke::revoke_of))]
 pub fn revoke(state: &mut State, caller: ObjId, address: SlotAddress) -> Result<Made, Cause>
     requires well_formed { IsWellFormed state.old }

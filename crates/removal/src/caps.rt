@@ -1,3 +1,4 @@
+//! How the slots of objects that are going are emptied.
 ghost use Rattle.std.specs.Prelude.{ℕ, ◌≡◌, Bool, Contains, None, Some, true};
 ghost use Rattle.base.specs.declared.ids.SlotRef.{SlotRef as Slot};
 ghost use Rattle.machine.specs.Machine.{Machine, cap_of};

@@ -1,3 +1,4 @@
+//! A whole removal, from its first slot to the objects that go.
 ghost use Rattle.std.specs.Prelude.{◌≡◌};
 ghost use Rattle.machine.specs.{Below.is_below, Machine.same_slot, Removal.removed, WellFormed.IsWellFormed};
 
@@ -7,8 +8,10 @@ use base::SlotRef;
 use objects::State;
 use steps::removals_keep_machines_well_formed;
 
-/// Empties a slot, and removes all that can't stay without it (seL4 manual, "Deletion, Revocation, and
-/// Recycling"). It takes time in what goes and what is linked to that.
+/// Empties a slot, and removes all that can't stay without it (seL4 manual, "Deletion, Revocation,
+/// and Recycling").
+///
+/// The call takes time in what goes and what is linked to that.
 pub fn remove(state: &mut State, slot: SlotRef)
     requires { IsWellFormed state.old }
     ensures changes { state.new ≡ removed state.old (same_slot slot) }

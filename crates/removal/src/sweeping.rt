@@ -1,3 +1,4 @@
+//! The end of a removal, once its slots are empty.
 ghost use Rattle.std.specs.Prelude.{◌≡◌, Bool};
 ghost use Rattle.base.specs.declared.ids.SlotRef.{SlotRef as Slot};
 ghost use Rattle.machine.specs.{Machine.Machine, Removal.removed};

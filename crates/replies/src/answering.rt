@@ -1,3 +1,4 @@
+//! The call Reply, which answers a call.
 ghost use Rattle.std.specs.Prelude.{◌≡◌};
 ghost use Rattle.machine.specs.{Machine.object_of, Makes.Makes, Step.Reply.{answered, caller_in, gives_back, lent_in, reply_of}};
 ghost use Rattle.machine.specs.{Step.Reply.with_returned, WellFormed.IsWellFormed};
@@ -105,12 +106,17 @@ fn make_reply(
     Ok(Made::Done(Answer::Nothing))
 }
 
-/// Answers the call that was made through the reply at an address: the thread gets the words and can
-/// run, and the reply is free (seL4 manual, "Reply objects"). Where nobody has called through it,
-/// nothing changes. No capability goes with an answer.
+/// Answers the call that was made through the reply at an address: the thread gets the words and
+/// can run, and the reply is free (seL4 manual, "Reply objects").
+///
+/// Where nobody has called through it, nothing changes. No capability goes with an answer.
 ///
 /// The scheduling context that the thread lent goes back to it, if it was lent to the caller, which
 /// still runs on it, and the thread has got no other meanwhile.
+///
+/// # Errors
+///
+/// Those of [`find_reply`].
 pub fn reply(state: &mut State, caller: ObjId, address: u64, words: [u64; 4]) -> Result<Made, Cause>
     requires well_formed { IsWellFormed state.old }
     ensures made { Makes state.old state.new result (reply_of state.old caller address words) }

@@ -1,3 +1,4 @@
+//! How threads wait with reply objects.
 ghost use Rattle.std.specs.Prelude.{◌≡◌, Some};
 ghost use Rattle.base.specs.declared.ids.ObjId.{ObjId as Id};
 ghost use Rattle.machine.specs.declared.object.ObjectKind.TheVariants as kind;
@@ -60,9 +61,10 @@ fn wait_for_message(state: &mut State, thread: ObjId, receiving: Receiving)
     }
 }
 
-/// Has a thread wait at an endpoint for a message, behind those that wait there, and the reply that it
-/// names, if it names one, wait with it (seL4 manual, "Endpoints" and "Reply objects"). Whom the reply
-/// held before isn't changed: it has to be free, and the thread ready or inactive.
+/// Has a thread wait at an endpoint for a message, behind those that wait there, and the reply that
+/// it names, if it names one, wait with it (seL4 manual, "Endpoints" and "Reply objects").
+///
+/// Whom the reply held before isn't changed: it has to be free, and the thread ready or inactive.
 pub fn await_message(state: &mut State, thread: ObjId, receiving: Receiving)
     requires { WaitsNowhere state.old thread }
     ensures awaiting { state.new ≡ awaiting_message state.old thread receiving }
@@ -96,9 +98,10 @@ fn tie(state: &mut State, thread: ObjId, calling: Calling)
 }
 
 /// Has a thread wait for the answer to its call, through a reply that then holds it (seL4 manual,
-/// "Reply objects"). Whom the reply held before isn't changed, nor is the queue in which the thread
-/// waited: the reply has to be free, and the thread ready or inactive. Does nothing where there is no
-/// such thread.
+/// "Reply objects").
+///
+/// Whom the reply held before isn't changed, nor is the queue in which the thread waited: the reply
+/// has to be free, and the thread ready or inactive. Does nothing where there is no such thread.
 pub fn link(state: &mut State, thread: ObjId, calling: Calling)
     ensures called { state.new ≡ with_called state.old thread calling }
     ensures well_formed { (tcb : Thread)
@@ -127,8 +130,10 @@ fn halt_holder(state: &mut State, id: ObjId)
     }
 }
 
-/// Halts the thread that the reply holds, if it holds one; that frees it, so that both ends agree (seL4
-/// manual, "Reply objects"). Does nothing where there is no reply of that number.
+/// Halts the thread that the reply holds, if it holds one; that frees it, so that both ends agree
+/// (seL4 manual, "Reply objects").
+///
+/// Does nothing where there is no reply of that number.
 pub fn unlink(state: &mut State, id: ObjId)
     requires { (thread : Id) → IsInItsQueue state.old thread }
     ensures unlinked { state.new ≡ with_holder_halted state.old id }

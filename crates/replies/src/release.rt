@@ -1,3 +1,4 @@
+//! How a thread leaves its queue and its reply.
 ghost use Rattle.std.specs.Prelude.{◌≡◌, unwrap_or};
 ghost use Rattle.base.specs.declared.ids.ObjId.{ObjId as Id};
 ghost use Rattle.machine.specs.Releasing.{IsInItsQueue, unblocked, with_aborted, with_given, with_halted, with_ready, with_released};
@@ -48,7 +49,9 @@ fn leave(state: &mut State, thread: ObjId, run: RunState, inbox: Option<Inbox>)
 }
 
 /// Has a thread leave its queue and its reply, and run no more (seL4 manual, "Threads and
-/// Execution"). It keeps its inbox. Does nothing where there is no such thread.
+/// Execution").
+///
+/// The thread keeps its inbox. Does nothing where there is no such thread.
 pub fn halt(state: &mut State, thread: ObjId)
     requires { IsInItsQueue state.old thread }
     ensures halted { state.new ≡ with_halted state.old thread }
@@ -57,8 +60,10 @@ pub fn halt(state: &mut State, thread: ObjId)
     leave(state, thread, RunState::Inactive, None);
 }
 
-/// Has a thread leave its queue and its reply, and go on; its inbox says that what it waited for
-/// went away. Does nothing where there is no such thread.
+/// Has a thread leave its queue and its reply, and go on.
+///
+/// The thread's inbox says that what the thread waited for is gone. Does nothing where there is no
+/// such thread.
 pub fn abort(state: &mut State, thread: ObjId)
     requires { IsInItsQueue state.old thread }
     ensures aborted { state.new ≡ with_aborted state.old thread }
@@ -67,8 +72,9 @@ pub fn abort(state: &mut State, thread: ObjId)
     leave(state, thread, RunState::Ready, Some(Inbox::Aborted));
 }
 
-/// Has a thread leave its queue and its reply, and go on (seL4 manual, "Threads and Execution"). It
-/// keeps its inbox. Does nothing where there is no such thread.
+/// Has a thread leave its queue and its reply, and go on (seL4 manual, "Threads and Execution").
+///
+/// The thread keeps its inbox. Does nothing where there is no such thread.
 pub fn resume(state: &mut State, thread: ObjId)
     requires { IsInItsQueue state.old thread }
     ensures ready { state.new ≡ with_ready state.old thread }
@@ -78,7 +84,9 @@ pub fn resume(state: &mut State, thread: ObjId)
 }
 
 /// Has a thread leave its queue and its reply, and run no more until it is resumed (seL4 manual,
-/// "Threads and Execution"). What was in its inbox is lost. Does nothing where there is no such thread.
+/// "Threads and Execution").
+///
+/// What was in its inbox is lost. Does nothing where there is no such thread.
 pub fn suspend(state: &mut State, thread: ObjId)
     requires { IsInItsQueue state.old thread }
     ensures suspended { state.new ≡ with_suspended state.old thread }
@@ -88,6 +96,7 @@ pub fn suspend(state: &mut State, thread: ObjId)
 }
 
 /// Has a thread leave its queue and its reply, and go on with a message (seL4 manual, "Endpoints").
+///
 /// What was in its inbox is lost. Does nothing where there is no such thread.
 pub fn give(state: &mut State, thread: ObjId, message: Message)
     requires { IsInItsQueue state.old thread }

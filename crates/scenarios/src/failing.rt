@@ -2,15 +2,16 @@
 use std::alloc::Global;
 use std::io::{self, ErrorKind, Read, Write};
 
-/// A failure of a device: after so many bytes of its text, and of this kind.
+/// A failure of a device, of this kind, after `after` bytes of its text.
 #[derive(Clone, Copy)]
 pub struct Failure {
     pub after: usize,
     pub kind: ErrorKind,
 }
 
-/// What a file gives to its reader: a text, so many bytes a read at most. Where it fails, it fails
-/// once: a reader that asks again is given the rest.
+/// A file as its reader gets it: a text, with a limit on the bytes of a read.
+///
+/// Where it fails, it fails once: a reader that asks again is given the rest.
 #[derive(Clone, Copy)]
 pub struct Given<'a> {
     pub text: &'a str,
@@ -19,7 +20,7 @@ pub struct Given<'a> {
 }
 
 impl<'a> Given<'a> {
-    /// A file that has this text, and gives it at once.
+    /// Returns a file that has this text, and gives it at once.
     pub fn text(text: &'a str) -> Given<'a> {
         Given {
             text,
@@ -28,12 +29,12 @@ impl<'a> Given<'a> {
         }
     }
 
-    /// The same, so many bytes a read at most.
+    /// Returns the same file, which gives at most `most` bytes a read.
     pub fn at_most(self, most: usize) -> Given<'a> {
         Given { most, ..self }
     }
 
-    /// The same, with a failure of this kind after so many bytes.
+    /// Returns the same file, with a failure of this kind after `after` bytes.
     pub fn failing(self, after: usize, kind: ErrorKind) -> Given<'a> {
         Given {
             failure: Some(Failure { after, kind }),
@@ -41,12 +42,12 @@ impl<'a> Given<'a> {
         }
     }
 
-    /// The same, with a failure of this kind in place of its end.
+    /// Returns the same file, with a failure of this kind in place of its end.
     pub fn at_end(self, kind: ErrorKind) -> Given<'a> {
         self.failing(self.text.len(), kind)
     }
 
-    /// Its reader.
+    /// Returns a reader of the file.
     pub fn reader(self) -> Reader<'a> {
         Reader {
             left: self.text.as_bytes(),
@@ -88,8 +89,10 @@ impl Read for Reader<'_> {
     }
 }
 
-/// A page that is written to: so many bytes a write at most, and with room for so many more. Where
-/// it has no room it fails with this kind, or takes nothing.
+/// A page that is written to, with a limit on the bytes of a write, and with room for a number of
+/// bytes.
+///
+/// Where it has no room it fails with this kind, or takes nothing.
 #[derive(Drop)]
 pub struct Page {
     pub written: Vec<u8>,
@@ -99,7 +102,7 @@ pub struct Page {
 }
 
 impl Page {
-    /// An empty page with room for any answer, which it takes at once.
+    /// Returns an empty page with room for any answer, which it takes at once.
     pub fn new(alloc: Global) -> Page {
         Page {
             written: Vec::new(alloc),

@@ -59,7 +59,7 @@ edge srv holds srv
 end
 ";
 
-/// Holds workers 0 and 1 until both have arrived, for a while.
+/// A gate that holds workers 0 and 1 until both have arrived, for a while.
 #[derive(Drop)]
 pub struct Meeting {
     arrived: AtomicU64,
@@ -89,6 +89,7 @@ impl Gate for Meeting {
 }
 
 impl Meeting {
+    /// Returns a gate at which no worker has arrived.
     pub fn new() -> Meeting {
         Meeting {
             arrived: AtomicU64::new(0),
@@ -96,7 +97,7 @@ impl Meeting {
         }
     }
 
-    /// Both workers arrived, and neither gave up.
+    /// Asserts that both workers arrived, and neither gave up.
     pub fn took_place(&self, rt: &impl Abort) {
         assert_eq!(rt; self.arrived.load(Ordering::SeqCst), 2);
         assert_eq!(rt; self.gave_up.load(Ordering::SeqCst), 0);
@@ -173,8 +174,8 @@ fn texts_on(alloc: Global, signals: u64, polls: u64) -> Result<(String, String),
     Ok((table, script))
 }
 
-/// Splits the script of two threads on these cores over a gate at which workers 0 and 1 meet: whatever the cores' numbers, their
-/// workers are numbered so.
+/// Splits the script of two threads on these cores over a gate at which workers 0 and 1 meet:
+/// whatever the cores' numbers, their workers are numbered so.
 fn gate_split_on<R: Abort + AllocGlobal + Threads + Wait + Sync>(
     rt: &R,
     signals: u64,

@@ -1,4 +1,5 @@
-//! Files that are read and pages that are written a few bytes at a time, with interruptions, up to a failure or a limit.
+//! Files that are read and pages that are written a few bytes at a time, with interruptions, up to
+//! a failure or a limit.
 use devices::{Bounded, ReadError, Sink, Source, Watched, open_result};
 use std::io::{self, ErrorKind, Read, Write};
 

@@ -11,7 +11,7 @@ use std::sync::Wait;
 use std::test::Fail;
 use std::thread::Threads;
 
-/// What is asked of the files.
+/// The command that is asked of the files.
 #[derive(Clone, Copy)]
 pub enum Command {
     Check(OnAccept),
@@ -28,7 +28,8 @@ pub enum Command {
     Strongest,
 }
 
-/// A command and its files. The third is the script of a run, the log of a replay, a certificate or claims, where the command reads one.
+/// A command and its files. The third is the script of a run, the log of a replay, a certificate or
+/// claims, where the command reads one.
 #[derive(Clone, Copy)]
 pub struct Files<'a> {
     pub command: Command,
@@ -38,7 +39,7 @@ pub struct Files<'a> {
 }
 
 impl<'a> Files<'a> {
-    /// One of the files.
+    /// Returns one of the files.
     pub fn file(self, file: File) -> Given<'a> {
         match file {
             File::Table => self.table,
@@ -47,7 +48,7 @@ impl<'a> Files<'a> {
         }
     }
 
-    /// The same with another in the place of one.
+    /// Returns the same files, with another in the place of one.
     pub fn with(self, file: File, given: Given<'a>) -> Files<'a> {
         match file {
             File::Table => Files {
@@ -65,7 +66,7 @@ impl<'a> Files<'a> {
         }
     }
 
-    /// The same, of which each gives so many bytes a read at most.
+    /// Returns the same files, each of which gives at most `most` bytes a read.
     pub fn at_most(self, most: usize) -> Files<'a> {
         Files {
             table: self.table.at_most(most),
@@ -76,7 +77,7 @@ impl<'a> Files<'a> {
     }
 }
 
-/// How a command ended, what it wrote, and which of the files it asked for bytes, in their order.
+/// The end of a command, what it wrote, and which of the files it asked for bytes, in their order.
 #[derive(Drop)]
 pub struct Ending {
     pub end: End,
@@ -145,7 +146,11 @@ where
     }
 }
 
-/// A command that reads these files and writes onto this page.
+/// Runs a command that reads these files and writes onto this page, and returns how it ended.
+///
+/// # Errors
+///
+/// [`Fail`] where what was written isn't UTF-8.
 pub fn ending_of<R: AllocGlobal + Threads + Wait + Sync>(
     rt: &R,
     files: Files<'_>,

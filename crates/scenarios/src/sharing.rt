@@ -1,4 +1,5 @@
-//! Work that is dealt to several workers: the plain map, memory that is refused, and workers that are at work at the same time.
+//! Work that is dealt to several workers: the plain map, memory that is refused, and workers that
+//! are at work at the same time.
 ghost use Rattle.std.specs.Prelude.{◌*◌};
 
 use crate::gate::Meeting;

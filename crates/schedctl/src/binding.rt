@@ -1,3 +1,4 @@
+//! The calls Bind and Unbind, on a thread and the scheduling context that it runs on.
 ghost use Rattle.std.specs.Prelude.{◌≡◌};
 ghost use Rattle.machine.specs.{Machine.object_of, Makes.Makes, Step.Bind.{bind_of, thread_on, unbind_of, unlinked, without_thread}};
 ghost use Rattle.machine.specs.WellFormed.{IsWellFormed};
@@ -51,13 +52,15 @@ fn make_bind(state: &mut State, caller: ObjId, context: u64, thread: u64) -> Res
     Ok(Made::Done(Answer::Nothing))
 }
 
-/// Has the thread at the address `thread` run on the scheduling context at the address `context` (seL4
-/// manual, seL4_SchedContext_Bind). The context may not be configured yet.
+/// Has the thread at the address `thread` run on the scheduling context at the address `context`
+/// (seL4 manual, seL4_SchedContext_Bind).
+///
+/// The context may not be configured yet.
 ///
 /// # Errors
 ///
-/// Those of [`find_context`] and then those of [`find_tcb`]; an illegal operation where a thread runs
-/// on the context already, or the thread on a context.
+/// Those of [`find_context`] and then those of [`find_tcb`]; [`Cause::IllegalOperation`] (3) where
+/// a thread runs on the context already, or the thread on a context.
 pub fn bind(state: &mut State, caller: ObjId, context: u64, thread: u64) -> Result<Made, Cause>
     requires well_formed { IsWellFormed state.old }
     ensures made { Makes state.old state.new result (bind_of state.old caller context thread) }
@@ -80,7 +83,9 @@ fn make_unbind(state: &mut State, caller: ObjId, address: u64) -> Result<Made, C
 }
 
 /// Unbinds the thread that runs on the scheduling context at an address (seL4 manual,
-/// seL4_SchedContext_Unbind). Where none does, nothing changes.
+/// seL4_SchedContext_Unbind).
+///
+/// Where none does, nothing changes.
 ///
 /// # Errors
 ///

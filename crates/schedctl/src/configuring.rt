@@ -1,3 +1,4 @@
+//! The call Configure, which gives a scheduling context a budget and a period.
 ghost use Rattle.std.specs.Prelude.{◌≡◌};
 ghost use Rattle.machine.specs.{Machine.object_of, Makes.Makes, Step.Configure.{configure_of, core_in, in_limits, with_share}};
 ghost use Rattle.machine.specs.WellFormed.{IsWellFormed};
@@ -67,14 +68,15 @@ fn make_configure(
     Ok(Made::Done(Answer::Nothing))
 }
 
-/// Gives the scheduling context at an address a budget and a period, in microseconds, on the core of
-/// the control at the address `control` (seL4 manual, seL4_SchedControl_ConfigureFlags). What it had
-/// before is lost; the thread that runs on it stays.
+/// Gives the scheduling context at an address a budget and a period, in microseconds, on the core
+/// of the control at the address `control` (seL4 manual, seL4_SchedControl_ConfigureFlags).
+///
+/// What it had before is lost; the thread that runs on it stays.
 ///
 /// # Errors
 ///
-/// Those of [`find_control`] and then those of [`find_context`]; and a range error unless
-/// `1 <= budget <= period <= MAX_PERIOD`.
+/// Those of [`find_control`] and then those of [`find_context`]; and [`Cause::RangeError`] (4)
+/// unless `1 <= budget <= period <= MAX_PERIOD`.
 pub fn configure(
     state: &mut State,
     caller: ObjId,

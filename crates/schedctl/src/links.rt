@@ -1,3 +1,4 @@
+//! The links between threads and the contexts that they run on.
 ghost use Rattle.std.specs.Prelude.{◌≡◌, ◌≢◌, None, Some};
 ghost use Rattle.machine.specs.declared.object.ObjectKind.TheVariants as kind;
 ghost use Rattle.machine.specs.{Machine.object_of, Releasing.{with_idle_context, with_unbound}, Step.Bind.{context_under, with_bound}};
@@ -7,7 +8,7 @@ use base::ObjId;
 use machine::{Context, Object, Tcb};
 use objects::State;
 
-/// The scheduling context that a thread runs on.
+/// Returns the scheduling context that a thread runs on, if it runs on one.
 pub fn context_under(state: &State, thread: ObjId) -> Option<ObjId>
     ensures { result ≡ context_under (object_of state.now thread) }
 {
@@ -48,8 +49,9 @@ fn cut(state: &mut State, thread: ObjId)
     }
 }
 
-/// Takes its scheduling context from a thread, and the thread from the context. Does nothing where
-/// there is no such thread, or it has no context.
+/// Takes its scheduling context from a thread, and the thread from the context.
+///
+/// Does nothing where there is no such thread, or it has no context.
 pub fn part(state: &mut State, thread: ObjId)
     ensures unbound { state.new ≡ with_unbound state.old thread }
     ensures well_formed { IsWellFormed state.old → IsWellFormed state.new }
@@ -90,8 +92,10 @@ fn rebind(state: &mut State, from: ObjId, to: ObjId)
     }
 }
 
-/// Has the thread `to`, which runs on nothing, run on the scheduling context of `from`, which then runs
-/// on nothing. Who waits, and for what, stays as it was, and so does the context's share.
+/// Has the thread `to`, which runs on nothing, run on the scheduling context of `from`, which then
+/// runs on nothing.
+///
+/// Who waits, and for what, stays as it was, and so does the context's share.
 pub fn hand_over(state: &mut State, from: ObjId, to: ObjId)
     requires runs { context_under (object_of state.old from) ≢ None }
     requires thread { kind_of state.old to ≡ Some kind.Tcb }

@@ -33,8 +33,14 @@ fn tell_place(
     }
 }
 
-/// Tells a state. Who waits at an object is told by taking them from its queue, so that the queues are
+/// Writes the facts of a state to a text.
+///
+/// To tell who waits at an object, it takes the threads from the object's queue. So the queues are
 /// empty afterwards.
+///
+/// # Errors
+///
+/// [`AllocError`] where memory is refused.
 pub fn tell_state(text: &mut String, table: &Table, state: &mut State) -> Result<(), AllocError> {
     let next = state.next_id();
     writeln!(text, "next number: {next}")?;

@@ -4,6 +4,7 @@ use std::io;
 use thiserror::Error;
 use words::Fault;
 
+/// The reason why no state is told.
 #[derive(Clone, Copy, Debug, PartialEq, Eq, Error)]
 pub enum Failure {
     #[error("it is called by TABLE SCRIPT [EVENTS], two files and how many events are run")]

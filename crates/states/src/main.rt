@@ -1,5 +1,6 @@
-//! Prints the state in which the events of a script end, or the first of them, run from the boot state of a table: the number that the
-//! next object gets, and each object and each slot, a line for each.
+//! Prints the state in which the events of a script end, or the first of them, run from the boot
+//! state of a table: the number that the next object gets, and each object and each slot, a line
+//! for each.
 #![tactic(auto)]
 
 mod facts;

@@ -11,7 +11,7 @@ use objects::State;
 use std::alloc::{AllocError, Global};
 use table::Table;
 
-/// Which events of a script are run.
+/// The events of a script that are run.
 #[derive(Clone, Copy)]
 pub enum Asked {
     All,
@@ -19,7 +19,13 @@ pub enum Asked {
     First(usize),
 }
 
-/// The text of the state in which these events of a script end, run from the boot state of a table.
+/// Returns the text of the state in which these events of a script end, run from the boot state of
+/// a table.
+///
+/// # Errors
+///
+/// [`Failure::Table`] and [`Failure::Script`] with the first fault of the text, [`Failure::TooFew`]
+/// where the script has fewer events, and [`Failure::Memory`] where memory is refused.
 pub fn state_after(
     alloc: Global,
     table: &[u8],

@@ -1,3 +1,4 @@
+//! Laws about steps that pass messages: machines stay well formed, and loans come back.
 ghost use Rattle.std.specs.Prelude.{ℕ, ◌≡◌, ◌≢◌, List, Option, Some};
 ghost use Rattle.base.specs.declared.ids.ObjId.{ObjId as Number};
 ghost use Rattle.machine.specs.declared.object.Object.TheVariants as o;
@@ -12,9 +13,10 @@ ghost use Rattle.machine.specs.Step.{Bind.context_under, Deliver.{arrival_of, wi
 ghost use Rattle.machine.specs.{Step.{Reply.answered, Send.called_through}, WellFormed.{IsAlike, IsFree, IsIdle, IsReceivingWith}};
 ghost use Rattle.machine.specs.WellFormed.{IsThread, IsWellFormed, WaitsAt, WaitsAtKind, kind_of};
 
-/// A law: a thread that leaves its queue and its reply keeps a well-formed machine well formed,
-/// whether it is then ready, halted or aborted, or has a message. A reply whose thread is halted is
-/// free. The inbox of a thread that isn't blocked may become empty.
+/// A law: a thread that leaves its queue and its reply keeps a well-formed machine well formed.
+///
+/// The law holds whether the thread is then ready, halted or aborted, or has a message. A reply
+/// whose thread is halted is free. The inbox of a thread that isn't blocked may become empty.
 pub fn releases_keep_machines_well_formed()
     ensures given { (m : Machine) (thread : Number) (message : Given) → IsWellFormed m → IsWellFormed (with_given m thread message) }
     ensures ready { (m : Machine) (thread : Number) → IsWellFormed m → IsWellFormed (with_ready m thread) }
@@ -32,8 +34,9 @@ pub fn releases_keep_machines_well_formed()
         → IsWellFormed (emptied m thread) }
 {}
 
-/// A law: a thread that isn't blocked keeps a well-formed machine well formed where it comes to wait
-/// at an object as the others there do, and where it waits with a reply that holds nobody.
+/// A law: a thread that isn't blocked keeps a well-formed machine well formed as it begins to wait.
+///
+/// The thread waits at an object as the others there do, or with a reply that holds nobody.
 pub fn blocks_keep_machines_well_formed()
     ensures blocked { (m : Machine) (thread id : Number) (tcb : Thread) (run : State) (at : Kind)
         → IsWellFormed m
@@ -68,8 +71,9 @@ pub fn arrivals_keep_machines_well_formed()
         → IsWellFormed (with_arrival m (arrival_of m sender sending receiver slot)) }
 {}
 
-/// A law: what a call lends comes back with its answer. Where the receiver answers at once, each thread
-/// runs then on what it ran on before the call.
+/// A law: what a call lends comes back with its answer.
+///
+/// Where the receiver answers at once, each thread runs then on what it ran on before the call.
 pub fn answers_return_what_calls_lent()
     ensures { (m : Machine) (caller receiver id : Number) (tcb its : Thread) (words : List ℕ)
         → IsWellFormed m

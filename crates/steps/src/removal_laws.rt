@@ -1,3 +1,4 @@
+//! Laws about removals: what is removed, and what stays.
 ghost use Rattle.std.specs.{Bool.Decides, Prelude.{[], ◌↔◌, ◌≡◌, ◌≢◌, ◌≤◌, Bool, Contains, List, None, Ok, Some, false, if◌then◌else◌}};
 ghost use Rattle.std.specs.Prelude.{true};
 ghost use Rattle.base.specs.declared.ids.{ObjId.ObjId as Id, SlotRef.SlotRef as Slot};
@@ -29,18 +30,21 @@ pub fn deletes_and_revokes_leave_nothing()
         → (slot : Slot) × (target_of m caller address ≡ Ok slot) × ((below : Slot) → ¬ (Descends next below slot)) }
 {}
 
-/// A law: the slots that go where some are chosen are the least set that holds these and, whenever it
-/// holds every capability of a CNode or thread that has at least one, all slots of that object; and an
-/// object vanishes if it had a capability, and all that it had go.
+/// A law: the slots that are removed with some chosen slots are a least set.
+///
+/// They are the least set that holds the chosen slots and, whenever it holds every capability of a
+/// CNode or thread that has at least one, all slots of that object. An object vanishes if it had a
+/// capability, and all that it had are removed.
 pub fn what_goes_is_the_least_closed_set()
     ensures least { (m : Machine) (chosen : Slot → Bool) → IsLeastSet m chosen (gone_of m chosen) }
     ensures reasons { (m : Machine) (chosen : Slot → Bool) (slot : Slot) → Decides (gone_of m chosen slot) (IsGone m chosen slot) }
     ensures vanishing { (m : Machine) (chosen : Slot → Bool) (id : Id) → Decides (vanishes m chosen id) (LosesAll m (gone_of m chosen) id) }
 {}
 
-/// A law: what the number of capabilities for an object tells. It is 0 exactly where no slot holds one,
-/// and 1 exactly where a slot that holds one holds all; and an object vanishes in a removal exactly if
-/// there are some before it and none after.
+/// A law: the number of capabilities for an object tells which is the last.
+///
+/// The number is 0 exactly where no slot holds one, and 1 exactly where a slot that holds one holds
+/// all. An object vanishes in a removal exactly if there are some before it and none after.
 pub fn counts_tell_the_last_capability()
     ensures none { (m : Machine) (id : Id)
         → (caps_to m id ≡ 0) ↔ ((slot : Slot) (held : Held) → cap_of m slot ≡ Some held → held.object ≢ id) }
@@ -51,8 +55,10 @@ pub fn counts_tell_the_last_capability()
         → Decides (vanishes m chosen id) ((1 ≤ caps_to m id) × (caps_to (removed m chosen) id ≡ 0)) }
 {}
 
-/// A law: where slots go, each slot that stays has for its parent its nearest ancestor that stays, if
-/// it has one; a slot that goes has none.
+/// A law: after a removal, the parent of each slot that stays is its nearest ancestor that stays,
+/// if it has one.
+///
+/// A slot that is removed has no parent.
 pub fn orphans_come_to_their_nearest_ancestor()
     ensures stays { (m : Machine) (chosen : Slot → Bool)
         → ((slot : Slot) → ¬ (Descends m slot slot))
@@ -64,7 +70,7 @@ pub fn orphans_come_to_their_nearest_ancestor()
         → parent_of (removed m chosen) slot ≡ None }
 {}
 
-/// A law: what each look-up answers after a removal, told by the machine before it.
+/// A law: the machine before a removal tells what each look-up answers after it.
 pub fn a_removal_is_told_by_its_look_ups()
     ensures objects { (m : Machine) (chosen : Slot → Bool) (id : Id) → object_of (removed m chosen) id ≡ object_after m (vanishes m chosen) id }
     ensures queues { (m : Machine) (chosen : Slot → Bool) (id : Id) → queue_of (removed m chosen) id ≡ queue_after m (vanishes m chosen) id }
@@ -75,8 +81,9 @@ pub fn a_removal_is_told_by_its_look_ups()
     ensures going { (m : Machine) (chosen : Slot → Bool) → (removed m chosen).going ≡ [] }
 {}
 
-/// A law: what objects that vanish do to those that stay, kind by kind. A CNode, untyped memory, a
-/// frame and a control do nothing more.
+/// A law: what an object that vanishes does to those that stay depends on its kind.
+///
+/// The clauses say it kind by kind. A CNode, untyped memory, a frame and a control do nothing more.
 pub fn vanished_objects_are_finalised()
     // of an endpoint or a notification: who is queued is aborted, unless it is halted
     ensures queued { (m : Machine) (chosen : Slot → Bool)

@@ -1,3 +1,4 @@
+//! Laws about all steps: they agree, and keep machines well formed.
 ghost use Rattle.std.specs.{List.zip, Prelude.{ℕ, ◌≡◌, ◌≢◌, ◌⊎◌, All, List, Ok, Result}};
 ghost use Rattle.base.specs.declared.{ids.ObjId.ObjId as Number, refusal.{Cause.Cause as Why, Misuse.Misuse as Wrong}};
 ghost use Rattle.base.specs.Refusals.{misuse_refusal};
@@ -6,8 +7,9 @@ ghost use Rattle.machine.specs.{declared.{call.Outcome.TheVariants.Refused, obje
 ghost use Rattle.machine.specs.{Makes.Makes, Outcomes.IsRefused, Run.Run, Step.{ChangesCaller, LacksMemory, MayEnd, Step, call_of}};
 ghost use Rattle.machine.specs.{Step.Retype.retype_of, WellFormed.{IsCaller, IsWellFormed}};
 
-/// A law: two steps of one event from one machine agree, unless one of them lacked memory. A refused
-/// step leaves the machine as it was.
+/// A law: two steps of one event from one machine agree, unless one of them lacked memory.
+///
+/// A refused step leaves the machine as it was.
 pub fn steps_of_one_event_agree()
     ensures agree { (m : Machine) (event : Occurs) (outcome other : Ended) (next after : Machine)
         → Step m event outcome next
@@ -19,9 +21,10 @@ pub fn steps_of_one_event_agree()
         → next ≡ m }
 {}
 
-/// A law: a call is refused by a condition of its own, with a detail for a failed lookup alone, or for
-/// want of memory if it takes some, a retype; so is each call of a run. No step is refused as what isn't
-/// begun.
+/// A law: a call is refused by a condition of its own, or for want of memory if it takes some.
+///
+/// A retype takes memory. Only a failed lookup has a detail. Each call of a run is refused so too,
+/// and no step is refused as what isn't begun.
 pub fn calls_are_refused_by_conditions()
     ensures step { (m : Machine) (event : Occurs) (outcome : Ended) (next : Machine) → Step m event outcome next → MayEnd event outcome }
     ensures run { (first : Machine) (events : List Occurs) (outcomes : List Ended) (last : Machine)
@@ -45,8 +48,10 @@ pub fn steps_keep_machines_well_formed()
         → IsWellFormed last }
 {}
 
-/// A law: a call keeps a well-formed machine well formed, also by itself, before its thread is admitted. One that has the thread that
-/// makes it wait, or empties its inbox, does where that is ready.
+/// A law: a call keeps a well-formed machine well formed, also by itself, before its thread is
+/// admitted.
+///
+/// A call that has its thread wait, or that empties its inbox, does so where the thread is ready.
 pub fn calls_keep_machines_well_formed()
     ensures { (m next : Machine) (caller : Number) (which : Calls) (result : Result Comes Why)
         → IsWellFormed m

@@ -1,12 +1,14 @@
+//! A law about the root slots of threads.
 ghost use Rattle.std.specs.Prelude.{◌≡◌, IsTrue, None, Some};
 ghost use Rattle.base.specs.declared.ids.{ObjId.ObjId as Number, SlotRef.SlotRef as Slot};
 ghost use Rattle.machine.specs.{declared.cap.Cap.Cap as Held, Lookup.root_of, Machine.{Machine, cap_of, has_slot}, Step.Space.without_root};
 ghost use Rattle.machine.specs.declared.cap.Detail.TheVariants as d;
 ghost use Rattle.machine.specs.WellFormed.{IsWellFormed};
 
-/// A law: where a root slot is cleared, the machine stays well formed. The slot is empty, and a slot that is
-/// still filled holds what it held.
-/// Where one that had the thread's capability is still filled, the thread has its root slot.
+/// A law: where a root slot is cleared, the machine stays well formed.
+///
+/// The slot is empty, and a slot that is still filled holds what it held. Where a slot that had the
+/// thread's capability is still filled, the thread has its root slot.
 pub fn cleared_root_slots_can_be_filled()
     ensures well_formed { (m : Machine) (thread : Number) → IsWellFormed m → IsWellFormed (without_root m thread) }
     ensures empty { (m : Machine) (thread : Number) → cap_of (without_root m thread) (root_of thread) ≡ None }

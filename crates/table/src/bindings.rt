@@ -1,3 +1,4 @@
+//! The bindings of a capability table: threads with the contexts that they run on.
 ghost use Rattle.std.specs.Prelude.{[], ◌++◌, ◌<◌, ◌∷◌, ◌≡◌, None, OnErr, OnOk};
 ghost use Rattle.base.specs.declared.limits.TheConstants.{OBJECT_NUMBERS};
 ghost use Rattle.table.specs.Aims.{thread_bound_to};
@@ -7,7 +8,7 @@ use machine::Binding;
 use std::alloc::{AllocError, Global};
 use std::marker::Model;
 
-/// Bindings of threads to contexts, in the order in which they were added.
+/// A list of bindings of threads to contexts, in the order in which they were added.
 #[derive(Drop)]
 pub struct Bindings {
     items: Vec<Binding>,
@@ -28,7 +29,7 @@ impl Model for Bindings {
 }
 
 impl Bindings {
-    /// No bindings.
+    /// Returns a list without bindings.
     pub fn new(alloc: Global) -> Bindings
         ensures { result ≡ [] }
     {
@@ -38,14 +39,14 @@ impl Bindings {
         }
     }
 
-    /// The bindings.
+    /// Returns the bindings.
     pub fn as_slice(&self) -> &[Binding]
         ensures { result.now ≡ self.now }
     {
         self.items.as_slice()
     }
 
-    /// The thread that a context is bound to.
+    /// Returns the thread that a context is bound to, if it is bound.
     pub fn thread(&self, context: ObjId) -> Option<ObjId>
         ensures { result ≡ thread_bound_to self.now context }
     {
@@ -56,6 +57,10 @@ impl Bindings {
     }
 
     /// Adds the binding of a context that is bound to no thread yet.
+    ///
+    /// # Errors
+    ///
+    /// [`AllocError`] where memory is refused. Then nothing has changed.
     pub fn add(&mut self, binding: Binding) -> Result<(), AllocError>
         requires number { binding.context.0 < OBJECT_NUMBERS }
         requires free { thread_bound_to self.old binding.context ≡ None }

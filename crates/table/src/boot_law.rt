@@ -1,11 +1,13 @@
+//! A law about the boot state of a capability table.
 ghost use Rattle.std.specs.Prelude.{◌≡◌, Some};
 ghost use Rattle.base.specs.declared.ids.SlotRef.{SlotRef};
 ghost use Rattle.machine.specs.{Boot.{IsBoot, IsFresh}, Layout.{Layout, initial_parent}, Machine.{Machine, parent_of}, Tree.IsRanked};
 ghost use Rattle.machine.specs.WellFormed.{IsWellFormed};
 ghost use Rattle.table.specs.Rules.{IsLawful};
 
-/// A law: the boot state of a lawful capability table is well formed, and is as the boot rule
-/// says; ranks rise along the pairs of its derivation tree, all or some.
+/// A law: the boot state of a lawful capability table is well formed, and is as the boot rule says.
+///
+/// Ranks rise along the pairs of its derivation tree, all or some.
 pub fn boot_states_are_well_formed()
     ensures well_formed { (t : Layout) (m : Machine) → IsLawful t → IsBoot t m → IsWellFormed m }
     ensures ranked { (t : Layout) (m : Machine) → IsLawful t

@@ -1,3 +1,4 @@
+//! The filled slots of a capability table.
 ghost use Rattle.std.specs.{List.list_any, Prelude.{[], ◌++◌, ◌<◌, ◌∷◌, ◌≡◌, OnErr, OnOk}};
 ghost use Rattle.base.specs.declared.limits.TheConstants.{OBJECT_NUMBERS};
 ghost use Rattle.machine.specs.Machine.{same_id};
@@ -9,7 +10,7 @@ use machine::{Filled, Pair};
 use std::alloc::{AllocError, Global};
 use std::marker::Model;
 
-/// Filled slots, in the order in which they were added.
+/// A list of filled slots, in the order in which they were added.
 #[derive(Drop)]
 pub struct Caps {
     items: Vec<Filled>,
@@ -30,7 +31,7 @@ impl Model for Caps {
 }
 
 impl Caps {
-    /// No slots.
+    /// Returns a list without filled slots.
     pub fn new(alloc: Global) -> Caps
         ensures { result ≡ [] }
     {
@@ -40,14 +41,14 @@ impl Caps {
         }
     }
 
-    /// The filled slots.
+    /// Returns the filled slots.
     pub fn as_slice(&self) -> &[Filled]
         ensures { result.now ≡ self.now }
     {
         self.items.as_slice()
     }
 
-    /// Whether a capability is for an object.
+    /// Returns whether a capability is for an object.
     pub fn is_aimed_at(&self, object: ObjId) -> bool
         ensures { result ≡ list_any (λ filled. same_id filled.cap.object object) self.now }
     {
@@ -58,6 +59,10 @@ impl Caps {
     }
 
     /// Adds a filled slot.
+    ///
+    /// # Errors
+    ///
+    /// [`AllocError`] where memory is refused. Then nothing has changed.
     pub fn add(&mut self, filled: Filled) -> Result<(), AllocError>
         requires { filled.cap.object.0 < OBJECT_NUMBERS }
         ensures ok { OnOk result (self.new ≡ self.old ++ filled ∷ []) }

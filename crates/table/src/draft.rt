@@ -1,3 +1,4 @@
+//! A capability table that is being built up, item by item.
 ghost use Rattle.std.specs.{List.list_any, Option.option_copied, Prelude.{◌<◌, ◌≡◌, ◌≤◌, IfErr, IfOk, IfSome, None, OnErr, OnOk, Some}};
 ghost use Rattle.std.specs.Prelude.{is_some, length, slice_get};
 ghost use Rattle.base.specs.declared.label.TheConstants.Label as LabelLimits;
@@ -64,7 +65,7 @@ impl Model for Draft {
 }
 
 impl Draft {
-    /// The table of a version that says nothing.
+    /// Returns a table of this version that declares nothing.
     pub fn new(alloc: Global, version: Version) -> Draft
         ensures { result ≡ empty_layout version }
     {
@@ -78,7 +79,7 @@ impl Draft {
         }
     }
 
-    /// The version.
+    /// Returns the version.
     pub fn version(&self) -> Version
         ensures { result ≡ self.now.version }
     {
@@ -93,7 +94,7 @@ impl Draft {
         self.version = Version::Two;
     }
 
-    /// How many labels there are, at most as many as the version has.
+    /// Returns the number of labels, at most as many as the version has.
     pub fn label_count(&self) -> usize
         ensures count { result ≡ length self.now.labels }
         ensures most { result ≤ most_labels self.now.version }
@@ -103,14 +104,14 @@ impl Draft {
         self.labels.len()
     }
 
-    /// The label's name.
+    /// Returns the label's name, if there is such a label.
     pub fn label_name(&self, label: Label) -> Option<&str>
         ensures { option_copied result ≡ slice_get self.now.labels label }
     {
         self.labels.get(label.number() as usize)
     }
 
-    /// The label of this name.
+    /// Returns the label of this name, if there is one.
     #[tactic(auto, unfolding(crate::specs::Names::label_named))]
     pub fn label_named(&self, name: &str) -> Option<Label>
         ensures label { result ≡ label_named self.now name.now }
@@ -120,7 +121,7 @@ impl Draft {
         Label::new(number as u16)
     }
 
-    /// How many objects there are, at most [`MAX_OBJECTS`].
+    /// Returns the number of objects, at most [`MAX_OBJECTS`].
     pub fn object_count(&self) -> usize
         ensures count { result ≡ length self.now.objects }
         ensures limit { result ≤ MAX_OBJECTS }
@@ -128,7 +129,7 @@ impl Draft {
         self.objects.as_slice().len()
     }
 
-    /// The object of this number.
+    /// Returns the object of this number, if there is one.
     #[tactic(auto, unfolding(machine::specs::Layout::initial_of))]
     pub fn object(&self, id: ObjId) -> Option<Initial>
         ensures { result ≡ initial_of self.now id }
@@ -136,7 +137,7 @@ impl Draft {
         self.objects.get(id.0)
     }
 
-    /// The kind of the object of this number.
+    /// Returns the kind of the object of this number, if there is one.
     #[tactic(auto, unfolding(crate::specs::Rules::kind_at))]
     pub fn kind(&self, id: ObjId) -> Option<ObjectKind>
         ensures { result ≡ kind_at self.now id }
@@ -147,14 +148,14 @@ impl Draft {
         }
     }
 
-    /// The name of the object of this number.
+    /// Returns the name of the object of this number, if there is one.
     pub fn object_name(&self, id: ObjId) -> Option<&str>
         ensures { option_copied result ≡ slice_get self.now.names id.0 }
     {
         self.objects.name(id.0)
     }
 
-    /// The object of this name.
+    /// Returns the object of this name, if there is one.
     #[tactic(auto, unfolding(crate::specs::Names::object_named))]
     pub fn object_named(&self, name: &str) -> Option<ObjId>
         ensures { result ≡ object_named self.now name.now }
@@ -162,14 +163,14 @@ impl Draft {
         self.objects.number(name).map(ObjId)
     }
 
-    /// The objects by their numbers.
+    /// Returns the objects by their numbers.
     pub fn objects(&self) -> &[Initial]
         ensures { result.now ≡ self.now.objects }
     {
         self.objects.as_slice()
     }
 
-    /// The label of the untyped memory that holds an address.
+    /// Returns the label of the untyped memory that holds an address, if some does.
     #[tactic(auto, unfolding(machine::specs::Authority::label_at))]
     pub fn label_at(&self, address: u64) -> Option<Label>
         ensures { result ≡ label_at self.now address }
@@ -177,7 +178,7 @@ impl Draft {
         self.objects.label_at(address)
     }
 
-    /// Whether one object more stays within the limits.
+    /// Returns whether one object more stays within the limits.
     #[tactic(auto, unfolding(crate::specs::Building::has_room))]
     pub fn has_room(&self, object: &Object) -> bool
         ensures { result ≡ has_room self.now object.now }
@@ -187,7 +188,7 @@ impl Draft {
             && (self.objects.threads() < MAX_THREADS || !matches!(object, Object::Tcb(_)))
     }
 
-    /// Whether an object overlaps none of the table's.
+    /// Returns whether an object overlaps none of the table's.
     #[tactic(auto, unfolding(crate::specs::Building::is_free))]
     pub fn is_free(&self, object: &Object) -> bool
         requires { end_of object.now ≤ ADDRESS_END }
@@ -196,7 +197,7 @@ impl Draft {
         self.objects.is_free(object)
     }
 
-    /// Whether the table has the control of a core.
+    /// Returns whether the table has the control of a core.
     #[tactic(auto, unfolding(crate::specs::Building::has_control))]
     pub fn has_control(&self, core: CoreNo) -> bool
         ensures { result ≡ has_control self.now core }
@@ -204,7 +205,7 @@ impl Draft {
         is_controlled(self.objects.as_slice(), core)
     }
 
-    /// Whether the table's objects have a slot.
+    /// Returns whether the table's objects have a slot.
     #[tactic(auto, unfolding(crate::specs::Building::declares_slot))]
     pub fn declares_slot(&self, slot: SlotRef) -> bool
         ensures { result ≡ declares_slot self.now slot }
@@ -215,21 +216,21 @@ impl Draft {
         }
     }
 
-    /// The filled slots, rising.
+    /// Returns the filled slots, rising.
     pub fn caps(&self) -> &[Filled]
         ensures { result.now ≡ self.now.caps }
     {
         self.caps.as_slice()
     }
 
-    /// The last of the filled slots.
+    /// Returns the last of the filled slots, if there is one.
     pub fn last_cap(&self) -> Option<Filled>
         ensures { result ≡ last_cap self.now }
     {
         self.caps.as_slice().last().copied()
     }
 
-    /// Whether a slot is above those that the table fills.
+    /// Returns whether a slot is above those that the table fills.
     #[tactic(auto, unfolding(crate::specs::Building::is_above_caps))]
     pub fn is_above_caps(&self, slot: SlotRef) -> bool
         ensures { result ≡ is_above_caps self.now slot }
@@ -240,8 +241,8 @@ impl Draft {
         }
     }
 
-    /// Whether a slot of this holder may have such a capability: a thread's root slot takes only a
-    /// CNode's.
+    /// Returns whether a slot of this holder may have such a capability: a thread's root slot takes
+    /// only a CNode's.
     pub fn may_hold(&self, holder: ObjId, detail: &Detail) -> bool
         ensures { result ≡ may_hold (initial_of self.now holder) detail.now }
     {
@@ -252,8 +253,8 @@ impl Draft {
         }
     }
 
-    /// Whether the table has a capability's object, and the capability is of the object's kind, with
-    /// rights and a guard that fit it.
+    /// Returns whether the table has a capability's object, and the capability is of the object's
+    /// kind, with rights and a guard that fit it.
     #[tactic(auto, unfolding(crate::specs::Building::is_fitting))]
     pub fn is_fitting(&self, cap: &Cap) -> bool
         ensures { result ≡ is_fitting self.now cap.now }
@@ -264,7 +265,7 @@ impl Draft {
         }
     }
 
-    /// Whether some capability is for an object.
+    /// Returns whether some capability is for an object.
     #[tactic(auto, unfolding(crate::specs::Building::has_cap_to))]
     pub fn has_cap_to(&self, object: ObjId) -> bool
         ensures { result ≡ has_cap_to self.now object }
@@ -272,14 +273,14 @@ impl Draft {
         self.caps.is_aimed_at(object)
     }
 
-    /// The pairs of the derivation tree, rising by child.
+    /// Returns the pairs of the derivation tree, rising by child.
     pub fn pairs(&self) -> &[Pair]
         ensures { result.now ≡ self.now.pairs }
     {
         self.pairs.as_slice()
     }
 
-    /// Whether a slot is above those that are children.
+    /// Returns whether a slot is above those that are children.
     #[tactic(auto, unfolding(crate::specs::Building::is_above_pairs))]
     pub fn is_above_pairs(&self, slot: SlotRef) -> bool
         ensures { result ≡ is_above_pairs self.now slot }
@@ -290,14 +291,14 @@ impl Draft {
         }
     }
 
-    /// The bound threads with their contexts, rising by thread.
+    /// Returns the bound threads with their contexts, rising by thread.
     pub fn bindings(&self) -> &[Binding]
         ensures { result.now ≡ self.now.bindings }
     {
         self.bindings.as_slice()
     }
 
-    /// The last of the bindings.
+    /// Returns the last of the bindings, if there is one.
     pub fn last_binding(&self) -> Option<Binding>
         ensures { result ≡ last_binding self.now }
     {
@@ -312,7 +313,7 @@ impl Draft {
         self.bindings.thread(context)
     }
 
-    /// Whether a thread is above those that the table binds.
+    /// Returns whether a thread is above those that the table binds.
     #[tactic(auto, unfolding(crate::specs::Building::is_above_bindings))]
     pub fn is_above_bindings(&self, thread: ObjId) -> bool
         ensures { result ≡ is_above_bindings self.now thread }
@@ -323,7 +324,7 @@ impl Draft {
         }
     }
 
-    /// Whether a context is bound to a thread.
+    /// Returns whether a context is bound to a thread.
     #[tactic(auto, using(crate::proofs::BindingAdded::has_thread), unfolding(crate::specs::Building::is_bound))]
     pub fn is_bound(&self, context: ObjId) -> bool
         ensures { result ≡ is_bound self.now context }
@@ -332,6 +333,10 @@ impl Draft {
     }
 
     /// Adds a label.
+    ///
+    /// # Errors
+    ///
+    /// [`AllocError`] where memory is refused. Then nothing has changed.
     #[tactic(auto, unfolding(crate::specs::Names::label_named))]
     pub fn add_label(&mut self, name: &str) -> Result<(), AllocError>
         requires { AdmitsLabel self.old name.now }
@@ -343,6 +348,10 @@ impl Draft {
     }
 
     /// Adds an object under a name.
+    ///
+    /// # Errors
+    ///
+    /// [`AllocError`] where memory is refused. Then nothing has changed.
     #[tactic(auto, unfolding(crate::specs::Names::object_named, crate::specs::Building::has_room, crate::specs::Building::is_free))]
     pub fn add_object(&mut self, name: &str, initial: Initial) -> Result<(), AllocError>
         requires { AdmitsObject self.old name.now initial }
@@ -354,6 +363,10 @@ impl Draft {
     }
 
     /// Fills a slot.
+    ///
+    /// # Errors
+    ///
+    /// [`AllocError`] where memory is refused. Then nothing has changed.
     pub fn add_cap(&mut self, filled: Filled) -> Result<(), AllocError>
         requires { AdmitsCap self.old filled }
         ensures ok { OnOk result (self.new ≡ with_filled self.old filled) }
@@ -363,7 +376,11 @@ impl Draft {
         Ok(())
     }
 
-    /// Tells a capability's parent in the derivation tree.
+    /// Adds a pair of the derivation tree: a capability and its parent.
+    ///
+    /// # Errors
+    ///
+    /// [`AllocError`] where memory is refused. Then nothing has changed.
     pub fn add_pair(&mut self, pair: Pair) -> Result<(), AllocError>
         requires { AdmitsPair self.old pair }
         ensures ok { OnOk result (self.new ≡ with_pair self.old pair) }
@@ -374,6 +391,10 @@ impl Draft {
     }
 
     /// Binds a thread to a context.
+    ///
+    /// # Errors
+    ///
+    /// [`AllocError`] where memory is refused. Then nothing has changed.
     pub fn add_binding(&mut self, binding: Binding) -> Result<(), AllocError>
         requires { AdmitsBinding self.old binding }
         ensures ok { OnOk result (self.new ≡ with_binding self.old binding) }
@@ -383,11 +404,13 @@ impl Draft {
         Ok(())
     }
 
-    /// The table, if its derivation tree keeps the rules. It takes no memory.
+    /// Returns the table, if its derivation tree keeps the rules.
+    ///
+    /// The call takes no memory.
     ///
     /// # Errors
     ///
-    /// The number of the first pair that breaks one.
+    /// The number of the first pair that breaks a rule of the tree, from 0.
     pub fn into_table(mut self) -> Result<Table, usize>
         ensures ok { IfOk result (λ table. (table ≡ with_originals self) × (tree_fault (with_originals self) ≡ None)) }
         ensures err { IfErr result (λ number. tree_fault (with_originals self) ≡ Some number) }

@@ -1,3 +1,4 @@
+//! The addresses at which objects lie: which objects overlap, and which holds an address.
 ghost use Rattle.std.specs.{List.{All, Contains, list_any, Sorted.{IsPartitionPoint, IsPermutation}}, Prelude.{⊤, ◌<◌, ◌∷◌, ◌≡◌, ◌≤◌}};
 ghost use Rattle.std.specs.{Prelude.{MatchOption, Some, false, length, nat_le, true, vec_len}, Vec.vec_capacity};
 ghost use Rattle.machine.specs.Objects.{address_of, end_of, size_bits};
@@ -16,7 +17,7 @@ pub struct Extent {
 }
 
 impl Extent {
-    /// The addresses of the object of a number.
+    /// Returns the addresses of the object of this number.
     pub fn of(number: u64, object: &Object) -> Extent
         requires { end_of object.now ≤ ADDRESS_END }
         ensures start { result.start ≡ address_of object.now }
@@ -32,7 +33,7 @@ impl Extent {
         Extent { start, end, number }
     }
 
-    /// Whether some address is in both.
+    /// Returns whether some address is in both extents.
     pub fn meets(&self, other: &Extent) -> bool
         ensures { result ≡ touches self.now other.now }
     {
@@ -40,7 +41,7 @@ impl Extent {
     }
 }
 
-/// Whether an extent meets one of these, of which no two meet.
+/// Returns whether an extent meets one of these, of which no two meet.
 pub fn meets_any(rising: &[Extent], extent: &Extent) -> bool
     requires { AreApart rising.now }
     ensures { result ≡ list_any (λ other. touches other extent.now) rising.now }
@@ -65,7 +66,9 @@ pub fn insert_within(rising: &mut Vec<Extent>, extent: Extent)
     }
 }
 
-/// Of these extents, of which no two meet, the one that holds an address.
+/// Returns the extent that holds an address, if one of these does.
+///
+/// No two of these meet.
 pub fn holder(rising: &[Extent], address: u64) -> Option<Extent>
     requires { AreApart rising.now }
     ensures found { MatchOption result ⊤ (λ extent. Contains rising.now extent × (holds address extent ≡ true)) }
@@ -98,7 +101,7 @@ fn count_below(rising: &[Extent], address: u64) -> usize
     rising.partition_point(|other| other.start < address)
 }
 
-/// Whether all addresses of an object are below [`ADDRESS_END`].
+/// Returns whether all addresses of an object are below [`ADDRESS_END`].
 pub fn is_addressable(object: &Object) -> bool
     ensures { result ≡ nat_le (end_of object.now) ADDRESS_END }
 {
@@ -108,7 +111,7 @@ pub fn is_addressable(object: &Object) -> bool
     }
 }
 
-/// Whether an object's address is a multiple of its size.
+/// Returns whether an object's address is a multiple of its size.
 pub fn is_aligned(object: &Object) -> bool
     requires { end_of object.now ≤ ADDRESS_END }
     ensures { result ≡ placement.is_aligned object.now }

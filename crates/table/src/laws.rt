@@ -1,11 +1,14 @@
+//! Laws about capability tables that keep the rules.
 ghost use Rattle.std.specs.Prelude.{◌↔◌, ◌≡◌, Contains, None};
 ghost use Rattle.base.specs.declared.ids.ObjId.{ObjId};
 ghost use Rattle.machine.specs.{declared.layout.Pair.Pair, Authority.label_of, Boot.IsBoot, Layout.{Layout, upgraded}, Machine.Machine};
 ghost use Rattle.table.specs.{Items.IsBuiltUp, Rules.IsLawful, Tree.{tree_fault, with_originals}, UntypedPairs.IsForNoUntyped};
 
-/// A law: the tables that keep the rules are just those that are built up from an empty table, item
-/// by item, each in its order and where the table so far admits it, whose capabilities are then marked
-/// as the pairs say, and of whose pairs none breaks a rule.
+/// A law: the tables that keep the rules are exactly those that are built up from an empty table,
+/// item by item.
+///
+/// Each item comes in its order and where the table so far admits it. The capabilities are then
+/// marked as the pairs say, and none of the pairs breaks a rule.
 pub fn lawful_tables_are_built_up()
     ensures tables { (t : Layout) → IsLawful t
         ↔ ((draft : Layout) × IsBuiltUp draft × (tree_fault (with_originals draft) ≡ None) × (t ≡ with_originals draft)) }

@@ -1,3 +1,4 @@
+//! Names with their numbers.
 ghost use Rattle.std.specs.{Option.option_copied, Prelude.{[], ◌++◌, ◌<◌, ◌∷◌, ◌≡◌, OnErr, OnOk, false, is_some, length, position}};
 ghost use Rattle.std.specs.{Prelude.slice_get, Str.bytes_eq};
 
@@ -5,7 +6,7 @@ use indexmap::IndexSet;
 use std::alloc::{AllocError, Global};
 use std::marker::Model;
 
-/// Distinct names, numbered from 0 in the order in which they were added.
+/// A list of distinct names, numbered from 0 in the order in which they were added.
 #[derive(Drop)]
 pub struct Names {
     alloc: Global,
@@ -21,7 +22,7 @@ impl Model for Names {
 }
 
 impl Names {
-    /// No names.
+    /// Returns a list without names.
     pub fn new(alloc: Global) -> Names
         ensures { result ≡ [] }
     {
@@ -31,21 +32,21 @@ impl Names {
         }
     }
 
-    /// How many names there are.
+    /// Returns the number of names.
     pub fn len(&self) -> usize
         ensures { result ≡ length self.now }
     {
         self.set.len()
     }
 
-    /// The name of this number.
+    /// Returns the name of this number, if there is one.
     pub fn get(&self, number: usize) -> Option<&str>
         ensures { option_copied result ≡ slice_get self.now number }
     {
         self.set.get_index(number).map(|name| name.as_str())
     }
 
-    /// The number of a name.
+    /// Returns the number of a name, if it is one of these.
     pub fn number(&self, name: &str) -> Option<usize>
         ensures { result ≡ position (λ other. bytes_eq name.now other) self.now }
     {
@@ -53,6 +54,10 @@ impl Names {
     }
 
     /// Gives a new name the next number.
+    ///
+    /// # Errors
+    ///
+    /// [`AllocError`] where memory is refused. Then nothing has changed.
     pub fn add(&mut self, name: &str) -> Result<(), AllocError>
         requires { is_some (position (λ other. bytes_eq name.now other) self.old) ≡ false }
         ensures ok { OnOk result (self.new ≡ self.old ++ name.now ∷ []) }

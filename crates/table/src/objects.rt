@@ -1,3 +1,4 @@
+//! The objects of a capability table, with their names and addresses.
 ghost use Rattle.std.specs.{List.list_any, Option.option_copied, Prelude.{[], ◌++◌, ◌+◌, ◌<◌, ◌∷◌, ◌≡◌, ◌≤◌, OnErr, OnOk, false, find}};
 ghost use Rattle.std.specs.{Prelude.{if◌then◌else◌, is_some, length, not, option_map, position, slice_get, true, vec_len}, Str.bytes_eq};
 ghost use Rattle.std.specs.Vec.{vec_capacity};
@@ -12,7 +13,7 @@ use machine::{Initial, Object};
 use std::alloc::{AllocError, Global};
 use std::marker::Model;
 
-/// Objects with their names, numbered from 0 in the order in which they were added.
+/// A list of objects with their names, numbered from 0 in the order in which they were added.
 #[derive(Drop)]
 pub struct Objects {
     names: Names,
@@ -41,7 +42,7 @@ impl Model for Objects {
 }
 
 impl Objects {
-    /// No objects.
+    /// Returns a list without objects.
     pub fn new(alloc: Global) -> Objects
         ensures names { result.names ≡ [] }
         ensures objects { result.objects ≡ [] }
@@ -55,7 +56,7 @@ impl Objects {
         }
     }
 
-    /// The objects, by their numbers.
+    /// Returns the objects, by their numbers.
     pub fn as_slice(&self) -> &[Initial]
         ensures objects { result.now ≡ self.now.objects }
         ensures named { length self.now.names ≡ length self.now.objects }
@@ -65,42 +66,42 @@ impl Objects {
         self.items.as_slice()
     }
 
-    /// The object of this number.
+    /// Returns the object of this number, if there is one.
     pub fn get(&self, number: u64) -> Option<Initial>
         ensures { result ≡ slice_get self.now.objects number }
     {
         self.items.get(number as usize).copied()
     }
 
-    /// The name of the object of this number.
+    /// Returns the name of the object of this number, if there is one.
     pub fn name(&self, number: u64) -> Option<&str>
         ensures { option_copied result ≡ slice_get self.now.names number }
     {
         self.names.get(number as usize)
     }
 
-    /// The number of the object of this name.
+    /// Returns the number of the object of this name, if there is one.
     pub fn number(&self, name: &str) -> Option<u64>
         ensures { result ≡ position (λ other. bytes_eq name.now other) self.now.names }
     {
         self.names.number(name).map(|number| number as u64)
     }
 
-    /// How many slots the objects have.
+    /// Returns the number of slots that the objects have together.
     pub fn slots(&self) -> u64
         ensures { result ≡ slots_in self.now.objects }
     {
         self.slots
     }
 
-    /// How many of the objects are threads.
+    /// Returns the number of objects that are threads.
     pub fn threads(&self) -> u64
         ensures { result ≡ threads_in self.now.objects }
     {
         self.threads
     }
 
-    /// Whether an object overlaps none of these.
+    /// Returns whether an object overlaps none of these.
     pub fn is_free(&self, object: &Object) -> bool
         requires { end_of object.now ≤ ADDRESS_END }
         ensures { result ≡ not (list_any (λ initial. meets initial.object object.now) self.now.objects) }
@@ -111,7 +112,7 @@ impl Objects {
         )
     }
 
-    /// The label of the untyped memory that holds an address.
+    /// Returns the label of the untyped memory that holds an address, if some does.
     pub fn label_at(&self, address: u64) -> Option<Label>
         ensures { result ≡ option_map (λ initial. initial.label) (find (has_memory_at address) self.now.objects) }
     {
@@ -124,6 +125,10 @@ impl Objects {
     }
 
     /// Adds an object under a new name.
+    ///
+    /// # Errors
+    ///
+    /// [`AllocError`] where memory is refused. Then nothing has changed.
     pub fn add(&mut self, name: &str, initial: Initial) -> Result<(), AllocError>
         requires fresh { is_some (position (λ other. bytes_eq name.now other) self.old.names) ≡ false }
         requires end { end_of initial.object ≤ ADDRESS_END }

@@ -1,3 +1,4 @@
+//! A finished capability table.
 ghost use Rattle.std.specs.{List.find, Option.option_copied, Prelude.{◌<◌, ◌≡◌, ◌≤◌, AllPairs, IfSome, length, slice_get}};
 ghost use Rattle.base.specs.declared.label.TheConstants.Label as LabelLimits;
 ghost use Rattle.machine.specs.{Authority.label_at, Layout.{bound_context, bound_thread, initial_cap, initial_of, initial_parent}};
@@ -12,7 +13,7 @@ use std::marker::Model;
 
 /// A capability table: what a system starts with.
 ///
-/// It is made of a [`Draft`] by [`Draft::into_table`].
+/// A table is made from a [`Draft`] by [`Draft::into_table`].
 #[derive(Drop)]
 pub struct Table {
     draft: Draft,
@@ -48,8 +49,9 @@ impl Table {
         }
     }
 
-    /// Makes it a table of version 2, which may have more labels, and changes nothing else. It takes no
-    /// memory, and there is no way back.
+    /// Turns the table into one of version 2, which may have more labels, and changes nothing else.
+    ///
+    /// The change takes no memory, and there is no way back.
     #[tactic(auto, using(crate::proofs::Upgraded::lawful_upgraded))]
     pub fn upgrade(&mut self)
         ensures { self.new ≡ upgraded self.old }
@@ -57,7 +59,7 @@ impl Table {
         self.draft.upgrade();
     }
 
-    /// How many labels there are, at most as many as the version has.
+    /// Returns the number of labels, at most as many as the version has.
     pub fn label_count(&self) -> usize
         ensures count { result ≡ length self.now.labels }
         ensures limit { result ≤ LabelLimits.COUNT }
@@ -65,14 +67,14 @@ impl Table {
         self.draft.label_count()
     }
 
-    /// The label's name.
+    /// Returns the label's name, if there is such a label.
     pub fn label_name(&self, label: Label) -> Option<&str>
         ensures { option_copied result ≡ slice_get self.now.labels label }
     {
         self.draft.label_name(label)
     }
 
-    /// The label of this name.
+    /// Returns the label of this name, if there is one.
     pub fn label_named(&self, name: &str) -> Option<Label>
         ensures label { result ≡ label_named self.now name.now }
         ensures within { IfSome result (λ label. label < length self.now.labels) }
@@ -80,42 +82,42 @@ impl Table {
         self.draft.label_named(name)
     }
 
-    /// How many objects there are, at most [`base::MAX_OBJECTS`].
+    /// Returns the number of objects, at most [`base::MAX_OBJECTS`].
     pub fn object_count(&self) -> usize
         ensures { result ≡ length self.now.objects }
     {
         self.draft.object_count()
     }
 
-    /// The object of this number.
+    /// Returns the object of this number, if there is one.
     pub fn object(&self, id: ObjId) -> Option<Initial>
         ensures { result ≡ initial_of self.now id }
     {
         self.draft.object(id)
     }
 
-    /// The kind of the object of this number.
+    /// Returns the kind of the object of this number, if there is one.
     pub fn kind(&self, id: ObjId) -> Option<ObjectKind>
         ensures { result ≡ kind_at self.now id }
     {
         self.draft.kind(id)
     }
 
-    /// The name of the object of this number.
+    /// Returns the name of the object of this number, if there is one.
     pub fn object_name(&self, id: ObjId) -> Option<&str>
         ensures { option_copied result ≡ slice_get self.now.names id.0 }
     {
         self.draft.object_name(id)
     }
 
-    /// The object of this name.
+    /// Returns the object of this name, if there is one.
     pub fn object_named(&self, name: &str) -> Option<ObjId>
         ensures { result ≡ object_named self.now name.now }
     {
         self.draft.object_named(name)
     }
 
-    /// The objects by their numbers.
+    /// Returns the objects by their numbers.
     pub fn objects(&self) -> &[Initial]
         ensures objects { result.now ≡ self.now.objects }
         ensures lawful { IsLawful self.now }
@@ -123,14 +125,14 @@ impl Table {
         self.draft.objects()
     }
 
-    /// The label of the untyped memory that holds an address.
+    /// Returns the label of the untyped memory that holds an address, if some does.
     pub fn label_at(&self, address: u64) -> Option<Label>
         ensures { result ≡ label_at self.now address }
     {
         self.draft.label_at(address)
     }
 
-    /// The filled slots, rising.
+    /// Returns the filled slots, rising.
     pub fn caps(&self) -> &[Filled]
         ensures caps { result.now ≡ self.now.caps }
         ensures lawful { IsLawful self.now }
@@ -138,7 +140,7 @@ impl Table {
         self.draft.caps()
     }
 
-    /// The capability in a slot.
+    /// Returns the capability in a slot, if the table fills the slot.
     #[tactic(auto, unfolding(machine::specs::Layout::initial_cap))]
     pub fn cap(&self, slot: SlotRef) -> Option<Cap>
         ensures { result ≡ initial_cap self.now slot }
@@ -146,7 +148,7 @@ impl Table {
         cap_in(self.caps(), slot)
     }
 
-    /// The pairs of the derivation tree, rising by child.
+    /// Returns the pairs of the derivation tree, rising by child.
     pub fn pairs(&self) -> &[Pair]
         ensures pairs { result.now ≡ self.now.pairs }
         ensures lawful { IsLawful self.now }
@@ -154,7 +156,7 @@ impl Table {
         self.draft.pairs()
     }
 
-    /// The parent of the capability in a slot, in the derivation tree.
+    /// Returns the parent of the capability in a slot, in the derivation tree, if it has one.
     #[tactic(auto, unfolding(machine::specs::Layout::initial_parent))]
     pub fn parent(&self, slot: SlotRef) -> Option<SlotRef>
         ensures { result ≡ initial_parent self.now slot }
@@ -162,7 +164,7 @@ impl Table {
         parent_in(self.pairs(), slot)
     }
 
-    /// The bound threads with their contexts, rising by thread.
+    /// Returns the bound threads with their contexts, rising by thread.
     pub fn bindings(&self) -> &[Binding]
         ensures bindings { result.now ≡ self.now.bindings }
         ensures lawful { IsLawful self.now }
@@ -170,7 +172,7 @@ impl Table {
         self.draft.bindings()
     }
 
-    /// The context that a thread is bound to.
+    /// Returns the context that a thread is bound to, if it is bound.
     #[tactic(auto, unfolding(machine::specs::Layout::bound_context))]
     pub fn bound_context(&self, thread: ObjId) -> Option<ObjId>
         ensures { result ≡ bound_context self.now thread }
@@ -179,7 +181,7 @@ impl Table {
         Some(binding.context)
     }
 
-    /// The thread that a context is bound to.
+    /// Returns the thread that a context is bound to, if it is bound.
     pub fn bound_thread(&self, context: ObjId) -> Option<ObjId>
         ensures { result ≡ bound_thread self.now context }
     {

@@ -1,3 +1,4 @@
+//! The derivation tree of a capability table, and the rules that it keeps.
 ghost use Rattle.std.specs.{declared.cmp.Ordering.TheVariants.Less, List.find, Prelude.{[], ℕ, ◌+◌, ◌≡◌, IsTrue, None, Some, option_map}};
 ghost use Rattle.std.specs.Prelude.{slice_get};
 ghost use Rattle.machine.specs.{declared.layout.Pair.Pair as Edge, Machine.{same_slot, slot_cmp}};
@@ -19,7 +20,7 @@ fn rights_of(detail: &Detail) -> Rights
     }
 }
 
-/// The capability in a slot.
+/// Returns the capability in a slot, if it is filled.
 pub fn cap_in(caps: &[Filled], slot: SlotRef) -> Option<Cap>
     requires { Rises caps.now }
     ensures { result ≡ option_map (λ filled. filled.cap) (find (λ filled. same_slot filled.slot slot) caps.now) }
@@ -30,7 +31,7 @@ pub fn cap_in(caps: &[Filled], slot: SlotRef) -> Option<Cap>
     }
 }
 
-/// The parent of a slot.
+/// Returns the parent of a slot, if it has one.
 pub fn parent_in(pairs: &[Pair], slot: SlotRef) -> Option<SlotRef>
     requires { RisesByChild pairs.now }
     ensures { result ≡ option_map (λ pair. pair.parent) (find (λ pair. same_slot pair.child slot) pairs.now) }
@@ -168,7 +169,7 @@ fn is_kin(caps: &[Filled], near: usize, pair: &Pair) -> bool
     }
 }
 
-/// The number of the first pair that breaks a rule of the tree.
+/// Returns the number of the first pair that breaks a rule of the tree, if one does.
 #[tactic(auto, unfolding(crate::specs::Tree::tree_fault, crate::specs::Tree::is_kin, machine::specs::Layout::initial_cap))]
 pub fn tree_fault(caps: &[Filled], pairs: &[Pair]) -> Option<usize>
     requires { Rises caps.now }

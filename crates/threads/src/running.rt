@@ -1,3 +1,4 @@
+//! The calls Suspend and Resume, which stop a thread and let it run again.
 ghost use Rattle.std.specs.Prelude.{◌≡◌};
 ghost use Rattle.machine.specs.{Makes.Makes, Releasing.IsInItsQueue, Step.Suspend.{resume_of, suspend_of, with_resumed}};
 ghost use Rattle.machine.specs.WellFormed.{IsWellFormed};
@@ -62,9 +63,10 @@ fn make_resume(state: &mut State, caller: ObjId, address: u64) -> Result<Made, C
     Ok(Made::Done(Answer::Nothing))
 }
 
-/// Resumes the thread at an address: one that is inactive can run, and keeps its inbox; one that is
-/// blocked leaves its queue and its reply, can run, and learns that it was aborted (seL4 manual,
-/// seL4_TCB_Resume; the abort is confine's own). One that is ready stays as it is.
+/// Resumes the thread at an address (seL4 manual, seL4_TCB_Resume; the abort is confine's own).
+///
+/// A thread that is inactive can run, and keeps its inbox. One that is blocked leaves its queue and
+/// its reply, can run, and learns that it was aborted. One that is ready stays as it is.
 ///
 /// # Errors
 ///

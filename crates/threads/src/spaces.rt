@@ -1,3 +1,4 @@
+//! The calls ClearSpace and SetSpace, on the root of a thread's capability space.
 ghost use Rattle.std.specs.Prelude.{◌≡◌, IsTrue, None, Some};
 ghost use Rattle.machine.specs.{declared.cap.Cap.Cap as Held, Lookup.root_of, Machine.{cap_of, has_slot}, Makes.Makes};
 ghost use Rattle.machine.specs.{Step.Space.{clear_space_of, find_node, set_space_of, with_root, without_root}, WellFormed.IsWellFormed};
@@ -81,9 +82,10 @@ fn make_clear_space(state: &mut State, caller: ObjId, address: u64) -> Result<Ma
     Ok(Made::Done(Answer::Nothing))
 }
 
-/// Removes the capability in the root slot of the thread at an address, if it is filled, and all that
-/// can't stay without it: the thread's look-ups fail from then on (confine's own, a part of seL4's
-/// seL4_TCB_SetSpace).
+/// Removes the capability in the root slot of the thread at an address, if it is filled, and all
+/// that can't stay without it (confine's own, a part of seL4's seL4_TCB_SetSpace).
+///
+/// The thread's look-ups fail from then on.
 ///
 /// # Errors
 ///
@@ -114,14 +116,16 @@ fn make_set_space(state: &mut State, caller: ObjId, address: u64, space: u64) ->
 }
 
 /// Gives the thread at an address another root for its capability space: a copy of the CNode's
-/// capability at the address `space` (seL4 manual, seL4_TCB_SetSpace). The old one is removed first, as
-/// by [`clear_space`]; where that empties the slot of the thread's or of the CNode's capability, or takes
-/// the thread itself, the call is done and the root slot stays empty.
+/// capability at the address `space` (seL4 manual, seL4_TCB_SetSpace).
+///
+/// The old one is removed first, as by [`clear_space`]; where that empties the slot of the thread's
+/// or of the CNode's capability, or takes the thread itself, the call is done and the root slot
+/// stays empty.
 ///
 /// # Errors
 ///
-/// Those of [`find_tcb`] and then those of [`find_cap`]; and an invalid capability where that at
-/// `space` is no CNode's.
+/// Those of [`find_tcb`] and then those of [`find_cap`]; and [`Cause::InvalidCapability`] (2) where
+/// that at `space` is no CNode's.
 pub fn set_space(state: &mut State, caller: ObjId, address: u64, space: u64) -> Result<Made, Cause>
     requires well_formed { IsWellFormed state.old }
     ensures made { Makes state.old state.new result (set_space_of state.old caller address space) }

@@ -1,3 +1,4 @@
+//! The delivery of messages, with at most one capability.
 ghost use Rattle.std.specs.Prelude.{◌≡◌, is_ok};
 ghost use Rattle.machine.specs.{Step.Deliver.{arrival_of, delivered, message_of, with_arrival}, WellFormed.IsWellFormed};
 
@@ -58,7 +59,7 @@ pub fn arrive(
     }
 }
 
-/// A message as its receiver gets it.
+/// Returns a message as its receiver gets it.
 pub fn message(sending: Sending, arrived: bool) -> Message
     ensures { result ≡ message_of sending arrived }
 {

@@ -1,3 +1,4 @@
+//! The call Fetch, which takes what a thread was given and has not fetched yet.
 ghost use Rattle.std.specs.Prelude.{◌≡◌};
 ghost use Rattle.machine.specs.{Machine.object_of, Makes.Makes, Step.Fetch.{emptied, fetch_of, fetched, fetched_in}, WellFormed.IsCaller};
 ghost use Rattle.machine.specs.WellFormed.{IsWellFormed};
@@ -53,13 +54,14 @@ fn make_fetch(state: &mut State, caller: ObjId) -> Result<Made, Cause>
     Ok(Made::Done(answer))
 }
 
-/// Takes what the caller was given while it waited and has not fetched yet: a message, the word of a
-/// notification, or that what it waited for went away. Its inbox is empty then. (confine's own: seL4
-/// puts these into the thread's registers.)
+/// Takes what the caller was given while it waited and has not fetched yet.
+///
+/// The thing is a message, the word of a notification, or that what it waited for is gone. Its
+/// inbox is empty then. (confine's own: seL4 puts these into the thread's registers.)
 ///
 /// # Errors
 ///
-/// An illegal operation where the inbox is empty.
+/// [`Cause::IllegalOperation`] (3) where the inbox is empty.
 pub fn fetch(state: &mut State, caller: ObjId) -> Result<Made, Cause>
     requires well_formed { IsWellFormed state.old }
     requires caller { IsCaller state.old caller }

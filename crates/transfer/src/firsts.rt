@@ -1,3 +1,4 @@
+//! The thread that waits first at an endpoint.
 ghost use Rattle.std.specs.Prelude.{◌≡◌};
 ghost use Rattle.machine.specs.{Machine.object_of, Step.Deliver.{first_at, receiver_in, sender_in, state_in}};
 
@@ -25,7 +26,7 @@ fn first_at(state: &State, id: ObjId) -> Option<(ObjId, RunState)>
     Some((thread, run))
 }
 
-/// The thread that waits first at an endpoint, if it receives.
+/// Returns the thread that waits first at an endpoint, if it receives.
 pub fn first_receiver(state: &State, id: ObjId) -> Option<(ObjId, Receiving)>
     ensures { result ≡ receiver_in (first_at state.now id) }
 {
@@ -35,7 +36,7 @@ pub fn first_receiver(state: &State, id: ObjId) -> Option<(ObjId, Receiving)>
     }
 }
 
-/// The thread that waits first at an endpoint, if it sends.
+/// Returns the thread that waits first at an endpoint, if it sends.
 pub fn first_sender(state: &State, id: ObjId) -> Option<(ObjId, Sending)>
     ensures { result ≡ sender_in (first_at state.now id) }
 {

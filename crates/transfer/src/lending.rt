@@ -1,3 +1,4 @@
+//! The context that a caller lends to its receiver.
 ghost use Rattle.std.specs.Prelude.{◌≡◌, ◌≢◌, Some};
 ghost use Rattle.base.specs.declared.ids.ObjId.{ObjId as Id};
 ghost use Rattle.machine.specs.declared.object.ObjectKind.TheVariants as kind;
@@ -41,9 +42,11 @@ fn wait_and_lend(state: &mut State, caller: ObjId, receiver: ObjId, id: ObjId)
     }
 }
 
-/// Has a thread whose call was delivered to a receiver wait for its answer through a reply that holds
-/// nobody, and lend the scheduling context that it runs on to the receiver, where that has none; or
-/// halts it where there is no reply for an answer.
+/// Has a caller wait for its answer through a reply, and lends the context that it runs on to the
+/// receiver.
+///
+/// The call was delivered to the receiver, and the reply holds nobody. The scheduling context is
+/// lent where the receiver has none. Where there is no reply for an answer, the caller is halted.
 pub fn call_through(state: &mut State, caller: ObjId, receiver: ObjId, reply: Option<ObjId>)
     requires well_formed { IsWellFormed state.old }
     requires caller { kind_of state.old caller ≡ Some kind.Tcb }

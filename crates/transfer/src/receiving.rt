@@ -1,3 +1,4 @@
+//! The call Receive, which takes a message or waits for one.
 ghost use Rattle.std.specs.Prelude.{◌≡◌};
 ghost use Rattle.base.specs.declared.ids.ObjId.{ObjId as Id};
 ghost use Rattle.machine.specs.{Makes.Makes, Step.Receive.{find_named_reply, receive_of, received, with_reply_ended}, WellFormed.IsCaller};
@@ -90,18 +91,19 @@ fn make_receive(
     Ok(receive_or_wait(state, caller, receiving))
 }
 
-/// Receives a message through the endpoint at an address: that of the thread that waits first to send;
-/// where none does, the caller waits for one (seL4 manual, "Endpoints", "Reply objects" and
+/// Receives a message through the endpoint at an address: that of the thread that waits first to
+/// send; where none does, the caller waits for one (seL4 manual, "Endpoints", "Reply objects" and
 /// seL4_Recv).
 ///
-/// Through the reply at the address `reply`, if one is given, a call is answered; the thread that it
-/// held until then is halted first. The message's capability, if one arrives, is put into `slot`, an
-/// empty one; where none is given, or it isn't there or is filled, the message comes without it.
+/// Through the reply at the address `reply`, if one is given, a call is answered; the thread that
+/// it held until then is halted first. The message's capability, if one arrives, is put into
+/// `slot`, an empty one; where none is given, or it isn't there or is filled, the message comes
+/// without it.
 ///
 /// # Errors
 ///
-/// Those of [`find_endpoint`], an invalid capability where the right Read is missing, and then those of
-/// [`find_reply`].
+/// Those of [`find_endpoint`], [`Cause::InvalidCapability`] (2) where the right Read is missing,
+/// and then those of [`find_reply`].
 pub fn receive(
     state: &mut State,
     caller: ObjId,

@@ -1,3 +1,4 @@
+//! How a thread goes on whose message was delivered.
 ghost use Rattle.std.specs.Prelude.{◌≡◌};
 ghost use Rattle.machine.specs.{Releasing.IsInItsQueue, Step.Deliver.{answer_through, linked, sent}};
 
@@ -6,7 +7,7 @@ use machine::{Calling, Sending};
 use objects::State;
 use replies::{halt, link, resume};
 
-/// The reply through which a call is answered.
+/// Returns the reply through which a call is answered, if there is one.
 pub fn answer_through(sending: Sending, reply: Option<ObjId>) -> Option<ObjId>
     ensures { result ≡ answer_through sending reply }
 {

@@ -1,3 +1,4 @@
+//! The calls Send and Call, which send a message.
 ghost use Rattle.std.specs.Prelude.{◌≡◌};
 ghost use Rattle.machine.specs.{Makes.Makes, Step.{Deliver.{first_at, receiver_in, sending_by}, Send.{called_or_waits, endpoint_call_of}}};
 ghost use Rattle.machine.specs.{Step.Send.{send_of, sent_or_waits}, WellFormed.{IsCaller, IsWellFormed}};
@@ -75,16 +76,17 @@ fn make_send(
     Ok(send_or_wait(state, caller, sending))
 }
 
-/// Sends a message through the endpoint at an address: the thread that waits first to receive gets it;
-/// where none does, the caller waits for one (seL4 manual, "Endpoints" and seL4_Send).
+/// Sends a message through the endpoint at an address: the thread that waits first to receive gets
+/// it; where none does, the caller waits for one (seL4 manual, "Endpoints" and seL4_Send).
 ///
-/// At most one capability goes with it, that at the address `capability` when the message is received:
-/// it arrives where the capability to the endpoint has the right Grant, it isn't untyped memory's, and
-/// the receiver gave an empty slot. The message goes without it otherwise.
+/// At most one capability goes with it, that at the address `capability` when the message is
+/// received: it arrives where the capability to the endpoint has the right Grant, it isn't untyped
+/// memory's, and the receiver gave an empty slot. The message goes without it otherwise.
 ///
 /// # Errors
 ///
-/// Those of [`find_endpoint`], and an invalid capability where the right Write is missing.
+/// Those of [`find_endpoint`], and [`Cause::InvalidCapability`] (2) where the right Write is
+/// missing.
 pub fn send(
     state: &mut State,
     caller: ObjId,

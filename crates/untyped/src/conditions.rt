@@ -1,3 +1,4 @@
+//! The conditions of a retype: size, number, and slots.
 ghost use Rattle.std.specs.Prelude.{◌+◌, ◌<◌, ◌^◌, ◌≡◌, ◌≤◌, IfOk};
 ghost use Rattle.base.specs.declared.limits.TheConstants.{MAX_RADIX};
 ghost use Rattle.machine.specs.Step.Retype.{a_few, all_vacant, between, in_node, sized, window};
@@ -20,6 +21,11 @@ fn between(least: u64, most: u64, bits: u64) -> Result<(), Cause>
 }
 
 /// Refuses a size that objects of the kind can't have.
+///
+/// # Errors
+///
+/// [`Cause::InvalidArgument`] (1) where `bits` is below the least size, 4 for untyped memory and 1
+/// for a CNode; [`Cause::RangeError`] (4) where it is above the greatest, 47 and 12.
 pub fn sized(kind: MemoryKind, bits: u64) -> Result<(), Cause>
     ensures { result ≡ sized kind bits }
 {
@@ -31,6 +37,10 @@ pub fn sized(kind: MemoryKind, bits: u64) -> Result<(), Cause>
 }
 
 /// Refuses to make none, or more than a call may make.
+///
+/// # Errors
+///
+/// [`Cause::RangeError`] (4) where `count` is 0, or above [`base::MAX_MADE`].
 pub fn a_few(count: u64) -> Result<(), Cause>
     ensures { result ≡ a_few count }
 {
@@ -42,6 +52,10 @@ pub fn a_few(count: u64) -> Result<(), Cause>
 }
 
 /// Refuses a window that a CNode of the radix doesn't have whole.
+///
+/// # Errors
+///
+/// [`Cause::RangeError`] (4) where the window ends past the CNode's slots.
 pub fn in_node(radix: Radix, offset: u64, count: u64) -> Result<(), Cause>
     ensures value { result ≡ in_node radix offset count }
     ensures within { IfOk result (λ fits. offset + count ≤ 2 ^ MAX_RADIX) }
@@ -56,6 +70,10 @@ pub fn in_node(radix: Radix, offset: u64, count: u64) -> Result<(), Cause>
 }
 
 /// Refuses where a slot of the window is filled.
+///
+/// # Errors
+///
+/// [`Cause::DeleteFirst`] (8) where one of the slots holds a capability.
 pub fn all_vacant(state: &State, node: ObjId, offset: u64, count: u64) -> Result<(), Cause>
     requires { offset + count < 2 ^ 64 }
     ensures { result ≡ all_vacant state.now (window node offset count) }

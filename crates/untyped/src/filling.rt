@@ -1,3 +1,4 @@
+//! How the capabilities of new objects are put into their slots.
 ghost use Rattle.std.specs.Prelude.{◌+◌, ◌<◌, ◌^◌, ◌≡◌, ◌≤◌, IsSome, IsTrue, None};
 ghost use Rattle.base.specs.declared.limits.TheConstants.{OBJECT_NUMBERS};
 ghost use Rattle.machine.specs.{Machine.{cap_of, has_slot, object_of, with_cap, with_parent}, Tree.IsAlone};
@@ -9,7 +10,7 @@ use derivation::insert_child;
 use machine::{Cap, MemoryKind};
 use objects::State;
 
-/// Slots of a CNode, one after another.
+/// A number of slots of a CNode, one after another.
 #[derive(Clone, Copy)]
 pub struct Window {
     pub node: ObjId,

@@ -1,3 +1,4 @@
+//! The untyped memory and the CNode that a retype names.
 ghost use Rattle.std.specs.Prelude.{◌≡◌};
 ghost use Rattle.machine.specs.Step.Retype.{find_taker, find_untyped, memory_in, of_untyped};
 ghost use Rattle.untyped.specs.Shown.{found_shown, taker_shown};
@@ -7,7 +8,7 @@ use cspace::{Level, find_cap, level_at, resolve};
 use machine::{Detail, Object, Untyped};
 use objects::State;
 
-/// Untyped memory that objects are made from, with the slot of its capability.
+/// A piece of untyped memory that objects are made from, with the slot of its capability.
 #[derive(Clone, Copy)]
 pub struct Source {
     pub slot: SlotRef,
@@ -35,7 +36,12 @@ fn memory_in(object: Option<Object>) -> Result<Untyped, Cause>
     }
 }
 
-/// The untyped memory that a caller names.
+/// Returns the untyped memory that a caller names.
+///
+/// # Errors
+///
+/// Those of [`find_cap`], and [`Cause::InvalidCapability`] (2) where the capability is of another
+/// kind.
 #[tactic(auto, unfolding(machine::specs::Step::Retype::find_untyped))]
 pub fn find_untyped(state: &State, caller: ObjId, address: u64) -> Result<Source, Cause>
     ensures { found_shown result ≡ find_untyped state.now caller address }
@@ -50,7 +56,12 @@ pub fn find_untyped(state: &State, caller: ObjId, address: u64) -> Result<Source
     })
 }
 
-/// The CNode that a caller names to take the capabilities of new objects.
+/// Returns the CNode that a caller names to take the capabilities of new objects.
+///
+/// # Errors
+///
+/// [`Cause::FailedLookup`] (6): that of [`resolve`], or `MissingCapability` where the slot holds no
+/// CNode's capability.
 #[tactic(auto, unfolding(machine::specs::Step::Retype::find_taker))]
 pub fn find_taker(state: &State, caller: ObjId, address: u64) -> Result<Level, Cause>
     ensures { taker_shown result ≡ find_taker state.now caller address }

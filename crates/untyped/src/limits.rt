@@ -1,3 +1,4 @@
+//! The limits of a kernel, which a retype keeps.
 ghost use Rattle.std.specs.Prelude.{◌≡◌, ◌≤◌};
 ghost use Rattle.base.specs.declared.limits.TheConstants.{MAX_MADE};
 ghost use Rattle.machine.specs.Step.Retype.{within_limits};
@@ -6,7 +7,11 @@ use base::{Cause, MAX_PRESENT, MAX_SLOTS, MAX_THREADS, OBJECT_NUMBERS};
 use machine::Object;
 use objects::State;
 
-/// Refuses where there would be too much with so many more of such objects.
+/// Refuses to make so many objects that a kernel would have too much.
+///
+/// # Errors
+///
+/// [`Cause::TooMany`] (44) where there would be too many objects, slots, threads or object numbers.
 pub fn within_limits(state: &State, object: &Object, count: u64) -> Result<(), Cause>
     requires { count ≤ MAX_MADE }
     ensures { result ≡ within_limits state.now object.now count }

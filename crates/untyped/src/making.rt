@@ -1,3 +1,4 @@
+//! New objects and their capabilities.
 ghost use Rattle.std.specs.Prelude.{◌≡◌, Ok};
 ghost use Rattle.machine.specs.{Memory.{new_cap, new_detail, new_object}, Step.Retype.sized};
 
@@ -10,8 +11,8 @@ use machine::{
     Object, Radix, Reply, ReplyState, RunState, Tcb, Untyped,
 };
 
-/// What a call makes: so many objects of a kind as its window has slots, where the making begins in its
-/// memory.
+/// The plan of a call: it makes objects of a kind, as many as its window has slots, from a place in
+/// its memory on.
 #[derive(Clone, Copy)]
 pub struct Making {
     pub source: Source,
@@ -20,7 +21,7 @@ pub struct Making {
     pub window: Window,
 }
 
-/// A new object of the kind at an address.
+/// Returns a new object of the kind at an address.
 pub fn new_object(kind: MemoryKind, bits: u64, address: u64) -> Object
     requires { sized kind bits ≡ Ok tt }
     ensures { result ≡ new_object kind bits address }
@@ -84,7 +85,7 @@ fn new_detail(kind: MemoryKind) -> Detail
     }
 }
 
-/// The capability of a new object of that number, which is original.
+/// Returns the capability of a new object of that number, which is original.
 pub fn new_cap(number: u64, kind: MemoryKind) -> Cap
     ensures { result ≡ new_cap number kind }
 {

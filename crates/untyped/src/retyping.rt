@@ -1,3 +1,4 @@
+//! The call Retype, which makes objects from untyped memory.
 ghost use Rattle.std.specs.Prelude.{◌≡◌, IfOk, OnErr, OnOk};
 ghost use Rattle.machine.specs.{Makes.MakesWithMemory, Step.Retype.retype_of, WellFormed.IsWellFormed};
 ghost use Rattle.untyped.specs.Making.{CanBeMade, planned, refusal_in, with_making};
@@ -75,11 +76,30 @@ fn make(state: &mut State, making: Making) -> Result<(), AllocError>
     Ok(())
 }
 
-/// Makes `count` objects of a kind of the untyped memory that the caller names, and puts their
-/// capabilities into as many slots, from `offset` on, of the CNode that it names as `to` (seL4 manual,
-/// seL4_Untyped_Retype). `bits` is the size of untyped memory and the radix of a CNode.
+/// Makes `count` objects of a kind from the untyped memory that the caller names (seL4 manual,
+/// seL4_Untyped_Retype).
 ///
-/// Where memory runs out it is refused, and the state stays as it was.
+/// The objects' capabilities are put into as many slots, from `offset` on, of the CNode that the
+/// caller names as `to`. `bits` is the size of untyped memory and the radix of a CNode. Where
+/// memory runs out the call is refused, and the state stays as it was.
+///
+/// # Errors
+///
+/// [`Unmade::Refused`] with the first of these causes:
+///
+/// - [`Cause::FailedLookup`] (6) or [`Cause::InvalidCapability`] (2), where the untyped memory
+/// isn't found
+/// - [`Cause::InvalidArgument`] (1) or [`Cause::RangeError`] (4), where `bits` is too small or too
+/// large for the kind
+/// - [`Cause::RangeError`] (4), where `count` isn't from 1 to 16
+/// - [`Cause::FailedLookup`] (6), where the CNode `to` isn't found
+/// - [`Cause::RangeError`] (4), where the CNode has fewer slots than `offset` and `count` together
+/// - [`Cause::DeleteFirst`] (8), where one of the slots is filled
+/// - [`Cause::NotEnoughMemory`] (10), where the untyped memory has no room
+/// - [`Cause::TooMany`] (44), where there would be too many objects, slots, threads or object
+/// numbers.
+///
+/// [`Unmade::OutOfMemory`] (40) where none of these holds, and an allocation failed.
 pub fn retype(
     state: &mut State,
     caller: ObjId,
@@ -103,7 +123,7 @@ pub fn retype(
     }
 }
 
-/// Why [`retype`] is refused, however much memory there is.
+/// Returns why [`retype`] is refused, however much memory there is; `None` if it isn't.
 pub fn retype_refusal(
     state: &State,
     caller: ObjId,

@@ -1,3 +1,4 @@
+//! The room that objects take in untyped memory.
 ghost use Rattle.std.specs.Prelude.{◌<◌, ◌^◌, ◌≡◌, ◌≤◌, Ok};
 ghost use Rattle.base.specs.declared.limits.TheConstants.{ADDRESS_END, MAX_MADE};
 ghost use Rattle.machine.specs.declared.object.Object.TheVariants as o;
@@ -9,7 +10,7 @@ use base::Cause;
 use machine::{MemoryKind, Untyped};
 use objects::State;
 
-/// How many bytes an object of the kind takes.
+/// Returns the number of bytes that an object of the kind takes.
 pub fn new_size(kind: MemoryKind, bits: u64) -> u64
     requires { sized kind bits ≡ Ok tt }
     ensures value { result ≡ new_size kind bits }
@@ -28,7 +29,9 @@ pub fn new_size(kind: MemoryKind, bits: u64) -> u64
     }
 }
 
-/// The memory where the making begins: at its base where nothing that is there was made of it.
+/// Returns the memory where the making begins.
+///
+/// The making begins at the memory's base where nothing that is there was made of it.
 #[tactic(auto, unfolding(machine::specs::Memory::has_child))]
 pub fn begun(state: &State, source: Source) -> Source
     ensures { source_shown result ≡ begun state.now (source_shown source) }
@@ -43,7 +46,11 @@ pub fn begun(state: &State, source: Source) -> Source
     Source { memory, ..source }
 }
 
-/// Refuses where the memory has no room for so many objects of a size.
+/// Refuses where the memory has no room for `count` objects of a size.
+///
+/// # Errors
+///
+/// [`Cause::NotEnoughMemory`] (10) where they would end past the memory.
 pub fn roomy(memory: Untyped, size: u64, count: u64) -> Result<(), Cause>
     requires bits { memory.bits ≤ 47 }
     requires ends { end_of (o.Untyped memory) ≤ ADDRESS_END }

@@ -1,11 +1,14 @@
+//! The faults for which a text is refused.
 ghost use Rattle.std.specs.Prelude.{◌≡◌};
 ghost use Rattle.words.specs.{declared.faults.LineError.TheVariants.{Memory, Text}, Fault.{fault_at, no_memory, number_of}};
 
 use std::alloc::{AllocError, AllocFailed};
 use thiserror::Error;
 
-/// What a line of a text can be refused for. Within a line they are told in the order `Syntax`,
-/// `UnknownName`, `Double`, `WrongKind`, `Limit`, `Misplaced`; `Tree` is found once the text ended.
+/// The fault of a line of a text.
+///
+/// Within a line, faults are told in the order `Syntax`, `UnknownName`, `Double`, `WrongKind`,
+/// `Limit`, `Misplaced`. `Tree` is found once the text ended.
 #[derive(Clone, Copy, Debug, PartialEq, Eq, Error)]
 pub enum Wrong {
     #[error("the line doesn't have its form, or is out of order")]
@@ -41,7 +44,7 @@ impl Wrong {
     }
 }
 
-/// Why the reading of a line stopped: memory was refused, or the text is wrong.
+/// The reason why the reading of a line stopped: memory was refused, or the text is wrong.
 #[derive(Clone, Copy, Debug, PartialEq, Eq, Error)]
 pub enum LineError {
     #[error("no memory")]
@@ -74,8 +77,10 @@ impl<T: Drop> From<AllocFailed<T>> for LineError {
     }
 }
 
-/// Why a text wasn't read: the number of the fault, 50 to 56, and the line that has it, from 1; or
-/// 40 and line 0 where memory was refused.
+/// The reason why a text wasn't read.
+///
+/// A fault has its number of the fault, 50 to 56, and the line that has it, from 1; or 40 and line
+/// 0 where memory was refused.
 #[derive(Clone, Copy, Debug, PartialEq, Eq, Error)]
 #[error("line {line}: fault {number}")]
 pub struct Fault {
@@ -84,13 +89,13 @@ pub struct Fault {
 }
 
 impl Fault {
-    /// Memory was refused.
+    /// The fault of a text for which memory was refused: 40, at line 0.
     pub const MEMORY: Fault = Fault {
         number: 40,
         line: 0,
     };
 
-    /// The fault of a line, which is counted from 1.
+    /// Returns the fault of a line; lines are counted from 1.
     #[tactic(auto, unfolding(crate::specs::Fault::fault_at))]
     pub fn at(wrong: Wrong, line: u64) -> Fault
         ensures { result ≡ fault_at line wrong }

@@ -1,9 +1,12 @@
+//! Laws about the first fault of a text.
 ghost use Rattle.std.specs.{List.count_by, Prelude.{ℕ, ◌++◌, ◌+◌, ◌<◌, ◌==◌, ◌↔◌, ◌≡◌, ◌⊎◌, Err, List, Ok, Result, length}};
 ghost use Rattle.words.specs.{declared.faults.Wrong.{Wrong, TheVariants.Syntax}, Fault.fault_at, FirstFault.{IsFirstFault, IsText}};
 ghost use Rattle.words.specs.{FirstFault.TextLines, Reading.{Format, read_format}, Text.lines_of};
 
-/// A law: a text is refused for its first fault, by the fault's line and by what is wrong there, and is
-/// read just if it has none. So it is read or refused, never both, and for one fault alone.
+/// A law: a text is refused for its first fault, by the fault's line and by what is wrong there.
+///
+/// A text is read exactly if it has no fault. So it is read or refused, never both, and for one
+/// fault alone.
 pub fn a_text_is_refused_for_its_first_fault<S, T>()
     ensures refused { (f : Format S T) (lines : TextLines)
         (line : ℕ) (wrong : Wrong)

@@ -1,3 +1,4 @@
+//! The words of a line, taken one after another.
 ghost use Rattle.std.specs.Prelude.{[], ◌∷◌, ◌≡◌, IfOk, IfSome, MatchOption, Ok, drop, true};
 ghost use Rattle.words.specs.{Name.{is_name, name_at}, Number.{hex_at, number_at}, Reading.{Gives, ended_at, word_at}, Text.line_is};
 ghost use Rattle.words.specs.Text.{words_of};
@@ -33,7 +34,9 @@ impl<'a> Words<'a> {
         Words { rest: Some(line) }
     }
 
-    /// The next word, which is empty before a space that follows no word.
+    /// Takes the next word, if there is one.
+    ///
+    /// The word is empty before a space that follows no word.
     pub fn next_word(&mut self) -> Option<&'a [u8]>
         ensures { MatchOption result
             ((self.old ≡ []) × (self.new ≡ []))
@@ -52,7 +55,7 @@ impl<'a> Words<'a> {
         }
     }
 
-    /// Whether the words left are just those of `line`.
+    /// Returns whether the words left are exactly those of `line`.
     #[tactic(auto, using(crate::proofs::Splits::same_words, crate::proofs::Splits::never_no_words))]
     pub fn is(&self, line: &[u8]) -> bool
         ensures { result ≡ line_is self.now (words_of line.now) }
@@ -63,7 +66,11 @@ impl<'a> Words<'a> {
         }
     }
 
-    /// The next word.
+    /// Takes the next word.
+    ///
+    /// # Errors
+    ///
+    /// [`Wrong::Syntax`] where no word is left.
     #[tactic(auto, unfolding(crate::specs::Reading::word_at))]
     pub fn word(&mut self) -> Result<&'a [u8], Wrong>
         ensures exact { Gives (λ word. (word.now, self.new)) result (word_at self.old) }
@@ -72,7 +79,11 @@ impl<'a> Words<'a> {
         self.next_word().ok_or(Wrong::Syntax)
     }
 
-    /// Asks that no word is left.
+    /// Checks that no word is left.
+    ///
+    /// # Errors
+    ///
+    /// [`Wrong::Syntax`] where a word is left.
     #[tactic(auto, using(crate::proofs::Splits::never_ended), unfolding(crate::specs::Reading::ended_at))]
     pub fn end(&self) -> Result<(), Wrong>
         ensures { result ≡ ended_at self.now }
@@ -83,7 +94,11 @@ impl<'a> Words<'a> {
         }
     }
 
-    /// The next word as a decimal number.
+    /// Takes the next word as a decimal number.
+    ///
+    /// # Errors
+    ///
+    /// [`Wrong::Syntax`] where no word is left, or the next one isn't such a number.
     pub fn number(&mut self) -> Result<u64, Wrong>
         ensures exact { Gives (λ number. (number, self.new)) result (number_at self.old) }
         ensures taken { self.new ≡ drop 1 self.old }
@@ -115,7 +130,11 @@ impl<'a> Words<'a> {
         decimal_of(word).ok_or(Wrong::Syntax)
     }
 
-    /// The next word as a hexadecimal number, `0x` and lower-case digits.
+    /// Takes the next word as a hexadecimal number, `0x` and lower-case digits.
+    ///
+    /// # Errors
+    ///
+    /// [`Wrong::Syntax`] where no word is left, or the next one isn't such a number.
     #[tactic(auto, unfolding(crate::specs::Number::hex_at, crate::specs::Reading::word_at, crate::specs::Reading::or_syntax, crate::specs::Reading::bind))]
     pub fn hex(&mut self) -> Result<u64, Wrong>
         ensures exact { Gives (λ number. (number, self.new)) result (hex_at self.old) }
@@ -125,7 +144,11 @@ impl<'a> Words<'a> {
         hexadecimal_of(word).ok_or(Wrong::Syntax)
     }
 
-    /// The next word as a name.
+    /// Takes the next word as a name.
+    ///
+    /// # Errors
+    ///
+    /// [`Wrong::Syntax`] where no word is left, or the next one isn't a name.
     #[tactic(auto, unfolding(crate::specs::Name::name_at, crate::specs::Reading::word_at, crate::specs::Reading::or_syntax, crate::specs::Reading::bind))]
     pub fn name(&mut self) -> Result<&'a str, Wrong>
         ensures exact { Gives (λ name. (name.now, self.new)) result (name_at self.old) }

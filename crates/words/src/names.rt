@@ -1,9 +1,10 @@
+//! Names: how they are spelled and read.
 ghost use Rattle.std.specs.{List.list_all, Option.option_copied, Prelude.{ℕ, ◌↔◌, ◌≡◌, IfSome, List, Some, true}};
 ghost use Rattle.words.specs.Name.{is_name, is_name_byte, name_of, starts_with_letter};
 
 use std::str;
 
-/// How many letters, digits and `_` a name has at most.
+/// The number of letters, digits and `_` that a name may have.
 pub const MAX_NAME_LENGTH: usize = 31;
 
 /// Whether a word is a name: 1 to [`MAX_NAME_LENGTH`] of `a-z`, `0-9` and `_`, the first a letter.
@@ -13,7 +14,7 @@ fn is_name(word: &[u8]) -> bool
     starts_with_letter(word) && word.len() <= MAX_NAME_LENGTH && has_name_bytes(word)
 }
 
-/// A word as a name, if it is one.
+/// Returns the word as a name, if it is one.
 #[tactic(auto, using(crate::proofs::NameText::name_is_text), unfolding(crate::specs::Name::name_of))]
 pub fn name_of(word: &[u8]) -> Option<&str>
     ensures exact { option_copied result ≡ name_of word.now }

@@ -1,10 +1,11 @@
+//! Decimal and hexadecimal numbers: how they are spelled and read.
 ghost use Rattle.std.specs.{Fmt.decimal, List.list_all, Prelude.{ℕ, ◌*◌, ◌+◌, ◌<◌, ◌^◌, ◌↔◌, ◌≡◌, ◌≢◌, List, Some}};
 ghost use Rattle.words.specs.Number.{below_limit, dec_of, has_no_leading_zero, hex_digits_of, hex_of, hexadecimal, is_hex_digit};
 ghost use Rattle.words.specs.Number.{is_hexadecimal};
 
 use std::str;
 
-/// The number that a word spells in decimal, where it is below 2^64.
+/// Returns the number that a word spells in decimal, if it spells one below 2^64.
 pub fn decimal_of(word: &[u8]) -> Option<u64>
     ensures { result ≡ dec_of word.now }
 {
@@ -28,7 +29,7 @@ fn with_digit(number: u64, digit: u8) -> Option<u64>
     number.checked_mul(10)?.checked_add(digit as u64)
 }
 
-/// The number that a word spells in hexadecimal, as `0x1f`, where it is below 2^64.
+/// Returns the number that a word spells in hexadecimal, as `0x1f`, if it spells one below 2^64.
 #[tactic(auto, unfolding(crate::specs::Number::hex_of))]
 pub fn hexadecimal_of(word: &[u8]) -> Option<u64>
     ensures { result ≡ hex_of word.now }
@@ -70,9 +71,10 @@ fn all_hex_digits(word: &[u8]) -> bool
         .all(|byte| matches!(byte, b'0'..=b'9' | b'a'..=b'f'))
 }
 
-/// A law about the words of numbers: a word spells a number in decimal just where it is the number's
-/// decimal word and the number is below 2^64, and alike in hexadecimal. So a number has one word of
-/// each form, different numbers have different words, and no word is of both forms.
+/// A law: a word spells a number below 2^64 exactly where it is the number's word.
+///
+/// The law holds of the decimal word, and alike of the hexadecimal word. So a number has one word
+/// of each form, different numbers have different words, and no word is of both forms.
 pub fn numbers_are_read_back()
     ensures decimal { (word : List ℕ) (n : ℕ)
         → (dec_of word ≡ Some n) ↔ ((word ≡ decimal n) × (n < 2 ^ 64)) }

@@ -1,3 +1,4 @@
+//! How a whole text is read, a line at a time.
 ghost use Rattle.std.specs.Prelude.{ℕ, ◌≡◌, List, OnOk, Result};
 ghost use Rattle.words.specs.{declared.faults.Wrong.Wrong, Reading.{GivesOrStops, Reads, as_read, judged, read_text}, Text.lines_of};
 ghost use Rattle.words.specs.Text.{words_of};
@@ -6,7 +7,7 @@ use crate::faults::{Fault, LineError, Wrong};
 use crate::line::Words;
 use crate::text::Lines;
 
-/// What a text is read into, a line at a time.
+/// A thing that a text is read into, a line at a time.
 pub trait Reader {
     // What is seen of it, and which step of that a line is.
     ghost Seen: { Type 0 };
@@ -16,12 +17,21 @@ pub trait Reader {
     ghost step: { Self → Seen → List (List ℕ) → Result Seen Wrong };
 
     /// Takes a line between the header and `end`.
+    ///
+    /// # Errors
+    ///
+    /// [`LineError::Text`] with the fault of the line, or [`LineError::Memory`] where memory is
+    /// refused.
     fn take_line(&mut self, words: &mut Words<'_>) -> Result<(), LineError>
         ensures exact { GivesOrStops (λ _. seen self.new) result (step self.old (seen self.old) words.old) }
         ensures same { OnOk result (step self.new ≡ step self.old) };
 }
 
 /// Reads a whole text: its header, its lines, and `end`.
+///
+/// # Errors
+///
+/// The fault of the first faulty line, 50 to 56, or 40 at line 0 where memory is refused.
 #[tactic(auto, using(crate::proofs::ReadingLaws::loop_laws), unfolding(crate::specs::Reading::bind))]
 pub fn read_text<R: Reader>(reader: &mut R, header: &[u8], text: &[u8]) -> Result<(), Fault>
     ensures { Reads (λ _. R.seen reader.new) result

@@ -1,3 +1,4 @@
+//! How bytes are split at the first byte of a value, or at the first line feed.
 ghost use Rattle.std.specs.{List.slice_split, Prelude.{[], ◌<◌, ◌==◌, ◌∷◌, ◌≡◌, IfSome, MatchOption, length, position}};
 
 use memchr::memchr;

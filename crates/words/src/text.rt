@@ -1,3 +1,4 @@
+//! The lines of a text, taken one after another.
 ghost use Rattle.std.specs.{List.AllByRecursion, Prelude.{ℕ, ◌+◌, ◌∷◌, ◌≡◌, List, MatchOption, map}};
 ghost use Rattle.words.specs.{Fault.{fault_at, fault_of}, Reading.{Gives, after_line, end_at, header_at}, Text.{IsOver, IsPlainLine}};
 ghost use Rattle.words.specs.Text.{lines_of, text_of, words_of};
@@ -26,7 +27,7 @@ impl<'a> Model for Lines<'a> {
 }
 
 impl<'a> Lines<'a> {
-    /// The lines of `text`, none of them taken.
+    /// Returns the lines of `text`, none of them taken.
     #[tactic(auto, using(crate::proofs::TextLaws::spelled, crate::proofs::TextLaws::text_lines))]
     pub fn new(text: &'a [u8]) -> Lines<'a>
         ensures exact { result ≡ record { taken = 0; lines = lines_of text.now } }
@@ -41,7 +42,9 @@ impl<'a> Lines<'a> {
         }
     }
 
-    /// The words of the next line, or `None` where no line follows that a line feed ends.
+    /// Takes the next line, and returns its words.
+    ///
+    /// Returns `None` where no line follows that a line feed ends.
     #[tactic(auto, using(crate::proofs::Splits::line_first, crate::proofs::Splits::over_nowhere))]
     pub fn next_line(&mut self) -> Option<Words<'a>>
         ensures { MatchOption result
@@ -54,7 +57,13 @@ impl<'a> Lines<'a> {
         Some(Words::new(line))
     }
 
-    /// Takes the header, whose words are those of `expected`. A line that has other words is taken too.
+    /// Takes the header, whose words must be those of `expected`.
+    ///
+    /// A line that has other words is taken too.
+    ///
+    /// # Errors
+    ///
+    /// The fault 50 of that line, where it has other words or is missing.
     #[tactic(auto, using(crate::proofs::Splits::stays, crate::proofs::Splits::moves), unfolding(crate::specs::Reading::header_at))]
     pub fn header(&mut self, expected: &[u8]) -> Result<(), Fault>
         ensures exact { Gives (λ _. self.new) result (header_at (words_of expected.now) self.old) }
@@ -67,7 +76,11 @@ impl<'a> Lines<'a> {
         }
     }
 
-    /// Asks that nothing follows the lines that were taken.
+    /// Checks that nothing follows the lines that were taken.
+    ///
+    /// # Errors
+    ///
+    /// The fault 50 of the line that follows.
     #[tactic(auto, using(crate::proofs::Splits::end_some, crate::proofs::Splits::end_none))]
     pub fn end(&self) -> Result<(), Fault>
         ensures { result ≡ end_at self.now }
@@ -79,21 +92,21 @@ impl<'a> Lines<'a> {
         }
     }
 
-    /// A fault of the line that was taken last.
+    /// Returns a fault of the line that was taken last.
     pub fn here(&self, wrong: Wrong) -> Fault
         ensures { result ≡ fault_at self.now.taken wrong }
     {
         Fault::at(wrong, self.taken)
     }
 
-    /// A fault of the line that comes next, or is missing.
+    /// Returns a fault of the line that comes next, or is missing.
     pub fn after(&self, wrong: Wrong) -> Fault
         ensures { result ≡ fault_at (self.now.taken + 1) wrong }
     {
         Fault::at(wrong, self.taken + 1)
     }
 
-    /// What stopped the line that was taken last, as a fault of the text.
+    /// Returns what stopped the line that was taken last, as a fault of the text.
     #[tactic(auto, unfolding(crate::specs::Fault::fault_of))]
     pub fn stopped(&self, error: LineError) -> Fault
         ensures { result ≡ fault_of self.now.taken error }

@@ -1,3 +1,4 @@
+//! A part of a set of labels: a set of numbers below 64, as one word.
 ghost use Rattle.std.specs.Prelude.{ℕ, ◌&&◌, ◌<◌, ◌==◌, ◌||◌, ◌≡◌, IfNone, IfSome, false, not, true};
 ghost use Rattle.base.specs.Labels.{is_in_part};
 
