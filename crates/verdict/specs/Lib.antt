@@ -5,3 +5,4 @@ pub mod System
 pub mod Slots
 pub mod Outside
 pub mod Extents
+pub mod Acting

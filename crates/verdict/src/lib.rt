@@ -3,6 +3,7 @@
 #![tactic(auto)]
 
 mod accepted;
+mod acting;
 mod bindings;
 mod check;
 mod denial;

@@ -1,0 +1,98 @@
+ghost use Rattle.std.specs.Prelude.{[], ℕ, ◌∷◌, ◌↔◌, ◌≡◌, false, true};
+ghost use Rattle.base.specs.{declared.kind.Kind.TheVariants.Control, Labels.is_in};
+ghost use Rattle.policy.specs.{Policy.allows, Steps.IsTarget};
+ghost use Rattle.integrity.specs.{Acting.{MayAct, Starts}, Apart.NeverChanges};
+ghost use Rattle.verdict.specs.Acting.{RefusesAllBut, is_ready, ready_label};
+
+use crate::Accepted;
+use base::{Edge, Kind, Label, Labels, ObjId};
+use integrity::{changes_are_of_labels_that_act, labels_act_from_boot_or_by_control};
+use machine::{Object, RunState};
+use policy::Policy;
+use table::Table;
+
+impl Accepted<'_> {
+    /// Returns the labels that may act: those with a thread that can run at boot, and those that such a
+    /// label controls.
+    ///
+    /// In every run each call by a thread of another label is refused. So such a thread never changes,
+    /// makes or removes an object.
+    pub fn acting(&self) -> Labels
+        ensures acting { (a : ℕ) → (is_in result a ≡ true) ↔ MayAct self.now.table (allows self.now.policy) a }
+        ensures refused { RefusesAllBut self.now.table result }
+        ensures kept { (a l : ℕ) → is_in result a ≡ false → NeverChanges self.now.table a l }
+    {
+        labels_act_from_boot_or_by_control();
+        changes_are_of_labels_that_act();
+        let starting = starting(self.table());
+        starting.union(controlled(self.policy(), starting))
+    }
+}
+
+// The labels with a thread that is ready at boot and bound to a context.
+fn starting(table: &Table) -> Labels
+    ensures { (a : ℕ) → (is_in result a ≡ true) ↔ Starts table.now a }
+{
+    let mut found = Labels::none();
+    for binding in table.bindings() {
+        if let Some(label) = ready_label(table, binding.thread) {
+            found = found.union(Labels::only(label));
+        }
+    }
+    found
+}
+
+// The label of an initial thread that is ready.
+#[tactic(auto, unfolding(machine::specs::Layout::initial_of))]
+fn ready_label(table: &Table, thread: ObjId) -> Option<Label>
+    ensures { result ≡ ready_label table.now thread }
+{
+    let initial = table.objects().get(thread.0 as usize)?;
+    if is_ready(&initial.object) {
+        return Some(initial.label);
+    }
+    None
+}
+
+// Whether an object is a thread that is ready.
+fn is_ready(object: &Object) -> bool
+    ensures { result ≡ is_ready object.now }
+{
+    match object {
+        Object::Tcb(thread) => matches!(thread.state, RunState::Ready),
+        _ => false,
+    }
+}
+
+// The labels that a label of the set controls.
+fn controlled(policy: &Policy, controllers: Labels) -> Labels
+    ensures { (to : ℕ) → (is_in result to ≡ true) ↔ IsTarget (allows policy.now) (Control ∷ []) controllers to }
+{
+    policy.edges_rise();
+    let mut found = Labels::none();
+    for number in 0..Label::COUNT {
+        if let Some(from) = Label::new(number) {
+            if controllers.has(from) {
+                found = found.union(controlled_by(policy, from));
+            }
+        }
+    }
+    found
+}
+
+// The labels that the label controls.
+fn controlled_by(policy: &Policy, from: Label) -> Labels
+    ensures { (to : ℕ) → (is_in result to ≡ true) ↔ (allows policy.now from Control to ≡ true) }
+{
+    policy.edges_rise();
+    let mut found = Labels::none();
+    for number in 0..Label::COUNT {
+        if let Some(to) = Label::new(number) {
+            let kind = Kind::Control;
+            if policy.has(Edge { from, kind, to }) {
+                found = found.union(Labels::only(to));
+            }
+        }
+    }
+    found
+}
