@@ -1,0 +1,85 @@
+# Completes the words of confine in bash. Made by tools/manual from the help texts of the program.
+
+_confine() {
+  local word=${COMP_WORDS[COMP_CWORD]} last=${COMP_WORDS[COMP_CWORD - 1]} given=() options='' offered='' kinds=() values='' i
+  COMPREPLY=()
+  # bash takes a `=` for a word of its own.
+  if [ "$word" = = ]; then
+    word=''
+  elif [ "$last" = = ]; then
+    last=${COMP_WORDS[COMP_CWORD - 2]}
+  fi
+  for ((i = 1; i < COMP_CWORD; i++)); do
+    case ${COMP_WORDS[i]} in
+      --workers)
+        i=$((i + 1))
+        if [ "${COMP_WORDS[i]-}" = = ]; then i=$((i + 1)); fi
+        ;;
+      -*) ;;
+      *) given+=("${COMP_WORDS[i]}") ;;
+    esac
+  done
+  case ${given[0]-} in
+    '')
+      options='-h --help -V --version'
+      offered='check verify run replay close why draw claims list help'
+      ;;
+    help) [ ${#given[@]} != 1 ] || offered='check verify run replay close why draw claims list help' ;;
+    check)
+      options='--explain --workers --cert -h --help'
+      kinds=(file file)
+      ;;
+    verify)
+      options='--explain -h --help'
+      kinds=(file file file)
+      ;;
+    run)
+      options='--explain --split -h --help'
+      kinds=(file file file)
+      ;;
+    replay)
+      options='--explain -h --help'
+      kinds=(file file file)
+      ;;
+    close)
+      options='--explain --missing --surplus -h --help'
+      kinds=(file file)
+      ;;
+    why)
+      options='--explain -h --help'
+      kinds=(file file label label)
+      ;;
+    draw)
+      options='--explain -h --help'
+      kinds=(file file)
+      ;;
+    claims)
+      options='--explain --all -h --help'
+      kinds=(file file file)
+      ;;
+    list)
+      options='--explain -h --help'
+      kinds=(file)
+      ;;
+  esac
+  case $last in
+    --workers) values='' ;;
+    *) last='' ;;
+  esac
+  local kind=''
+  if [ ${#given[@]} != 0 ]; then kind=${kinds[${#given[@]} - 1]-}; fi
+  if [ -n "$last" ]; then
+    mapfile -t COMPREPLY < <(compgen -W "$values" -- "$word")
+  elif [[ $word == -* ]]; then
+    mapfile -t COMPREPLY < <(compgen -W "$options" -- "$word")
+  elif [ -n "$offered" ]; then
+    mapfile -t COMPREPLY < <(compgen -W "$offered" -- "$word")
+  elif [ "$kind" = label ]; then
+    mapfile -t COMPREPLY < <(compgen -W "$(sed -n 's/^label //p' "${given[1]}" 2>/dev/null)" -- "$word")
+  elif [ "$kind" = file ]; then
+    return
+  fi
+  # Where no file is meant, none is offered.
+  compopt +o default +o bashdefault 2>/dev/null || true
+}
+complete -o bashdefault -o default -F _confine confine

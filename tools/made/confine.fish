@@ -1,0 +1,95 @@
+# Completes the words of confine in fish. Made by tools/manual from the help texts of the program.
+
+# The words before the cursor that are neither options nor their values: the command, and its arguments.
+function __confine_given
+    set -l words (commandline -opc)
+    set -e words[1]
+    set -l is_value no
+    for word in $words
+        if test $is_value = yes
+            set is_value no
+            continue
+        end
+        switch $word
+            case --workers
+                set is_value yes
+            case '-*'
+            case '*'
+                printf '%s\n' $word
+        end
+    end
+end
+
+# Whether the word at the cursor is an argument of this command, at this place; with no place, at any.
+function __confine_at --argument-names command place
+    set -l given (__confine_given)
+    test "$given[1]" = "$command"; or return
+    test -z "$place"; or test (count $given) -eq "$place"
+end
+
+function __confine_labels
+    set -l given (__confine_given)
+    sed -n 's/^label //p' $given[2] 2>/dev/null
+end
+
+complete -c confine -f
+complete -c confine -n '__confine_at "" 0' -a check -d 'Checks a table against a policy, and prints who may change what, or which rule is broken'
+complete -c confine -n '__confine_at "" 0' -a verify -d 'Checks a table against a policy, and whether a certificate is the table'\''s'
+complete -c confine -n '__confine_at "" 0' -a run -d 'Checks a table against a policy, runs a script of kernel calls and prints its log'
+complete -c confine -n '__confine_at "" 0' -a replay -d 'Tells whether a system could have made a log, and whether the log ends within a policy'
+complete -c confine -n '__confine_at "" 0' -a close -d 'Writes the least policy to which a table keeps, with the edges of one that is named'
+complete -c confine -n '__confine_at "" 0' -a why -d 'Tells which authority a label has on another by a policy, and by which edges'
+complete -c confine -n '__confine_at "" 0' -a draw -d 'Draws, for Graphviz, who may change or take from whom by a policy, and by which edge'
+complete -c confine -n '__confine_at "" 0' -a claims -d 'Tells whether claims hold: at most how much authority labels have on others'
+complete -c confine -n '__confine_at "" 0' -a list -d 'Lists the objects of a table: by which number a script names each, its kind, name, label'
+complete -c confine -n '__confine_at "" 0' -a help -d 'Prints the help of a command'
+complete -c confine -n '__confine_at help 1' -a 'check verify run replay close why draw claims list'
+complete -c confine -n '__confine_at "" 0' -s h -l help -d 'Print help'
+complete -c confine -n '__confine_at "" 0' -s V -l version -d 'Print version'
+complete -c confine -n '__confine_at check 1' -F
+complete -c confine -n '__confine_at check 2' -F
+complete -c confine -n '__confine_at check' -l explain -d 'Tells in sentences, on standard error, what is denied or faulty, and a way out'
+complete -c confine -n '__confine_at check' -l workers -x -d 'Threads that look over the slots side by side, 1 to 16 [default: 1]'
+complete -c confine -n '__confine_at check' -l cert -d 'Writes the certificate of an accepted table in place of the report'
+complete -c confine -n '__confine_at check' -s h -l help -d 'Print help'
+complete -c confine -n '__confine_at verify 1' -F
+complete -c confine -n '__confine_at verify 2' -F
+complete -c confine -n '__confine_at verify 3' -F
+complete -c confine -n '__confine_at verify' -l explain -d 'Tells in sentences, on standard error, what is denied or faulty, and a way out'
+complete -c confine -n '__confine_at verify' -s h -l help -d 'Print help'
+complete -c confine -n '__confine_at run 1' -F
+complete -c confine -n '__confine_at run 2' -F
+complete -c confine -n '__confine_at run 3' -F
+complete -c confine -n '__confine_at run' -l explain -d 'Tells in sentences, on standard error, what is denied or faulty, and a way out'
+complete -c confine -n '__confine_at run' -l split -d 'Has a worker for each core make its calls, side by side; their order may differ'
+complete -c confine -n '__confine_at run' -s h -l help -d 'Print help'
+complete -c confine -n '__confine_at replay 1' -F
+complete -c confine -n '__confine_at replay 2' -F
+complete -c confine -n '__confine_at replay 3' -F
+complete -c confine -n '__confine_at replay' -l explain -d 'Tells in sentences, on standard error, what is denied or faulty, and a way out'
+complete -c confine -n '__confine_at replay' -s h -l help -d 'Print help'
+complete -c confine -n '__confine_at close 1' -F
+complete -c confine -n '__confine_at close 2' -F
+complete -c confine -n '__confine_at close' -l explain -d 'Tells in sentences, on standard error, what is denied or faulty, and a way out'
+complete -c confine -n '__confine_at close' -l missing -d 'Writes the lines alone that POLICY lacks; the status is 1 where there are any'
+complete -c confine -n '__confine_at close' -l surplus -d 'Writes the lines of POLICY alone that nothing asks for; status as with --missing'
+complete -c confine -n '__confine_at close' -s h -l help -d 'Print help'
+complete -c confine -n '__confine_at why 1' -F
+complete -c confine -n '__confine_at why 2' -F
+complete -c confine -n '__confine_at why 3' -a '(__confine_labels)'
+complete -c confine -n '__confine_at why 4' -a '(__confine_labels)'
+complete -c confine -n '__confine_at why' -l explain -d 'Tells in sentences, on standard error, what is denied or faulty, and a way out'
+complete -c confine -n '__confine_at why' -s h -l help -d 'Print help'
+complete -c confine -n '__confine_at draw 1' -F
+complete -c confine -n '__confine_at draw 2' -F
+complete -c confine -n '__confine_at draw' -l explain -d 'Tells in sentences, on standard error, what is denied or faulty, and a way out'
+complete -c confine -n '__confine_at draw' -s h -l help -d 'Print help'
+complete -c confine -n '__confine_at claims 1' -F
+complete -c confine -n '__confine_at claims 2' -F
+complete -c confine -n '__confine_at claims 3' -F
+complete -c confine -n '__confine_at claims' -l explain -d 'Tells in sentences, on standard error, what is denied or faulty, and a way out'
+complete -c confine -n '__confine_at claims' -l all -d 'Writes the strongest claims that hold, on all pairs of labels, in place of CLAIMS'
+complete -c confine -n '__confine_at claims' -s h -l help -d 'Print help'
+complete -c confine -n '__confine_at list 1' -F
+complete -c confine -n '__confine_at list' -l explain -d 'Tells in sentences, on standard error, what is denied or faulty, and a way out'
+complete -c confine -n '__confine_at list' -s h -l help -d 'Print help'
