@@ -1,6 +1,7 @@
 "use strict";
 
-// The two drawings, in the manner of docs/pictures: who may change what, from a report; and the objects of a small table.
+// The two drawings, in the manner of docs/pictures: who may change or take from whom, from the graph that `draw` writes; and the objects
+// of a small table.
 
 const SVG = "http://www.w3.org/2000/svg";
 
@@ -18,8 +19,8 @@ function picture(title, width, height, ...parts) {
     drawn("path", { d: "M0 0 L8 4 L0 8 z", class: "head" }),
   );
   const whole = drawn("svg", { viewBox: `0 0 ${width} ${height}`, width, height, role: "img" });
-  for (const part of parts) if (part.classList.contains("arrow")) part.setAttribute("marker-end", `url(#${head.id})`);
   whole.append(drawn("title", {}, title), drawn("defs", {}, head), ...parts);
+  for (const part of whole.querySelectorAll(".arrow")) part.setAttribute("marker-end", `url(#${head.id})`);
   return whole;
 }
 
@@ -28,60 +29,133 @@ const boxAt = (x, y, width, height, kind, rx = 4) => drawn("rect", { x, y, width
 const arrow = (d, kind = "") => drawn("path", { d, class: `arrow ${kind}` });
 const tint = (number) => `tint-${number % 6}`;
 
-// ---- Who may change what: `full` and `cut` of an accepted system's report.
+// ---- Who may change or take from whom: the labels in a circle, or more of them in a table. Solid arrows are full authority, dashed ones
+// that to take. `ask` is called with two labels, once an arrow or a cell between them is chosen.
 
-const MOST_LABELS = 8; // more are told in a table
+const MOST_LABELS = 16; // more stand in a table
+const WIDEST = 900; // a circle; where long names need a wider one, there is a table
+const MOST_IN_TABLE = 64;
 
-// Whether `one` may change objects of `other`, or only take from them.
-const hold = (report, one, other) =>
-  report.full[one].includes(other) ? "full" : report.cut[one].includes(other) ? "cut" : "";
-
-function drawLabels(labels, report) {
-  return labels.length > MOST_LABELS ? labelTable(labels, report) : labelPicture(labels, report);
+function drawLabels(graph, ask) {
+  return graph.labels.length > MOST_LABELS || sizes(graph.labels).width > WIDEST ? labelTable(graph, ask) : labelPicture(graph, ask);
 }
 
-function labelPicture(labels, report) {
-  const width = 420;
+const inSentence = ({ from, to, held }) => (held === "full" ? `${from} may change ${to}` : `${from} may take from ${to}`);
+const withReason = (one) => (one.edge ? `${inSentence(one)}, by ${one.edge}` : inSentence(one));
+
+// How wide a label's box is, half of the circle, and the picture.
+function sizes(labels) {
+  const count = labels.length;
   const wide = 26 + 8 * Math.max(...labels.map((label) => label.length));
-  const room = Math.max(0, (width - wide) / 2 - 10);
-  const height = labels.length === 1 ? 80 : labels.length === 2 ? 130 : 320;
-  const places = labels.map((_, at) => {
-    if (labels.length === 1) return [width / 2, height / 2];
-    const turn = Math.PI * ((2 * at) / labels.length - (labels.length === 2 ? 1 : 0.5));
-    return [width / 2 + room * Math.cos(turn), height / 2 + (height / 2 - 30) * Math.sin(turn)];
+  const across = Math.max(count < 3 ? 200 - wide / 2 : 150, (count * wide) / 6);
+  return { wide, across, width: 2 * across + wide + 20 };
+}
+
+function labelPicture({ labels, arrows }, ask) {
+  const count = labels.length;
+  const { wide, across, width } = sizes(labels);
+  const height = count === 1 ? 80 : count === 2 ? 130 : 320 + 30 * Math.max(0, count - 8);
+  const middle = [width / 2, height / 2];
+  const places = new Map(labels.map((label, at) => [label, placeOf(at, count, middle, across)]));
+  const lines = waysBetween(arrows, places, middle, [wide / 2 + 4, 20]).map((way, at) => asButton(arrows[at], way, ask));
+  const boxes = labels.flatMap((label, at) => {
+    const [x, y] = places.get(label);
+    return [boxAt(x - wide / 2, y - 16, wide, 32, `label ${tint(at)}`, 8), textAt(x, y + 4, label, "name bold", "middle")];
   });
-  const parts = [];
-  labels.forEach((one, from) =>
-    labels.forEach((other, to) => {
-      const held = from === to ? "" : hold(report, one, other);
-      if (!held) return;
-      parts.push(arrow(between(places[from], places[to], wide / 2 + 4, 20), held === "cut" ? "dash" : ""));
-    }),
+  return picture("Which labels may change or take from which", width, height, ...lines, ...boxes);
+}
+
+// Where a label stands: two side by side, and more in a circle, from its top on.
+function placeOf(at, count, [x, y], across) {
+  if (count === 1) return [x, y];
+  const turn = Math.PI * ((2 * at) / count - (count === 2 ? 1 : 0.5));
+  return [x + across * Math.cos(turn), y + (y - 30) * Math.sin(turn)];
+}
+
+// An arrow that can be chosen by mouse and keys; its line is thin, so that what is chosen is broader.
+function asButton(one, way, ask) {
+  const whole = drawn("g", { class: "way", tabindex: 0, role: "button", "aria-label": `${inSentence(one)}: why?` });
+  whole.append(drawn("title", {}, withReason(one)), drawn("path", { d: way, class: "broad" }));
+  whole.append(arrow(way, one.held === "take" ? "dash" : ""));
+  whole.addEventListener("click", () => ask(one.from, one.to));
+  whole.addEventListener("keydown", (event) => {
+    if (event.ctrlKey || event.metaKey || (event.key !== "Enter" && event.key !== " ")) return;
+    event.preventDefault();
+    ask(one.from, one.to);
+  });
+  return whole;
+}
+
+// The arrows' lines: each is bent to the middle, so that it passes by the boxes between the two, and runs a little to the right of the way,
+// so that the way back has room. Where several meet at a box, they are put apart. `half` is half of a box's width and height.
+function waysBetween(arrows, places, middle, half) {
+  const ends = [];
+  const bends = arrows.map(({ from, to }, at) => {
+    const [[x1, y1], [x2, y2]] = [places.get(from), places.get(to)];
+    const far = Math.hypot(x2 - x1, y2 - y1) / 7;
+    const aside = [(y1 - y2) / far, (x2 - x1) / far];
+    const bend = [((x1 + x2) / 2 + middle[0]) / 2, ((y1 + y2) / 2 + middle[1]) / 2];
+    for (const label of [from, to]) ends.push({ at, label, place: leaving(places.get(label), aside, bend, half) });
+    return [bend[0] + aside[0], bend[1] + aside[1]];
+  });
+  for (const label of places.keys()) putApart(ends.filter((end) => end.label === label), 4 * (half[0] + half[1]));
+  const pointOf = ({ label, place }) => onEdge(place, half).map((part, axis) => part + places.get(label)[axis]);
+  return bends.map((bend, at) => {
+    const [first, by, last] = [pointOf(ends[2 * at]), bend, pointOf(ends[2 * at + 1])].map((point) => point.map(Math.round).join(" "));
+    return `M${first} Q${by} ${last}`;
+  });
+}
+
+// Where a line leaves a box, as the way round the box's edge to there; the line runs beside the one from the box's middle to a place.
+function leaving(middle, aside, to, [wide, high]) {
+  const way = [to[0] - middle[0], to[1] - middle[1]];
+  const part = [wide, high].map((half, axis) =>
+    Math.abs(way[axis]) < 1e-6 ? Infinity : (Math.sign(way[axis]) * half - aside[axis]) / way[axis],
   );
-  labels.forEach((label, at) => {
-    const [x, y] = places[at];
-    parts.push(boxAt(x - wide / 2, y - 16, wide, 32, `label ${tint(at)}`, 8), textAt(x, y + 4, label, "name bold", "middle"));
-  });
-  return picture("Which labels may change or take from which", width, height, ...parts);
+  const [x, y] = [0, 1].map((axis) => aside[axis] + way[axis] * Math.min(...part));
+  if (part[1] <= part[0]) return way[1] < 0 ? wide + x : 3 * wide + 2 * high - x;
+  return way[0] > 0 ? 2 * wide + high + y : 4 * wide + 3 * high - y;
 }
 
-// A line from one box to another, a little to the right of the way, so that the way back has room.
-function between([x1, y1], [x2, y2], wide, high) {
-  const length = Math.hypot(x2 - x1, y2 - y1);
-  const [dx, dy] = [(x2 - x1) / length, (y2 - y1) / length];
-  const edge = Math.min(Math.abs(dx) < 1e-6 ? Infinity : wide / Math.abs(dx), Math.abs(dy) < 1e-6 ? Infinity : high / Math.abs(dy));
-  const aside = 7;
-  const [ax, ay] = [-dy * aside, dx * aside];
-  const from = [x1 + dx * edge + ax, y1 + dy * edge + ay];
-  const to = [x2 - dx * edge + ax, y2 - dy * edge + ay];
-  return `M${from.map(Math.round).join(" ")} L${to.map(Math.round).join(" ")}`;
+// The point at this part of the way round a box's edge, from its left upper corner on, as seen from its middle.
+function onEdge(place, [wide, high]) {
+  const whole = 4 * (wide + high);
+  let rest = ((place % whole) + whole) % whole;
+  if (rest < 2 * wide) return [rest - wide, -high];
+  rest -= 2 * wide;
+  if (rest < 2 * high) return [wide, rest - high];
+  rest -= 2 * high;
+  return rest < 2 * wide ? [wide - rest, high] : [-wide, high - (rest - 2 * wide)];
 }
 
-function labelTable(labels, report) {
+// Moves the ends at a box along its edge, `whole` long, until no two are nearer than an arrow's head needs.
+function putApart(ends, whole) {
+  const least = Math.min(13, whole / ends.length);
+  ends.sort((one, other) => one.place - other.place);
+  for (let round = 0; round < 40; round++) {
+    ends.forEach((one, at) => {
+      if (ends.length < 2) return;
+      const next = ends[(at + 1) % ends.length];
+      const between = next.place - one.place + (at + 1 === ends.length ? whole : 0);
+      const lacks = (least - between) / 2;
+      if (lacks <= 0) return;
+      one.place -= lacks;
+      next.place += lacks;
+    });
+  }
+}
+
+function labelTable({ labels, arrows }, ask) {
+  const held = new Map(arrows.map((one) => [`${one.from} ${one.to}`, one]));
+  const cell = (one) => {
+    if (!one) return element("td");
+    const button = element("button", { title: withReason(one) }, one.held);
+    button.addEventListener("click", () => ask(one.from, one.to));
+    return element("td", { class: one.held }, button);
+  };
   const head = element("tr", {}, element("td"), ...labels.map((label) => element("th", { scope: "col" }, label)));
   const rows = labels.map((one) =>
-    element("tr", {}, element("th", { scope: "row" }, one),
-      ...labels.map((other) => element("td", { class: hold(report, one, other) }, hold(report, one, other)))),
+    element("tr", {}, element("th", { scope: "row" }, one), ...labels.map((other) => cell(held.get(`${one} ${other}`)))),
   );
   return element("div", { class: "wide", tabindex: "0" }, element("table", {}, head, ...rows));
 }

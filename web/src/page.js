@@ -2,31 +2,39 @@
 
 // The page: what is chosen, asked and shown.
 
-// The commands, a button for each: the texts that it reads, an option, what is asked, and which text its answer may become. The texts
-// beside table and policy are those that are named here.
+// The commands, a button for each: the texts that it reads, an option, what is asked, which text its answer may become, and which text it
+// helps to write. The texts beside table and policy are those that are named here.
 const COMMANDS = [
   { name: "check", reads: ["table", "policy"], asks: "does the table keep to the policy?" },
   { name: "check", option: "--cert", reads: ["table", "policy"], asks: "what does each line give?", gives: "certificate" },
   { name: "close", option: "--missing", reads: ["table", "policy"], asks: "which edges does the policy lack?" },
   { name: "close", reads: ["table", "policy"], asks: "the least policy for this table", gives: "policy" },
   { name: "why", reads: ["table", "policy"], pair: true, asks: "may A change B, and by which edges?" },
+  { name: "draw", reads: ["table", "policy"], asks: "who may change whom, as a graph?" },
+  { name: "claims", reads: ["table", "policy", "claims"], asks: "does each claim hold?" },
+  { name: "claims", option: "--all", reads: ["table", "policy"], asks: "the strongest claims that hold", gives: "claims" },
+  { name: "list", reads: ["table"], asks: "the objects' numbers, for a script", helps: "script" },
   { name: "run", reads: ["table", "policy", "script"], asks: "what comes of the script's calls?", gives: "log" },
   { name: "replay", reads: ["table", "policy", "log"], asks: "is this log one of the system?" },
   { name: "verify", reads: ["table", "policy", "certificate"], asks: "is this the table's certificate?" },
 ];
+const commandOf = (name, option) => COMMANDS.find((command) => command.name === name && command.option === option);
+const WHY = commandOf("why"), DRAW = commandOf("draw"), CLAIMS = commandOf("claims"), STRONGEST = commandOf("claims", "--all");
 const FILES = [...new Set(COMMANDS.flatMap((command) => command.reads))];
 const OTHERS = FILES.filter((name) => name !== "table" && name !== "policy");
 
 const FIRST = "ring"; // the example that the page opens with
 const MOST_SHOWN = 2000; // lines of an answer
 const MOST_MISSING = 200; // edges that are offered
+const MOST_BROKEN = 200; // claims that are marked as broken
+const PAUSE = 300; // milliseconds without a key, before the list of objects is made anew
 
 const texts = Object.fromEntries(FILES.map((name) => [name, new Text(name)]));
 const find = (id) => document.getElementById(id);
 const decoded = (bytes) => new TextDecoder().decode(bytes);
 const allTexts = () => Object.fromEntries(FILES.map((name) => [name, texts[name].text]));
 
-let shown = OTHERS[0]; // the text in the third place
+let shown = "script"; // the text in the third place
 let last = COMMANDS[0]; // the command that was asked last
 let asked = 0; // how often one was: what belongs to an earlier one is dropped
 
@@ -47,7 +55,13 @@ function layOut() {
   const third = element("div", {}, element("div", { class: "head" }, list, space(), opener(() => shown)));
   third.append(...OTHERS.map((name) => texts[name].box));
   find("texts").append(element("div", {}, heads[0], texts.table.box), element("div", {}, heads[1], texts.policy.box), third);
-  show(OTHERS[0]);
+  texts.script.box.append(element("div", { id: "objects-listed", tabindex: 0, "aria-label": "The objects by number" }));
+  const start = element("button", { id: "strongest" }, "Strongest claims");
+  start.addEventListener("click", takeStrongest);
+  const none = element("code", {}, "none A B"), take = element("code", {}, "take A B");
+  const how = element("span", {}, none, ": threads of A never change objects of B. ", take, ": they may only take from them.");
+  texts.claims.box.append(element("div", { class: "start small" }, how, start));
+  show(shown);
 }
 
 const space = () => element("span", { class: "space" });
@@ -59,7 +73,6 @@ function opener(which) {
     if (input.files.length === 0) return;
     texts[which()].text = await input.files[0].text();
     input.value = "";
-    offerLabels();
   });
   return element("label", { class: "opener" }, "Open a file", input);
 }
@@ -79,7 +92,15 @@ function show(name, isFocused = false) {
 
 function put(given) {
   for (const name of FILES) texts[name].text = given[name] ?? "";
+}
+
+// What follows from another table at once: the labels that may be chosen, no claim is marked any more, and, after a pause, the list.
+let pause = 0;
+function takeTable() {
   offerLabels();
+  texts.claims.unmark();
+  clearTimeout(pause);
+  pause = setTimeout(() => listObjects(asked, allTexts()), PAUSE);
 }
 
 // The texts of an example; a line feed that isn't theirs stands before each.
@@ -147,15 +168,18 @@ function wordsFor(command, given) {
 // What is told where there is no answer, as in a browser that can't run the program.
 const failed = (error) => ({ status: null, output: new Uint8Array(), error: new TextEncoder().encode(`${error}\n`) });
 
-// Asks a command, in place of what is still being asked.
+// Asks a command, in place of what is still being asked. Where no claims are written yet, it is asked which hold at all. Gives the answer,
+// unless it was stopped.
 async function ask(command) {
+  last = command;
+  if (command === CLAIMS && texts.claims.text === "") command = STRONGEST;
   if (program.waiting.size > 0) program.stop();
+  clearTimeout(pause); // the list is asked for behind this command
   const turn = ++asked;
   document.body.dataset.asked = turn;
-  last = command;
   for (const { button } of COMMANDS) button.removeAttribute("aria-current");
   command.button.setAttribute("aria-current", "true");
-  for (const name of command.reads) show(name);
+  for (const name of [...command.reads, command.helps]) show(name);
   const given = allTexts();
   const words = wordsFor(command, given);
   const clock = startClock();
@@ -163,18 +187,22 @@ async function ask(command) {
   const answer = await program.answer(words, given).catch(failed);
   const took = performance.now() - began;
   clock.stop();
-  if (turn !== asked) return;
+  if (turn !== asked) return null;
   find("line").textContent = `confine ${words.join(" ")}`;
   if (!answer) {
     showStopped();
-    return;
+    return null;
   }
   const output = decoded(answer.output);
   const report = reportOf(output);
   showAnswer(command, given, answer, output, report, took);
   await offerMissing(turn, given, answer, report);
-  await draw(turn, given, command.name === "check" ? report : null);
+  await markClaims(turn, given, command === CLAIMS ? report : null);
+  await listObjects(turn, allTexts());
+  await draw(turn, given, command, command.name === "check" ? report : null, output);
+  if (turn !== asked) return null;
   document.body.dataset.answered = turn;
+  return answer;
 }
 
 // Tells how long a command takes that takes long, with the way to stop it.
@@ -200,7 +228,7 @@ function showStopped() {
   find("words").textContent = "stopped";
   find("words").className = "faulty";
   for (const id of ["status", "sentences", "output"]) find(id).textContent = "";
-  for (const id of ["missing", "keeping"]) find(id).hidden = true;
+  for (const id of ["missing", "claimed", "keeping"]) find(id).hidden = true;
 }
 
 function showAnswer(command, given, answer, output, report, took) {
@@ -283,25 +311,132 @@ async function replacePolicy(text, line) {
   if (line && texts.policy.marked === 0) texts.policy.markLine(line);
 }
 
+// ---- Claims.
+
+// Marks each claim as one that holds or is broken. The program names the first that is broken, so those above it hold; then it is asked
+// for those below it alone, until none of them is broken.
+async function markClaims(turn, given, report) {
+  find("claimed").hidden = true;
+  if (report?.verdict !== "hold" && report?.verdict !== "broken") return;
+  const lines = given.claims.split("\n");
+  const broken = [];
+  const clock = startClock();
+  let told = 0; // how many claims are marked
+  do {
+    const below = [lines[0], ...lines.slice(1 + told)].join("\n");
+    const answer = await program.answer(["claims", "table", "policy", "claims", "--explain"], { ...given, claims: below });
+    report = answer && reportOf(decoded(answer.output));
+    told += report?.claim ?? report?.claims ?? 0;
+    if (report?.claim) broken.push({ line: told + 1, reason: reasonOf(decoded(answer.error)) });
+  } while (turn === asked && report?.claim && broken.length < MOST_BROKEN);
+  clock.stop();
+  if (turn !== asked || !report || CLAIMS.reads.some((name) => texts[name].text !== given[name])) return; // stopped, or of older texts
+  const signs = new Map(Array.from({ length: told }, (_, at) => [at + 2, "good"]));
+  for (const { line } of broken) signs.set(line, "bad");
+  texts.claims.sign(signs);
+  showClaims(lines, told - broken.length, broken);
+}
+
+function showClaims(lines, count, broken) {
+  const holding = count === 1 ? "1 claim holds" : `${count} claims hold`;
+  const others = broken.length === 1 ? "1 is broken" : `${broken.length} are broken`;
+  const how = `Each claim is marked beside its line: ${SIGNS.good} holds, ${SIGNS.bad} is broken. The program names the first claim that is
+    broken, so those above it hold. The page then asks it for the claims below that one, until all are marked${
+      broken.length === MOST_BROKEN ? `, or ${MOST_BROKEN} are broken` : ""}.`;
+  const offer = ({ line, reason }) => {
+    const button = element("button", {}, `Go to line ${line}`);
+    button.addEventListener("click", () => {
+      show("claims");
+      texts.claims.go(line);
+    });
+    return element("li", {}, button, element("code", { class: "bad" }, lines[line - 1]), element("span", { class: "small" }, reason));
+  };
+  const words = element("p", {}, element("b", {}, `${holding}, ${others}. `), element("span", { class: "small" }, how));
+  find("claimed").replaceChildren(words, element("ul", {}, ...broken.map(offer)));
+  find("claimed").hidden = false;
+}
+
+// Begins the claims with the strongest that hold, and marks them. A denial or a fault is shown in their place.
+async function takeStrongest() {
+  const answer = await ask(STRONGEST);
+  if (answer?.status !== 0) return;
+  texts.claims.text = decoded(answer.output);
+  await ask(CLAIMS);
+}
+
+// ---- The objects beside the script, by the numbers that it has to name.
+
+async function listObjects(turn, given) {
+  const answer = await program.answer(["list", "table"], given).catch(failed);
+  if (turn !== asked || !answer) return;
+  const list = decoded(answer.output);
+  const rows = answer.status === 0 && list !== "" ? inColumns(list).join("\n") : "";
+  const title = answer.status !== 0 ? "The table has a fault." : rows ? "The table's objects by number" : "The table has no objects.";
+  find("objects-listed").replaceChildren(element("p", { class: "small" }, title), element("pre", {}, rows));
+}
+
 // ---- Drawings.
 
-async function draw(turn, given, report) {
+// Draws what belongs to the texts, once a command has given an output, and the report if it is `check`.
+async function draw(turn, given, command, report, output) {
   if (!report) {
-    const answer = await program.answer(["check", "table", "policy"], given);
+    const answer = await program.answer(["check", "table", "policy"], given).catch(failed);
     if (turn !== asked || !answer) return;
     report = reportOf(decoded(answer.output));
   }
+  const isKept = report?.verdict === "accept";
+  const [graph, text] = command === DRAW ? [graphOf(output), output] : isKept ? await graphFor(given) : [null, ""];
+  if (turn !== asked) return;
+  showGraph(graph, text, isKept, report);
   const isTable = report && report.file !== "table";
-  const labels = report?.verdict === "accept" ? drawLabels(labelsOf(given.table), report) : null;
   const objects = isTable ? drawObjects(given.table) : null;
-  frame("labels", labels, "It is told of accepted systems alone.");
   frame("objects", objects, isTable ? "The table has too many objects to be drawn." : "The table has a fault.");
+  find("signs").hidden = !objects;
+}
+
+// The graph of an accepted system, and its text. With many labels `draw` takes long, since it has a reason for each arrow: then the graph
+// is that of the strongest claims, without reasons and without a text.
+async function graphFor(given) {
+  const labels = labelsOf(given.table);
+  if (labels.length > MOST_IN_TABLE) return [{ labels, arrows: [] }, ""];
+  const isSmall = labels.length <= MOST_LABELS;
+  const words = isSmall ? ["draw", "table", "policy"] : ["claims", "table", "policy", "--all"];
+  const answer = await program.answer(words, given).catch(failed);
+  if (answer?.status !== 0) return [null, ""];
+  const text = decoded(answer.output);
+  return isSmall ? [graphOf(text), text] : [graphOfClaims(labels, text), ""];
+}
+
+// The graph is by the policy alone, so it is shown where the table keeps to the policy, or where it is asked for.
+function showGraph(graph, text, isKept, report) {
+  const isDrawn = graph && graph.labels.length <= MOST_IN_TABLE;
+  const why = report?.fault ? `The ${report.file} has a fault.` :
+    graph ? `More than ${MOST_IN_TABLE} labels aren't drawn here.` :
+    "It is drawn of an accepted system. The command draw shows what the policy alone allows.";
+  frame("labels", isDrawn ? drawLabels(graph, askWhy) : null, why);
+  find("denied").hidden = !isDrawn || isKept;
+  find("kept").hidden = !isDrawn || !isKept;
+  find("graph").hidden = !graph || text === "";
+  find("graph").querySelector("pre").textContent = text;
+}
+
+// Asks `why` of two labels that were chosen in the drawing.
+async function askWhy(one, other) {
+  [find("label-A").value, find("label-B").value] = [one, other];
+  await ask(WHY);
+  find("answer").scrollIntoView({ block: "nearest" });
+}
+
+// Copies the graph's text, and selects it, so that it can be copied where the page may not.
+function copyGraph() {
+  const text = find("graph").querySelector("pre");
+  getSelection().selectAllChildren(text);
+  navigator.clipboard?.writeText(text.textContent).catch(() => {});
 }
 
 // Puts a drawing into its frame, or says why there is none.
 function frame(id, drawing, why) {
   find(id).querySelector(".drawing").replaceChildren(drawing ?? element("p", { class: "small" }, why));
-  find(id).querySelector("figcaption ~ p").hidden = !drawing;
 }
 
 // ---- A link that holds the texts, in the part behind #.
@@ -338,10 +473,12 @@ async function readLink() {
 offerExamples();
 offerCommands();
 layOut();
-texts.table.area.addEventListener("input", offerLabels);
+texts.table.changed = takeTable;
+texts.policy.changed = () => texts.claims.unmark();
 find("explain").addEventListener("change", () => ask(last));
 find("stop").addEventListener("click", () => program.stop());
 find("share").addEventListener("click", share);
+find("copy").addEventListener("click", copyGraph);
 addEventListener("hashchange", () => find("link").value !== location.href && readLink());
 addEventListener("keydown", (event) => {
   if (event.key === "Enter" && (event.ctrlKey || event.metaKey)) ask(last);

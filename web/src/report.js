@@ -27,6 +27,8 @@ function inWords(command, answer, report) {
   if (report?.verdict === "legal") {
     return report.state === "within" ? ["legal, and within the policy", "good"] : [`legal, but outside by ${report.rule}`, "bad"];
   }
+  if (report?.verdict === "hold") return ["each claim holds", "good"];
+  if (report?.verdict === "broken") return [`claim ${report.claim} is broken`, "bad"];
   if (command.option === "--missing") return answer.status === 0 ? ["nothing is missing", "good"] : ["edges are missing", "bad"];
   if (command.name === "run") return ["accepted, and run", "good"];
   return ["", ""];
@@ -37,6 +39,7 @@ function namedLine(report, texts) {
   if (!report) return null;
   if (report.fault) return { file: report.file, line: report.line };
   if (report.entry) return { file: "log", line: report.entry + 1 };
+  if (report.claim) return { file: "claims", line: report.claim + 1 };
   const [one, two, three, four] = report.place ?? [];
   const find = (file, ...beginnings) => {
     for (const beginning of beginnings) {
@@ -68,6 +71,40 @@ function namedLine(report, texts) {
     default:
       return null;
   }
+}
+
+// The graph that `draw` writes: its labels, and an arrow for each authority of one on another, `full` or `take`, with the edge that is
+// written beside it; or null.
+function graphOf(text) {
+  const lines = text.split("\n");
+  if (lines[0] !== "digraph authority {") return null;
+  const labels = [], arrows = [];
+  for (const line of lines) {
+    const [, label] = /^  "([^"]*)"$/.exec(line) ?? [];
+    const [, from, to, dashed, edge] = /^  "([^"]*)" -> "([^"]*)" \[(style=dashed, )?label="([^"]*)"\]$/.exec(line) ?? [];
+    if (label) labels.push(label);
+    if (from) arrows.push({ from, to, held: dashed ? "take" : "full", edge });
+  }
+  return { labels, arrows };
+}
+
+// The same graph, of the strongest claims on these labels, which say nothing of a pair with full authority.
+function graphOfClaims(labels, text) {
+  const most = new Map(text.split("\n").map((line) => [line.slice(5), line.slice(0, 4)]));
+  const arrows = labels.flatMap((from) => labels.map((to) => ({ from, to, held: most.get(`${from} ${to}`) ?? "full" })));
+  return { labels, arrows: arrows.filter(({ from, to, held }) => from !== to && held !== "none") };
+}
+
+// Why a claim is broken, of the sentence that the program says of it: what stands before the way out.
+const reasonOf = (sentence) => /is broken: (.*?)(?:: [^:]*)?$/.exec(sentence.trimEnd())?.[1] ?? "";
+
+// The list of a table's objects, in columns.
+function inColumns(list) {
+  const rows = list.trimEnd().split("\n").map((line) => line.split(" "));
+  const wide = [0, 1, 2].map((at) => Math.max(...rows.map((row) => row[at].length)));
+  return rows.map(([number, kind, name, label]) => {
+    return `${number.padStart(wide[0])} ${kind.padEnd(wide[1])} ${name.padEnd(wide[2])} ${label}`;
+  });
 }
 
 const wordsOf = (text, first) => text.split("\n").map((line) => line.split(" ")).filter((words) => words[0] === first);

@@ -1,10 +1,11 @@
 "use strict";
 
-// The texts: a box for each, with line numbers, of which those in sight alone are drawn, and a mark on a line. Browsers edit a text of
-// many lines slowly, so a long one is kept beside its box, which shows its beginning.
+// The texts: a box for each, with line numbers, of which those in sight alone are drawn, a mark on a line, and signs beside lines.
+// Browsers edit a text of many lines slowly, so a long one is kept beside its box, which shows its beginning.
 
 const LINE = 20; // the height of a line, as in page.css
 const MOST_LINES = 5000; // of a text that can be edited
+const SIGNS = { good: "\u2713", bad: "\u2717" };
 
 class Text {
   constructor(name) {
@@ -20,14 +21,17 @@ class Text {
       "aria-label": name,
     });
     this.marked = 0; // the line, or 0
+    this.signs = new Map(); // of a line's number: good or bad
     this.count = 1; // of lines
     this.whole = null; // a long text
     this.note = element("p", { class: "note small", hidden: "" });
     this.box.append(element("div", { class: "editor" }, this.mark, this.numbers, this.area), this.note);
     this.area.addEventListener("scroll", () => this.draw());
+    this.changed = () => {}; // what is done once the text is another one
     this.area.addEventListener("input", () => {
       this.count = this.lines.length;
       this.unmark();
+      this.changed();
     });
     new ResizeObserver(() => this.draw()).observe(this.area);
   }
@@ -47,6 +51,7 @@ class Text {
     this.area.scrollTop = 0;
     this.count = Math.min(lines.length, MOST_LINES);
     this.unmark();
+    this.changed();
   }
 
   get lines() {
@@ -58,11 +63,24 @@ class Text {
     const first = Math.floor(top / LINE);
     const last = Math.min(first + Math.ceil(this.area.clientHeight / LINE) + 1, this.count);
     const numbers = [];
-    for (let at = first; at < last; at++) numbers.push(at + 1);
-    this.numbers.textContent = numbers.join("\n");
+    for (let at = first; at < last; at++) numbers.push(this.numberOf(at + 1));
+    this.numbers.replaceChildren(...numbers);
     this.numbers.style.transform = `translateY(${first * LINE - top}px)`;
     this.mark.hidden = this.marked === 0;
     this.mark.style.transform = `translateY(${(this.marked - 1) * LINE - top}px)`;
+  }
+
+  // A line's number, behind its sign.
+  numberOf(line) {
+    const sign = this.signs.get(line);
+    return sign ? element("div", { class: sign }, `${SIGNS[sign]} ${line}`) : element("div", {}, line);
+  }
+
+  // Puts signs beside lines.
+  sign(signs) {
+    this.signs = signs;
+    this.box.classList.toggle("signed", signs.size > 0);
+    this.draw();
   }
 
   // Marks a line, counted from 1, and brings it into sight, unless it isn't shown.
@@ -79,7 +97,7 @@ class Text {
 
   unmark() {
     this.marked = 0;
-    this.draw();
+    this.sign(new Map());
   }
 
   // Puts the cursor at a line's beginning.
