@@ -1,0 +1,9 @@
+mod Lengths
+mod ValueBytes
+mod Items
+mod Digits
+mod Loops
+mod Spelled
+mod Nesting
+mod Bounds
+mod LineCounts

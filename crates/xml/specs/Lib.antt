@@ -1,0 +1,10 @@
+pub mod Characters
+pub mod Place
+pub mod Value
+pub mod Tag
+pub mod Document
+pub mod Spelling
+pub mod Limits
+pub mod Grammar
+pub mod Lines
+pub mod View
