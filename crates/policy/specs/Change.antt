@@ -1,6 +1,5 @@
--- What a label may change, where only threads of some labels act: a bound that is meant to be sharper than full authority, and lies
--- within it. That no run goes beyond it isn't proved (the integrity property of 'seL4 Enforces Integrity', section 4, restated for this
--- profile; the labels that act, and the narrower cases, are confine's own).
+-- What a label may change, where only threads of some labels act: a bound that lies within full authority (the integrity property of
+-- 'seL4 Enforces Integrity', section 4, restated for this profile; the labels that act, and the narrower cases, are confine's own).
 use Rattle.std.specs.Prelude.{ℕ, ◌≡◌, Bool, false, true}
 use Rattle.base.specs.declared.kind.Kind.{Kind, TheVariants.{Await, Call, Context, Control, Grant, Holds, Notify, Receive, Reply, Runs}}
 use Rattle.base.specs.declared.kind.Kind.TheVariants.{SchedControl, Send, Write}

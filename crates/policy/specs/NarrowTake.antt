@@ -1,6 +1,5 @@
--- What a label may make smaller, where only threads of some labels act: a bound that is meant to be sharper than what it may take, and
--- lies within that and full authority. That no run goes beyond it isn't proved (the deletions that 'seL4 Enforces Integrity', section 4,
--- allows; the ways are confine's own).
+-- What a label may make smaller, where only threads of some labels act: a bound that lies within what it may take and full authority
+-- (the deletions that 'seL4 Enforces Integrity', section 4, allows; the ways are confine's own).
 use Rattle.std.specs.Prelude.{ℕ, ◌≡◌, Bool, false, true}
 use Rattle.base.specs.declared.kind.Kind.{Kind, TheVariants.{Await, Context, Control, Derive, Holds, Receive, Reply, Reset, Runs}}
 use Rattle.base.specs.declared.kind.Kind.TheVariants.{SchedControl, Send, Space}

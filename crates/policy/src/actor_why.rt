@@ -14,8 +14,6 @@ impl Policy {
     /// What `actor` may do to objects of the label `object` where only threads of the labels `actors` act,
     /// and why.
     ///
-    /// It tells what the definitions say of the policy. That no run goes beyond them isn't proved.
-    ///
     /// # Errors
     ///
     /// 40 where memory is refused.

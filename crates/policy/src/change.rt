@@ -19,8 +19,6 @@ pub(crate) const CHANGING: [Kind; 7] = [
 impl Policy {
     /// Whether threads of the label `actor` may change objects of the label `object`, or move its threads,
     /// where only threads of the labels `actors` act.
-    ///
-    /// It tells what the definition says of the policy. That no run goes beyond it isn't proved.
     pub fn may_change(&self, actors: Labels, actor: Label, object: Label) -> bool
         ensures { IsTrue result ↔ MayChange (allows self.now) (is_in actors) actor object }
     {

@@ -20,8 +20,6 @@ pub(crate) const WAITING: [Kind; 3] = [Kind::Send, Kind::Receive, Kind::Await];
 impl Policy {
     /// Whether objects of the label `object` may shrink by what threads of the label `actor` do, where only
     /// threads of the labels `actors` act.
-    ///
-    /// It tells what the definition says of the policy. That no run goes beyond it isn't proved.
     pub fn may_shrink(&self, actors: Labels, actor: Label, object: Label) -> bool
         ensures { IsTrue result ↔ MayShrink (allows self.now) (is_in actors) actor object }
     {

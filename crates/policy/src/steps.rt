@@ -17,8 +17,8 @@ impl Policy {
         row
     }
 
-    /// The labels to which a label of the set has an edge of one of these kinds.
-    pub(crate) fn targets(&self, froms: Labels, kinds: &[Kind]) -> Labels
+    /// Returns the labels to which a label of the set has an edge of one of these kinds.
+    pub fn targets(&self, froms: Labels, kinds: &[Kind]) -> Labels
         ensures { (to : ℕ) → (is_in result to ≡ true) ↔ IsTarget (allows self.now) kinds.now froms to }
     {
         let mut found = Labels::none();

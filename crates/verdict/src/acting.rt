@@ -1,14 +1,13 @@
-ghost use Rattle.std.specs.Prelude.{[], ℕ, ◌∷◌, ◌↔◌, ◌≡◌, false, true};
-ghost use Rattle.base.specs.{declared.kind.Kind.TheVariants.Control, Labels.is_in};
-ghost use Rattle.policy.specs.{Policy.allows, Steps.IsTarget};
+ghost use Rattle.std.specs.Prelude.{ℕ, ◌↔◌, ◌≡◌, false, true};
+ghost use Rattle.base.specs.Labels.{is_in};
+ghost use Rattle.policy.specs.Policy.{allows};
 ghost use Rattle.integrity.specs.{Acting.{MayAct, Starts}, Apart.NeverChanges};
 ghost use Rattle.verdict.specs.Acting.{RefusesAllBut, is_ready, ready_label};
 
 use crate::Accepted;
-use base::{Edge, Kind, Label, Labels, ObjId};
+use base::{Kind, Label, Labels, ObjId};
 use integrity::{changes_are_of_labels_that_act, labels_act_from_boot_or_by_control};
 use machine::{Object, RunState};
-use policy::Policy;
 use table::Table;
 
 impl Accepted<'_> {
@@ -25,7 +24,7 @@ impl Accepted<'_> {
         labels_act_from_boot_or_by_control();
         changes_are_of_labels_that_act();
         let starting = starting(self.table());
-        starting.union(controlled(self.policy(), starting))
+        starting.union(self.policy().targets(starting, &[Kind::Control]))
     }
 }
 
@@ -62,37 +61,4 @@ fn is_ready(object: &Object) -> bool
         Object::Tcb(thread) => matches!(thread.state, RunState::Ready),
         _ => false,
     }
-}
-
-// The labels that a label of the set controls.
-fn controlled(policy: &Policy, controllers: Labels) -> Labels
-    ensures { (to : ℕ) → (is_in result to ≡ true) ↔ IsTarget (allows policy.now) (Control ∷ []) controllers to }
-{
-    policy.edges_rise();
-    let mut found = Labels::none();
-    for number in 0..Label::COUNT {
-        if let Some(from) = Label::new(number) {
-            if controllers.has(from) {
-                found = found.union(controlled_by(policy, from));
-            }
-        }
-    }
-    found
-}
-
-// The labels that the label controls.
-fn controlled_by(policy: &Policy, from: Label) -> Labels
-    ensures { (to : ℕ) → (is_in result to ≡ true) ↔ (allows policy.now from Control to ≡ true) }
-{
-    policy.edges_rise();
-    let mut found = Labels::none();
-    for number in 0..Label::COUNT {
-        if let Some(to) = Label::new(number) {
-            let kind = Kind::Control;
-            if policy.has(Edge { from, kind, to }) {
-                found = found.union(Labels::only(to));
-            }
-        }
-    }
-    found
 }

@@ -10,8 +10,8 @@ returns-clause-acting c a =
     let allowed = allows c.args.self.now.policy in
     let from_boot = c.starting-starting.result in
     let starts = rw c.table.ensures.table at c.starting-starting.ensures in
-    let targets = rw c.policy.ensures.policy at c.controlled.ensures in
-    let found = found_actors t allowed from_boot c.controlled.result c.union.result c.union.ensures starts targets a in
+    let targets = rw c.policy.ensures.policy at c.targets.ensures in
+    let found = found_actors t allowed from_boot c.targets.result c.union.result c.union.ensures starts targets a in
     let closed = closed_if allowed (λ broken. c.policy.ensures.accepted.verdict (denial.Policy broken)) in
     let law = c.labels_act_from_boot_or_by_control.ensures t allowed a closed in
     (λ is. law.1 (found.0 is), λ acts. found.1 (law.0 acts))
