@@ -1,0 +1,64 @@
+-- A test of what a list shows is a test of the list.
+use Rattle.std.{specs.{List.{list_all, list_any, position, position_or_len}, Str.{bytes_eq}}, proofs.Common.{[], ℕ, ◌&&◌, ◌++◌, ◌+◌, ◌∙◌, ◌∷◌, ◌≡◌, ◌||◌, Bool, List, None, Some, ap, cond, length, map, nat_lt, not, refl, suc, sym, take, zero}}
+use Rattle.std.specs.{Option.{option_map}, Prelude.{slice_get}}
+use Rattle.xml.specs.{declared.element.Attribute.{Attribute}, Tag.Pair, View.{pairs_of}}
+
+pub any_pair : (name : List ℕ) (found : List Attribute)
+    → list_any (λ (pair : Pair). bytes_eq pair.name name) (pairs_of found)
+    ≡ list_any (λ (attribute : Attribute). bytes_eq attribute.name.now name) found
+any_pair name [] = refl
+any_pair name (attribute ∷ found) = ap (λ b. bytes_eq attribute.name.now name || b) (any_pair name found)
+
+-- a test of each, and of any, of what is seen
+pub any_seen : {X Y : Type 0} (see : X → Y) (test : Y → Bool) (xs : List X)
+    → list_any test (map see xs) ≡ list_any (λ x. test (see x)) xs
+any_seen see test [] = refl
+any_seen see test (x ∷ xs) = ap (λ b. test (see x) || b) (any_seen see test xs)
+
+pub all_seen : {X Y : Type 0} (see : X → Y) (test : Y → Bool) (xs : List X)
+    → list_all test (map see xs) ≡ list_all (λ x. test (see x)) xs
+all_seen see test [] = refl
+all_seen see test (x ∷ xs) = ap (λ b. test (see x) && b) (all_seen see test xs)
+
+-- what is found by each of what is seen
+pub all_any_seen : {X Y A B : Type 0} (see : X → Y) (show : A → B) (test : Y → B → Bool) (rows : List A) (xs : List X)
+    → list_all (λ x. list_any (λ a. test (see x) (show a)) rows) xs
+    ≡ list_all (λ y. list_any (test y) (map show rows)) (map see xs)
+all_any_seen see show test rows [] = refl
+all_any_seen see show test rows (x ∷ xs) =
+    ap (λ b. b && list_all (λ x. list_any (λ a. test (see x) (show a)) rows) xs) (sym (any_seen show (test (see x)) rows))
+    ∙ ap (λ b. list_any (test (see x)) (map show rows) && b) (all_any_seen see show test rows xs)
+
+-- the place of what is seen
+pub position_seen : {X Y : Type 0} (see : X → Y) (test : Y → Bool) (xs : List X)
+    → position test (map see xs) ≡ position (λ x. test (see x)) xs
+position_seen {X = X} see test xs =
+    ap (λ n. cond (nat_lt n (length (map see xs))) (Some n) None) (before xs)
+    ∙ ap (λ n. cond (nat_lt (position_or_len (λ x. test (see x)) xs) n) (Some (position_or_len (λ x. test (see x)) xs)) None)
+    (length_seen xs)
+  where
+    before : (ys : List X) → position_or_len test (map see ys) ≡ position_or_len (λ x. test (see x)) ys
+    before [] = refl
+    before (y ∷ ys) = ap (λ n. cond (not (test (see y))) (1 + n) 0) (before ys)
+
+    length_seen : (ys : List X) → length (map see ys) ≡ length ys
+    length_seen [] = refl
+    length_seen (y ∷ ys) = ap suc (length_seen ys)
+
+-- what stands at a place of what is seen
+pub get_seen : {X Y : Type 0} (see : X → Y) (xs : List X) (n : ℕ)
+    → slice_get (map see xs) n ≡ option_map see (slice_get xs n)
+get_seen see [] n = refl
+get_seen see (x ∷ xs) zero = refl
+get_seen see (x ∷ xs) (suc n) = get_seen see xs n
+
+-- the first of what is seen
+pub take_seen : {X Y : Type 0} (see : X → Y) (n : ℕ) (xs : List X) → take n (map see xs) ≡ map see (take n xs)
+take_seen see zero xs = refl
+take_seen see (suc n) [] = refl
+take_seen see (suc n) (x ∷ xs) = ap (λ ys. see x ∷ ys) (take_seen see n xs)
+
+-- one more is seen
+pub seen_more : {X Y : Type 0} (see : X → Y) (xs : List X) (x : X) → map see (xs ++ x ∷ []) ≡ map see xs ++ see x ∷ []
+seen_more see [] x = refl
+seen_more see (y ∷ xs) x = ap (λ ys. see y ∷ ys) (seen_more see xs x)

@@ -1,0 +1,9 @@
+mod Digits
+mod Pairs
+mod Items
+mod Steps
+mod Parts
+mod LabelSteps
+mod Distinct
+mod LabelNames
+mod Sound

@@ -1,0 +1,9 @@
+use Rattle.std.proofs.Common.{◌∙◌, sym}
+use Rattle.std.specs.Str.{bytes_eq}
+use Rattle.microkit.specs.{Description.{Domain}, View.{domain_of}}
+use Rattle.microkit.proofs.Items.{position_seen}
+use Rattle.microkit.proofs.channels.position_of.Goals as goal
+
+pub returns : goal.returns
+returns c = c.place_of.ensures
+    ∙ sym (position_seen domain_of (λ (domain : Domain). bytes_eq domain.name c.args.name.now) c.args.domains.now)

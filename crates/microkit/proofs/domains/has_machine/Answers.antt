@@ -1,0 +1,10 @@
+use Rattle.std.proofs.Common.{◌==◌, ◌∙◌, ◌||◌, sym}
+use Rattle.std.specs.Str.{bytes_eq}
+use Rattle.microkit.specs.{Description.{Machine}, View.{machine_of}}
+use Rattle.microkit.proofs.Items.{any_seen}
+use Rattle.microkit.proofs.domains.has_machine.Goals as goal
+
+pub returns : goal.returns
+returns c = c.is_machine.ensures
+    ∙ sym (any_seen machine_of (λ (machine : Machine). bytes_eq machine.name c.args.name.now || machine.domain == c.args.domain)
+    c.args.machines.now)

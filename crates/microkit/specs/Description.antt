@@ -1,0 +1,41 @@
+-- Descriptions of systems, as values: regions, domains, virtual machines and channels, each with the line of its element.
+use Rattle.std.specs.Prelude.{ℕ, Bool, List, Option}
+use Rattle.microkit.specs.declared.description.{Channel.{Channel}, Id.{Id}, Interrupt.{Interrupt}, Map.{Map}, Page.{Page}, Port.{Port}, Processor.{Processor}}
+use Rattle.microkit.specs.declared.description.Schedule.{Schedule}
+
+-- a memory region
+pub record Region : Type 0 where
+  pub name : List ℕ
+  pub size : ℕ
+  pub page : Page
+  pub address : Option ℕ
+  pub line : ℕ
+
+-- a protection domain
+pub record Domain : Type 0 where
+  pub name : List ℕ
+  pub parent : Option Id
+  pub schedule : Schedule
+  pub core : ℕ
+  pub passive : Bool
+  pub smc : Bool
+  pub serves : Option Bool
+  pub line : ℕ
+
+-- a virtual machine
+pub record Machine : Type 0 where
+  pub name : List ℕ
+  pub domain : ℕ
+  pub schedule : Schedule
+  pub line : ℕ
+
+-- a description of a system
+pub record Description : Type 0 where
+  pub regions : List Region
+  pub domains : List Domain
+  pub machines : List Machine
+  pub processors : List Processor
+  pub maps : List Map
+  pub interrupts : List Interrupt
+  pub ports : List Port
+  pub channels : List Channel

@@ -1,0 +1,195 @@
+-- Which attributes an element has, and of which form their values are (Microkit user manual, "System Description File").
+use Rattle.std.specs.List.{list_all, list_any}
+use Rattle.std.specs.Prelude.{[], ℕ, ◌&&◌, ◌==◌, ◌||◌, ◌∷◌, Bool, Err, List, None, Ok, Option, Result, Some, codes, false}
+use Rattle.std.specs.{Prelude.{if◌then◌else◌, is_some, nat_le, not, true}, Str.bytes_eq}
+use Rattle.words.specs.{Fault.fault_at, declared.faults.{Fault.Fault, Wrong.TheVariants.{Limit, Syntax}}}
+use Rattle.microkit.specs.Attributes.{number_or}
+use Rattle.microkit.specs.Values.{flag_of, number_of}
+use Rattle.microkit.specs.declared.forms.{Form.{Form}, Need.{Need, TheVariants.{Optional, Required}}}
+use Rattle.microkit.specs.declared.forms.Form.TheVariants as form
+use Rattle.microkit.specs.declared.forms.TheConstants.{MAX_ID, MAX_PRIORITY}
+use Rattle.microkit.specs.declared.kinds.Kind.{Kind}
+use Rattle.microkit.specs.declared.kinds.Kind.TheVariants as kind
+use Rattle.xml.specs.{Document.Node, Tag.{Pair, is_given}}
+
+-- an attribute that an element may have
+pub record Rule : Type 0 where
+  pub name : List ℕ
+  pub form : Form
+  pub need : Need
+
+-- the sizes of pages: 4 KiB and 2 MiB
+unfoldable pub is_page_size : Option ℕ → Bool
+is_page_size (Some size) = size == 4096 || size == 2097152
+is_page_size None = false
+
+-- the letters of rights are `r`, `w` and `x`
+abbrev pub is_right : ℕ → Bool
+is_right b = (b == 114 || b == 119) || b == 120
+
+abbrev pub has_byte : ℕ → List ℕ → Bool
+has_byte b text = list_any (λ c. c == b) text
+
+-- rights: some letters, and none to write without one to read
+unfoldable pub is_rights : List ℕ → Bool
+is_rights [] = false
+is_rights (b ∷ bs) = list_all is_right (b ∷ bs) && (not (has_byte 119 (b ∷ bs)) || has_byte 114 (b ∷ bs))
+
+-- a value has this form
+unfoldable pub has_form : Form → List ℕ → Bool
+has_form form.Text value = true
+has_form form.Number value = is_some (number_of value)
+has_form form.Flag value = is_some (flag_of value)
+has_form form.PageSize value = is_page_size (number_of value)
+has_form form.Rights value = is_rights value
+has_form form.Trigger value = bytes_eq value (codes "level") || bytes_eq value (codes "edge")
+
+abbrev pub required : List ℕ → Form → Rule
+required name form = record { name = name; form = form; need = Required }
+
+abbrev pub optional : List ℕ → Form → Rule
+optional name form = record { name = name; form = form; need = Optional }
+
+-- the attributes of each kind
+
+unfoldable pub region_rules : List Rule
+region_rules =
+    required (codes "name") form.Text
+    ∷ required (codes "size") form.Number
+    ∷ optional (codes "page_size") form.PageSize
+    ∷ optional (codes "phys_addr") form.Number
+    ∷ []
+
+unfoldable pub domain_rules : List Rule
+domain_rules =
+    required (codes "name") form.Text
+    ∷ optional (codes "priority") form.Number
+    ∷ optional (codes "budget") form.Number
+    ∷ optional (codes "period") form.Number
+    ∷ optional (codes "passive") form.Flag
+    ∷ optional (codes "stack_size") form.Number
+    ∷ optional (codes "smc") form.Flag
+    ∷ optional (codes "cpu") form.Number
+    ∷ optional (codes "fpu") form.Flag
+    ∷ optional (codes "pp") form.Flag
+    ∷ []
+
+-- a child has besides the id by which its parent knows it
+unfoldable pub child_rules : List Rule
+child_rules =
+    required (codes "id") form.Number
+    ∷ optional (codes "setvar_id") form.Text
+    ∷ required (codes "name") form.Text
+    ∷ optional (codes "priority") form.Number
+    ∷ optional (codes "budget") form.Number
+    ∷ optional (codes "period") form.Number
+    ∷ optional (codes "passive") form.Flag
+    ∷ optional (codes "stack_size") form.Number
+    ∷ optional (codes "smc") form.Flag
+    ∷ optional (codes "cpu") form.Number
+    ∷ optional (codes "fpu") form.Flag
+    ∷ optional (codes "pp") form.Flag
+    ∷ []
+
+unfoldable pub image_rules : List Rule
+image_rules = required (codes "path") form.Text ∷ []
+
+unfoldable pub map_rules : List Rule
+map_rules =
+    required (codes "mr") form.Text
+    ∷ required (codes "vaddr") form.Number
+    ∷ optional (codes "perms") form.Rights
+    ∷ optional (codes "cached") form.Flag
+    ∷ optional (codes "setvar_vaddr") form.Text
+    ∷ optional (codes "setvar_size") form.Text
+    ∷ optional (codes "setvar_prefill_size") form.Text
+    ∷ []
+
+unfoldable pub interrupt_rules : List Rule
+interrupt_rules =
+    required (codes "irq") form.Number
+    ∷ required (codes "id") form.Number
+    ∷ optional (codes "trigger") form.Trigger
+    ∷ optional (codes "setvar_id") form.Text
+    ∷ []
+
+unfoldable pub port_rules : List Rule
+port_rules =
+    required (codes "id") form.Number
+    ∷ required (codes "addr") form.Number
+    ∷ required (codes "size") form.Number
+    ∷ optional (codes "setvar_id") form.Text
+    ∷ optional (codes "setvar_addr") form.Text
+    ∷ []
+
+unfoldable pub variable_rules : List Rule
+variable_rules = required (codes "symbol") form.Text ∷ required (codes "region_paddr") form.Text ∷ []
+
+-- before version 1.4 a virtual machine has one processor, of this id
+unfoldable pub machine_rules : List Rule
+machine_rules =
+    required (codes "name") form.Text
+    ∷ optional (codes "priority") form.Number
+    ∷ optional (codes "budget") form.Number
+    ∷ optional (codes "period") form.Number
+    ∷ optional (codes "id") form.Number
+    ∷ []
+
+unfoldable pub processor_rules : List Rule
+processor_rules =
+    required (codes "id") form.Number
+    ∷ optional (codes "setvar_id") form.Text
+    ∷ optional (codes "cpu") form.Number
+    ∷ []
+
+unfoldable pub end_rules : List Rule
+end_rules =
+    required (codes "pd") form.Text
+    ∷ required (codes "id") form.Number
+    ∷ optional (codes "pp") form.Flag
+    ∷ optional (codes "notify") form.Flag
+    ∷ optional (codes "setvar_id") form.Text
+    ∷ []
+
+unfoldable pub rules_of : Kind → List Rule
+rules_of kind.Region = region_rules
+rules_of kind.Domain = domain_rules
+rules_of kind.Child = child_rules
+rules_of kind.Image = image_rules
+rules_of kind.Map = map_rules
+rules_of kind.MachineMap = map_rules
+rules_of kind.Interrupt = interrupt_rules
+rules_of kind.Port = port_rules
+rules_of kind.Variable = variable_rules
+rules_of kind.Machine = machine_rules
+rules_of kind.Processor = processor_rules
+rules_of kind.End = end_rules
+rules_of _ = []
+
+-- an attribute follows a rule
+abbrev pub follows : Pair → Rule → Bool
+follows pair rule = bytes_eq rule.name pair.name && has_form rule.form pair.value
+
+-- a rule is met, if it requires its attribute
+abbrev pub is_met : List Pair → Rule → Bool
+is_met pairs rule = need_is_met rule.need
+  where
+    need_is_met : Need → Bool
+    need_is_met Optional = true
+    need_is_met Required = is_given pairs rule.name
+
+-- each attribute follows a rule, and none is missing that is required
+unfoldable pub is_formed : List Rule → List Pair → Bool
+is_formed rules pairs =
+    list_all (λ (pair : Pair). list_any (follows pair) rules) pairs && list_all (is_met pairs) rules
+
+-- ids and priorities keep to their limits
+unfoldable pub is_within : Node → Bool
+is_within node =
+    nat_le (number_or node (codes "id") 0) MAX_ID && nat_le (number_or node (codes "priority") 0) MAX_PRIORITY
+
+-- an element has its form: 50 where an attribute is unknown, missing or malformed, 54 where a limit is passed
+unfoldable pub form_at : Kind → Node → Result (Unit {0}) Fault
+form_at kind node =
+    if not (is_formed (rules_of kind) node.attributes) then Err (fault_at node.line Syntax) else
+    if not (is_within node) then Err (fault_at node.line Limit) else Ok tt

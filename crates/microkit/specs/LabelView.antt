@@ -1,0 +1,6 @@
+-- What a list of names is, without where it lies in memory (confine's own).
+use Rattle.std.specs.{Prelude.{ℕ, List, map}}
+use Rattle.std.specs.Global.{Vec}
+
+abbrev pub bytes_of : List (Vec ℕ) → List (List ℕ)
+bytes_of names = map (λ (name : Vec ℕ). name.items) names

@@ -1,0 +1,17 @@
+pub mod Pages
+pub mod Values
+pub mod Attributes
+pub mod Kinds
+pub mod Forms
+pub mod FormView
+pub mod Description
+pub mod View
+pub mod Draft
+pub mod Regions
+pub mod Domains
+pub mod Channels
+pub mod Reading
+pub mod Names
+pub mod LabelView
+pub mod Labels
+pub mod Sound

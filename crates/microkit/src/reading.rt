@@ -1,0 +1,143 @@
+//! How a text is read as a description.
+ghost use Rattle.std.specs.Prelude.{◌≡◌, Ok};
+ghost use Rattle.std.specs.Prelude.{IfOk};
+ghost use Rattle.microkit.specs.Sound.{IsSound};
+ghost use Rattle.words.specs.Reading.{Gives, Reads};
+ghost use Rattle.xml.specs.View.{node_of, nodes_of};
+ghost use Rattle.microkit.specs.Reading.{description_at, description_of_text, element_at, elements_at, part_at};
+ghost use Rattle.microkit.specs.Reading.{region_part_at};
+ghost use Rattle.microkit.specs.View.{description_of};
+
+use crate::channels::check_whole;
+use crate::description::Description;
+use crate::draft::{Draft, Place};
+use crate::forms::check_form;
+use crate::kinds::Kind;
+use std::alloc::Global;
+use words::Fault;
+use xml::{Element, read_document};
+
+// What is taken from the elements when they are gone over.
+#[derive(Clone, Copy)]
+enum Phase {
+    Forms,
+    Regions,
+    Domains,
+    Channels,
+}
+
+/// Reads the text of a description.
+///
+/// The forms of all elements are checked first, then the regions, the domains with what stands in
+/// them, and the channels, each in the order of the text. The first fault found is returned.
+///
+/// # Errors
+///
+/// The fault and its line: 50 where the text isn't XML or an element hasn't its form, 51 where a name
+/// is unknown, 52 where a name, an id or an interrupt is given twice, 54 where a limit is passed, 55
+/// where something doesn't go together. Where memory is refused, 40 at line 0.
+pub fn read_description(alloc: Global, text: &[u8]) -> Result<Description, Fault>
+    // Which description is read, or which fault is the first.
+    ensures exact { Reads (λ description. description_of description) result (description_of_text text.now) }
+    // What it names is there.
+    ensures sound { IfOk result (λ description. IsSound (description_of description)) }
+{
+    description_of_text(alloc, text)
+}
+
+#[tactic(auto, unfolding(crate::specs::Reading::description_of_text, words::specs::Reading::bind))]
+fn description_of_text(alloc: Global, text: &[u8]) -> Result<Description, Fault>
+    ensures { Reads (λ description. description_of description) result (description_of_text text.now) }
+{
+    let elements = read_document(alloc, text)?;
+    description_at(alloc, &elements)
+}
+
+#[tactic(auto, unfolding(crate::specs::Reading::description_at, words::specs::Reading::bind))]
+fn description_at(alloc: Global, elements: &[Element<'_>]) -> Result<Description, Fault>
+    ensures { Reads (λ description. description_of description) result (description_at (nodes_of elements.now)) }
+{
+    let mut draft = Draft::new(alloc);
+    draft.take_all(alloc, Phase::Forms, elements)?;
+    draft.take_all(alloc, Phase::Regions, elements)?;
+    draft.take_all(alloc, Phase::Domains, elements)?;
+    draft.take_all(alloc, Phase::Channels, elements)?;
+    check_whole(draft.begun)?;
+    Ok(draft.description)
+}
+
+impl Draft {
+    // Takes what is to be taken from all elements.
+    #[tactic(auto, using(crate::proofs::Steps::none_left, crate::proofs::Steps::one_taken, crate::proofs::Steps::one_refused))]
+    fn take_all(
+        &mut self,
+        alloc: Global,
+        phase: Phase,
+        elements: &[Element<'_>],
+    ) -> Result<(), Fault>
+        ensures { Reads (λ _. self.new) result (elements_at phase (nodes_of elements.now) self.old) }
+    {
+        for element in elements {
+            self.take(alloc, phase, element)?;
+        }
+        Ok(())
+    }
+
+    #[tactic(auto, unfolding(crate::specs::Reading::element_at, words::specs::Reading::bind))]
+    fn take(&mut self, alloc: Global, phase: Phase, element: &Element<'_>) -> Result<(), Fault>
+        ensures { Reads (λ _. self.new) result (element_at phase (node_of element.now) self.old) }
+    {
+        let place = self.enter(element)?;
+        self.take_part(alloc, phase, place, element)
+    }
+
+    #[tactic(auto, unfolding(crate::specs::Reading::part_at, words::specs::Reading::bind))]
+    fn take_part(
+        &mut self,
+        alloc: Global,
+        phase: Phase,
+        place: Place,
+        element: &Element<'_>,
+    ) -> Result<(), Fault>
+        ensures { Reads (λ _. self.new) result (part_at phase place (node_of element.now) self.old) }
+    {
+        match phase {
+            Phase::Forms => check_form(place.kind, element),
+            Phase::Regions => self.take_region(alloc, place.kind, element),
+            Phase::Domains => self.add_domain_part(alloc, place, element),
+            Phase::Channels => self.add_channel_part(place.kind, element),
+        }
+    }
+
+    #[tactic(auto, unfolding(crate::specs::Reading::region_part_at))]
+    fn take_region(&mut self, alloc: Global, kind: Kind, element: &Element<'_>) -> Result<(), Fault>
+        ensures { Reads (λ _. self.new) result (region_part_at kind (node_of element.now) self.old) }
+    {
+        match kind {
+            Kind::Region => self.add_region(alloc, element),
+            _ => Ok(()),
+        }
+    }
+}
+
+#[cfg(test)]
+mod tests {
+    use super::*;
+
+    #[test]
+    fn reads_a_channel(rt: HostRuntime) -> Result<(), Fault> {
+        let text = b"<system>
+<protection_domain name='low' priority='1'/>
+<protection_domain name='high' priority='0x2'/>
+<channel><end pd='low' id='1' pp='true'/><end pd='high' id='2'/></channel>
+</system>";
+        let description = read_description(rt.alloc(), text)?;
+        assert_eq!(rt; description.domains.len(), 2);
+        assert_eq!(rt; description.channels.len(), 1);
+        let channel = description.channels[0];
+        assert!(rt; channel.first.may_call && !channel.second.may_call);
+        assert_eq!(rt; channel.second.id.domain, 1);
+        assert_eq!(rt; channel.line, 4);
+        Ok(())
+    }
+}

@@ -1,0 +1,3 @@
+pub mod Comparing
+pub mod Sights
+pub mod Shown

@@ -1,0 +1,13 @@
+//! Questions: what a search looks for.
+use base::Label;
+
+/// The question whether a thread of one label can change an object of another.
+#[derive(Clone, Copy, PartialEq, Eq, Debug)]
+pub struct Question {
+    /// The label whose thread makes the last call.
+    pub actor: Label,
+    /// The label of the object that this call changes.
+    pub object: Label,
+    /// Whether the object is to shrink; else it has to change in another way.
+    pub taking: bool,
+}

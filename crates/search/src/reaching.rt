@@ -1,0 +1,43 @@
+//! The state that a script leads to.
+ghost use Rattle.std.specs.Prelude.{◌≡◌, IfErr, IfNone, IfOk, IfSome, List};
+ghost use Rattle.base.specs.Refusals.{plain};
+ghost use Rattle.machine.specs.{declared.call.Event.Event as Ev, Layout.Layout, Machine.Machine, WellFormed.IsWellFormed};
+ghost use Rattle.search.specs.Shown.{IsReachedBy};
+
+use base::Refusal;
+use kernel::{boot, each_table_has_one_boot_state, step};
+use machine::{Event, Outcome};
+use objects::State;
+use std::alloc::Global;
+use table::Table;
+
+/// Returns the state to which a script leads from a table's boot state; `None` where one of its calls
+/// is refused.
+///
+/// # Errors
+///
+/// 40 where memory is refused, to the boot or to one of the calls.
+pub fn reach(alloc: Global, table: &Table, script: &[Event]) -> Result<Option<State>, Refusal>
+    ensures reached { IfOk result (λ answer. IfSome answer (IsReachedBy table.now script.now)) }
+    ensures well_formed { IfOk result (λ answer. IfSome answer IsWellFormed) }
+    ensures refused { IfErr result (λ refusal. refusal ≡ plain 40) }
+{
+    let mut state = boot(alloc, table)?;
+    for event in script {
+        let outcome = step(&mut state, *event);
+        if outcome == Outcome::Refused(Refusal::OUT_OF_MEMORY) {
+            return Err(Refusal::OUT_OF_MEMORY);
+        }
+        if let Outcome::Refused(_) = outcome {
+            return Ok(None);
+        }
+    }
+    Ok(Some(state))
+}
+
+/// A law: a script leads to one state.
+pub fn scripts_lead_to_one_state()
+    ensures { (t : Layout) (script : List Ev) (m n : Machine) → IsReachedBy t script m → IsReachedBy t script n → m ≡ n }
+{
+    each_table_has_one_boot_state();
+}
