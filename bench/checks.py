@@ -147,6 +147,10 @@ def measure_closings(program, folder, base):
     return good
 
 
+# Nobody makes calls in a table without objects, so that nothing of a label could change.
+ALONE = "--policy-alone"
+
+
 @dataclass
 class Question:
     """A command over 256 labels, by its words, with its status, what it prints, and how many milliseconds it may take beside reading.
@@ -176,13 +180,13 @@ def write_many_labels(top):
     table = write_text(os.path.join(top, "table"), text)
     chained = inputs.policy_of(inputs.chained(labels))
     full = f"full\nedge {last} control {between}\n"
-    take = f"take\nedge {last} control {between}\nedge {between} control {taken}\n"
+    take = f"take\nedge {last} control {between}\nedge {between} reset {taken}\n"
     asked = {
         "check, all edges": Question(["check", table, path["every"]], 0, inputs.every_edge_report(text, labels)),
         "close, a chain": Question(["close", table, path["chain"]], 0, chained, MANY_CLOSE_MS),
-        "why, all edges": Question(["why", table, path["every"], last, between], 0, full, MANY_WHY_MS),
-        "why, no authority": Question(["why", table, path["none"], last, labels[0]], 1, "none\n", MANY_WHY_MS),
-        "why, all ways to take": Question(["why", table, path["take"], last, taken], 1, take, MANY_WHY_MS),
+        "why, all edges": Question(["why", table, path["every"], last, between, ALONE], 0, full, MANY_WHY_MS),
+        "why, no authority": Question(["why", table, path["none"], last, labels[0], ALONE], 0, "none\n", MANY_WHY_MS),
+        "why, all ways to take": Question(["why", table, path["take"], last, taken, ALONE], 0, take, MANY_WHY_MS),
     }
     return table, write_text(os.path.join(top, "script"), FAULTY_SCRIPT), asked
 

@@ -15,7 +15,7 @@ TEXTS = ["table", "policy", "script", "certificate", "log", "claims"]
 # The command that a word asks for.
 ASKED = {word: [word] for word in ["run", "replay", "check", "verify", "close", "list", "draw"]}
 ASKED |= {"cert": ["check", "--cert"], "missing": ["close", "--missing"], "surplus": ["close", "--surplus"]}
-ASKED |= {"claim": ["claims"], "strongest": ["claims", "--all"]}
+ASKED |= {"claim": ["claims"], "strongest": ["claims", "--all"], "draw --policy-alone": ["draw", "--policy-alone"]}
 
 ESCAPED = {"n": b"\n", "r": b"\r", "t": b"\t", "0": b"\0"}
 
@@ -214,7 +214,7 @@ def expected(words, system, script, file, line):
     if word == "writes":
         return 0, plain(quoted(rest)) + b"\n"
     if word in ("full", "take", "none"):
-        return int(word != "full"), word.encode() + b"\n" + edges_in(rest)
+        return 0, word.encode() + b"\n" + edges_in(rest)
     if word == "lacks":
         return int(bool(rest)), edges_in(rest)
     if word == "draws":
@@ -432,8 +432,8 @@ def command_of(words):
     """The command that words ask for."""
     if words in ASKED:
         return ASKED[words]
-    if re.fullmatch(r"why \S+ \S.*", words):
-        return words.split(" ", 2)
+    if told := re.fullmatch(r"why (--policy-alone )?(\S+) (\S.*)", words):
+        return ["why", *(["--policy-alone"] if told[1] else []), told[2], told[3]]
     raise Wrong("there is no such command")
 
 

@@ -193,7 +193,7 @@ def is_answered(answer, status, out):
         return (status, out) == (1, answer)
     if answer == "accepted\n":
         return status == 0 and out.startswith("confine-log 1\n")
-    if re.match("take\n|none\n|edge ", answer):
+    if answer.startswith("edge "):
         return (status, out) == (1, answer)
     return out == answer and status == (2 if '"fault"' in answer else 1 if re.search(NOT_WELL, answer) else 0)
 

@@ -605,3 +605,30 @@ def make_system(r):
         "certificate": texts.text_of("confine-cert 1", commands.certificate(table)),
         "claims": texts.text_of("confine-claims 1", [f"take {a} {b}" for a in table.labels for b in table.labels if a != b]),
     }
+
+
+# Of these kinds are the edges of most ways that have more than one.
+FEW = [policies.SEND, policies.RECEIVE, policies.REPLY]
+
+
+def make_few(r):
+    """A table whose threads all have few capabilities, and a policy with few edges, so that most labels don't go far with each other."""
+    count = r.randint(3, 6)
+    labels = [f"l{i}" for i in range(count)]
+    made, contexts, bound = [], [], []
+    for i, label in enumerate(labels):
+        how = r.choice(["ready"] * 6 + ["inactive", "untyped", "none"])
+        if how in ("ready", "inactive"):
+            made.append(f"tcb t{i} {label} {i << 10:#x} {how}")
+            share, of = r.choice(["-", "0 10 10", "0 10 10"]), r.choice([label, labels[-1], labels[-1]])
+            contexts.append(f"context x{i} {of} {0x4000 + (i << 8):#x} {share}")
+            bound += [f"bind t{i} x{i}"] if r.random() < 0.85 else []
+        elif how == "untyped":
+            made.append(f"untyped t{i} {label} {i << 10:#x} {r.choice([4, 10])}")
+    every = [*range(1, 17), *r.choice([[], [], [policies.CONTROL]])]
+    messages, removals = [*FEW, policies.CALL], [*FEW, policies.CONTROL, policies.RESET, policies.AWAIT]
+    kinds = r.choice([every, every, messages, messages, removals])
+    edges = {(r.randrange(count), r.choice(kinds), r.randrange(count)) for _ in range(r.randint(3, 14))}
+    table_text = texts.text_of("confine-table 1", [*(f"label {label}" for label in labels), *made, *contexts, *bound])
+    lines = [texts.edge_line(edge, texts.read_table(table_text.encode())) for edge in sorted(edges)]
+    return {"table": table_text, "policy": texts.text_of("confine-policy 1", lines)}

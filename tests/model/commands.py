@@ -15,6 +15,10 @@ FILES = {
 }
 
 
+# What a call by the policy alone says on standard error.
+ALONE = "confine: by the policy alone: each label counts as one whose threads make calls, so that this holds of no run\n"
+
+
 def files_of(command, options=()):
     """The files of a command, in their order."""
     return FILES[command][:2] if "--all" in options else FILES[command]
@@ -85,6 +89,14 @@ def outside(table, policy, state):
     return min(broken, default=None)
 
 
+def actors(table, policy):
+    """The labels whose threads make calls: those that can at boot, and whom these control, as far as there is what threads are made of."""
+    acting = {table.objects[thread].label for thread in table.bindings if table.objects[thread].ready}
+    while more := {y for x, k, y in policy if k == CONTROL and x in acting} - acting:
+        acting |= more
+    return frozenset(acting & {item.label for item in table.objects if item.kind in ("tcb", "untyped")})
+
+
 def denial(table, policy):
     """Rule and place, or None where the table is accepted."""
     broken = policies.first_broken(policy, len(table.labels))
@@ -135,7 +147,7 @@ def check(table, policy, certified=False):
             return 0, texts.text_of("confine-cert 1", certificate(table))
         count, names = len(table.labels), table.labels
         full = {names[a]: [names[l] for l in sorted(policies.full(policy, a))] for a in range(count)}
-        cut = {names[a]: [names[l] for l in sorted(policies.cut_paths(policy, a))] for a in range(count)}
+        cut = {names[a]: [names[l] for l in sorted(policies.cut(policy, a))] for a in range(count)}
         return 0, report(caps=len(table.caps), full=full, cut=cut, verdict="accept")
 
     return judged(table, policy, accepted)
@@ -194,16 +206,26 @@ def close(table, policy, missing=False, surplus=False):
     return 0, texts.text_of("confine-policy 1", [texts.edge_line(edge, table) for edge in sorted(edges)])
 
 
-def why(table, policy, a, b):
-    how, edges = policies.why(policy, table.labels.index(a), table.labels.index(b))
-    return int(how != "full"), "".join(f"{line}\n" for line in [how, *(texts.edge_line(edge, table) for edge in edges)])
+def bounded(table, policy, alone, then):
+    """What is said of how far labels go with each other: in an accepted system, or of the policy alone, where each label acts."""
+    if alone:
+        return then(frozenset(range(len(table.labels))))
+    return judged(table, policy, lambda: then(actors(table, policy)))
+
+
+def why(table, policy, a, b, alone=False):
+    def told(acts):
+        how, edges = policies.why(policy, acts, table.labels.index(a), table.labels.index(b))
+        return 0, "".join(f"{line}\n" for line in [how, *(texts.edge_line(edge, table) for edge in edges)])
+
+    return bounded(table, policy, alone, told)
 
 
 def claims(table, policy, claimed=None):
     """Whether these claims hold; where there are none, the strongest that do."""
 
-    def accepted():
-        extents = {(a, b): how for a, b, how in policies.extents(policy, len(table.labels))}
+    def told(acts):
+        extents = {(a, b): how for a, b, how in policies.extents(policy, acts, len(table.labels))}
         if claimed is None:
             lines = [f"{how} {table.labels[a]} {table.labels[b]}" for (a, b), how in extents.items() if how != "full"]
             return 0, texts.text_of("confine-claims 1", lines)
@@ -212,17 +234,20 @@ def claims(table, policy, claimed=None):
                 return 1, report(authority=extents[a, b], claim=number, verdict="broken")
         return 0, report(claims=len(claimed), verdict="hold")
 
-    return judged(table, policy, accepted)
+    return bounded(table, policy, False, told)
 
 
-def drawn(table, policy):
-    lines = [f'"{name}"' for name in table.labels]
-    for a, l, how in policies.extents(policy, len(table.labels)):
-        if how != "none":
-            first = texts.edge_line(policies.why(policy, a, l)[1][0], table).removeprefix("edge ")
-            style = "style=dashed, " if how == "take" else ""
-            lines.append(f'"{table.labels[a]}" -> "{table.labels[l]}" [{style}label="{first}"]')
-    return 0, "".join(["digraph authority {\n", *(f"  {line}\n" for line in lines), "}\n"])
+def drawn(table, policy, alone=False):
+    def told(acts):
+        lines = [f'"{name}"' for name in table.labels]
+        for a, l, how in policies.extents(policy, acts, len(table.labels)):
+            if how != "none":
+                first = texts.edge_line(policies.why(policy, acts, a, l)[1][0], table).removeprefix("edge ")
+                style = "style=dashed, " if how == "take" else ""
+                lines.append(f'"{table.labels[a]}" -> "{table.labels[l]}" [{style}label="{first}"]')
+        return 0, "".join(["digraph authority {\n", *(f"  {line}\n" for line in lines), "}\n"])
+
+    return bounded(table, policy, alone, told)
 
 
 def listed(table):
@@ -240,7 +265,7 @@ def read(file, text, table):
 
 def answer(command, given, options=()):
     """Status, standard output and standard error of a command. `given` has the bytes of its files, or None where one can't be read;
-    `options` are `--cert`, `--missing`, `--surplus` and `--all`, or the two labels of `why`."""
+    `options` are `--cert`, `--missing`, `--surplus`, `--all` and `--policy-alone`; the last two of `why` are its labels."""
     values = []
     for file, text in zip(files_of(command, options), given):
         if text is None:
@@ -249,13 +274,16 @@ def answer(command, given, options=()):
             values.append(read(file, text, values[0] if values else None))
         except Fault as fault:
             return 2, report(fault=fault.number, file=file, line=fault.line), ""
+    alone = "--policy-alone" in options
     if command == "why":
-        for operand, label in zip("AB", options):
+        for operand, label in zip("AB", options[-2:]):
             if label not in values[0].labels:
                 return 2, "", f"confine: {operand} is no label of the table\n"
-        return *why(*values, *options), ""
+        return *why(*values, *options[-2:], alone), ALONE * alone
+    if command == "draw":
+        return *drawn(*values, alone), ALONE * alone
     if command == "close":
         return *close(values[0], values[1] if len(values) > 1 else None, "--missing" in options, "--surplus" in options), ""
     if command == "check":
         return *check(*values, "--cert" in options), ""
-    return *{"verify": verify, "run": run, "replay": replay, "claims": claims, "list": listed, "draw": drawn}[command](*values), ""
+    return *{"verify": verify, "run": run, "replay": replay, "claims": claims, "list": listed}[command](*values), ""

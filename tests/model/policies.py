@@ -1,13 +1,12 @@
-"""Policies: the rules P1 to P8, the least closed policy, full and cut authority, what may be taken, and reasons, as docs/RULES.md and
-docs/WRITING_POLICIES.md have them. A policy is a set of edges (label, kind, label), all by number; `count` is how many labels there are."""
+"""Policies: the rules P1 to P8, the least closed policy, full and cut authority, what a label may change or make smaller, and reasons, as
+docs/RULES.md and docs/WRITING_POLICIES.md have them. A policy is a set of edges (label, kind, label), all by number; `count` is how many
+labels there are, and `acts` are those whose threads make calls."""
 from texts import KINDS
 
 CONTROL, RESET, SEND, RECEIVE, GRANT, CALL, NOTIFY, AWAIT, READ, WRITE, REPLY, CONTEXT, SCHEDCONTROL, SPACE, DERIVE, RUNS, HOLDS = range(17)
 assert len(KINDS) == 17
 PLAIN = range(13)  # the kinds that aren't structural
 LINKS = (SEND, RECEIVE, AWAIT, REPLY, HOLDS, RUNS, SPACE)
-# From where capabilities are removed: kinds of edges, and whether a step goes either way.
-ONWARD = [((DERIVE,), False), ((*PLAIN, SPACE), False), (LINKS, True), (LINKS, True)]
 
 
 def asked(policy, count):
@@ -84,85 +83,148 @@ def rule_names(rule, place, table):
     return [KINDS[entry] if at == kind else table.labels[entry] for at, entry in enumerate(place)]
 
 
-def full_reasons(policy, a):
-    """Each case of full authority of a: on which label, and the edges that the case names."""
-
-    def edges(x, kind, y):
-        return [edge for edge in policy if edge[1] == kind and x in (None, edge[0]) and y in (None, edge[2])]
-
-    yield a, []
-    for edge in edges_from(policy, a):
-        _, k, e = edge
-        if k in (CONTROL, SEND, RECEIVE, NOTIFY, AWAIT, WRITE, REPLY, CONTEXT, RUNS):
-            yield e, [edge]
-        for one, other in [(NOTIFY, AWAIT), (SEND, RECEIVE), (RECEIVE, SEND)]:
-            if k == one:
-                for back in edges(None, other, e):
-                    yield back[0], [edge, back]
-        if k == REPLY:
-            for held in edges(e, HOLDS, None):
-                yield held[2], [edge, held]
-        for one, last in [(SEND, REPLY), (GRANT, CONTROL)]:
-            if k == one:
-                for back in edges(None, RECEIVE, e):
-                    for on in edges(back[0], last, None):
-                        yield on[2], [edge, back, on]
-
-
-def cut_paths(policy, a):
-    """For each label that a has cut authority on the first path to it: of those with the fewest edges the least."""
-    return paths_on(policy, {a: []}, [((CONTROL,), False), *ONWARD])
-
-
-def paths_on(policy, paths, steps):
-    """The first path to each label that begins with one of these paths and goes on by steps each of which may be left out."""
-    for kinds, both in steps:
-        longer = dict(paths)
-        for edge in policy:
-            for here, there in [(edge[0], edge[2]), (edge[2], edge[0])] if both else [(edge[0], edge[2])]:
-                if here in paths and edge[1] in kinds:
-                    path = [*paths[here], edge]
-                    longer[there] = min(longer.get(there, path), path, key=rank)
-        paths = longer
-    return paths
-
-
-def take_ways(policy, a):
-    """Each way in which a may take from a label: from which, and its edges."""
-    for edge in edges_from(policy, a):
-        _, k, e = edge
-        for back in policy:
-            if k == CONTEXT and back[1:] == (RUNS, e):
-                yield back[0], [edge, back]
-            if k == REPLY and back[1:] == (REPLY, e):
-                for on in edges_from(policy, back[0]):
-                    if on[1] == RECEIVE:
-                        yield on[2], [edge, back, on]
-        if k == CONTROL:
-            yield from paths_on(policy, {e: [edge]}, ONWARD).items()
+def cut(policy, a):
+    """The labels on which a has cut authority: by steps of these kinds, in this order, of which each may be left out."""
+    there = {a}
+    for kinds, both in [((CONTROL,), False), ((DERIVE,), False), ((*PLAIN, SPACE), False), (LINKS, True), (LINKS, True)]:
+        there |= {y for x, k, y in policy if k in kinds and x in there} | {x for x, k, y in policy if both and k in kinds and y in there}
+    return there
 
 
 def rank(edges):
     return len(edges), edges
 
 
+# Ways from one label, a, to another, l. Each line has the edges by which a way is told, and after a semicolon what has to be there too, and
+# which labels have to be of those whose threads make calls.
+
+def needs_of(words):
+    """What a way needs: edges as (name, kind, name), and labels that act as (name,)."""
+    parts = [part.split(" ") for part in words.split(", ") if part]
+    return [(part[0],) if part[1] == "acts" else (part[0], KINDS.index(part[1]), part[2]) for part in parts]
+
+
+def ways_in(lines):
+    return [[*map(needs_of, line.partition("; ")[::2])] for line in lines.splitlines()]
+
+
+# Full authority, which asks of no label that it acts.
+FULL = ways_in("""\
+a control l
+a send l
+a receive l
+a notify l
+a await l
+a write l
+a reply l
+a context l
+a runs l
+a send e, l receive e
+a receive e, l send e
+a notify n, l await n
+a send e, b receive e, b reply l
+a grant e, b receive e, b control l
+a reply r, r holds l
+""")
+
+# How a may change objects of l.
+CHANGE = ways_in("""\
+a control l
+a send l
+a receive l
+a notify l
+a await l
+a write l
+a reply l
+a context l; a schedcontrol k
+a context l; a control t
+a runs l; a call e
+a runs l; a reply r
+a send e, l receive e; l acts
+a receive e, l send e; l acts
+a notify n, l await n; l acts
+a call e, b receive e, b reply l; a send e, b acts
+a grant e, b receive e, b control l; b acts
+a reply r, r holds l; b reply r, b acts, b receive e, l call e, l acts
+""")
+
+# How objects of l may shrink by what a does.
+SHRINK = ways_in("""\
+a context l
+a context x, l runs x
+a reply r, r holds l; l reply r, l acts
+a reply r, b reply r, b receive l; b acts
+a send e, b receive e, b reply l; b acts
+a control c, c derive l
+a control c, c space l
+a control c, c runs l
+a control c, c reset l
+a control c, c schedcontrol l
+a control c, l holds c; c acts
+a control c, c reset e, l send e; l acts
+a control c, c reset e, l receive e; l acts
+a control c, c reset e, l await e; l acts
+a control c, c reset e, b receive e, b reply l; b acts
+""")
+
+
+def matches(edges_at, acts, needs, labels):
+    """Each choice of labels for the names in what is needed, with those that have their label already."""
+    if not needs:
+        yield labels
+        return
+    (x, *more), *rest = needs
+    if not more:
+        if labels[x] in acts:
+            yield from matches(edges_at, acts, rest, labels)
+        return
+    kind, y = more
+    for edge in edges_at.get((labels.get(x), kind, None if x in labels else labels[y]), []):
+        if labels.get(y, edge[2]) == edge[2]:
+            yield from matches(edges_at, acts, rest, labels | {x: edge[0], y: edge[2]})
+
+
+def ways_from(policy, acts, a, ways):
+    """Each way from a label, where threads of these labels act: to which label, and the edges by which it is told."""
+    edges_at = {}
+    for edge in policy:
+        edges_at.setdefault((edge[0], edge[1], None), []).append(edge)
+        edges_at.setdefault((None, edge[1], edge[2]), []).append(edge)
+    for told, besides in ways:
+        for labels in matches(edges_at, acts, told, {"a": a}):
+            if any(True for _ in matches(edges_at, acts, besides, labels)):
+                yield labels["l"], [(labels[x], kind, labels[y]) for x, kind, y in told]
+
+
 def full(policy, a):
-    return {l for l, _ in full_reasons(policy, a)}
+    return {a} | {l for l, _ in ways_from(policy, (), a, FULL)}
 
 
-def extents(policy, count):
-    """How far the authority of each label on each other goes: `full`, `take` or `none`."""
+def change_ways(policy, acts, a):
+    """Each way in which a may change objects of a label; none where no thread of a makes calls."""
+    if a in acts:
+        yield a, []
+        yield from ways_from(policy, acts, a, CHANGE)
+
+
+def shrink_ways(policy, acts, a):
+    """Each way in which objects of a label may shrink by what a does; none where no thread of a makes calls."""
+    if a in acts:
+        yield from ways_from(policy, acts, a, SHRINK)
+
+
+def extents(policy, acts, count):
+    """How far each label goes with each other: `full` where it may change its objects, `take` where they may shrink, or `none`."""
     for a in range(count):
-        changes, takes = full(policy, a), {l for l, _ in take_ways(policy, a)}
+        changes, shrinks = ({l for l, _ in ways(policy, acts, a)} for ways in (change_ways, shrink_ways))
         for l in range(count):
             if l != a:
-                yield a, l, "full" if l in changes else "take" if l in takes else "none"
+                yield a, l, "full" if l in changes else "take" if l in shrinks else "none"
 
 
-def why(policy, a, l):
-    """The authority of a on l, and the first reason for it."""
-    reasons = [edges for on, edges in full_reasons(policy, a) if on == l]
-    if reasons:
-        return "full", min(reasons, key=rank)
-    ways = [edges for on, edges in take_ways(policy, a) if on == l]
-    return ("take", min(ways, key=rank)) if ways else ("none", [])
+def why(policy, acts, a, l):
+    """How far a goes with l, and the first reason for it."""
+    for how, ways in [("full", change_ways), ("take", shrink_ways)]:
+        if reasons := [edges for on, edges in ways(policy, acts, a) if on == l]:
+            return how, min(reasons, key=rank)
+    return "none", []

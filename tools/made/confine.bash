@@ -46,11 +46,11 @@ _confine() {
       kinds=(file file)
       ;;
     why)
-      options='--explain -h --help'
+      options='--explain --policy-alone -h --help'
       kinds=(file file label label)
       ;;
     draw)
-      options='--explain -h --help'
+      options='--explain --policy-alone -h --help'
       kinds=(file file)
       ;;
     claims)

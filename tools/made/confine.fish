@@ -38,8 +38,8 @@ complete -c confine -n '__confine_at "" 0' -a verify -d 'Checks a table against 
 complete -c confine -n '__confine_at "" 0' -a run -d 'Checks a table against a policy, runs a script of kernel calls and prints its log'
 complete -c confine -n '__confine_at "" 0' -a replay -d 'Tells whether a system could have made a log, and whether the log ends within a policy'
 complete -c confine -n '__confine_at "" 0' -a close -d 'Writes the least policy to which a table keeps, with the edges of one that is named'
-complete -c confine -n '__confine_at "" 0' -a why -d 'Tells which authority a label has on another by a policy, and by which edges'
-complete -c confine -n '__confine_at "" 0' -a draw -d 'Draws, for Graphviz, who may change or take from whom by a policy, and by which edge'
+complete -c confine -n '__confine_at "" 0' -a why -d 'Tells what threads of a label may do to objects of another, and by which edges'
+complete -c confine -n '__confine_at "" 0' -a draw -d 'Draws, for Graphviz, who may change or take from whom, and by which edge'
 complete -c confine -n '__confine_at "" 0' -a claims -d 'Tells whether claims hold: at most how much authority labels have on others'
 complete -c confine -n '__confine_at "" 0' -a list -d 'Lists the objects of a table: by which number a script names each, its kind, name, label'
 complete -c confine -n '__confine_at "" 0' -a help -d 'Prints the help of a command'
@@ -79,10 +79,12 @@ complete -c confine -n '__confine_at why 2' -F
 complete -c confine -n '__confine_at why 3' -a '(__confine_labels)'
 complete -c confine -n '__confine_at why 4' -a '(__confine_labels)'
 complete -c confine -n '__confine_at why' -l explain -d 'Tells in sentences, on standard error, what is denied or faulty, and a way out'
+complete -c confine -n '__confine_at why' -l policy-alone -d 'Asks the policy alone, as if threads of each label made calls: this holds of no run'
 complete -c confine -n '__confine_at why' -s h -l help -d 'Print help'
 complete -c confine -n '__confine_at draw 1' -F
 complete -c confine -n '__confine_at draw 2' -F
 complete -c confine -n '__confine_at draw' -l explain -d 'Tells in sentences, on standard error, what is denied or faulty, and a way out'
+complete -c confine -n '__confine_at draw' -l policy-alone -d 'Asks the policy alone, as if threads of each label made calls: this holds of no run'
 complete -c confine -n '__confine_at draw' -s h -l help -d 'Print help'
 complete -c confine -n '__confine_at claims 1' -F
 complete -c confine -n '__confine_at claims 2' -F

@@ -385,9 +385,9 @@ async function draw(turn, given, command, report, output) {
     report = reportOf(decoded(answer.output));
   }
   const isKept = report?.verdict === "accept";
-  const [graph, text] = command === DRAW ? [graphOf(output), output] : isKept ? await graphFor(given) : [null, ""];
+  const [graph, text] = command === DRAW && isKept ? [graphOf(output), output] : isKept ? await graphFor(given) : [null, ""];
   if (turn !== asked) return;
-  showGraph(graph, text, isKept, report);
+  showGraph(graph, text, report);
   const isTable = report && report.file !== "table";
   const objects = isTable ? drawObjects(given.table) : null;
   frame("objects", objects, isTable ? "The table has too many objects to be drawn." : "The table has a fault.");
@@ -407,15 +407,14 @@ async function graphFor(given) {
   return isSmall ? [graphOf(text), text] : [graphOfClaims(labels, text), ""];
 }
 
-// The graph is by the policy alone, so it is shown where the table keeps to the policy, or where it is asked for.
-function showGraph(graph, text, isKept, report) {
+// The graph is of an accepted system, so it is shown where the table keeps to the policy.
+function showGraph(graph, text, report) {
   const isDrawn = graph && graph.labels.length <= MOST_IN_TABLE;
   const why = report?.fault ? `The ${report.file} has a fault.` :
     graph ? `More than ${MOST_IN_TABLE} labels aren't drawn here.` :
-    "It is drawn of an accepted system. The command draw shows what the policy alone allows.";
+    "It is drawn of an accepted system.";
   frame("labels", isDrawn ? drawLabels(graph, askWhy) : null, why);
-  find("denied").hidden = !isDrawn || isKept;
-  find("kept").hidden = !isDrawn || !isKept;
+  find("kept").hidden = !isDrawn;
   find("graph").hidden = !graph || text === "";
   find("graph").querySelector("pre").textContent = text;
 }

@@ -1,7 +1,8 @@
 //! The verdict on a table and a policy.
 ghost use Rattle.std.specs.Prelude.{ℕ, ◌<◌, ◌↔◌, ◌≡◌, ◌≤◌, Err, IfOk};
 ghost use Rattle.policy.specs.Policy.{allows};
-ghost use Rattle.integrity.specs.Safe.{GuardsBudgets, KeepsBounds, KeepsIntegrity, LabelsObjects, RefusesOthers, StaysConfined};
+ghost use Rattle.integrity.specs.Safe.{GuardsBudgets, KeepsBounds, KeepsIntegrity, KeepsNarrowBounds, LabelsObjects, RefusesOthers};
+ghost use Rattle.integrity.specs.Safe.{StaysConfined};
 ghost use Rattle.checker.specs.Check.{IfAccepted, IsCheck, error_refusal};
 
 use base::{Misuse, Refusal};
@@ -71,6 +72,7 @@ pub fn check<'a, R: Threads + Sync, G: Gate + Sync>(
     ensures confined { IfOk result (λ verdict. IfAccepted verdict (StaysConfined table.now (allows policy.now))) }
     ensures integrity { IfOk result (λ verdict. IfAccepted verdict (KeepsIntegrity table.now (allows policy.now))) }
     ensures bounds { IfOk result (λ verdict. IfAccepted verdict (KeepsBounds table.now (allows policy.now))) }
+    ensures narrow { IfOk result (λ verdict. IfAccepted verdict (KeepsNarrowBounds table.now (allows policy.now))) }
     ensures budgets { IfOk result (λ verdict. IfAccepted verdict (GuardsBudgets table.now (allows policy.now))) }
     ensures acting { IfOk result (λ verdict. IfAccepted verdict (RefusesOthers table.now (allows policy.now))) }
     ensures arrived { IfOk result (λ verdict. IfAccepted verdict ((worker : ℕ) → worker < workers → G.HasArrived gate.now worker)) }

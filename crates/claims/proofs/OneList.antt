@@ -1,31 +1,38 @@
 -- Of a table and a policy there is one list of the strongest claims, and of claims that don't all hold one that is the first broken.
-use Rattle.std.specs.{declared.cmp.Ordering.{Ordering, TheVariants.{Equal, Greater, Less}}}
-use Rattle.std.specs.{List.Sorted.IsStrictlySortedBy, Ordering.{nat_cmp, ordering_reverse, ordering_then}, Prelude.{slice_get}}
-use Rattle.std.{proofs.Common.{[], ℕ, ◌+◌, ◌∙◌, ◌∷◌, ◌≡◌, ◌⊎◌, All, Contains, List, ap, arith}}
-use Rattle.std.proofs.{Common.{inl, inr, refl, subst, sym}, lemmas.{Bool.{cases_order, Decides.nat_tests}, List.Elements.All-contains}}
-use Rattle.std.proofs.lemmas.List.Elements.{All-from_recursion, Contains-append_cases, Contains-append_left, Contains-append_right}
-use Rattle.std.proofs.lemmas.{List.Elements.{Contains-push, Contains-push_cases}, Option.{get_or_from_slice_get, same_Some}}
-use Rattle.std.proofs.lemmas.Option.{slice_get_within}
+use Rattle.std.specs.declared.cmp.Ordering.{Ordering}
+use Rattle.std.specs.declared.cmp.Ordering.TheVariants.{Equal, Greater, Less}
+use Rattle.std.specs.List.Sorted.{IsStrictlySortedBy}
+use Rattle.std.specs.Ordering.{nat_cmp, ordering_reverse, ordering_then}
+use Rattle.std.specs.Prelude.{slice_get}
+use Rattle.std.proofs.Common.{[], ℕ, ◌+◌, ◌∙◌, ◌∷◌, ◌≡◌, ◌⊎◌, All, Contains, List, ap, arith, inl, inr, refl, subst, sym}
+use Rattle.std.proofs.lemmas.Bool.{cases_order}
+use Rattle.std.proofs.lemmas.Bool.Decides.{nat_tests}
+use Rattle.std.proofs.lemmas.List.Elements.{All-contains, All-from_recursion, Contains-append_cases, Contains-append_left, Contains-append_right, Contains-push, Contains-push_cases}
+use Rattle.std.proofs.lemmas.Option.{get_or_from_slice_get, same_Some, slice_get_within}
 use Rattle.machine.specs.Layout.{Layout}
-use Rattle.policy.specs.Domain.{EdgeTest}
-use Rattle.verdict.specs.{declared.extent.Extent.Extent, Extents.GoesTo}
+use Rattle.verdict.specs.declared.extent.Extent.{Extent}
 use Rattle.verdict.specs.declared.extent.Extent.TheVariants as extent
-use Rattle.claims.specs.{declared.{claim.{Claim.Claim, Most.Most}, holding.BrokenClaim.BrokenClaim}, Claims.{IsClaimOf, IsRising}}
+use Rattle.verdict.specs.Extents.{GoesTo, Reach}
+use Rattle.claims.specs.declared.claim.Claim.{Claim}
+use Rattle.claims.specs.declared.claim.Most.{Most}
 use Rattle.claims.specs.declared.claim.Most.TheVariants as most
-use Rattle.claims.{specs.{Claims.claim_cmp, Holding.{AreStrongest, Holds, IsExact, IsFirstBroken, extent_of}}, proofs.Order.claim_total}
+use Rattle.claims.specs.declared.holding.BrokenClaim.{BrokenClaim}
+use Rattle.claims.specs.Claims.{IsClaimOf, IsRising, claim_cmp}
+use Rattle.claims.specs.Holding.{AreStrongest, Holds, IsExact, IsFirstBroken, extent_of}
+use Rattle.claims.proofs.Order.{claim_total}
 
 -- an authority goes so far, and no other way
 
-pub extents_once : (test : EdgeTest) (a l : ℕ) (e f : Extent) → GoesTo test a l e → GoesTo test a l f → e ≡ f
-extents_once test a l extent.Full extent.Full one other = refl
-extents_once test a l extent.Full extent.Take one other = absurd (other.0 one)
-extents_once test a l extent.Full extent.Nothing one other = absurd (other.0 one)
-extents_once test a l extent.Take extent.Full one other = absurd (one.0 other)
-extents_once test a l extent.Take extent.Take one other = refl
-extents_once test a l extent.Take extent.Nothing one other = absurd (other.1 one.1)
-extents_once test a l extent.Nothing extent.Full one other = absurd (one.0 other)
-extents_once test a l extent.Nothing extent.Take one other = absurd (one.1 other.1)
-extents_once test a l extent.Nothing extent.Nothing one other = refl
+pub extents_once : (reach : Reach) (a l : ℕ) (e f : Extent) → GoesTo reach a l e → GoesTo reach a l f → e ≡ f
+extents_once reach a l extent.Full extent.Full one other = refl
+extents_once reach a l extent.Full extent.Take one other = absurd (other.0 one)
+extents_once reach a l extent.Full extent.Nothing one other = absurd (other.0 one)
+extents_once reach a l extent.Take extent.Full one other = absurd (one.0 other)
+extents_once reach a l extent.Take extent.Take one other = refl
+extents_once reach a l extent.Take extent.Nothing one other = absurd (other.1 one.1)
+extents_once reach a l extent.Nothing extent.Full one other = absurd (one.0 other)
+extents_once reach a l extent.Nothing extent.Take one other = absurd (one.1 other.1)
+extents_once reach a l extent.Nothing extent.Nothing one other = refl
 
 same_most : (m n : Most) → extent_of m ≡ extent_of n → m ≡ n
 same_most most.Nothing most.Nothing same = refl
@@ -33,9 +40,9 @@ same_most most.Nothing most.Take same = cc
 same_most most.Take most.Nothing same = cc
 same_most most.Take most.Take same = refl
 
-not_full : (test : EdgeTest) (a l : ℕ) (m : Most) → GoesTo test a l (extent_of m) → ¬ GoesTo test a l extent.Full
-not_full test a l most.Nothing goes = goes.0
-not_full test a l most.Take goes = goes.0
+not_full : (reach : Reach) (a l : ℕ) (m : Most) → GoesTo reach a l (extent_of m) → ¬ GoesTo reach a l extent.Full
+not_full reach a l most.Nothing goes = goes.0
+not_full reach a l most.Take goes = goes.0
 
 -- rising lists with the same claims are one
 
@@ -113,44 +120,44 @@ same_rising (x ∷ xs) (y ∷ ys) one other there back =
 
 -- a claim among the strongest is among all that are
 
-module _ (t : Layout) (test : EdgeTest) where
-  strongest_within : (xs ys : List Claim) → AreStrongest t test xs → AreStrongest t test ys → Within xs ys
+module _ (t : Layout) (reach : Reach) where
+  strongest_within : (xs ys : List Claim) → AreStrongest t reach xs → AreStrongest t reach ys → Within xs ys
   strongest_within xs ys one other c has =
-      let exact : IsExact test c = All-contains (IsExact test) xs c one.exact has in
+      let exact : IsExact reach c = All-contains (IsExact reach) xs c one.exact has in
       let of_table = All-contains (IsClaimOf t) xs c (All-from_recursion (IsClaimOf t) xs one.are.1) has in
-      let lacks = not_full test c.actor c.object c.most exact in
+      let lacks = not_full reach c.actor c.object c.most exact in
       let found = other.complete c.actor c.object of_table.0 of_table.1 of_table.2 lacks in
       let d = found.1 in
       let also : Contains ys d = (found.0, found.2, found.3) in
-      let goes = All-contains (IsExact test) ys d other.exact also in
-      let here = subst (λ l. GoesTo test c.actor l (extent_of d.most)) found.4.1
-      (subst (λ a. GoesTo test a d.object (extent_of d.most)) found.4.0 goes) in
-      let same = same_most d.most c.most (extents_once test c.actor c.object (extent_of d.most) (extent_of c.most) here exact) in
+      let goes = All-contains (IsExact reach) ys d other.exact also in
+      let here = subst (λ l. GoesTo reach c.actor l (extent_of d.most)) found.4.1
+      (subst (λ a. GoesTo reach a d.object (extent_of d.most)) found.4.0 goes) in
+      let same = same_most d.most c.most (extents_once reach c.actor c.object (extent_of d.most) (extent_of c.most) here exact) in
       subst (Contains ys) (λ i. record { most = same i; actor = found.4.0 i; object = found.4.1 i }) also
 
-  pub strongest_once : (xs ys : List Claim) → AreStrongest t test xs → AreStrongest t test ys → xs ≡ ys
+  pub strongest_once : (xs ys : List Claim) → AreStrongest t reach xs → AreStrongest t reach ys → xs ≡ ys
   strongest_once xs ys one other =
       same_rising xs ys one.are.0 other.are.0 (strongest_within xs ys one other) (strongest_within ys xs other one)
 
 -- claims that hold, and the first that is broken
 
-module _ (test : EdgeTest) (claims : List Claim) where
-  pub none_broken : (broken : BrokenClaim) → All (Holds test) claims → IsFirstBroken test claims broken → ⊥
+module _ (reach : Reach) (claims : List Claim) where
+  pub none_broken : (broken : BrokenClaim) → All (Holds reach) claims → IsFirstBroken reach claims broken → ⊥
   none_broken broken all is =
       let within = slice_get_within claims is.before broken.claim is.there in
       let at = get_or_from_slice_get claims is.before broken.claim broken.claim is.there in
-      is.breaks (subst (Holds test) at (all is.before broken.claim within))
+      is.breaks (subst (Holds reach) at (all is.before broken.claim within))
 
   -- it has one number, and one extent
-  pub broken_once : (one other : BrokenClaim) → IsFirstBroken test claims one → IsFirstBroken test claims other
+  pub broken_once : (one other : BrokenClaim) → IsFirstBroken reach claims one → IsFirstBroken reach claims other
       → (one.number ≡ other.number) × (one.extent ≡ other.extent)
   broken_once one other is also = elim (cases_order is.before also.before) [
     | inl same ↦
         let claim : one.claim ≡ other.claim =
         same_Some one.claim other.claim (sym is.there ∙ ap (slice_get claims) same ∙ also.there) in (
           is.counted ∙ ap (λ k. k + 1) same ∙ sym also.counted,
-          extents_once test other.claim.actor other.claim.object one.extent other.extent
-              (subst (λ (c : Claim). GoesTo test c.actor c.object one.extent) claim is.goes_to) also.goes_to,
+          extents_once reach other.claim.actor other.claim.object one.extent other.extent
+              (subst (λ (c : Claim). GoesTo reach c.actor c.object one.extent) claim is.goes_to) also.goes_to,
         )
     | inr (inl below) ↦ absurd (is.breaks (also.held is.before one.claim below is.there))
     | inr (inr above) ↦ absurd (also.breaks (is.held also.before other.claim above also.there))

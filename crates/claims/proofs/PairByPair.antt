@@ -1,14 +1,22 @@
 -- The strongest claims, gathered pair by pair.
-use Rattle.std.specs.{declared.cmp.Ordering.TheVariants.Less, List.Sorted.IsStrictlySortedBy, Ordering.{nat_cmp, ordering_then}}
-use Rattle.std.{specs.Prelude.{get_or}, proofs.Common.{[], ℕ, ◌++◌, ◌+◌, ◌-◌, ◌<◌, ◌==◌, ◌∙◌, ◌∷◌, ◌≡◌, ◌≢◌, ◌⊎◌, All}}
-use Rattle.std.proofs.{Common.{List, arith, false, inl, inr, length, refl, subst, sym, true}, lemmas.Bool.cases_lt}
-use Rattle.std.proofs.lemmas.{Bool.Decides.nat_tests, List.{get_or_append_left, length_push, Elements.{All-nil, All-push, All-weaker}}}
-use Rattle.std.proofs.lemmas.{List.Quantifiers.Any-push, Option.slice_get-get_or}
+use Rattle.std.specs.declared.cmp.Ordering.TheVariants.{Less}
+use Rattle.std.specs.List.Sorted.{IsStrictlySortedBy}
+use Rattle.std.specs.Ordering.{nat_cmp, ordering_then}
+use Rattle.std.specs.Prelude.{get_or}
+use Rattle.std.proofs.Common.{[], ℕ, ◌++◌, ◌+◌, ◌-◌, ◌<◌, ◌==◌, ◌∙◌, ◌∷◌, ◌≡◌, ◌≢◌, ◌⊎◌, All, List, arith, false, inl, inr, length, refl, subst, sym, true}
+use Rattle.std.proofs.lemmas.Bool.{cases_lt}
+use Rattle.std.proofs.lemmas.Bool.Decides.{nat_tests}
+use Rattle.std.proofs.lemmas.List.{get_or_append_left, length_push}
+use Rattle.std.proofs.lemmas.List.Elements.{All-nil, All-push, All-weaker}
+use Rattle.std.proofs.lemmas.List.Quantifiers.{Any-push}
+use Rattle.std.proofs.lemmas.Option.{slice_get-get_or}
 use Rattle.machine.specs.Layout.{Layout}
 use Rattle.words.proofs.TextLaws.{both}
-use Rattle.policy.specs.{Domain.EdgeTest, Full.IsFull}
-use Rattle.claims.specs.{declared.claim.Claim.Claim, Claims.{IsAboveLast, IsClaimOf}, Holding.AreStrongest}
-use Rattle.claims.{specs.Holding.{AreStrongestBefore, ComesBefore, IsClaimed, IsExact}, proofs.Order.rising_appended}
+use Rattle.claims.specs.declared.claim.Claim.{Claim}
+use Rattle.claims.specs.Claims.{IsAboveLast, IsClaimOf}
+use Rattle.claims.specs.Holding.{AreStrongest, AreStrongestBefore, ComesBefore, IsClaimed, IsExact}
+use Rattle.claims.proofs.Order.{rising_appended}
+use Rattle.verdict.specs.Extents.{Reach, MayChangeIn}
 
 -- whether two labels are one
 
@@ -57,23 +65,23 @@ onward : (x y a l : ℕ) → ComesBefore x y a l → ComesBefore x y (a + 1) 0
 onward x y a l (inl lt) = inl (omega arith)
 onward x y a l (inr (same, low)) = inl (omega arith)
 
-module _ (t : Layout) (test : EdgeTest) where
+module _ (t : Layout) (reach : Reach) where
   abbrev Before : ℕ → ℕ → Claim → Type 0
   Before a l claim = ComesBefore claim.actor claim.object a l
 
   -- none comes before the first
-  pub none_before : AreStrongestBefore t test 0 0 []
+  pub none_before : AreStrongestBefore t reach 0 0 []
   unfolding IsStrictlySortedBy
   none_before = record {
     are = (tt, tt);
-    exact = All-nil (IsExact test);
+    exact = All-nil (IsExact reach);
     before = All-nil (Before 0 0);
     complete = λ x y comes within differ lacks. absurd (elim comes [ inl lt ↦ absurd (omega arith) | inr is ↦ absurd (omega arith) ]);
   }
 
   -- a claim on this pair is added
-  pub claim_added : (claims : List Claim) (claim : Claim) → AreStrongestBefore t test claim.actor claim.object claims
-      → IsClaimOf t claim → IsExact test claim → AreStrongestBefore t test claim.actor (claim.object + 1) (claims ++ claim ∷ [])
+  pub claim_added : (claims : List Claim) (claim : Claim) → AreStrongestBefore t reach claim.actor claim.object claims
+      → IsClaimOf t claim → IsExact reach claim → AreStrongestBefore t reach claim.actor (claim.object + 1) (claims ++ claim ∷ [])
   claim_added claims claim so_far is exact =
       let a = claim.actor in
       let l = claim.object in
@@ -82,7 +90,7 @@ module _ (t : Layout) (test : EdgeTest) where
           rising_appended claims claim so_far.are.0 (above_last claims claim so_far.before),
           both (IsClaimOf t) claims (claim ∷ []) so_far.are.1 (is, tt),
         );
-        exact = All-push (IsExact test) claims claim so_far.exact exact;
+        exact = All-push (IsExact reach) claims claim so_far.exact exact;
         before = All-push (Before a (l + 1)) claims claim
             (All-weaker (Before a l) (Before a (l + 1)) (λ c. further c.actor c.object a l) claims so_far.before)
             (inr (refl, omega arith));
@@ -93,8 +101,8 @@ module _ (t : Layout) (test : EdgeTest) where
       }
 
   -- none is added, since the labels are one, or the authority is full
-  pub none_added : (a l : ℕ) (claims : List Claim) → AreStrongestBefore t test a l claims → (a ≡ l) ⊎ IsFull test a l
-      → AreStrongestBefore t test a (l + 1) claims
+  pub none_added : (a l : ℕ) (claims : List Claim) → AreStrongestBefore t reach a l claims → (a ≡ l) ⊎ MayChangeIn reach a l
+      → AreStrongestBefore t reach a (l + 1) claims
   none_added a l claims so_far why = record {
     are = so_far.are;
     exact = so_far.exact;
@@ -104,14 +112,14 @@ module _ (t : Layout) (test : EdgeTest) where
       | inr here ↦ absurd (never x y here.0 here.1 differ lacks why)
     ];
   } where
-    never : (x y : ℕ) → x ≡ a → y ≡ l → x ≢ y → ¬ IsFull test x y → (a ≡ l) ⊎ IsFull test a l → ⊥
+    never : (x y : ℕ) → x ≡ a → y ≡ l → x ≢ y → ¬ MayChangeIn reach x y → (a ≡ l) ⊎ MayChangeIn reach a l → ⊥
     never x y of_a of_l differ lacks (inl same) = differ (of_a ∙ same ∙ sym of_l)
     never x y of_a of_l differ lacks (inr full) =
-        lacks (subst (λ n. IsFull test x n) (sym of_l) (subst (λ n. IsFull test n l) (sym of_a) full))
+        lacks (subst (λ n. MayChangeIn reach x n) (sym of_l) (subst (λ n. MayChangeIn reach n l) (sym of_a) full))
 
   -- the pairs of a label are done
-  pub label_done : (a : ℕ) (claims : List Claim) → AreStrongestBefore t test a (length t.labels) claims
-      → AreStrongestBefore t test (a + 1) 0 claims
+  pub label_done : (a : ℕ) (claims : List Claim) → AreStrongestBefore t reach a (length t.labels) claims
+      → AreStrongestBefore t reach (a + 1) 0 claims
   label_done a claims so_far = record {
     are = so_far.are;
     exact = so_far.exact;
@@ -126,7 +134,7 @@ module _ (t : Layout) (test : EdgeTest) where
     back x y (inr (same, low)) within = absurd (omega arith)
 
   -- all are
-  pub all_done : (claims : List Claim) → AreStrongestBefore t test (length t.labels) 0 claims → AreStrongest t test claims
+  pub all_done : (claims : List Claim) → AreStrongestBefore t reach (length t.labels) 0 claims → AreStrongest t reach claims
   all_done claims so_far = record {
     are = so_far.are;
     exact = so_far.exact;

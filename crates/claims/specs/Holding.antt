@@ -1,23 +1,28 @@
--- When claims hold: how far the authority of a label on another goes at most, what is then kept in every run from a table's boot state,
+-- When claims hold: how far a label goes with another at most, what is then kept in every run from a table's boot state,
 -- the first claim that doesn't hold, and the strongest claims that do (the authority and what is kept are those of 'seL4 Enforces
 -- Integrity', section 4, restated; claims are confine's own).
 use Rattle.std.specs.Prelude.{ℕ, ◌+◌, ◌<◌, ◌↔◌, ◌≡◌, ◌≢◌, ◌⊎◌, All, Any, Bool, List, None, Option, Some, false, length, slice_get, true}
 use Rattle.base.specs.Labels.{is_in}
 use Rattle.machine.specs.Layout.{Layout}
-use Rattle.policy.specs.{Domain.EdgeTest, Full.IsFull, Take.MayTake}
 use Rattle.integrity.specs.Apart.{NeverChanges, OnlyTakes}
-use Rattle.verdict.specs.{declared.extent.Extent.{Extent, Extent as extent}, Extents.GoesTo}
-use Rattle.claims.specs.declared.{claim.{Claim.Claim, Most.{Most, Most as most}}, extents.Extents.Extents, holding.BrokenClaim.BrokenClaim}
+use Rattle.verdict.specs.declared.extent.Extent.{Extent}
+use Rattle.verdict.specs.declared.extent.Extent.{Extent as extent}
+use Rattle.verdict.specs.Extents.{GoesTo, Reach, MayChangeIn, MayShrinkIn}
+use Rattle.claims.specs.declared.claim.Claim.{Claim}
+use Rattle.claims.specs.declared.claim.Most.{Most}
+use Rattle.claims.specs.declared.claim.Most.{Most as most}
+use Rattle.claims.specs.declared.extents.Extents.{Extents}
+use Rattle.claims.specs.declared.holding.BrokenClaim.{BrokenClaim}
 use Rattle.claims.specs.Claims.{AreClaimsOf}
 
 -- a label has no more authority on another than this
-abbrev pub HasAtMost : EdgeTest → ℕ → ℕ → Most → Type 0
-HasAtMost test a l most.Nothing = (¬ IsFull test a l) × (¬ MayTake test a l)
-HasAtMost test a l most.Take = ¬ IsFull test a l
+abbrev pub HasAtMost : Reach → ℕ → ℕ → Most → Type 0
+HasAtMost reach a l most.Nothing = (¬ MayChangeIn reach a l) × (¬ MayShrinkIn reach a l)
+HasAtMost reach a l most.Take = ¬ MayChangeIn reach a l
 
 -- a claim holds by a policy
-abbrev pub Holds : EdgeTest → Claim → Type 0
-Holds test claim = HasAtMost test claim.actor claim.object claim.most
+abbrev pub Holds : Reach → Claim → Type 0
+Holds reach claim = HasAtMost reach claim.actor claim.object claim.most
 
 -- in every run from the table's boot state, no step of a thread of the one label changes an object of the other; or none does other than
 -- by shrinking it
@@ -30,13 +35,13 @@ abbrev pub IsKept : Layout → Claim → Type 0
 IsKept t claim = KeepsAtMost t claim.actor claim.object claim.most
 
 -- the first claim that doesn't hold, from 1: those before it do; and how far the authority goes there
-pub record IsFirstBroken (test : EdgeTest) (claims : List Claim) (broken : BrokenClaim) : Type 0 where
+pub record IsFirstBroken (reach : Reach) (claims : List Claim) (broken : BrokenClaim) : Type 0 where
   pub before : ℕ
   pub counted : broken.number ≡ before + 1
   pub there : slice_get claims before ≡ Some broken.claim
-  pub held : (k : ℕ) (claim : Claim) → k < before → slice_get claims k ≡ Some claim → Holds test claim
-  pub breaks : ¬ Holds test broken.claim
-  pub goes_to : GoesTo test broken.claim.actor broken.claim.object broken.extent
+  pub held : (k : ℕ) (claim : Claim) → k < before → slice_get claims k ≡ Some claim → Holds reach claim
+  pub breaks : ¬ Holds reach broken.claim
+  pub goes_to : GoesTo reach broken.claim.actor broken.claim.object broken.extent
 
 -- how far the authority goes of which no more than this is claimed
 abbrev pub extent_of : Most → Extent
@@ -57,31 +62,31 @@ is_within most.Take extent.Take = true
 is_within m other = false
 
 -- a claim says how far the authority goes, and not only that it goes no further
-abbrev pub IsExact : EdgeTest → Claim → Type 0
-IsExact test claim = GoesTo test claim.actor claim.object (extent_of claim.most)
+abbrev pub IsExact : Reach → Claim → Type 0
+IsExact reach claim = GoesTo reach claim.actor claim.object (extent_of claim.most)
 
 -- a claim on this pair is among these
 abbrev pub IsClaimed : ℕ → ℕ → List Claim → Type 0
 IsClaimed a l claims = Any (λ claim. (claim.actor ≡ a) × (claim.object ≡ l)) claims
 
 -- the strongest claims that hold: exact ones, on all pairs of two labels of the table but those where the authority is full
-pub record AreStrongest (t : Layout) (test : EdgeTest) (claims : List Claim) : Type 0 where
+pub record AreStrongest (t : Layout) (reach : Reach) (claims : List Claim) : Type 0 where
   pub are : AreClaimsOf t claims
-  pub exact : All (IsExact test) claims
-  pub complete : (a l : ℕ) → a < length t.labels → l < length t.labels → a ≢ l → ¬ IsFull test a l → IsClaimed a l claims
+  pub exact : All (IsExact reach) claims
+  pub complete : (a l : ℕ) → a < length t.labels → l < length t.labels → a ≢ l → ¬ MayChangeIn reach a l → IsClaimed a l claims
 
 -- a pair comes before another: by label, then label
 abbrev pub ComesBefore : ℕ → ℕ → ℕ → ℕ → Type 0
 ComesBefore x y a l = (x < a) ⊎ ((x ≡ a) × (y < l))
 
 -- the strongest claims on the pairs that come before this one
-pub record AreStrongestBefore (t : Layout) (test : EdgeTest) (a l : ℕ) (claims : List Claim) : Type 0 where
+pub record AreStrongestBefore (t : Layout) (reach : Reach) (a l : ℕ) (claims : List Claim) : Type 0 where
   pub are : AreClaimsOf t claims
-  pub exact : All (IsExact test) claims
+  pub exact : All (IsExact reach) claims
   pub before : All (λ claim. ComesBefore claim.actor claim.object a l) claims
-  pub complete : (x y : ℕ) → ComesBefore x y a l → y < length t.labels → x ≢ y → ¬ IsFull test x y → IsClaimed x y claims
+  pub complete : (x y : ℕ) → ComesBefore x y a l → y < length t.labels → x ≢ y → ¬ MayChangeIn reach x y → IsClaimed x y claims
 
--- these are the labels on which a label has full authority, and those from which it may take
-pub record AreExtents (test : EdgeTest) (extents : Extents) : Type 0 where
-  pub full : (l : ℕ) → (is_in extents.full l ≡ true) ↔ IsFull test extents.actor l
-  pub take : (l : ℕ) → (is_in extents.take l ≡ true) ↔ MayTake test extents.actor l
+-- these are the labels that a label may change, and those that it may make smaller
+pub record AreExtents (reach : Reach) (extents : Extents) : Type 0 where
+  pub changed : (l : ℕ) → (is_in extents.changed l ≡ true) ↔ MayChangeIn reach extents.actor l
+  pub shrunk : (l : ℕ) → (is_in extents.shrunk l ≡ true) ↔ MayShrinkIn reach extents.actor l

@@ -1,56 +1,54 @@
-//! How far the authority of a label goes on each label.
+//! How far a label goes with each label.
 ghost use Rattle.std.specs.Prelude.{◌≡◌, IfSome};
-ghost use Rattle.policy.specs.{Domain.EdgeTest, Policy.allows};
-ghost use Rattle.verdict.specs.Extents.{GoesTo};
+ghost use Rattle.verdict.specs.Extents.{GoesTo, Reach, reach_of};
 ghost use Rattle.claims.specs.Holding.{AreExtents};
 
 use base::{Label, Labels};
-use policy::Policy;
-use verdict::Extent;
+use verdict::{Bounds, Extent};
 
-/// How far the authority of a label goes on each label.
+/// How far a label goes with each label.
 #[derive(Drop)]
 pub(crate) struct Extents {
     pub actor: Label,
-    full: Labels,
-    take: Labels,
+    changed: Labels,
+    shrunk: Labels,
 }
 
 impl Extents {
-    /// Returns how far the authority of a label goes by a policy.
-    pub fn of(policy: &Policy, actor: Label) -> Extents
+    /// Returns how far a label goes in a system.
+    pub fn of(bounds: &Bounds<'_>, actor: Label) -> Extents
         ensures actor { result.actor ≡ actor }
-        ensures extents { AreExtents (allows policy.now) result }
+        ensures extents { AreExtents (reach_of bounds.now) result }
     {
         Extents {
             actor,
-            full: policy.full_labels(actor),
-            take: policy.take_labels(actor),
+            changed: bounds.changed_by(actor),
+            shrunk: bounds.shrunk_by(actor),
         }
     }
 
-    /// Returns how far the authority of a label goes by a policy.
+    /// Returns how far a label goes in a system.
     ///
     /// Returns the extents that were found last, if they are the label's.
-    pub fn again(last: Option<Extents>, policy: &Policy, actor: Label) -> Extents
-        requires { IfSome last (AreExtents (allows policy.now)) }
+    pub fn again(last: Option<Extents>, bounds: &Bounds<'_>, actor: Label) -> Extents
+        requires { IfSome last (AreExtents (reach_of bounds.now)) }
         ensures actor { result.actor ≡ actor }
-        ensures extents { AreExtents (allows policy.now) result }
+        ensures extents { AreExtents (reach_of bounds.now) result }
     {
         match last {
             Some(extents) if extents.actor == actor => extents,
-            _ => Extents::of(policy, actor),
+            _ => Extents::of(bounds, actor),
         }
     }
 
-    /// Returns how far the authority goes on this label.
+    /// Returns how far the label goes with this one.
     pub fn on(&self, object: Label) -> Extent
-        ensures { (test : EdgeTest) → AreExtents test self.now → GoesTo test self.now.actor object result }
+        ensures { (reach : Reach) → AreExtents reach self.now → GoesTo reach self.now.actor object result }
     {
-        if self.full.has(object) {
+        if self.changed.has(object) {
             return Extent::Full;
         }
-        if self.take.has(object) {
+        if self.shrunk.has(object) {
             return Extent::Take;
         }
         Extent::Nothing

@@ -1,12 +1,30 @@
 -- What the words of a command line ask for: each command, with its words and options, and the request that they make (confine's own).
-use Rattle.std.specs.{Borrow.Bor, Prelude.{[], ℕ, ◌≡◌, ◌∷◌, Bool, List, None, Option, Some, codes, decimal, false, find, if◌then◌else◌}}
-use Rattle.std.specs.{Prelude.{is_some, option_and_then, option_copied, option_map, true}, Str.bytes_eq}
-use Rattle.clap.specs.{declared.parser.matches.{ArgMatches.ArgMatches, Found.Found}, Matches.{first_value, one_text, subcommand_name_of}}
-use Rattle.clap.specs.{Simple.subcommand_rows_of, Walk.rows_of}
-use Rattle.report.specs.declared.{checking.OnAccept.{OnAccept, OnAccept as on_accept}, closing.OnClose.{OnClose, OnClose as on_close}}
-use Rattle.confine.specs.declared.{meaning.{Verb.{Verb, Verb as verb}, Words.Words}, request.OfSystem.{OfSystem, OfSystem as of_system}}
-use Rattle.confine.specs.declared.request.{CommandLine.{CommandLine, TheVariants.{InTurn, Split}}, OfTable.{OfTable as of_table}}
-use Rattle.confine.specs.declared.request.{OfThree.{OfThree, OfThree as of_three}, Request.{Request, Request as request}}
+use Rattle.std.specs.Borrow.{Bor}
+use Rattle.std.specs.Prelude.{[], ℕ, ◌≡◌, ◌∷◌, Bool, List, None, Option, Some, codes, decimal, false, find, if◌then◌else◌, is_some, option_and_then, option_copied, option_map, true}
+use Rattle.std.specs.Str.{bytes_eq}
+use Rattle.clap.specs.declared.parser.matches.ArgMatches.{ArgMatches}
+use Rattle.clap.specs.declared.parser.matches.Found.{Found}
+use Rattle.clap.specs.Matches.{first_value, one_text, subcommand_name_of}
+use Rattle.clap.specs.Simple.{subcommand_rows_of}
+use Rattle.clap.specs.Walk.{rows_of}
+use Rattle.report.specs.declared.checking.OnAccept.{OnAccept}
+use Rattle.report.specs.declared.checking.OnAccept.{OnAccept as on_accept}
+use Rattle.report.specs.declared.closing.OnClose.{OnClose}
+use Rattle.report.specs.declared.closing.OnClose.{OnClose as on_close}
+use Rattle.confine.specs.declared.meaning.Verb.{Verb}
+use Rattle.confine.specs.declared.meaning.Verb.{Verb as verb}
+use Rattle.confine.specs.declared.meaning.Words.{Words}
+use Rattle.confine.specs.declared.request.OfSystem.{OfSystem}
+use Rattle.confine.specs.declared.request.OfSystem.{OfSystem as of_system}
+use Rattle.confine.specs.declared.request.CommandLine.{CommandLine}
+use Rattle.confine.specs.declared.request.CommandLine.TheVariants.{InTurn, Split}
+use Rattle.confine.specs.declared.request.OfTable.{OfTable as of_table}
+use Rattle.confine.specs.declared.request.OfThree.{OfThree}
+use Rattle.confine.specs.declared.request.OfThree.{OfThree as of_three}
+use Rattle.confine.specs.declared.request.Request.{Request}
+use Rattle.confine.specs.declared.request.Request.{Request as request}
+use Rattle.report.specs.declared.asking.Basis.{Basis}
+use Rattle.report.specs.declared.asking.Basis.{Basis as basis}
 
 infixl 10 ◌>>=◌
 abbrev ◌>>=◌ : {A B : Type 0} → Option A → (A → Option B) → Option B
@@ -31,6 +49,10 @@ on_accept_of words = if words.cert then on_accept.Certificate else on_accept.Rep
 -- what `close` writes
 abbrev pub on_close_of : Words → OnClose
 on_close_of words = if words.missing then on_close.Missing else if words.surplus then on_close.Surplus else on_close.Policy
+
+-- what an answer on labels rests on
+abbrev pub basis_of : Words → Basis
+basis_of words = if words.policy_alone then basis.Policy else basis.System
 
 -- a request that is done in turn
 abbrev pub in_turn : Words → Request Name → Option CommandLine
@@ -71,8 +93,8 @@ asked_by verb.Close words =
 asked_by verb.Why words = do
   actor ← words.actor
   object ← words.object
-  of_two words (of_system.Why actor object)
-asked_by verb.Draw words = of_two words of_system.Draw
+  of_two words (of_system.Why (basis_of words) actor object)
+asked_by verb.Draw words = of_two words (of_system.Draw (basis_of words))
 asked_by verb.Claims words = if words.all then of_two words of_system.Strongest else of_all words of_three.Claims words.claims
 asked_by verb.List words = in_turn words (request.OfTable of_table.List words.table)
 
@@ -114,7 +136,7 @@ AreFound found words =
     ∷ (codes "object", words.object) ∷ (codes "workers", words.workers) ∷ [])
     × Each (IsGiven found)
     ((codes "explain", words.explain) ∷ (codes "cert", words.cert) ∷ (codes "missing", words.missing) ∷ (codes "surplus", words.surplus)
-    ∷ (codes "split", words.split) ∷ (codes "all", words.all) ∷ [])
+    ∷ (codes "split", words.split) ∷ (codes "all", words.all) ∷ (codes "policy-alone", words.policy_alone) ∷ [])
 
 -- a line asks for what its command and the words found for that make
 pub record IsAskedIn (matches : ArgMatches) (line : CommandLine) : Type 0 where

@@ -46,8 +46,8 @@ ServesTable of_table.List = IsListed
 abbrev pub ServesSystem : {T P O : Type 0} → OfSystem → Input T → Input P → Output O → End → Type 0
 ServesSystem (Check workers on_accept) = IsChecked on_accept
 ServesSystem (Close on_close) = IsClosedOver on_close
-ServesSystem (Why actor object) = IsTold actor.now object.now
-ServesSystem Draw = IsDrawn
+ServesSystem (Why basis actor object) = IsTold basis actor.now object.now
+ServesSystem (Draw basis) = IsDrawn basis
 ServesSystem Strongest = AreWritten
 
 -- what is asked of a table, a policy and a third file was done

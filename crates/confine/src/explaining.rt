@@ -8,7 +8,9 @@ use explain::{
 };
 use machine::{Event, Outcome};
 use policy::Policy;
-use report::{Asked, End, Fault, File, Finding, Heard, Listener, OnClose, Outcomes, answer_at};
+use report::{
+    Asked, Basis, End, Fault, File, Finding, Heard, Listener, OnClose, Outcomes, answer_at,
+};
 use slips::explain_fault;
 use std::alloc::AllocError;
 use std::fmt;
@@ -17,6 +19,11 @@ use std::marker::PhantomData;
 use std::thread::Threads;
 use table::Table;
 use verdict::Denial;
+
+/// What an answer by a policy alone is worth.
+const BY_POLICY_ALONE: &str =
+    "confine: by the policy alone: each label counts as one whose threads make calls, \
+so that this holds of no run";
 
 /// Tells a person on standard error what a command finds, if that was asked for. That standard error can't
 /// be written to, or that memory is refused to a sentence, changes nothing.
@@ -47,6 +54,23 @@ impl<'a, R: AllocGlobal + Eprint> Explainer<'a, R> {
                 }
                 None => format!(in alloc; "`{name}` is to be the {file}, and can't be read"),
             });
+        }
+    }
+
+    /// Tells what an answer by a policy alone is worth, if that was asked for, whether or not anything is to be
+    /// explained.
+    fn warn(&self) {
+        if let Request::OfSystem(
+            OfSystem::Why {
+                basis: Basis::Policy,
+                ..
+            }
+            | OfSystem::Draw(Basis::Policy),
+            _,
+            _,
+        ) = self.invocation.request
+        {
+            let _ = self.rt.eprintln(BY_POLICY_ALONE);
         }
     }
 
@@ -157,8 +181,23 @@ impl<'a, R: AllocGlobal + Eprint> Explainer<'a, R> {
                 self.tell_lines(explain_notes(alloc, table));
                 self.tell_lines(explain_reach(alloc, table, policy));
             }
-            (Request::OfSystem(OfSystem::Why { actor, object }, file, _), Some(policy), _) => {
-                self.tell_lines(explain_why(leave, alloc, file, table, policy, actor, object));
+            (
+                Request::OfSystem(
+                    OfSystem::Why {
+                        basis,
+                        actor,
+                        object,
+                    },
+                    file,
+                    _,
+                ),
+                Some(policy),
+                _,
+            ) => {
+                let alone = basis == Basis::Policy;
+                self.tell_lines(explain_why(
+                    leave, alloc, file, table, policy, alone, actor, object,
+                ));
             }
             (Request::OfThree(OfThree::Run, _, _, script), _, Some(outcomes)) => {
                 self.tell_refusals(table, script, outcomes);
@@ -177,6 +216,7 @@ impl<R: AllocGlobal + Eprint + Threads + Sync> Listener for Explainer<'_, R> {
     }
 
     fn hear_answer(&mut self, heard: &Heard<'_>) {
+        self.warn();
         if self.invocation.explains {
             match heard.finding {
                 Some(finding) => self.tell_finding(heard, finding),

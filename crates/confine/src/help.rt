@@ -21,10 +21,10 @@ pub const ABOUT_CLOSE: &str =
     "Writes the least policy to which a table keeps, with the edges of one that is named";
 
 pub const ABOUT_WHY: &str =
-    "Tells which authority a label has on another by a policy, and by which edges";
+    "Tells what threads of a label may do to objects of another, and by which edges";
 
 pub const ABOUT_DRAW: &str =
-    "Draws, for Graphviz, who may change or take from whom by a policy, and by which edge";
+    "Draws, for Graphviz, who may change or take from whom, and by which edge";
 
 pub const ABOUT_CLAIMS: &str =
     "Tells whether claims hold: at most how much authority labels have on others";
@@ -137,7 +137,7 @@ and `end`, rise by the first label, and then by the second:
   none LABEL LABEL   threads of the first never change an object of the second
   take LABEL LABEL   .. other than by shrinking it";
 
-pub const VERSION: &str = "0.14.0";
+pub const VERSION: &str = "0.15.0";
 
 pub const EXPLAIN: &str =
     "Tells in sentences, on standard error, what is denied or faulty, and a way out";
@@ -163,6 +163,9 @@ pub const ALL: &str =
 pub const ACTOR: &str = "The label that acts, by its name in the table";
 
 pub const OBJECT: &str = "The label whose objects it acts on";
+
+pub const POLICY_ALONE: &str =
+    "Asks the policy alone, as if threads of each label made calls: this holds of no run";
 
 // An example of a small table.
 macro_rules! with_table {
@@ -211,6 +214,19 @@ end
         )
     };
 }
+
+/// What is said where nothing is asked for.
+pub const BEGINNING: &str = "\
+confine decides, before a separated system boots, whether its capabilities keep to a policy.
+
+  confine close TABLE                 writes the least policy that a table keeps to
+  confine check TABLE POLICY          accepts or denies, and prints who may change what
+  confine claims TABLE POLICY CLAIMS  tells whether claims on labels hold in every run
+  confine why TABLE POLICY A B        tells what label A may do to label B, and by which edges
+
+`confine --help` lists all commands, and `confine COMMAND --help` explains one, with an example.
+docs/TUTORIAL.md begins with an empty page.
+";
 
 pub const EXAMPLE: &str = with_policy!(
     "a thread `main` may signal a bell and poll it.",
@@ -481,7 +497,7 @@ It prints the first claim that doesn't hold and what authority there is, and end
 
 With `--explain` standard error says by which edges:
 
-claim 1, `take a b`, is broken: `a` has full authority on `b`, by `edge a notify b`: leave the claim
+claim 1, `take a b`, is broken: `a` may change objects of `b`, by `edge a notify b`: leave the claim
 out, or take an edge out of the policy, and what asks for it out of the table
 "
 );
@@ -509,23 +525,22 @@ What may label `a` do to what is labelled `b`?",
     "\
 confine why table policy a b
 
-It has full authority, since it may notify, and ends with status 0:
+Threads of `a` may change objects of `b`, since they may notify, and it ends with status 0:
 
 full
 edge a notify b
 
-So threads of `a` may change objects of `b`. And the other way round:
+And the other way round:
 
 confine why table policy b a
 
-It has no authority, and ends with status 1:
-
 none
 
-So no object of `a` is changed by threads of `b`. Where they may take away, and no more, it prints
-`take` and the edges by which they may, with status 1 too: the other's objects may vanish, or lose
-capabilities or links. Of several reasons that with the fewest edges is told. It is told of the
-policy: whether a table keeps to it, `confine check` tells.
+In no run does a thread of `b` change an object of `a`: `b` has no thread. `take` says that threads
+of the one may at most take something away: objects of the other may vanish, or lose capabilities or
+links. Of several reasons `why` prints the one with the fewest edges. It ends with status 0 whatever
+the answer is; `confine claims` is the command that fails. A system that `confine check` denies is
+denied here, with status 1 too.
 "
 );
 
@@ -545,8 +560,8 @@ digraph authority {
 
 So threads of `a` may change objects of `b`, and the edge `a notify b` is the first of a reason for
 that, as `confine why` tells it. A dashed arrow is for threads that may take away, and no more.
-Between labels with no arrow nothing is changed. A label has no arrow to itself. It is drawn of the
-policy: whether a table keeps to it, `confine check` tells. Graphviz makes a picture of it:
+Between labels with no arrow nothing is changed in any run. A label has no arrow to itself. A system
+that `confine check` denies is denied here, with status 1 too. Graphviz makes a picture of it:
 `confine draw table policy | dot -Tsvg >authority.svg`.
 "
 );

@@ -49,6 +49,10 @@ enum Unasked {
     NoMemory,
     /// A word of the command line isn't UTF-8.
     NotText,
+    /// There is no word but the program's name.
+    Nothing,
+    /// The words ask for the version.
+    Version(clap::Error),
     /// The words are no command of the program, or ask for help.
     Misused(clap::Error),
 }
@@ -64,10 +68,14 @@ fn asked<'a>(alloc: Global, words: &'a io::Result<Vec<String>>) -> Result<Comman
     ensures unread { OnErr words.now (IsErr result) }
 {
     match words {
+        Ok(words) if words.len() < 2 => Err(Unasked::Nothing),
         Ok(words) => match read_request(alloc, words) {
             Ok(line) => Ok(line),
-            Err(error) if error.kind() == ErrorKind::OutOfMemory => Err(Unasked::NoMemory),
-            Err(error) => Err(Unasked::Misused(error)),
+            Err(error) => Err(match error.kind() {
+                ErrorKind::OutOfMemory => Unasked::NoMemory,
+                ErrorKind::DisplayVersion => Unasked::Version(error),
+                _ => Unasked::Misused(error),
+            }),
         },
         Err(error) if error.kind() == io::ErrorKind::OutOfMemory => Err(Unasked::NoMemory),
         Err(_) => Err(Unasked::NotText),
@@ -238,10 +246,14 @@ where
             rt, alloc, table, policy, on_accept, workers, gate, listener, out,
         ),
         OfSystem::Close(on_close) => close(alloc, table, policy, on_close, listener, out),
-        OfSystem::Why { actor, object } => {
-            why(alloc, table, policy, actor, object, listener, out)
-        }
-        OfSystem::Draw => draw(alloc, table, policy, listener, out),
+        OfSystem::Why {
+            basis,
+            actor,
+            object,
+        } => why(
+            rt, alloc, basis, table, policy, actor, object, listener, out,
+        ),
+        OfSystem::Draw(basis) => draw(rt, alloc, basis, table, policy, listener, out),
         OfSystem::Strongest => write_claims(rt, alloc, table, policy, listener, out),
     }
 }
@@ -292,13 +304,19 @@ fn tell<R: Eprint>(rt: &R, end: End) -> u8
     end.status()
 }
 
-/// Says on standard error why nothing was done; gives the exit status.
-fn refuse<R: Eprint>(rt: &R, unasked: Unasked) -> u8
-    ensures { result ≡ 2 }
+/// Says on standard error why nothing was done, or prints the version, if that was asked for; gives the
+/// exit status.
+fn refuse<R: Eprint + Print>(rt: &R, unasked: Unasked) -> u8
+    ensures { result ≤ 2 }
 {
     match unasked {
         Unasked::NoMemory => tell(rt, End::NoMemory),
         Unasked::NotText => misuse(rt, "confine: an argument isn't UTF-8\n"),
+        Unasked::Nothing => misuse(rt, help::BEGINNING),
+        Unasked::Version(version) => match rt.print(version) {
+            Ok(()) => 0,
+            Err(_) => tell(rt, End::CannotWrite),
+        },
         Unasked::Misused(error) => misuse(rt, error),
     }
 }

@@ -1,10 +1,10 @@
 //! What the words of a command line ask for.
 ghost use Rattle.std.specs.{Prelude.{◌<◌, ◌≡◌, ◌≢◌, ◌≤◌, IfNone, IfSome, length, position}, Str.bytes_eq};
-ghost use Rattle.confine.specs.Meaning.{command_line_of, few_of, in_turn, of_all, of_two, on_accept_of, on_close_of, split_of, verb_name};
+ghost use Rattle.confine.specs.Meaning.{basis_of, command_line_of, few_of, in_turn, of_all, of_two, on_accept_of, on_close_of, split_of, verb_name};
 ghost use Rattle.confine.specs.Requests.{IsWithinLimits, OnInTurn};
 
 use crate::request::{CommandLine, Invocation, OfSystem, OfTable, OfThree, Request, SplitRun};
-use report::{OnAccept, OnClose};
+use report::{Basis, OnAccept, OnClose};
 
 /// A command of the program.
 #[derive(Clone, Copy)]
@@ -60,6 +60,7 @@ pub struct Words<'a> {
     pub surplus: bool,
     pub split: bool,
     pub all: bool,
+    pub policy_alone: bool,
 }
 
 impl<'a> Words<'a> {
@@ -82,10 +83,11 @@ impl<'a> Words<'a> {
                 None => self.in_turn(Request::OfTable(OfTable::Start(self.on_close()), self.table)),
             },
             Verb::Why => self.of_two(OfSystem::Why {
+                basis: self.basis(),
                 actor: self.actor?,
                 object: self.object?,
             }),
-            Verb::Draw => self.of_two(OfSystem::Draw),
+            Verb::Draw => self.of_two(OfSystem::Draw(self.basis())),
             Verb::Claims if self.all => self.of_two(OfSystem::Strongest),
             Verb::Claims => self.of_all(OfThree::Claims, self.claims),
             Verb::List => self.in_turn(Request::OfTable(OfTable::List, self.table)),
@@ -136,6 +138,17 @@ impl<'a> Words<'a> {
             OnAccept::Certificate
         } else {
             OnAccept::Report
+        }
+    }
+
+    // What an answer on labels rests on.
+    fn basis(self) -> Basis
+        ensures { result ≡ basis_of self.entry }
+    {
+        if self.policy_alone {
+            Basis::Policy
+        } else {
+            Basis::System
         }
     }
 

@@ -7,7 +7,7 @@ use crate::help;
 use crate::meaning::{Verb, Words};
 use clap::error::ErrorKind;
 use clap::{Arg, ArgAction, ArgMatches, Command, Error};
-use report::{Asked, File, OnAccept, OnClose};
+use report::{Asked, Basis, File, OnAccept, OnClose};
 use std::alloc::{AllocError, Global};
 
 /// What a command line asks for.
@@ -73,13 +73,20 @@ pub enum OfTable {
 #[derive(Clone, Copy)]
 pub enum OfSystem<'a> {
     /// Checks the table against the policy, by 1 to 16 workers.
-    Check { workers: usize, on_accept: OnAccept },
+    Check {
+        workers: usize,
+        on_accept: OnAccept,
+    },
     /// Closes the policy over the table.
     Close(OnClose),
-    /// Tells which authority a label has on another by the policy, and why.
-    Why { actor: &'a str, object: &'a str },
-    /// Draws who may change or take from whom by the policy.
-    Draw,
+    /// Tells what threads of a label may do to objects of another, and why.
+    Why {
+        basis: Basis,
+        actor: &'a str,
+        object: &'a str,
+    },
+    /// Draws who may change or take from whom.
+    Draw(Basis),
     /// Writes the strongest claims that hold.
     Strongest,
 }
@@ -201,6 +208,7 @@ fn words_of<'a>(verb: Verb, found: &ArgMatches<'a>) -> Option<Words<'a>>
         surplus: found.get_flag("surplus"),
         split: found.get_flag("split"),
         all: found.get_flag("all"),
+        policy_alone: found.get_flag("policy-alone"),
     })
 }
 
@@ -292,11 +300,13 @@ fn close_command<'a>(alloc: Global) -> Result<Command<'a>, AllocError> {
 fn why_command<'a>(alloc: Global) -> Result<Command<'a>, AllocError> {
     let command = on_system(alloc, "why", help::ABOUT_WHY, help::EXAMPLE_WHY);
     let command = taking(command, Ok(word(alloc, "actor", "A", help::ACTOR)));
-    taking(command, Ok(word(alloc, "object", "B", help::OBJECT)))
+    let command = taking(command, Ok(word(alloc, "object", "B", help::OBJECT)));
+    taking(command, Ok(flag(alloc, "policy-alone", help::POLICY_ALONE)))
 }
 
 fn draw_command<'a>(alloc: Global) -> Result<Command<'a>, AllocError> {
-    on_system(alloc, "draw", help::ABOUT_DRAW, help::EXAMPLE_DRAW)
+    let command = on_system(alloc, "draw", help::ABOUT_DRAW, help::EXAMPLE_DRAW);
+    taking(command, Ok(flag(alloc, "policy-alone", help::POLICY_ALONE)))
 }
 
 fn claims_command<'a>(alloc: Global) -> Result<Command<'a>, AllocError> {

@@ -31,6 +31,12 @@ seen_is_safe system boot cores history accepted booted legal =
       bounds =
           λ before after noted m next is led step.
           accepted.safe.bounds m next noted.event noted.outcome (reached system.table boot before m booted led) step;
+      narrow =
+          λ acts actors before after noted m next is led step.
+          accepted.safe.narrow acts actors m next noted.event noted.outcome (reached system.table boot before m booted led) step;
+      acting =
+          λ before after noted m next is led step.
+          accepted.safe.acting m next noted.event noted.outcome (reached system.table boot before m booted led) step;
       budgets =
           λ before after noted m next is led step.
           accepted.safe.budgets m next noted.event noted.outcome (reached system.table boot before m booted led) step;

@@ -1,15 +1,27 @@
 -- A history that stays within a policy, state by state and step by step ('seL4 Enforces Integrity', sections 4 and 5, authority confinement
 -- and integrity, of a history in place of a run).
-use Rattle.std.specs.Prelude.{ℕ, ◌++◌, ◌∷◌, ◌≡◌, List, Some}
+use Rattle.std.specs.Prelude.{ℕ, ◌++◌, ◌∷◌, ◌≡◌, List, Some, ◌⊎◌}
 use Rattle.base.specs.declared.ids.ObjId.{ObjId}
-use Rattle.machine.specs.{declared.object.Object.Object, Authority.label_of, Layout.Layout, Machine.{Machine, object_of}, Step.Step}
+use Rattle.machine.specs.declared.object.Object.{Object}
+use Rattle.machine.specs.Authority.{label_of}
+use Rattle.machine.specs.Layout.{Layout}
+use Rattle.machine.specs.Machine.{Machine, object_of}
+use Rattle.machine.specs.Step.{Step}
 use Rattle.policy.specs.Domain.{EdgeTest}
 use Rattle.kernel.specs.Legal.{Leads}
-use Rattle.integrity.specs.{Allowed.IsAllowedStep, Bounded.IsBoundedStep, Budgets.KeepsBudgets, Confined.IsConfined}
-use Rattle.cores.specs.{declared.view.Noted.Noted, History.log_of}
+use Rattle.integrity.specs.Allowed.{IsAllowedStep}
+use Rattle.integrity.specs.Bounded.{IsBoundedStep}
+use Rattle.integrity.specs.Budgets.{KeepsBudgets}
+use Rattle.integrity.specs.Confined.{IsConfined}
+use Rattle.cores.specs.declared.view.Noted.{Noted}
+use Rattle.cores.specs.History.{log_of}
+use Rattle.policy.specs.Change.{ActorTest}
+use Rattle.integrity.specs.Acting.{HoldsOfActors, MayAct}
+use Rattle.integrity.specs.Altered.{IsNarrowStep}
+use Rattle.machine.specs.Outcomes.{IsRefused}
 
--- each state on it, after any of its beginnings, is confined, and its objects have labels; each step on it is allowed, takes away only
--- from where its caller's label may take, and keeps the budgets
+-- each state on it, after any of its beginnings, is confined, and its objects have labels; each step on it is allowed, keeps to the
+-- bounds and the budgets, and is refused or is of a thread whose label may act
 pub record IsSafeHistory (t : Layout) (allowed : EdgeTest) (boot : Machine) (history : List Noted) : Type 0 where
   pub labelled :
       (before after : List Noted) (m : Machine) → history ≡ before ++ after → Leads boot (log_of before) m
@@ -22,6 +34,14 @@ pub record IsSafeHistory (t : Layout) (allowed : EdgeTest) (boot : Machine) (his
   pub bounds :
       (before after : List Noted) (noted : Noted) (m next : Machine) → history ≡ before ++ noted ∷ after
       → Leads boot (log_of before) m → Step m noted.event noted.outcome next → IsBoundedStep t allowed m noted.event next
+  pub narrow :
+      (acts : ActorTest) → HoldsOfActors t allowed acts
+      → (before after : List Noted) (noted : Noted) (m next : Machine) → history ≡ before ++ noted ∷ after
+      → Leads boot (log_of before) m → Step m noted.event noted.outcome next → IsNarrowStep t allowed acts m noted.event next
+  pub acting :
+      (before after : List Noted) (noted : Noted) (m next : Machine) → history ≡ before ++ noted ∷ after
+      → Leads boot (log_of before) m → Step m noted.event noted.outcome next
+      → IsRefused noted.outcome ⊎ ((a : ℕ) × (label_of t m noted.event.thread ≡ Some a) × MayAct t allowed a)
   pub budgets :
       (before after : List Noted) (noted : Noted) (m next : Machine) → history ≡ before ++ noted ∷ after
       → Leads boot (log_of before) m → Step m noted.event noted.outcome next → KeepsBudgets t allowed m noted.event next

@@ -6,8 +6,9 @@ use claims::BrokenClaim;
 use policy::{Policy, Why};
 use std::alloc::{AllocError, Global};
 use table::Table;
+use verdict::actors;
 
-/// Why a claim doesn't hold, by the edges of one reason for the authority that it denies, and what may be done.
+/// Returns why a claim on an accepted system doesn't hold, by the edges of one reason, and what may be done.
 pub fn explain_broken(
     alloc: Global,
     table: &Table,
@@ -28,7 +29,8 @@ fn push_broken(
     broken: &BrokenClaim,
 ) -> Result<(), Refusal> {
     push_claim(sentence, table, broken)?;
-    let why = policy.why(alloc, broken.claim.actor, broken.claim.object)?;
+    let claim = broken.claim;
+    let why = policy.why_among(alloc, actors(table, policy), claim.actor, claim.object)?;
     push_why(sentence, table, broken, &why)?;
     Ok(())
 }
@@ -47,7 +49,7 @@ fn push_claim(
     write!(sentence, "is broken: `{actor}` ")
 }
 
-/// Adds the authority that the claim denies, and what may be done.
+/// Adds what the claim denies, and what may be done.
 fn push_why(
     sentence: &mut String,
     table: &Table,
@@ -57,7 +59,7 @@ fn push_why(
     let object = label_name(table, broken.claim.object);
     match why {
         Why::Full(edges) => {
-            push_authority(sentence, table, "has full authority on", object, edges)?;
+            push_authority(sentence, table, "may change objects of", object, edges)?;
             sentence.push_str("leave the claim out, or ")?;
         }
         Why::Take(edges) => {
@@ -70,7 +72,7 @@ fn push_why(
     sentence.push_str("take an edge out of the policy, and what asks for it out of the table")
 }
 
-/// Adds an authority, and the edges by which it is there.
+/// Adds what a label may do, and the edges by which it may.
 fn push_authority(
     sentence: &mut String,
     table: &Table,

@@ -4,27 +4,37 @@ use crate::asked::asked_edge;
 use crate::broken::push_edges;
 use crate::closing::{MOST_EDGES, mending_edge};
 use crate::premises::premises;
+use crate::reach::labels_of;
 use crate::sentences::{EdgeLine, Reason};
-use base::{Edge, Kind, Refusal, SlotRef};
+use base::{Edge, Kind, Labels, Refusal, SlotRef};
 use labels::{authority, filled_edges};
 use policy::{Broken, Policy, Why, first_broken};
 use std::alloc::{AllocError, Global};
 use std::thread::Threads;
 use table::Table;
-use verdict::Denial;
+use verdict::{Denial, actors};
 
-/// A line for each edge of the reason that [`Policy::why`] gives for the authority of a label on another, and
-/// then for each edge by which a rule asks for one of those before: whence it comes. `file` is the table's name.
+/// Returns a line for each edge of the reason that [`Policy::why_among`] gives, and then for each edge by
+/// which a rule asks for one of those before: where it comes from.
+///
+/// If `alone`, each label counts as one whose threads make calls, else those of which it is so in the system.
+/// `file` is the table's name.
 pub fn explain_why<R: Threads + Sync>(
     rt: &R,
     alloc: Global,
     file: &str,
     table: &Table,
     policy: &Policy,
+    alone: bool,
     actor: &str,
     object: &str,
 ) -> Result<String, Refusal> {
-    let mut edges = reason(alloc, table, policy, actor, object)?;
+    let actors = if alone {
+        labels_of(table)
+    } else {
+        actors(table, policy)
+    };
+    let mut edges = reason(alloc, table, policy, actors, actor, object)?;
     let mut lines = String::new(alloc);
     for number in 0..MOST_EDGES {
         let asking = match edges.get(number) {
@@ -65,13 +75,14 @@ fn reason(
     alloc: Global,
     table: &Table,
     policy: &Policy,
+    actors: Labels,
     actor: &str,
     object: &str,
 ) -> Result<Vec<Edge>, Refusal> {
     let (Some(actor), Some(object)) = (table.label_named(actor), table.label_named(object)) else {
         return Ok(Vec::new(alloc));
     };
-    match policy.why(alloc, actor, object)? {
+    match policy.why_among(alloc, actors, actor, object)? {
         Why::Full(edges) | Why::Take(edges) => Ok(edges),
         Why::Nothing => Ok(Vec::new(alloc)),
     }

@@ -4,14 +4,16 @@ use captext::label_name;
 use policy::Policy;
 use std::alloc::{AllocError, Global};
 use table::Table;
+use verdict::actors;
 
-/// A line for each label of a table: whom it may change by a policy, from whom it may take, and who is out of
-/// its reach.
+/// Returns a line for each label of an accepted system: whose objects it may change, whose it may make
+/// smaller, and who is out of its reach.
 pub fn explain_reach(alloc: Global, table: &Table, policy: &Policy) -> Result<String, AllocError> {
     let mut lines = String::new(alloc);
+    let actors = actors(table, policy);
     for number in 0..Label::COUNT {
         if let Some(actor) = label_numbered(table, number) {
-            push_reach(alloc, &mut lines, table, policy, actor)?;
+            push_reach(alloc, &mut lines, table, policy, actors, actor)?;
         }
     }
     Ok(lines)
@@ -30,14 +32,15 @@ fn push_reach(
     lines: &mut String,
     table: &Table,
     policy: &Policy,
+    actors: Labels,
     actor: Label,
 ) -> Result<(), AllocError> {
     let name = label_name(table, actor);
     write!(lines, "`{name}`")?;
     let own = Labels::only(actor);
-    let changed = policy.full_labels(actor).difference(own);
+    let changed = policy.change_labels(actors, actor).difference(own);
     let taken = policy
-        .take_labels(actor)
+        .shrink_labels(actors, actor)
         .difference(changed)
         .difference(own);
     let others = labels_of(table).difference(own);

@@ -1,12 +1,22 @@
 -- What follows where only labels that may act have calls that aren't refused; and which labels may act in a closed policy.
 use Rattle.std.proofs.Common.{ℕ, ◌∙◌, ◌≡◌, ◌⊎◌, Some, inl, inr, refl, subst, sym, true}
-use Rattle.base.specs.declared.{ids.ObjId.ObjId, kind.Kind.Kind as authority}
-use Rattle.machine.specs.{declared.call.{Event.Event, Outcome.Outcome}, Authority.label_of, Layout.Layout, Machine.Machine}
-use Rattle.machine.specs.{Outcomes.IsRefused, Step.Step}
+use Rattle.base.specs.declared.ids.ObjId.{ObjId}
+use Rattle.base.specs.declared.kind.Kind.{Kind as authority}
+use Rattle.machine.specs.declared.call.Event.{Event}
+use Rattle.machine.specs.declared.call.Outcome.{Outcome}
+use Rattle.machine.specs.Authority.{label_of}
+use Rattle.machine.specs.Layout.{Layout}
+use Rattle.machine.specs.Machine.{Machine}
+use Rattle.machine.specs.Outcomes.{IsRefused}
+use Rattle.machine.specs.Step.{Step}
 use Rattle.steps.proofs.Steps.{refused_changes_nothing}
-use Rattle.policy.specs.{Closed.IsClosed, Domain.EdgeTest, Full.IsFull, Take.MayTake}
-use Rattle.integrity.specs.{Acting.{MayAct, Starts, MayAct.{started, starts}}, Apart.{NeverChanges, OnlyTakes}, Safe.IsReached}
-use Rattle.integrity.{specs.{Safe.{KeepsBounds, RefusesOthers}, Shrinks.{IsSame, Shrinks}}, proofs.Aparts.{never_changes, only_takes}}
+use Rattle.policy.specs.Closed.{IsClosed}
+use Rattle.policy.specs.Domain.{EdgeTest}
+use Rattle.integrity.specs.Acting.{MayAct, Starts}
+use Rattle.integrity.specs.Acting.MayAct.{started, starts}
+use Rattle.integrity.specs.Apart.{NeverChanges}
+use Rattle.integrity.specs.Safe.{IsReached, RefusesOthers}
+use Rattle.integrity.specs.Shrinks.{IsSame}
 use Rattle.integrity.proofs.Asleep.{acts_of}
 
 -- in a closed policy, a label controls what a label that it controls controls
@@ -71,24 +81,3 @@ module _ (t : Layout) (allowed : EdgeTest) (refuses : RefusesOthers t allowed) w
       by : IsRefused outcome ⊎ MayAct t allowed a → IsSame m next id
       by (inl refused) = refused_same m next event outcome id step refused
       by (inr acts) = absurd (idle acts)
-
-  -- so its authority counts only if it may act
-
-  pub acting_apart :
-      (a l : ℕ) → KeepsBounds t allowed → (MayAct t allowed a → ¬ IsFull allowed a l) → (MayAct t allowed a → ¬ MayTake allowed a l)
-      → NeverChanges t a l
-  acting_apart a l bounds full take m next event outcome reached step mine id labelled =
-      by (by_label a m next event outcome reached step mine)
-    where
-      by : IsRefused outcome ⊎ MayAct t allowed a → IsSame m next id
-      by (inl refused) = refused_same m next event outcome id step refused
-      by (inr acts) =
-          never_changes t allowed a l bounds (full acts) (take acts) m next event outcome reached step mine id labelled
-
-  pub acting_takes : (a l : ℕ) → KeepsBounds t allowed → (MayAct t allowed a → ¬ IsFull allowed a l) → OnlyTakes t a l
-  acting_takes a l bounds full m next event outcome reached step mine id labelled =
-      by (by_label a m next event outcome reached step mine)
-    where
-      by : IsRefused outcome ⊎ MayAct t allowed a → IsSame m next id ⊎ Shrinks m next id
-      by (inl refused) = inl (refused_same m next event outcome id step refused)
-      by (inr acts) = only_takes t allowed a l bounds (full acts) m next event outcome reached step mine id labelled

@@ -1,22 +1,40 @@
 -- A message's capability arrives within the authority of who sends it and of who receives it: over an endpoint by which the one
 -- may grant to the other, either may make it arrive.
-use Rattle.std.proofs.{Common.{ℕ, ◌∙◌, ◌≡◌, ◌⊎◌, Err, Ok, Option, Result, Some, ap, inl, inr, refl, sym, true}, lemmas.Option.same_Some}
-use Rattle.base.specs.declared.{ids.ObjId.ObjId, kind.Kind.{Kind, Kind as authority}, refusal.Cause.Cause}
-use Rattle.machine.specs.declared.{call.Event.Event, slot_address.{Ends.Ends, SlotAddress.SlotAddress}, thread.Sending.Sending}
-use Rattle.machine.specs.{Authority.label_of, Capabilities.gives, Layout.Layout, Machine.Machine, Step.Deliver.{arrival_of, with_arrival}}
-use Rattle.machine.specs.{Tree.{copied, parent_of_copy}, WellFormed.IsWellFormed}
+use Rattle.std.proofs.Common.{ℕ, ◌∙◌, ◌≡◌, ◌⊎◌, Err, Ok, Option, Result, Some, ap, inl, inr, refl, sym, true}
+use Rattle.std.proofs.lemmas.Option.{same_Some}
+use Rattle.base.specs.declared.ids.ObjId.{ObjId}
+use Rattle.base.specs.declared.kind.Kind.{Kind}
+use Rattle.base.specs.declared.kind.Kind.{Kind as authority}
+use Rattle.base.specs.declared.refusal.Cause.{Cause}
+use Rattle.machine.specs.declared.call.Event.{Event}
+use Rattle.machine.specs.declared.slot_address.Ends.{Ends}
+use Rattle.machine.specs.declared.slot_address.SlotAddress.{SlotAddress}
+use Rattle.machine.specs.declared.thread.Sending.{Sending}
+use Rattle.machine.specs.Authority.{label_of}
+use Rattle.machine.specs.Capabilities.{gives}
+use Rattle.machine.specs.Layout.{Layout}
+use Rattle.machine.specs.Machine.{Machine}
+use Rattle.machine.specs.Step.Deliver.{arrival_of, with_arrival}
+use Rattle.machine.specs.Tree.{copied, parent_of_copy}
+use Rattle.machine.specs.WellFormed.{IsWellFormed}
 use Rattle.steps.proofs.Arrival.{Arrives, arrival_fills, arrival_formed, arrives}
-use Rattle.policy.specs.{Closed.{IsClosed, MayBeGranted, granted}, Domain.EdgeTest, Full.{IsFull, IsFull.{grants, modifies}}}
-use Rattle.integrity.{specs.Invariant.{IsHeld, IsSound}, proofs.FillKeeps.{MayFill, copy_derives, fill_fits, given_of_use, in_node}}
-use Rattle.integrity.proofs.{Held.{bare_of, held_of}, Keeps.{Keeps, unchanged}, Reach.{IsControlled, IsInReach, IsWithin, found_in_reach}}
-use Rattle.integrity.proofs.{Reach.{found_within, led_controlled}, SlotKeeps.slots_keep}
+use Rattle.policy.specs.Closed.{IsClosed, MayBeGranted, granted}
+use Rattle.policy.specs.Domain.{EdgeTest}
+use Rattle.integrity.specs.Invariant.{IsHeld, IsSound}
+use Rattle.integrity.proofs.FillKeeps.{MayFill, copy_derives, fill_fits, given_of_use, in_node}
+use Rattle.integrity.proofs.Held.{bare_of, held_of}
+use Rattle.integrity.proofs.Keeps.{Keeps, unchanged, Changes}
+use Rattle.integrity.proofs.Reach.{IsControlled, IsInReach, IsWithin, found_in_reach, found_within, led_controlled}
+use Rattle.integrity.proofs.SlotKeeps.{slots_keep}
+use Rattle.policy.specs.Change.WayToChange.{modifies, grants}
+use Rattle.integrity.specs.Awake.{IsAwake}
 
 module _
     (t : Layout) (allowed : EdgeTest) (began : Machine) (event : Event) (a : ℕ) (m : Machine) (sound : IsSound t allowed m)
     (closed : IsClosed allowed) (sender : ObjId) (sending : Sending) (receiver : ObjId) (slot : Option SlotAddress)
     (s b e : ℕ) (sends : label_of t m sender ≡ Some s) (gets : label_of t m receiver ≡ Some b)
     (may_grant : sending.grant ≡ true → allowed s authority.Grant e ≡ true) (receives : allowed b authority.Receive e ≡ true)
-    (acts : (a ≡ s) ⊎ (a ≡ b)) where
+    (acts : ((a ≡ s) × ((awake : IsAwake t allowed began a) → awake.acts b ≡ true)) ⊎ (a ≡ b)) where
   held : IsHeld t allowed m
   held = held_of t allowed m sound
 
@@ -48,13 +66,15 @@ module _
         ∙ closed.grant_shares s b k to
         (record { granted = may; of_use = uses; has = ap (allowed s k) to_is ∙ reach.edge k given uses })
 
-    may_change : (a ≡ s) ⊎ (a ≡ b) → IsFull allowed a target.label
-    may_change (inl same) =
-        grants e b (ap (λ l. allowed l authority.Grant e) same ∙ may_grant done.granted) receives target.controls
-    may_change (inr same) =
+    may_change :
+        ((a ≡ s) × ((awake : IsAwake t allowed began a) → awake.acts b ≡ true)) ⊎ (a ≡ b) → Changes t allowed began a target.label
+    may_change (inl sender_acts) awake =
+        grants e b (ap (λ l. allowed l authority.Grant e) sender_acts.0 ∙ may_grant done.granted) receives (sender_acts.1 awake)
+        target.controls
+    may_change (inr same) awake =
         modifies authority.Control refl (ap (λ l. allowed l authority.Control target.label) same ∙ target.controls)
 
-    may_fill : MayFill t allowed a m ends.target (copied ends.held ends.held.detail) (parent_of_copy m ends.source ends.held)
+    may_fill : MayFill t allowed began a m ends.target (copied ends.held ends.held.detail) (parent_of_copy m ends.source ends.held)
     may_fill = record {
       label = target.label;
       labelled = target.labelled;
@@ -69,7 +89,7 @@ module _
     arrived_keeps : IsWellFormed (with_arrival m (Ok ends)) → Keeps t allowed began event a m (with_arrival m (Ok ends))
     arrived_keeps formed =
         slots_keep t allowed began event a m (with_arrival m (Ok ends)) held
-        (fill_fits t allowed a m (with_arrival m (Ok ends)) held ends.target (copied ends.held ends.held.detail)
+        (fill_fits t allowed began a m (with_arrival m (Ok ends)) held ends.target (copied ends.held ends.held.detail)
         (parent_of_copy m ends.source ends.held) may_fill
         (arrival_fills m sender sending receiver slot ends sound.well_formed done) formed.slots.object
         (bare_of (with_arrival m (Ok ends)) formed))

@@ -1,29 +1,13 @@
 -- Threads that sleep: they can't make a call, and start only by a label that controls theirs. In every state of a run, each thread
 -- whose label may not act sleeps.
-use Rattle.std.proofs.{Common.{ℕ, ◌∙◌, ◌≡◌, ◌⊎◌, None, Some, inl, inr, refl, subst, sym}, lemmas.Option.{none-some, same_Some}}
+use Rattle.std.proofs.{Common.{ℕ, ◌∙◌, ◌≡◌, None, Some, inl, inr, refl, subst, sym}, lemmas.Option.{none-some, same_Some}}
 use Rattle.base.specs.declared.ids.ObjId.{ObjId}
-use Rattle.machine.specs.{declared.{object.Object.{Object, Object as o}, thread.{RunState.RunState as state, Tcb.Tcb}}, Authority.label_of}
+use Rattle.machine.specs.{declared.{object.Object.{Object, Object as o}, thread.{Tcb.Tcb}}, Authority.label_of}
 use Rattle.machine.specs.{Layout.Layout, Machine.{Machine, object_of}}
 use Rattle.policy.specs.Domain.{EdgeTest}
+use Rattle.integrity.specs.Awake.{IsAsleep, OthersSleep, SleepsOrActs}
 use Rattle.integrity.specs.{Acting.MayAct, Shrinks.{IsBlocked, Lessens, LosesLink, Shrinks, Stops, Lessens.{as_it_was, freed, released}}}
 use Rattle.integrity.{specs.Shrinks.{Lessens.unbound, Stops.{aborted, goes_on, halted}}, proofs.Shrinking.same_tcb}
-
--- a thread is inactive, or ready and bound to no context
-abbrev pub IsAsleep : Tcb → Type 0
-IsAsleep thread = (thread.state ≡ state.Inactive) ⊎ ((thread.state ≡ state.Ready) × (thread.context ≡ None))
-
--- a thread sleeps, or is of a label that may act
-abbrev pub SleepsOrActs : Layout → EdgeTest → Machine → ObjId → Tcb → Type 0
-SleepsOrActs t allowed m id thread = IsAsleep thread ⊎ ((a : ℕ) → label_of t m id ≡ Some a → MayAct t allowed a)
-
--- each thread whose label may not act sleeps
-abbrev pub OthersSleep : Layout → EdgeTest → Machine → Type 0
-OthersSleep t allowed m = (id : ObjId) (thread : Tcb) → object_of m id ≡ Some (o.Tcb thread) → SleepsOrActs t allowed m id thread
-
--- the label of a step may act, and where the step began, each thread sleeps whose label may not
-pub record IsAwake (t : Layout) (allowed : EdgeTest) (began : Machine) (a : ℕ) : Type 0 where
-  pub acting : MayAct t allowed a
-  pub others : OthersSleep t allowed began
 
 -- an object has one label, and where that may act, each label of the object may
 pub acts_of :

@@ -1,18 +1,40 @@
 -- The boot state of a table belongs to it: in particular the label of untyped memory is found by any address in it.
-use Rattle.std.proofs.Common.{ℕ, ◌&&◌, ◌<◌, ◌∙◌, ◌≡◌, ◌≤◌, Bool, None, Option, Some, ap, arith, false, inl, inr, nat_le, nat_lt, option_map}
-use Rattle.std.proofs.{Common.{refl, slice_get, subst, sym, true}, lemmas.Bool.{and_from, and_parts, le-leb, leb-true, Decides.Decides-ltb}}
+use Rattle.std.proofs.Common.{ℕ, ◌&&◌, ◌<◌, ◌∙◌, ◌≡◌, ◌≤◌, Bool, None, Option, Some, ap, arith, false, inl, inr, nat_le, nat_lt, option_map, refl, slice_get, subst, sym, true}
+use Rattle.std.proofs.lemmas.Bool.{and_from, and_parts, le-leb, leb-true}
+use Rattle.std.proofs.lemmas.Bool.Decides.{Decides-ltb}
 use Rattle.std.proofs.lemmas.Option.{none-some, same_Some}
 use Rattle.base.specs.declared.ids.ObjId.{ObjId}
-use Rattle.machine.specs.declared.{layout.Initial.Initial, object.{Object.{Object, Object as o}, Untyped.Untyped}, thread.RunState.RunState}
-use Rattle.machine.specs.{declared.thread.{RunState.RunState as state, Tcb.Tcb}, Authority.{has_memory_at, label_at, lent_of}, Boot.IsBoot}
-use Rattle.machine.specs.{Boot.bound, Layout.{Layout, bound_context, initial_of}, Machine.Machine, Objects.{address_of, end_of}}
-use Rattle.machine.{specs.Objects.kind_of_object, proofs.Bound.{address-bound, kind-bound}}
+use Rattle.machine.specs.declared.layout.Initial.{Initial}
+use Rattle.machine.specs.declared.object.Object.{Object}
+use Rattle.machine.specs.declared.object.Object.{Object as o}
+use Rattle.machine.specs.declared.object.Untyped.{Untyped}
+use Rattle.machine.specs.declared.thread.RunState.{RunState}
+use Rattle.machine.specs.declared.thread.RunState.{RunState as state}
+use Rattle.machine.specs.declared.thread.Tcb.{Tcb}
+use Rattle.machine.specs.Authority.{has_memory_at, label_at, lent_of}
+use Rattle.machine.specs.Boot.{IsBoot, bound}
+use Rattle.machine.specs.Layout.{Layout, bound_context, initial_of}
+use Rattle.machine.specs.Machine.{Machine}
+use Rattle.machine.specs.Objects.{address_of, end_of, kind_of_object}
+use Rattle.machine.proofs.Bound.{address-bound, kind-bound}
 use Rattle.policy.specs.Domain.{EdgeTest}
-use Rattle.table.{specs.{Placement.{IsApart, Lies}, Rules.{IsAtRest, IsBlank, IsLawful}}, proofs.AtBoot.{Declared, boot_label, declared_at}}
-use Rattle.table.proofs.{AtBoot.{initial_lawful, label_declared, rest_lends}, Lookups.{found_first, pair_at}}
-use Rattle.integrity.{specs.{Acting.MayAct.starts, OfTable.IsOfTable}, proofs.Asleep.{OthersSleep, SleepsOrActs, acts_of}}
-use Rattle.integrity.proofs.Shrinking.{same_tcb}
+use Rattle.table.specs.Placement.{IsApart, Lies}
+use Rattle.table.specs.Rules.{IsAtRest, IsBlank, IsLawful}
+use Rattle.table.proofs.AtBoot.{Declared, boot_label, declared_at, initial_lawful, label_declared, rest_lends}
+use Rattle.table.proofs.Lookups.{found_first, pair_at}
+use Rattle.integrity.specs.Acting.MayAct.{starts}
+use Rattle.integrity.specs.OfTable.{IsOfTable}
+use Rattle.integrity.proofs.Asleep.{acts_of}
+use Rattle.integrity.proofs.Shrinking.{same_tcb, same_reply}
 use mathlib.Core.Bool.{false≢true}
+use Rattle.integrity.specs.Awake.{OthersSleep, SleepsOrActs, CallersAreServed}
+use Rattle.machine.specs.declared.object.Reply.{Reply}
+use Rattle.machine.specs.declared.object.ReplyState.TheVariants as answers
+use Rattle.std.proofs.Common.{◌≢◌, find}
+use Rattle.std.proofs.lemmas.Bool.{cases_order}
+use Rattle.table.proofs.Lookups.{FoundAt, found_at}
+use Rattle.machine.specs.declared.object.ObjectKind.TheVariants as kind
+use Rattle.integrity.proofs.InMemory.{takes_memory}
 
 -- untyped memory that has an address
 memory_at :
@@ -56,6 +78,43 @@ boot_ranged t lawful id initial memory address declares is above below =
     no_other i other lt at true e =
         absurd
         (pair_at (λ (one two : Initial). IsApart one.object two.object) t.objects i id.0 other initial lawful.draft.objects.apart lt at declares address (lies_by address other other.object refl e) lies)
+
+-- an initial object lies in no other initial untyped memory
+pub boot_inside :
+    (t : Layout) → IsLawful t → (id : ObjId) (initial : Initial) (label : ℕ) → initial_of t id ≡ Some initial
+    → kind_of_object initial.object ≢ kind.Control
+    → label_at t (address_of initial.object) ≡ Some label → initial.label ≡ label
+unfolding label_at initial_of
+boot_inside t lawful id initial label declares other is = by (find (has_memory_at address) t.objects) refl is where
+  address : ℕ
+  address = address_of initial.object
+
+  lies : Lies initial.object address
+  lies = (omega arith, takes_memory initial.object other)
+
+  by :
+      (found : Option Initial) → find (has_memory_at address) t.objects ≡ found
+      → option_map (λ (i : Initial). i.label) found ≡ Some label → initial.label ≡ label
+  by None found e = absurd (none-some label e)
+  by (Some memory) found e = at_place (found_at (has_memory_at address) t.objects memory found) where
+    of_memory : has_memory_at address memory ≡ true → Lies memory.object address
+    of_memory passes = lies_by address memory memory.object refl passes
+
+    at_place : FoundAt (has_memory_at address) t.objects memory → initial.label ≡ label
+    at_place at = elim (cases_order at.at id.0) [
+      | inl same ↦
+          ap (λ (i : Initial). i.label)
+          (same_Some initial memory (sym declares ∙ ap (slice_get t.objects) (sym same) ∙ at.here))
+          ∙ same_Some memory.label label e
+      | inr apart ↦ elim apart [
+        | inl below ↦ absurd
+            (pair_at (λ (one two : Initial). IsApart one.object two.object) t.objects at.at id.0 memory initial
+            lawful.draft.objects.apart below at.here declares address (of_memory at.passes) lies)
+        | inr above ↦ absurd
+            (pair_at (λ (one two : Initial). IsApart one.object two.object) t.objects id.0 at.at initial memory
+            lawful.draft.objects.apart above declares at.here address lies (of_memory at.passes))
+      ]
+    ]
 
 bound_memory :
     (t : Layout) (id : ObjId) (object : Object) (memory : Untyped) → o.Untyped memory ≡ bound t id object
@@ -111,6 +170,25 @@ boot_asleep t allowed m lawful boot id thread at =
         })))
     by_state declared tcb is now run at rest context link = absurd (subst IsAtRest at rest)
 
+-- a reply holds nobody at boot
+bound_free :
+    (t : Layout) (id : ObjId) (object : Object) (holding : Reply) (thread : ObjId) → IsBlank object
+    → o.Reply holding ≡ bound t id object → holding.state ≡ answers.Called thread → ⊥
+bound_free t id (o.Reply initial) holding thread blank e called =
+    let same : holding.state ≡ initial.state = ap (λ (x : Reply). x.state) (same_reply holding initial e) in
+    called_free thread (sym called ∙ same ∙ blank)
+  where
+    called_free : (thread : ObjId) → answers.Called thread ≡ answers.Free → ⊥
+    called_free thread is = cc
+bound_free t id _ holding thread blank e called = cc
+
+pub boot_served : (t : Layout) (allowed : EdgeTest) (m : Machine) → IsLawful t → IsBoot t m → CallersAreServed t allowed m
+boot_served t allowed m lawful boot id holding at thread called =
+    let declared = declared_at t m boot id (o.Reply holding) at in
+    absurd
+    (bound_free t id declared.initial.object holding thread (initial_lawful t lawful id declared.initial declared.declares).blank
+    declared.object_is called)
+
 pub boot_of_table : (t : Layout) (m : Machine) → IsLawful t → IsBoot t m → IsOfTable t m
 boot_of_table t m lawful boot =
     record {
@@ -131,6 +209,7 @@ boot_of_table t m lawful boot =
           boot_ranged t lawful id declared.initial memory address declared.declares
           (bound_memory t id declared.initial.object memory declared.object_is) above below
           ∙ ap Some same;
+      inside = boot_inside t lawful;
       lent = λ id context thread at lends.
           let declared = declared_at t m boot id (o.Tcb thread) at in
           absurd

@@ -1,16 +1,51 @@
--- A bounded step is an allowed one: what may be taken may be cut.
+-- A step bounded by who may act is a bounded one, and that is an allowed one: what may be changed is within full authority, what may
+-- shrink may be taken, or is within full authority, and what may be taken may be cut.
 use Rattle.std.proofs.Common.{ℕ, ◌⊎◌, inl, inr}
 use Rattle.base.specs.declared.ids.ObjId.{ObjId}
-use Rattle.machine.specs.{declared.call.Event.Event, Layout.Layout, Machine.Machine}
-use Rattle.policy.{specs.Domain.EdgeTest, proofs.Taking.take_is_cut}
-use Rattle.integrity.specs.{Allowed.{IsAllowedStep, IsModified, MayModify}, Bounded.{IsAffected, IsBoundedStep, MayModifyOrTake}}
+use Rattle.machine.specs.declared.call.Event.{Event}
+use Rattle.machine.specs.Layout.{Layout}
+use Rattle.machine.specs.Machine.{Machine}
+use Rattle.policy.specs.Domain.{EdgeTest}
+use Rattle.policy.proofs.Taking.{take_is_cut}
+use Rattle.integrity.specs.Allowed.{IsAllowedStep, IsModified, MayModify}
+use Rattle.integrity.specs.Bounded.{IsAffected, IsBoundedStep, MayModifyOrTake}
 use Rattle.integrity.specs.Shrinks.{IsSame}
+use Rattle.policy.specs.Change.{ActorTest}
+use Rattle.policy.specs.Full.{IsFull}
+use Rattle.policy.specs.Take.{MayTake}
+use Rattle.policy.proofs.Changing.{change_is_full, shrink_is_take}
+use Rattle.integrity.specs.Altered.{IsAltered, IsNarrowStep, MayChangeOrShrink}
 
 modify_allowed :
     (allowed : EdgeTest) (caller label : ℕ) (m next : Machine) (id : ObjId) → MayModifyOrTake allowed caller label m next id
     → MayModify allowed caller label m next id
 modify_allowed allowed caller label m next id (inl full) = inl full
 modify_allowed allowed caller label m next id (inr take) = inr (take_is_cut allowed caller label take.0, take.1)
+
+alter_affects :
+    (allowed : EdgeTest) (acts : ActorTest) (caller label : ℕ) (m next : Machine) (id : ObjId)
+    → MayChangeOrShrink allowed acts caller label m next id → MayModifyOrTake allowed caller label m next id
+alter_affects allowed acts caller label m next id (inl change) = inl (change_is_full allowed acts caller label change)
+alter_affects allowed acts caller label m next id (inr shrink) = by (shrink_is_take allowed acts caller label shrink.0) where
+  by : MayTake allowed caller label ⊎ IsFull allowed caller label → MayModifyOrTake allowed caller label m next id
+  by (inl take) = inr (take, shrink.1)
+  by (inr full) = inl full
+
+pub narrow_bounded :
+    (t : Layout) (allowed : EdgeTest) (acts : ActorTest) (m next : Machine) (event : Event)
+    → IsNarrowStep t allowed acts m event next → IsBoundedStep t allowed m event next
+narrow_bounded t allowed acts m next event narrow id = by (narrow id) where
+  by : IsSame m next id ⊎ IsAltered t allowed acts m next event.thread id → IsSame m next id ⊎ IsAffected t allowed m next event.thread id
+  by (inl same) = inl same
+  by (inr altered) = inr (record {
+    caller = altered.caller;
+    calls = altered.calls;
+    may = record {
+      label = altered.may.label;
+      labelled = altered.may.labelled;
+      may = alter_affects allowed acts altered.caller altered.may.label m next id altered.may.may;
+    };
+  })
 
 pub bounded_allowed :
     (t : Layout) (allowed : EdgeTest) (m next : Machine) (event : Event) → IsBoundedStep t allowed m event next

@@ -1,28 +1,49 @@
--- Contents that a thread, a notification, a reply and a scheduling context may get in a step, and a change within full authority, and
--- one by which a label takes.
+-- Contents that a thread, a notification, a reply and a scheduling context may get in a step, and a change that a label may make, and
+-- one by which an object only shrinks.
 use Rattle.std.proofs.Common.{ℕ, ◌+◌, ◌<◌, ◌∙◌, ◌≡◌, ◌⊎◌, List, Some, ap, inl, inr, refl, subst, sym, true}
-use Rattle.base.specs.declared.{ids.ObjId.ObjId, kind.Kind.Kind}
+use Rattle.base.specs.declared.ids.ObjId.{ObjId}
+use Rattle.base.specs.declared.kind.Kind.{Kind}
 use Rattle.base.specs.declared.kind.Kind.TheVariants as authority
-use Rattle.machine.specs.declared.{call.Event.Event, object.{Context.Context, Notification.Notification, Object.{Object, Object as o}}}
-use Rattle.machine.specs.{declared.{object.Reply.Reply, thread.Tcb.Tcb}, Authority.{holds_thread, label_of, lent_of, links}, Layout.Layout}
+use Rattle.machine.specs.declared.call.Event.{Event}
+use Rattle.machine.specs.declared.object.Context.{Context}
+use Rattle.machine.specs.declared.object.Notification.{Notification}
+use Rattle.machine.specs.declared.object.Object.{Object}
+use Rattle.machine.specs.declared.object.Object.{Object as o}
+use Rattle.machine.specs.declared.object.Reply.{Reply}
+use Rattle.machine.specs.declared.thread.Tcb.{Tcb}
+use Rattle.machine.specs.Authority.{holds_thread, label_of, lent_of, links}
+use Rattle.machine.specs.Layout.{Layout}
 use Rattle.machine.specs.Machine.{Machine, object_of, queue_of, with_object}
-use Rattle.policy.specs.{Domain.EdgeTest, Full.IsFull, Take.MayTake}
-use Rattle.integrity.{specs.{Bounded.MayAffect, Budgets.MayConfigure, Shrinks.Lessens}, proofs.Asleep.{IsAwake, OthersSleep, SleepsOrActs}}
-use Rattle.integrity.proofs.{Losses.lessened, Shrinking.{same_context, same_tcb}, TouchKeeps.Fits}
+use Rattle.policy.specs.Domain.{EdgeTest}
+use Rattle.integrity.specs.Budgets.{MayConfigure}
+use Rattle.integrity.specs.Shrinks.{Lessens, Shrinks}
+use Rattle.integrity.proofs.Losses.{lessened}
+use Rattle.integrity.proofs.Shrinking.{same_context, same_tcb, same_reply}
+use Rattle.integrity.proofs.TouchKeeps.{Fits}
+use Rattle.integrity.specs.Awake.{IsAwake, OthersSleep, SleepsOrActs, IsHeldAfterCall}
+use Rattle.integrity.proofs.Keeps.{Alters, Changes, Takes}
 
--- the label has full authority over the object's
-pub full :
-    (t : Layout) (allowed : EdgeTest) (a : ℕ) (m next : Machine) (id : ObjId) (label : ℕ) → label_of t m id ≡ Some label
-    → IsFull allowed a label → MayAffect t allowed a m next id
-full t allowed a m next id label labelled has = record { label = label; labelled = inl labelled; may = inl has }
+-- the label may change the object's
+pub changed :
+    (t : Layout) (allowed : EdgeTest) (began : Machine) (a : ℕ) (m next : Machine) (id : ObjId) (label : ℕ)
+    → label_of t m id ≡ Some label → Changes t allowed began a label → Alters t allowed began a m next id
+changed t allowed began a m next id label labelled may awake =
+    record { label = label; labelled = inl labelled; may = inl (record { actor = awake.actor; way = may awake }) }
 
--- the label may take from the object's, which only loses links
+-- the label may make the object's smaller, and it shrinks
+pub shrunk :
+    (t : Layout) (allowed : EdgeTest) (began : Machine) (a : ℕ) (m next : Machine) (id : ObjId) (label : ℕ)
+    → label_of t m id ≡ Some label → Takes t allowed began a label → Shrinks m next id → Alters t allowed began a m next id
+shrunk t allowed began a m next id label labelled may shrinks awake =
+    record { label = label; labelled = inl labelled; may = inr (record { actor = awake.actor; way = may awake }, shrinks) }
+
+-- .. as it only loses links
 pub loses_links :
-    (t : Layout) (allowed : EdgeTest) (a : ℕ) (m : Machine) (id : ObjId) (label : ℕ) (old new : Object)
-    → label_of t m id ≡ Some label → MayTake allowed a label → object_of m id ≡ Some old → Lessens old new
-    → (threads : List ObjId) → queue_of m id ≡ Some threads → MayAffect t allowed a m (with_object m id new) id
-loses_links t allowed a m id label old new labelled take there less threads queue =
-    record { label = label; labelled = inl labelled; may = inr (take, lessened m id old new threads there queue less) }
+    (t : Layout) (allowed : EdgeTest) (began : Machine) (a : ℕ) (m : Machine) (id : ObjId) (label : ℕ) (old new : Object)
+    → label_of t m id ≡ Some label → Takes t allowed began a label → object_of m id ≡ Some old → Lessens old new
+    → (threads : List ObjId) → queue_of m id ≡ Some threads → Alters t allowed began a m (with_object m id new) id
+loses_links t allowed began a m id label old new labelled take there less threads queue =
+    shrunk t allowed began a m (with_object m id new) id label labelled take (lessened m id old new threads there queue less)
 
 module _ (t : Layout) (allowed : EdgeTest) (began : Machine) (event : Event) (a : ℕ) (m : Machine) (id : ObjId) where
   -- a thread stays where it is, each link was there or is in the policy, the number of what it lent was given out, and it sleeps, or
@@ -45,6 +66,7 @@ module _ (t : Layout) (allowed : EdgeTest) (began : Machine) (event : Event) (a 
         lent = λ context thread is lends. below context (ap (λ (x : Tcb). lent_of x.state) (same_tcb new thread is) ∙ lends);
         sleeps = λ awake others thread is.
             subst (λ (x : Tcb). SleepsOrActs t allowed m id x) (same_tcb new thread is) (sleeps awake others);
+        serves = λ awake served reply e. cc;
         share = λ before after e. cc;
       }
 
@@ -61,16 +83,18 @@ module _ (t : Layout) (allowed : EdgeTest) (began : Machine) (event : Event) (a 
         links = λ end k e. cc;
         lent = λ context thread e lends. cc;
         sleeps = λ awake others thread e. cc;
+        serves = λ awake served reply e. cc;
         share = λ before after e. cc;
       }
 
-  -- a reply stays where it is, and the thread that it holds is one that the policy allows it
+  -- a reply stays where it is, and the thread that it holds is one that the policy allows it, and is served if it called
   pub reply_fits :
       (old new : Reply) → object_of m id ≡ Some (o.Reply old) → new.address ≡ old.address
       → ((end : ObjId) (from to : ℕ) → holds_thread new.state end ≡ true → label_of t m id ≡ Some from
       → label_of t m end ≡ Some to → allowed from authority.Holds to ≡ true)
+      → (IsAwake t allowed began a → IsHeldAfterCall t allowed m id new)
       → Fits t allowed began event a m id (o.Reply old) (o.Reply new)
-  reply_fits old new was same within =
+  reply_fits old new was same within serves =
       record {
         was = was;
         kind = refl;
@@ -79,6 +103,8 @@ module _ (t : Layout) (allowed : EdgeTest) (began : Machine) (event : Event) (a 
         links = held;
         lent = λ context thread e lends. cc;
         sleeps = λ awake others thread e. cc;
+        serves = λ awake served reply is.
+            subst (λ (x : Reply). IsHeldAfterCall t allowed m id x) (same_reply new reply is) (serves awake);
         share = λ before after e. cc;
       }
     where
@@ -103,6 +129,7 @@ module _ (t : Layout) (allowed : EdgeTest) (began : Machine) (event : Event) (a 
         links = λ end k e. cc;
         lent = λ context thread e lends. cc;
         sleeps = λ awake others thread e. cc;
+        serves = λ awake served reply e. cc;
         share = share;
       }
     where

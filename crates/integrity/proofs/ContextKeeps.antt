@@ -1,20 +1,50 @@
 -- Configure, Bind and Unbind within a caller's authority: its label may use the scheduling context, a thread that comes to run on
 -- it is one that the label controls, and one that runs on it no more only loses it.
-use Rattle.std.proofs.{Common.{ℕ, ◌∙◌, ◌≡◌, ◌≢◌, None, Option, Some, ap, inl, inr, refl, subst, sym, true}, lemmas.Option.none-some}
-use Rattle.std.proofs.lemmas.Option.{same_Some}
-use Rattle.base.specs.declared.{ids.{ObjId.ObjId}, kind.Kind.Kind as authority}
-use Rattle.machine.specs.declared.{call.Event.Event, cap.Detail.Detail as d, object.{Context.Context, Object.Object as o}, thread.Tcb.Tcb}
-use Rattle.machine.specs.{Authority.{label_of, HasAuthority.by_link}, Capabilities.kind_of_detail, Layout.Layout, Machine.Machine}
-use Rattle.machine.specs.{Machine.{object_of, with_object}, Releasing.with_unbound, Step.Bind.{thread_on, without_thread}}
-use Rattle.machine.{specs.WellFormed.IsThread, proofs.{Ids.at_other, LookUps.object_of-with_object, RunsLinks.runs_bound}}
-use Rattle.steps.proofs.{ContextRow.{BindDone, ConfigureDone, UnbindDone}, ContextsFormed.{bound_is, share_is, unbound_is}}
-use Rattle.steps.proofs.{Finding.{FindsObject, found_kind}, FoundObjects.{context_of_kind, tcb_of_kind}}
-use Rattle.policy.specs.{Closed.IsClosed, Domain.EdgeTest, Full.IsFull.modifies, Take.{MayTake, MayTake.unbinds}}
-use Rattle.integrity.specs.{Acting.MayAct.started, Budgets.{MayConfigure, configures}, Invariant.{IsHeld, IsSound}}
-use Rattle.integrity.{specs.Shrinks.{Lessens.released, Stops.goes_on}, proofs.{Asleep.acts_of, Contents.{context_fits, full, loses_links}}}
-use Rattle.integrity.proofs.{ContextTouches.{linked_keeps, runs_on, thread_keeps}, Held.held_of, Keeps.{Keeps, unchanged}}
-use Rattle.integrity.proofs.{MessageParts.{IsReached, reached, thread_label}, SetKeeps.set_keeps, SlotKeeps.IsOpened}
+use Rattle.std.proofs.Common.{ℕ, ◌∙◌, ◌≡◌, ◌≢◌, None, Option, Some, ap, inl, inr, refl, subst, sym, true}
+use Rattle.std.proofs.lemmas.Option.{none-some, same_Some}
+use Rattle.base.specs.declared.ids.ObjId.{ObjId}
+use Rattle.base.specs.declared.kind.Kind.{Kind as authority}
+use Rattle.machine.specs.declared.call.Event.{Event}
+use Rattle.machine.specs.declared.cap.Detail.{Detail as d}
+use Rattle.machine.specs.declared.object.Context.{Context}
+use Rattle.machine.specs.declared.object.Object.{Object as o}
+use Rattle.machine.specs.declared.thread.Tcb.{Tcb}
+use Rattle.machine.specs.Authority.{label_of}
+use Rattle.machine.specs.Authority.HasAuthority.{by_link}
+use Rattle.machine.specs.Capabilities.{kind_of_detail}
+use Rattle.machine.specs.Layout.{Layout}
+use Rattle.machine.specs.Machine.{Machine, object_of, with_object}
+use Rattle.machine.specs.Releasing.{with_unbound}
+use Rattle.machine.specs.Step.Bind.{thread_on, without_thread}
+use Rattle.machine.specs.WellFormed.{IsThread}
+use Rattle.machine.proofs.Ids.{at_other}
+use Rattle.machine.proofs.LookUps.{object_of-with_object}
+use Rattle.machine.proofs.RunsLinks.{runs_bound}
+use Rattle.steps.proofs.ContextRow.{BindDone, ConfigureDone, UnbindDone}
+use Rattle.steps.proofs.ContextsFormed.{bound_is, share_is, unbound_is}
+use Rattle.steps.proofs.Finding.{FindsObject, found_kind}
+use Rattle.steps.proofs.FoundObjects.{context_of_kind, tcb_of_kind}
+use Rattle.policy.specs.Closed.{IsClosed}
+use Rattle.policy.specs.Domain.{EdgeTest}
+use Rattle.integrity.specs.Acting.MayAct.{started}
+use Rattle.integrity.specs.Budgets.{MayConfigure, configures}
+use Rattle.integrity.specs.Invariant.{IsHeld, IsSound}
+use Rattle.integrity.specs.Shrinks.Lessens.{released}
+use Rattle.integrity.specs.Shrinks.Stops.{goes_on}
+use Rattle.integrity.proofs.Asleep.{acts_of}
+use Rattle.integrity.proofs.Contents.{context_fits, loses_links, changed}
+use Rattle.integrity.proofs.ContextTouches.{linked_keeps, runs_on, thread_keeps, context_changes, context_loses}
+use Rattle.integrity.proofs.Held.{held_of}
+use Rattle.integrity.proofs.Keeps.{Keeps, unchanged, Takes}
+use Rattle.integrity.proofs.MessageParts.{IsReached, reached, thread_label}
+use Rattle.integrity.proofs.SetKeeps.{set_keeps}
+use Rattle.integrity.proofs.SlotKeeps.{IsOpened}
 use Rattle.integrity.proofs.ThreadKeeps.{may_control, to_thread}
+use Rattle.policy.specs.Change.WayToChange.{modifies, shares}
+use Rattle.policy.specs.Change.MayChangeContext.{binds}
+use Rattle.policy.specs.Change.MayChangeContext.{configures as configures_it}
+use Rattle.policy.specs.NarrowTake.WayToShrink.{unbinds}
+use Rattle.policy.specs.NarrowTake.WayToShrink.{stops as loses_context}
 
 module _
     (t : Layout) (allowed : EdgeTest) (event : Event) (a : ℕ) (m : Machine) (sound : IsSound t allowed m)
@@ -33,12 +63,12 @@ module _
     context : (context : Context) × (object_of m id ≡ Some (o.Context context))
     context = context_of_kind (object_of m id) (found_kind sound.well_formed finds)
 
-    -- so it may get another thread, or none
-    may_link : IsOpened t allowed m a id
-    may_link = record {
+    -- so it may get a thread that the label controls
+    may_link : (thread : ℕ) → allowed a authority.Control thread ≡ true → IsOpened t allowed m m a id
+    may_link thread controls = record {
       label = to_context.label;
       labelled = to_context.labelled;
-      has = modifies authority.Context refl may_use;
+      has = λ awake. shares (binds thread may_use controls);
     }
 
   -- a context is configured, where the event may do so
@@ -52,8 +82,11 @@ module _
       subst (λ (n : Machine). Keeps t allowed m event a m n) (sym (done.changes ∙ share_is m done.id old.0 done.share old.1))
       (set_keeps t allowed m event a m done.id held (o.Context old.0) (o.Context new)
       (context_fits t allowed m event a m done.id old.0 new old.1 refl (inr may))
-      (full t allowed a m (with_object m done.id (o.Context new)) done.id to.label to.labelled
-      (modifies authority.Context refl (may_use address done.id done.finds))))
+      (changed t allowed m a m (with_object m done.id (o.Context new)) done.id to.label to.labelled
+      (λ awake. shares (configures_it governs.label (may_use address done.id done.finds) (governs.edge authority.SchedControl refl refl)))))
+    where
+      governs : IsReached t allowed m event a m sound done.governs d.Control
+      governs = reached t allowed m event a m sound closed.subjects_agree caller control done.governs d.Control mine done.finds_control
 
   -- what a configure changes, whatever the event is
   module _ (control address budget period : ℕ) (done : ConfigureDone m caller control address budget period next) where
@@ -79,7 +112,8 @@ module _
       subst (λ (n : Machine). Keeps t allowed m event a m n)
       (sym (done.changes ∙ bound_is m done.id done.thread old.0 tcb.0 old.1 tcb.1))
       (linked_keeps t allowed m event a m held done.id done.thread old.0 tcb.0 (Some done.id) (Some done.thread) old.1 tcb.1
-      (may_link address done.id done.finds) runs)
+      (context_changes t allowed m event a m held done.id done.thread old.0 tcb.0 (Some done.id) _ old.1 tcb.1
+      (may_link address done.id done.finds of_thread.label controls)) runs)
     where
       old : (context : Context) × (object_of m done.id ≡ Some (o.Context context))
       old = context address done.id done.finds
@@ -117,8 +151,8 @@ module _
           ap (λ l. allowed l authority.Runs to) from_is ∙ ap (allowed of_thread.label authority.Runs) to_is ∙ may_run))
           (inr (λ awake.
           acts_of t allowed m done.thread of_thread.label of_thread.labelled (started awake.acting controls)))
-          (full t allowed a m (with_object m done.thread (o.Tcb (runs_on tcb.0 (Some done.id)))) done.thread of_thread.label
-          of_thread.labelled (modifies authority.Control refl controls))
+          (changed t allowed m a m (with_object m done.thread (o.Tcb (runs_on tcb.0 (Some done.id)))) done.thread of_thread.label
+          of_thread.labelled (λ awake. modifies authority.Control refl controls))
 
   -- a thread runs on the context no more
   module _ (address : ℕ) (id : ObjId) (finds : FindsObject m caller address id d.Context) (thread : ObjId) (tcb : Tcb)
@@ -134,21 +168,24 @@ module _
         sound.confined left.0 authority.Runs used.label
         (by_link thread id (o.Tcb tcb) there (runs_bound tcb id on) left.1 used.labelled)
 
-    may_lose : MayTake allowed a left.0
-    may_lose = unbinds used.label (may_use address id finds) ran
+    may_lose : Takes t allowed m a left.0
+    may_lose awake = loses_context used.label (may_use address id finds) ran
 
     stops : Keeps t allowed m event a m (with_object m thread (o.Tcb (runs_on tcb None)))
     stops =
         let queue = sound.well_formed.parts.queue thread (o.Tcb tcb) there in
         thread_keeps t allowed m event a m held thread tcb None there (λ end bound. absurd (none-some end bound)) (inl refl)
-        (loses_links t allowed a m thread left.0 (o.Tcb tcb) (o.Tcb (runs_on tcb None)) left.1 may_lose there
+        (loses_links t allowed m a m thread left.0 (o.Tcb tcb) (o.Tcb (runs_on tcb None)) left.1 may_lose there
         (released tcb (runs_on tcb None) refl refl refl (goes_on refl refl) (inr refl)) queue.0 queue.1)
 
     unbound_keeps : Keeps t allowed m event a m (with_unbound m thread)
     unbound_keeps =
         let old = context address id finds in
+        let queue = sound.well_formed.parts.queue id (o.Context old.0) old.1 in
         subst (λ (n : Machine). Keeps t allowed m event a m n) (sym (unbound_is m id thread old.0 tcb old.1 there on))
-        (linked_keeps t allowed m event a m held id thread old.0 tcb None None old.1 there (may_link address id finds) stops)
+        (linked_keeps t allowed m event a m held id thread old.0 tcb None None old.1 there
+        (context_loses t allowed m event a m held id thread old.0 tcb None used.label old.1 there used.labelled
+        (λ awake. unbinds (may_use address id finds)) queue.0 queue.1) stops)
 
   pub unbind_keeps : (address : ℕ) → UnbindDone m caller address next → Keeps t allowed m event a m next
   unbind_keeps address done =

@@ -1,19 +1,37 @@
 -- The changes by which a thread and a scheduling context are linked, and are so no more, keep what a part of a call keeps, where the
 -- labels of the two allow it; and so does a context that goes over from a thread to another.
-use Rattle.std.proofs.{Common.{ℕ, ◌∙◌, ◌≡◌, ◌≢◌, ◌⊎◌, None, Option, Some, ap, inl, inr, refl, subst, sym, true}, lemmas.Option.none-some}
-use Rattle.std.proofs.lemmas.Option.{same_Some}
-use Rattle.base.specs.declared.{ids.ObjId.ObjId, kind.Kind.Kind}
+use Rattle.std.proofs.Common.{ℕ, ◌∙◌, ◌≡◌, ◌≢◌, ◌⊎◌, None, Option, Some, ap, inl, inr, refl, subst, sym, true, List}
+use Rattle.std.proofs.lemmas.Option.{none-some, same_Some}
+use Rattle.base.specs.declared.ids.ObjId.{ObjId}
+use Rattle.base.specs.declared.kind.Kind.{Kind}
 use Rattle.base.specs.declared.kind.Kind.TheVariants as authority
-use Rattle.machine.specs.declared.{call.Event.Event, object.{Context.Context, Object.{Object, Object as o}}, thread.Tcb.Tcb}
-use Rattle.machine.specs.{Authority.{label_of, links}, Layout.Layout, Machine.{Machine, object_of, with_object}, Releasing.with_unbound}
-use Rattle.machine.{specs.{Step.Bind.{context_under, with_bound, with_handed}, WellFormed.IsThread}, proofs.Ids.{at_itself, at_other}}
-use Rattle.machine.proofs.{LookUps.object_of-with_object, RunsLinks.{runs_by, runs_lent}}
+use Rattle.machine.specs.declared.call.Event.{Event}
+use Rattle.machine.specs.declared.object.Context.{Context}
+use Rattle.machine.specs.declared.object.Object.{Object}
+use Rattle.machine.specs.declared.object.Object.{Object as o}
+use Rattle.machine.specs.declared.thread.Tcb.{Tcb}
+use Rattle.machine.specs.Authority.{label_of, links}
+use Rattle.machine.specs.Layout.{Layout}
+use Rattle.machine.specs.Machine.{Machine, object_of, with_object, queue_of}
+use Rattle.machine.specs.Releasing.{with_unbound}
+use Rattle.machine.specs.Step.Bind.{context_under, with_bound, with_handed}
+use Rattle.machine.specs.WellFormed.{IsThread}
+use Rattle.machine.proofs.Ids.{at_itself, at_other}
+use Rattle.machine.proofs.LookUps.{object_of-with_object, queue_of-with_object}
+use Rattle.machine.proofs.RunsLinks.{runs_by, runs_lent}
 use Rattle.steps.proofs.ContextsFormed.{bound_is, unbound_is}
 use Rattle.policy.specs.Domain.{EdgeTest}
-use Rattle.integrity.{specs.{Acting.MayAct, Bounded.MayAffect, Invariant.{IsHeld, IsSound}}, proofs.Asleep.{IsAwake, OthersSleep}}
-use Rattle.integrity.proofs.{Asleep.{SleepsOrActs, acts_of, unbound_sleeps}, Contents.{context_fits, full, tcb_fits}, Held.held_of}
-use Rattle.integrity.proofs.{Keeps.{Keeps, keeps_keeps, unchanged}, ObjectLabels.{label_stays, same_label}, SetKeeps.set_keeps}
+use Rattle.integrity.specs.Acting.{MayAct}
+use Rattle.integrity.specs.Invariant.{IsHeld, IsSound}
+use Rattle.integrity.proofs.Asleep.{acts_of, unbound_sleeps}
+use Rattle.integrity.proofs.Contents.{context_fits, tcb_fits, changed, loses_links}
+use Rattle.integrity.proofs.Held.{held_of}
+use Rattle.integrity.proofs.Keeps.{Keeps, keeps_keeps, unchanged, Alters, Takes}
+use Rattle.integrity.proofs.ObjectLabels.{label_stays, same_label}
+use Rattle.integrity.proofs.SetKeeps.{set_keeps}
 use Rattle.integrity.proofs.SlotKeeps.{IsOpened}
+use Rattle.integrity.specs.Awake.{IsAwake, OthersSleep, SleepsOrActs}
+use Rattle.integrity.specs.Shrinks.Lessens.{unbound}
 
 -- the contents of a thread with another context, and of a context with another thread
 
@@ -55,7 +73,7 @@ module _
       (thread : ObjId) (tcb : Tcb) (link : Option ObjId) → IsThread m thread tcb
       → ((context : ObjId) → link ≡ Some context → MayRun t allowed m thread tcb context)
       → (link ≡ None) ⊎ ActsAt t allowed began a m thread
-      → MayAffect t allowed a m (with_object m thread (o.Tcb (runs_on tcb link))) thread
+      → Alters t allowed began a m (with_object m thread (o.Tcb (runs_on tcb link))) thread
       → Keeps t allowed began event a m (with_object m thread (o.Tcb (runs_on tcb link)))
   thread_keeps thread tcb link there may_run wakes may =
       set_keeps t allowed began event a m thread held (o.Tcb tcb) (o.Tcb (runs_on tcb link))
@@ -83,7 +101,9 @@ module _
   -- and the context gets another thread, or none
   pub linked_keeps :
       (id thread : ObjId) (context : Context) (tcb : Tcb) (link back : Option ObjId) → object_of m id ≡ Some (o.Context context)
-      → IsThread m thread tcb → IsOpened t allowed m a id
+      → IsThread m thread tcb
+      → Alters t allowed began a (with_object m thread (o.Tcb (runs_on tcb link)))
+      (with_object (with_object m thread (o.Tcb (runs_on tcb link))) id (o.Context (has_thread context back))) id
       → Keeps t allowed began event a m (with_object m thread (o.Tcb (runs_on tcb link)))
       → Keeps t allowed began event a m
       (with_object (with_object m thread (o.Tcb (runs_on tcb link))) id (o.Context (has_thread context back)))
@@ -94,15 +114,40 @@ module _
       set_beside m thread id (o.Tcb (runs_on tcb link)) (apart_by_kind m id thread context tcb its there) in
       keeps_keeps t allowed began event a m mid (with_object mid id (o.Context new)) held first
       (set_keeps t allowed began event a mid id first.held (o.Context context) (o.Context new)
-      (context_fits t allowed began event a mid id context new (beside ∙ its) refl (inl refl))
-      (full t allowed a mid (with_object mid id (o.Context new)) id may.label (same_label t m mid id beside ∙ may.labelled)
-      may.has))
+      (context_fits t allowed began event a mid id context new (beside ∙ its) refl (inl refl)) may)
 
--- the label has full authority over both threads and the context that goes over, and the thread that gets it may run on it
+  -- the label may change the context, whatever becomes of the thread before
+  pub context_changes :
+      (id thread : ObjId) (context : Context) (tcb : Tcb) (link : Option ObjId) (next : Machine)
+      → object_of m id ≡ Some (o.Context context) → IsThread m thread tcb → IsOpened t allowed began m a id
+      → Alters t allowed began a (with_object m thread (o.Tcb (runs_on tcb link))) next id
+  context_changes id thread context tcb link next its there may =
+      let mid : Machine = with_object m thread (o.Tcb (runs_on tcb link)) in
+      let beside : object_of mid id ≡ object_of m id =
+      set_beside m thread id (o.Tcb (runs_on tcb link)) (apart_by_kind m id thread context tcb its there) in
+      changed t allowed began a mid next id may.label (same_label t m mid id beside ∙ may.labelled) may.has
+
+  -- or it may make it smaller, and the context only loses its thread
+  pub context_loses :
+      (id thread : ObjId) (context : Context) (tcb : Tcb) (link : Option ObjId) (label : ℕ)
+      → object_of m id ≡ Some (o.Context context) → IsThread m thread tcb → label_of t m id ≡ Some label
+      → Takes t allowed began a label → (threads : List ObjId) → queue_of m id ≡ Some threads
+      → Alters t allowed began a (with_object m thread (o.Tcb (runs_on tcb link)))
+      (with_object (with_object m thread (o.Tcb (runs_on tcb link))) id (o.Context (has_thread context None))) id
+  context_loses id thread context tcb link label its there labelled take threads queue =
+      let mid : Machine = with_object m thread (o.Tcb (runs_on tcb link)) in
+      let new : Context = has_thread context None in
+      let beside : object_of mid id ≡ object_of m id =
+      set_beside m thread id (o.Tcb (runs_on tcb link)) (apart_by_kind m id thread context tcb its there) in
+      loses_links t allowed began a mid id label (o.Context context) (o.Context new) (same_label t m mid id beside ∙ labelled) take
+      (beside ∙ its) (unbound context new refl refl refl refl refl) threads
+      (queue_of-with_object m thread (o.Tcb (runs_on tcb link)) id ∙ queue)
+
+-- the label may change both threads and the context that goes over, and the thread that gets it may run on it
 pub record MayHand (t : Layout) (allowed : EdgeTest) (began : Machine) (a : ℕ) (m : Machine) (from to id : ObjId) : Type 0 where
-  pub gives : IsOpened t allowed m a from
-  pub gets : IsOpened t allowed m a to
-  pub goes : IsOpened t allowed m a id
+  pub gives : IsOpened t allowed began m a from
+  pub gets : IsOpened t allowed began m a to
+  pub goes : IsOpened t allowed began m a id
   pub acts : IsAwake t allowed began a → MayAct t allowed gets.label
   pub other : Tcb
   pub there : IsThread m to other
@@ -122,10 +167,11 @@ module _
 
     leaves : Keeps t allowed began event a m between
     leaves =
-        linked_keeps t allowed began event a m (held_of t allowed m sound) id from context tcb None None its there may.goes
+        linked_keeps t allowed began event a m (held_of t allowed m sound) id from context tcb None None its there
+        (context_changes t allowed began event a m (held_of t allowed m sound) id from context tcb None between its there may.goes)
         (thread_keeps t allowed began event a m (held_of t allowed m sound) from tcb None there
         (λ q none. absurd (none-some q none)) (inl refl)
-        (full t allowed a m halfway from may.gives.label may.gives.labelled may.gives.has))
+        (changed t allowed began a m halfway from may.gives.label may.gives.labelled may.gives.has))
 
     its_between : object_of between id ≡ Some (o.Context (has_thread context None))
     its_between = set_here halfway id (o.Context (has_thread context None))
@@ -163,11 +209,13 @@ module _
     joins : Keeps t allowed began event a between after
     joins =
         linked_keeps t allowed began event a between leaves.held id to (has_thread context None) may.other (Some id) (Some to)
-        its_between there_between (record { label = may.goes.label; labelled = id_label; has = may.goes.has })
+        its_between there_between
+        (context_changes t allowed began event a between leaves.held id to (has_thread context None) may.other (Some id) after
+        its_between there_between (record { label = may.goes.label; labelled = id_label; has = may.goes.has }))
         (thread_keeps t allowed began event a between leaves.held to may.other (Some id) there_between
         (λ q is. subst (λ (i : ObjId). MayRun t allowed between to may.other i) (same_Some id q is) may_run_between)
         (inr (λ awake. acts_of t allowed between to may.gets.label to_label (may.acts awake)))
-        (full t allowed a between (with_object between to (o.Tcb (runs_on may.other (Some id)))) to may.gets.label to_label
+        (changed t allowed began a between (with_object between to (o.Tcb (runs_on may.other (Some id)))) to may.gets.label to_label
         may.gets.has))
 
     after_is : with_bound (with_unbound m from) id to ≡ after

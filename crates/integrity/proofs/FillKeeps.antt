@@ -1,15 +1,33 @@
 -- An empty slot gets a capability, which keeps what a part of a call keeps if the policy has the capability's edges and its pair
 -- of the tree.
-use Rattle.std.{specs.Prelude.if◌then◌else◌, proofs.Common.{ℕ, ◌∙◌, ◌≡◌, ◌≢◌, ◌⊎◌, Bool, None, Option, Some, ap, false, inl, inr, refl}}
-use Rattle.std.proofs.{Common.{subst, sym, true}, lemmas.{Bool.false≢true, Option.same_Some}}
-use Rattle.base.specs.{declared.{ids.{ObjId.ObjId, SlotRef.SlotRef}, kind.Kind.{Kind, Kind as authority}}, Kinds.is_structural}
-use Rattle.machine.specs.{declared.cap.{Cap.Cap, Detail.Detail}, Authority.{label_of, HasAuthority.by_pair}, Capabilities.gives}
+use Rattle.std.specs.Prelude.{if◌then◌else◌}
+use Rattle.std.proofs.Common.{ℕ, ◌∙◌, ◌≡◌, ◌≢◌, ◌⊎◌, Bool, None, Option, Some, ap, false, inl, inr, refl, subst, sym, true}
+use Rattle.std.proofs.lemmas.Bool.{false≢true}
+use Rattle.std.proofs.lemmas.Option.{same_Some}
+use Rattle.base.specs.declared.ids.ObjId.{ObjId}
+use Rattle.base.specs.declared.ids.SlotRef.{SlotRef}
+use Rattle.base.specs.declared.kind.Kind.{Kind}
+use Rattle.base.specs.declared.kind.Kind.{Kind as authority}
+use Rattle.base.specs.Kinds.{is_structural}
+use Rattle.machine.specs.declared.cap.Cap.{Cap}
+use Rattle.machine.specs.declared.cap.Detail.{Detail}
+use Rattle.machine.specs.Authority.{label_of}
+use Rattle.machine.specs.Authority.HasAuthority.{by_pair}
+use Rattle.machine.specs.Capabilities.{gives, kind_of_detail}
 use Rattle.machine.specs.declared.object.ObjectKind.TheVariants as kind
-use Rattle.machine.specs.{Capabilities.kind_of_detail, Layout.Layout, Machine.{Machine, cap_of, object_of, parent_of, same_slot}}
-use Rattle.machine.{specs.{Tree.parent_of_copy, WellFormed.kind_of}, proofs.{AuthorityLemmas.gives_no_structure, Ids.one_or_two}}
-use Rattle.machine.proofs.{LookUps.one_slot, SlotChanges.Fills}
-use Rattle.policy.specs.{Closed.{DeriveByGrant, derived}, Domain.EdgeTest, Full.IsFull}
-use Rattle.integrity.{specs.Invariant.{IsBare, IsHeld}, proofs.SlotKeeps.{IsAllowedIn, SlotsFit}}
+use Rattle.machine.specs.Layout.{Layout}
+use Rattle.machine.specs.Machine.{Machine, cap_of, object_of, parent_of, same_slot}
+use Rattle.machine.specs.Tree.{parent_of_copy}
+use Rattle.machine.specs.WellFormed.{kind_of}
+use Rattle.machine.proofs.AuthorityLemmas.{gives_no_structure}
+use Rattle.machine.proofs.Ids.{one_or_two}
+use Rattle.machine.proofs.LookUps.{one_slot}
+use Rattle.machine.proofs.SlotChanges.{Fills}
+use Rattle.policy.specs.Closed.{DeriveByGrant, derived}
+use Rattle.policy.specs.Domain.{EdgeTest}
+use Rattle.integrity.specs.Invariant.{IsBare, IsHeld}
+use Rattle.integrity.proofs.SlotKeeps.{IsAllowedIn, SlotsFit}
+use Rattle.integrity.proofs.Keeps.{Changes}
 
 -- a slot of another object is another slot
 pub apart_slots : (q slot : SlotRef) → q.holder ≢ slot.holder → same_slot q slot ≡ false
@@ -28,10 +46,11 @@ given_of_use detail k given = by_case (is_structural k) refl where
 -- a capability may come into a slot, under a parent or under none: the caller's label may change the CNode or the thread that has
 -- the slot, and the policy has the capability's edges from there, and that of the pair
 pub record MayFill
-    (t : Layout) (allowed : EdgeTest) (a : ℕ) (m : Machine) (slot : SlotRef) (new : Cap) (parent : Option SlotRef) : Type 0 where
+    (t : Layout) (allowed : EdgeTest) (began : Machine) (a : ℕ) (m : Machine) (slot : SlotRef) (new : Cap)
+    (parent : Option SlotRef) : Type 0 where
   pub label : ℕ
   pub labelled : label_of t m slot.holder ≡ Some label
-  pub has : IsFull allowed a label
+  pub has : Changes t allowed began a label
   pub edges : IsAllowedIn t allowed m slot new
   pub derives :
       (above : SlotRef) (from : ℕ) → parent ≡ Some above → label_of t m above.holder ≡ Some from
@@ -68,8 +87,8 @@ copy_derives t allowed m before by_grant source held at to labelled edge above f
       by_grant from to (derived at (before.confined from authority.Derive at (by_pair source above is begins labelled)) edge)
 
 module _
-    (t : Layout) (allowed : EdgeTest) (a : ℕ) (m next : Machine) (before : IsHeld t allowed m) (slot : SlotRef) (new : Cap)
-    (parent : Option SlotRef) (may : MayFill t allowed a m slot new parent) (fills : Fills m slot new parent next) where
+    (t : Layout) (allowed : EdgeTest) (began : Machine) (a : ℕ) (m next : Machine) (before : IsHeld t allowed m) (slot : SlotRef)
+    (new : Cap) (parent : Option SlotRef) (may : MayFill t allowed began a m slot new parent) (fills : Fills m slot new parent next) where
   caps : (q : SlotRef) (cap : Cap) → cap_of next q ≡ Some cap → (cap_of m q ≡ Some cap) ⊎ IsAllowedIn t allowed m q cap
   caps q cap e = by_tie (same_slot q slot) refl (sym (fills.caps q) ∙ e) where
     by_tie :
@@ -104,7 +123,7 @@ module _
 
   pub fill_fits :
       ((q : SlotRef) (cap : Cap) → cap_of next q ≡ Some cap → kind_of next cap.object ≡ Some (kind_of_detail cap.detail))
-      → ((id : ObjId) → object_of next id ≡ None → IsBare next id) → SlotsFit t allowed a m next
+      → ((id : ObjId) → object_of next id ≡ None → IsBare next id) → SlotsFit t allowed began a m next
   fill_fits kinds bare = record {
     same = fills.objects;
     caps = caps;

@@ -1,23 +1,49 @@
 -- What each part of a call keeps, and that two parts, one after the other, keep it: what the headline asks of each row.
-use Rattle.std.proofs.{Common.{ℕ, ◌∙◌, ◌≡◌, ◌≤◌, ◌⊎◌, None, Option, Some, ap, arith, inl, inr, refl, subst, sym}, lemmas.Option.none-some}
-use Rattle.std.proofs.lemmas.Option.{same_Some}
+use Rattle.std.proofs.Common.{ℕ, ◌∙◌, ◌≡◌, ◌≤◌, ◌⊎◌, None, Option, Some, ap, arith, inl, inr, refl, subst, sym}
+use Rattle.std.proofs.lemmas.Option.{none-some, same_Some}
 use Rattle.base.specs.declared.ids.ObjId.{ObjId}
-use Rattle.machine.specs.declared.{call.{Call.TheVariants.Signal, Event.Event}, object.{Context.Context, Object.{Object, Object as o}}}
+use Rattle.machine.specs.declared.call.Call.TheVariants.{Signal}
+use Rattle.machine.specs.declared.call.Event.{Event}
+use Rattle.machine.specs.declared.object.Context.{Context}
+use Rattle.machine.specs.declared.object.Object.{Object}
+use Rattle.machine.specs.declared.object.Object.{Object as o}
 use Rattle.machine.specs.declared.object.ObjectKind.TheVariants as kind
-use Rattle.machine.specs.{Authority.label_of, Layout.Layout, Machine.{Machine, object_of}, Objects.{address_of, kind_of_object}}
+use Rattle.machine.specs.Authority.{label_of}
+use Rattle.machine.specs.Layout.{Layout}
+use Rattle.machine.specs.Machine.{Machine, object_of}
+use Rattle.machine.specs.Objects.{address_of, kind_of_object}
 use Rattle.policy.specs.Domain.{EdgeTest}
-use Rattle.integrity.specs.{Allowed.IsLabelled, Bounded.{MayAffect, MayModifyOrTake}, Budgets.MayConfigure, Invariant.IsHeld}
-use Rattle.integrity.{specs.Shrinks.IsSame, proofs.{Asleep.{IsAwake, OthersSleep}, ObjectLabels.{label_stays, labelled_there, same_label}}}
+use Rattle.integrity.specs.Allowed.{IsLabelled}
+use Rattle.integrity.specs.Budgets.{MayConfigure}
+use Rattle.integrity.specs.Invariant.{IsHeld}
+use Rattle.integrity.specs.Shrinks.{IsSame}
+use Rattle.integrity.proofs.ObjectLabels.{label_stays, labelled_there, same_label}
 use Rattle.integrity.proofs.Shrinking.{same_context, same_same, same_shrinks, shrinks_same, shrinks_shrinks}
+use Rattle.integrity.specs.Awake.{IsAwake, OthersSleep, CallersAreServed}
+use Rattle.integrity.specs.Altered.{MayAlter, MayChangeOrShrink}
+use Rattle.policy.specs.Change.{ActorTest, WayToChange}
+use Rattle.policy.specs.NarrowTake.{WayToShrink}
 
--- an object is as it was, or changed within the bounds of a label
-abbrev pub Acts : Layout → EdgeTest → ℕ → Machine → Machine → ObjId → Type 0
-Acts t allowed a m next id = IsSame m next id ⊎ MayAffect t allowed a m next id
+-- an object is as it was, or changed within the bounds of a label, where only some labels act
+abbrev pub Acts : Layout → EdgeTest → ActorTest → ℕ → Machine → Machine → ObjId → Type 0
+Acts t allowed acts a m next id = IsSame m next id ⊎ MayAlter t allowed acts a m next id
+
+-- the label of a step may so change an object
+abbrev pub Alters : Layout → EdgeTest → Machine → ℕ → Machine → Machine → ObjId → Type 0
+Alters t allowed began a m next id = (awake : IsAwake t allowed began a) → MayAlter t allowed awake.acts a m next id
+
+-- the label of a step that began at some machine may change objects of another label, or make them smaller
+
+abbrev pub Changes : Layout → EdgeTest → Machine → ℕ → ℕ → Type 0
+Changes t allowed began a label = (awake : IsAwake t allowed began a) → WayToChange allowed awake.acts a label
+
+abbrev pub Takes : Layout → EdgeTest → Machine → ℕ → ℕ → Type 0
+Takes t allowed began a label = (awake : IsAwake t allowed began a) → WayToShrink allowed awake.acts a label
 
 -- a part of a step of a label's thread, which began at some machine
 pub record Keeps (t : Layout) (allowed : EdgeTest) (began : Machine) (event : Event) (a : ℕ) (m next : Machine) : Type 0 where
   pub held : IsHeld t allowed next
-  pub acts : (id : ObjId) → Acts t allowed a m next id
+  pub acts : (awake : IsAwake t allowed began a) (id : ObjId) → Acts t allowed awake.acts a m next id
   -- an object that is there before and after keeps its kind and its address
   pub stays :
       (id : ObjId) (old new : Object) → object_of m id ≡ Some old → object_of next id ≡ Some new
@@ -27,6 +53,8 @@ pub record Keeps (t : Layout) (allowed : EdgeTest) (began : Machine) (event : Ev
   pub grows : m.next ≤ next.next
   -- threads whose labels may not act sleep on, if the step's label may act
   pub sleeps : IsAwake t allowed began a → OthersSleep t allowed m → OthersSleep t allowed next
+  -- who is held by a reply since it called is served, if the step's label may act
+  pub serves : IsAwake t allowed began a → CallersAreServed t allowed m → CallersAreServed t allowed next
   -- a context that is there before and after keeps its core, budget and period, unless the event may configure it
   pub budgets :
       (id : ObjId) (old new : Context) → object_of m id ≡ Some (o.Context old) → object_of next id ≡ Some (o.Context new)
@@ -42,12 +70,13 @@ pub unchanged :
     → Keeps t allowed began event a m m
 unchanged t allowed began event a m held = record {
   held = held;
-  acts = λ q. inl (record { content = refl; queue = refl; words = refl; slots = λ index. refl });
+  acts = λ awake q. inl (record { content = refl; queue = refl; words = refl; slots = λ index. refl });
   stays = λ q old new was is.
       let same = same_Some new old (sym is ∙ was) in (ap kind_of_object same, ap address_of same);
   born = λ q new gone is. absurd (none-some new (sym gone ∙ is));
   grows = omega arith;
   sleeps = λ awake others. others;
+  serves = λ awake served. served;
   budgets = λ q old new was is.
       let same = same_Some (o.Context new) (o.Context old) (sym is ∙ was) in
       inl (ap (λ (c : Context). c.share) (same_context new old same));
@@ -58,24 +87,25 @@ context_by_kind (o.Context context) is = (context, refl)
 context_by_kind _ is = cc
 
 may_after :
-    (allowed : EdgeTest) (a label : ℕ) (m mid next : Machine) (id : ObjId) → IsSame m mid id
-    → MayModifyOrTake allowed a label mid next id → MayModifyOrTake allowed a label m next id
-may_after allowed a label m mid next id same (inl full) = inl full
-may_after allowed a label m mid next id same (inr take) = inr (take.0, same_shrinks m mid next id same take.1)
+    (allowed : EdgeTest) (acts : ActorTest) (a label : ℕ) (m mid next : Machine) (id : ObjId) → IsSame m mid id
+    → MayChangeOrShrink allowed acts a label mid next id → MayChangeOrShrink allowed acts a label m next id
+may_after allowed acts a label m mid next id same (inl change) = inl change
+may_after allowed acts a label m mid next id same (inr take) = inr (take.0, same_shrinks m mid next id same take.1)
 
 may_before :
-    (allowed : EdgeTest) (a label : ℕ) (m mid next : Machine) (id : ObjId) → MayModifyOrTake allowed a label m mid id
-    → IsSame mid next id → MayModifyOrTake allowed a label m next id
-may_before allowed a label m mid next id (inl full) same = inl full
-may_before allowed a label m mid next id (inr take) same = inr (take.0, shrinks_same m mid next id take.1 same)
+    (allowed : EdgeTest) (acts : ActorTest) (a label : ℕ) (m mid next : Machine) (id : ObjId)
+    → MayChangeOrShrink allowed acts a label m mid id → IsSame mid next id → MayChangeOrShrink allowed acts a label m next id
+may_before allowed acts a label m mid next id (inl change) same = inl change
+may_before allowed acts a label m mid next id (inr take) same = inr (take.0, shrinks_same m mid next id take.1 same)
 
 may_may :
-    (allowed : EdgeTest) (a label other : ℕ) (m mid next : Machine) (id : ObjId) → other ≡ label
-    → MayModifyOrTake allowed a label m mid id → MayModifyOrTake allowed a other mid next id → MayModifyOrTake allowed a label m next id
-may_may allowed a label other m mid next id same (inl full) more = inl full
-may_may allowed a label other m mid next id same (inr take) (inl full) =
-    subst (λ l. MayModifyOrTake allowed a l m next id) same (inl full)
-may_may allowed a label other m mid next id same (inr take) (inr also) =
+    (allowed : EdgeTest) (acts : ActorTest) (a label other : ℕ) (m mid next : Machine) (id : ObjId) → other ≡ label
+    → MayChangeOrShrink allowed acts a label m mid id → MayChangeOrShrink allowed acts a other mid next id
+    → MayChangeOrShrink allowed acts a label m next id
+may_may allowed acts a label other m mid next id same (inl change) more = inl change
+may_may allowed acts a label other m mid next id same (inr take) (inl change) =
+    subst (λ l. MayChangeOrShrink allowed acts a l m next id) same (inl change)
+may_may allowed acts a label other m mid next id same (inr take) (inr also) =
     inr (take.0, shrinks_shrinks m mid next id take.1 also.1)
 
 module _
@@ -111,19 +141,20 @@ module _
       (sym then ∙ label_stays t n after id old.0 new.0 old.1 new.1 (stays old.0 new.0 old.1 new.1).1 ∙ before)
 
   both_change :
-      (id : ObjId) → (one : MayAffect t allowed a m mid id) → (two : MayAffect t allowed a mid next id) → Acts t allowed a m next id
-  both_change id one two = by one.labelled two.labelled where
-    there : IsLabelled t m next id one.label → two.label ≡ one.label → Acts t allowed a m next id
+      (acts : ActorTest) (id : ObjId) → (one : MayAlter t allowed acts a m mid id) → (two : MayAlter t allowed acts a mid next id)
+      → Acts t allowed acts a m next id
+  both_change acts id one two = by one.labelled two.labelled where
+    there : IsLabelled t m next id one.label → two.label ≡ one.label → Acts t allowed acts a m next id
     there labelled same = inr (record {
       label = one.label;
       labelled = labelled;
-      may = may_may allowed a one.label two.label m mid next id same one.may two.may;
+      may = may_may allowed acts a one.label two.label m mid next id same one.may two.may;
     })
 
     -- made by the first part
     made :
         (object : Option Object) → object_of next id ≡ object → object_of m id ≡ None → label_of t mid id ≡ Some one.label
-        → two.label ≡ one.label → Acts t allowed a m next id
+        → two.label ≡ one.label → Acts t allowed acts a m next id
     made None gone absent label same =
         let before = held.bare id absent in
         let then = more.held.bare id gone in
@@ -138,7 +169,7 @@ module _
         let stays = more.stays id middle.0 new middle.1 is in
         there (inr (absent, label_stays t mid next id middle.0 new middle.1 is stays.1 ∙ label)) same
 
-    by : IsLabelled t m mid id one.label → IsLabelled t mid next id two.label → Acts t allowed a m next id
+    by : IsLabelled t m mid id one.label → IsLabelled t mid next id two.label → Acts t allowed acts a m next id
     by (inl before) (inl then) = there (inl before) (label_kept m mid id one.label two.label (first.stays id) before then)
     by (inl before) (inr then) =
         let old = labelled_there t m id one.label before in
@@ -150,19 +181,21 @@ module _
         let middle = labelled_there t mid id one.label before.1 in
         absurd (none-some middle.0 (sym then.0 ∙ middle.1))
 
-  acts_acts : (id : ObjId) → Acts t allowed a m mid id → Acts t allowed a mid next id → Acts t allowed a m next id
-  acts_acts id (inl one) (inl two) = inl (same_same m mid next id one two)
-  acts_acts id (inl one) (inr two) = inr (record {
+  acts_acts :
+      (acts : ActorTest) (id : ObjId) → Acts t allowed acts a m mid id → Acts t allowed acts a mid next id
+      → Acts t allowed acts a m next id
+  acts_acts acts id (inl one) (inl two) = inl (same_same m mid next id one two)
+  acts_acts acts id (inl one) (inr two) = inr (record {
     label = two.label;
     labelled = elim two.labelled [ inl then ↦ inl (sym (same_label t m mid id one.content) ∙ then) | inr made ↦ inr (sym one.content ∙ made.0, made.1) ];
-    may = may_after allowed a two.label m mid next id one two.may;
+    may = may_after allowed acts a two.label m mid next id one two.may;
   })
-  acts_acts id (inr one) (inl two) = inr (record {
+  acts_acts acts id (inr one) (inl two) = inr (record {
     label = one.label;
     labelled = elim one.labelled [ inl before ↦ inl before | inr made ↦ inr (made.0, same_label t mid next id two.content ∙ made.1) ];
-    may = may_before allowed a one.label m mid next id one.may two;
+    may = may_before allowed acts a one.label m mid next id one.may two;
   })
-  acts_acts id (inr one) (inr two) = both_change id one two
+  acts_acts acts id (inr one) (inr two) = both_change acts id one two
 
   budgets_kept :
       (id : ObjId) (old new : Context) → object_of m id ≡ Some (o.Context old) → object_of next id ≡ Some (o.Context new)
@@ -184,7 +217,7 @@ module _
   pub keeps_keeps : Keeps t allowed began event a m next
   keeps_keeps = record {
     held = more.held;
-    acts = λ id. acts_acts id (first.acts id) (more.acts id);
+    acts = λ awake id. acts_acts awake.acts id (first.acts awake id) (more.acts awake id);
     stays = λ id old new was is.
         let middle = between id old new was is in
         let one = first.stays id old middle.0 was middle.1 in
@@ -193,6 +226,7 @@ module _
     born = λ id new absent is. made id new absent is (object_of mid id) refl;
     grows = let one = first.grows in let two = more.grows in omega (arith, one, two);
     sleeps = λ awake others. more.sleeps awake (first.sleeps awake others);
+    serves = λ awake served. more.serves awake (first.serves awake served);
     budgets = budgets_kept;
   } where
     made :

@@ -2,19 +2,36 @@
 -- one calls that runs on it; and so does an answer with which the context goes back to the thread that lent it.
 use Rattle.std.proofs.Common.{ℕ, ◌∙◌, ◌≡◌, ◌≢◌, ◌⊎◌, None, Option, Some, ap, inl, inr, option_map, refl, subst, sym, true}
 use Rattle.std.proofs.lemmas.Option.{none-some, same_Some}
-use Rattle.base.specs.declared.{ids.ObjId.ObjId, kind.Kind.Kind as authority}
-use Rattle.machine.specs.declared.{call.Event.Event, object.Object.Object as o, thread.{Lent.Lent, RunState.RunState, Tcb.Tcb}}
-use Rattle.machine.specs.{Authority.{label_of, lent_of, links}, Layout.Layout, Machine.{Machine, object_of}, Step.Bind.context_under}
-use Rattle.machine.specs.Step.{Bind.with_handed, Reply.{lent_in, with_returned}, Send.{called_through, lent_by, with_lent}}
-use Rattle.machine.{specs.WellFormed.{IsFree, IsIdle, IsThread, WaitsAt}, proofs.{Idle.{idle_names, idle_waits}, Leaving.Names}}
-use Rattle.machine.proofs.RunsLinks.{runs_bound, runs_lent}
+use Rattle.base.specs.declared.ids.ObjId.{ObjId}
+use Rattle.base.specs.declared.kind.Kind.{Kind as authority}
+use Rattle.machine.specs.declared.call.Event.{Event}
+use Rattle.machine.specs.declared.object.Object.{Object as o}
+use Rattle.machine.specs.declared.thread.Lent.{Lent}
+use Rattle.machine.specs.declared.thread.RunState.{RunState}
 use Rattle.machine.specs.declared.thread.RunState.TheVariants as state
-use Rattle.steps.proofs.{Lending.{GivesBack, lends, returned_or_same}, MessageRows.{lending, lending_formed, lending_receiver}}
-use Rattle.steps.proofs.MessageRows.{lending_there}
-use Rattle.policy.specs.{Domain.EdgeTest, Full.{IsFull, IsFull.{modifies, own}}, Take.MayTake}
-use Rattle.integrity.{specs.{Acting.MayAct, Invariant.{IsHeld, IsSound}}, proofs.{Asleep.IsAwake, ContextTouches.{MayHand, handed_keeps}}}
-use Rattle.integrity.proofs.{Held.held_of, Keeps.{Keeps, keeps_keeps, unchanged}, MessageParts.{halts, label_kept, thread_edge, waits_keep}}
-use Rattle.integrity.proofs.MessageTouches.{sound_after}
+use Rattle.machine.specs.declared.thread.Tcb.{Tcb}
+use Rattle.machine.specs.Authority.{label_of, lent_of, links}
+use Rattle.machine.specs.Layout.{Layout}
+use Rattle.machine.specs.Machine.{Machine, object_of}
+use Rattle.machine.specs.Step.Bind.{context_under, with_handed}
+use Rattle.machine.specs.Step.Reply.{lent_in, with_returned}
+use Rattle.machine.specs.Step.Send.{called_through, lent_by, with_lent}
+use Rattle.machine.specs.WellFormed.{IsFree, IsIdle, IsThread, WaitsAt}
+use Rattle.machine.proofs.Idle.{idle_names, idle_waits}
+use Rattle.machine.proofs.Leaving.{Names}
+use Rattle.machine.proofs.RunsLinks.{runs_bound, runs_lent}
+use Rattle.steps.proofs.Lending.{GivesBack, lends, returned_or_same}
+use Rattle.steps.proofs.MessageRows.{lending, lending_formed, lending_receiver, lending_there}
+use Rattle.policy.specs.Domain.{EdgeTest}
+use Rattle.integrity.specs.Acting.{MayAct}
+use Rattle.integrity.specs.Invariant.{IsHeld, IsSound}
+use Rattle.integrity.proofs.ContextTouches.{MayHand, handed_keeps}
+use Rattle.integrity.proofs.Held.{held_of}
+use Rattle.integrity.proofs.Keeps.{Keeps, keeps_keeps, unchanged, Changes, Takes}
+use Rattle.integrity.proofs.MessageParts.{halts, label_kept, thread_edge, waits_keep}
+use Rattle.integrity.proofs.MessageTouches.{sound_after, MayHold}
+use Rattle.integrity.specs.Awake.{IsAwake}
+use Rattle.policy.specs.Change.WayToChange.{own}
 
 -- what runs on a context has it as its own
 own_context :
@@ -37,21 +54,22 @@ module _
   -- a thread of the label gives the context that it runs on to another
   handing :
       (thread other id : ObjId) (tcb its : Tcb) → IsThread m thread tcb → label_of t m thread ≡ Some a → tcb.context ≡ Some id
-      → IsThread m other its → (b : ℕ) → label_of t m other ≡ Some b → IsFull allowed a b
+      → IsThread m other its → (b : ℕ) → label_of t m other ≡ Some b → Changes t allowed began a b
       → (IsAwake t allowed began a → MayAct t allowed b)
       → ((s : ℕ) → label_of t m id ≡ Some s → allowed a authority.Runs s ≡ true
       → (links (o.Tcb its) authority.Runs id ≡ true) ⊎ (allowed b authority.Runs s ≡ true))
+      → ((s : ℕ) → allowed a authority.Runs s ≡ true → Changes t allowed began a s)
       → MayHand t allowed began a m thread other id
-  handing thread other id tcb its there mine runs at b labelled has acts may_run =
+  handing thread other id tcb its there mine runs at b labelled has acts may_run may_give =
       let context = sound.well_formed.links.thread_context thread id tcb there runs in
       let s = sound.of_table.labelled id (o.Context context.0) context.1 in
       let ran =
       thread_edge t allowed began event a m sound thread id tcb authority.Runs a s.0 there (runs_bound tcb id runs) mine s.1 in
       record {
-        gives = record { label = a; labelled = mine; has = own refl };
+        gives = record { label = a; labelled = mine; has = λ awake. own refl };
         gets = record { label = b; labelled = labelled; has = has };
         acts = acts;
-        goes = record { label = s.0; labelled = s.1; has = modifies authority.Runs refl ran };
+        goes = record { label = s.0; labelled = s.1; has = may_give s.0 ran };
         other = its;
         there = at;
         may_run = may_run s.0 s.1 ran;
@@ -60,29 +78,30 @@ module _
   -- what a thread lent goes back to it from the thread that answers
   returned_back :
       (thread called : ObjId) (giver tcb : Tcb) → IsThread m thread giver → label_of t m thread ≡ Some a → IsThread m called tcb
-      → (l : ℕ) → label_of t m called ≡ Some l → IsFull allowed a l → (IsAwake t allowed began a → MayAct t allowed l)
-      → GivesBack m thread called
+      → (l : ℕ) → label_of t m called ≡ Some l → Changes t allowed began a l → (IsAwake t allowed began a → MayAct t allowed l)
+      → ((s : ℕ) → allowed a authority.Runs s ≡ true → Changes t allowed began a s) → GivesBack m thread called
       → Keeps t allowed began event a m (with_handed m thread called)
-  returned_back thread called giver tcb there mine at l labelled has acts back =
+  returned_back thread called giver tcb there mine at l labelled has acts may_give back =
       handed_keeps t allowed began event a m sound thread called back.free (λ id runs.
       let same : back.context ≡ id = same_Some back.context id (sym back.runs ∙ runs) in
       let lent : lent_of tcb.state ≡ Some id =
       lent_back tcb tcb.state (record { context = back.context; borrower = thread }) (sym (ap lent_in at) ∙ back.lent)
       ∙ ap (λ (i : ObjId). Some i) same in
       handing thread called id giver tcb there mine (own_context m thread id giver there runs) at l labelled has acts
-      (λ s target ran. inl (runs_lent tcb id lent)))
+      (λ s target ran. inl (runs_lent tcb id lent)) may_give)
 
   pub returned_keeps :
       (thread called : ObjId) (giver tcb : Tcb) → IsThread m thread giver → label_of t m thread ≡ Some a → IsThread m called tcb
-      → (l : ℕ) → label_of t m called ≡ Some l → IsFull allowed a l → (IsAwake t allowed began a → MayAct t allowed l)
+      → (l : ℕ) → label_of t m called ≡ Some l → Changes t allowed began a l → (IsAwake t allowed began a → MayAct t allowed l)
+      → ((s : ℕ) → allowed a authority.Runs s ≡ true → Changes t allowed began a s)
       → Keeps t allowed began event a m (with_returned m thread called)
-  returned_keeps thread called giver tcb there mine at l labelled has acts = by_case (returned_or_same m thread called) where
+  returned_keeps thread called giver tcb there mine at l labelled has acts may_give = by_case (returned_or_same m thread called) where
     by_case :
         (GivesBack m thread called × (with_returned m thread called ≡ with_handed m thread called))
         ⊎ (with_returned m thread called ≡ m) → Keeps t allowed began event a m (with_returned m thread called)
     by_case (inl w) =
         subst (λ (n : Machine). Keeps t allowed began event a m n) (sym w.1)
-        (returned_back thread called giver tcb there mine at l labelled has acts w.0)
+        (returned_back thread called giver tcb there mine at l labelled has acts may_give w.0)
     by_case (inr same) =
         subst (λ (n : Machine). Keeps t allowed began event a m n) (sym same) (unchanged t allowed began event a m held)
 
@@ -91,18 +110,18 @@ module _
     (t : Layout) (allowed : EdgeTest) (began : Machine) (event : Event) (a : ℕ) (m : Machine) (sound : IsSound t allowed m)
     (thread receiver : ObjId) (tcb its : Tcb) (there : IsThread m thread tcb) (idle : IsIdle tcb.state)
     (receives : IsThread m receiver its) (apart : thread ≢ receiver) (mine : label_of t m thread ≡ Some a) (b : ℕ)
-    (labelled : label_of t m receiver ≡ Some b) (has : IsFull allowed a b)
+    (labelled : label_of t m receiver ≡ Some b) (has : Changes t allowed began a b)
     (acts : IsAwake t allowed began a → MayAct t allowed b) where
-  names_none : (q : ObjId) (to : ℕ) → Names tcb.state q → label_of t m q ≡ Some to → IsFull allowed a to
+  names_none : (q : ObjId) (to : ℕ) → Names tcb.state q → label_of t m q ≡ Some to → Changes t allowed began a to
   names_none q to names target = absurd (idle_names tcb.state idle q names)
 
-  waits_nowhere : (q : ObjId) (to : ℕ) → WaitsAt tcb.state q → label_of t m q ≡ Some to → IsFull allowed a to ⊎ MayTake allowed a to
+  waits_nowhere : (q : ObjId) (to : ℕ) → WaitsAt tcb.state q → label_of t m q ≡ Some to → Changes t allowed began a to ⊎ Takes t allowed began a to
   waits_nowhere q to stays target = absurd (idle_waits tcb.state idle q stays)
 
   module _
       (id : ObjId) (free : IsFree m id)
-      (may : (r : ℕ) → label_of t m id ≡ Some r → IsFull allowed a r × (allowed r authority.Holds a ≡ true))
-      (may_lend : (s : ℕ) → allowed a authority.Runs s ≡ true → allowed b authority.Runs s ≡ true) where
+      (may : (r : ℕ) → label_of t m id ≡ Some r → MayHold t allowed began a r a)
+      (may_lend : (s : ℕ) → allowed a authority.Runs s ≡ true → (allowed b authority.Runs s ≡ true) × Changes t allowed began a s) where
     abbrev own_loan : Option Lent
     own_loan = lent_by m thread receiver
 
@@ -121,8 +140,8 @@ module _
 
     calls : Keeps t allowed began event a m waits
     calls =
-        waits_keep t allowed began event a m sound thread tcb there a mine (own refl) (λ awake. awake.acting) names_none waits_nowhere
-        id own_loan free
+        waits_keep t allowed began event a m sound thread tcb there a mine (λ awake. own refl) (λ awake. awake.acting) names_none
+        waits_nowhere id own_loan free
         (lends_own own_loan refl) may
 
     there_now : IsThread waits thread now
@@ -146,7 +165,7 @@ module _
         (label_kept t allowed began event a m waits thread (o.Tcb tcb) (o.Tcb now) calls there there_now ∙ mine)
         (own_context waits thread q now there_now runs) receives_now b
         (label_kept t allowed began event a m waits receiver (o.Tcb its) (o.Tcb its) calls receives receives_now ∙ labelled) has acts
-        (λ s target ran. inr (may_lend s ran)))
+        (λ s target ran. inr (may_lend s ran).0) (λ s ran. (may_lend s ran).1))
 
     by_loan : (lent : Option Lent) → own_loan ≡ lent → Keeps t allowed began event a m (with_lent waits thread lent)
     by_loan None is = calls
@@ -158,11 +177,12 @@ module _
 
   pub called_through_keeps :
       (through : Option ObjId) → ((id : ObjId) → through ≡ Some id → IsFree m id)
-      → ((id : ObjId) (r : ℕ) → through ≡ Some id → label_of t m id ≡ Some r
-      → IsFull allowed a r × (allowed r authority.Holds a ≡ true))
-      → ((id : ObjId) (s : ℕ) → through ≡ Some id → allowed a authority.Runs s ≡ true → allowed b authority.Runs s ≡ true)
+      → ((id : ObjId) (r : ℕ) → through ≡ Some id → label_of t m id ≡ Some r → MayHold t allowed began a r a)
+      → ((id : ObjId) (s : ℕ) → through ≡ Some id → allowed a authority.Runs s ≡ true
+      → (allowed b authority.Runs s ≡ true) × Changes t allowed began a s)
       → Keeps t allowed began event a m (called_through m thread receiver through)
   called_through_keeps None free may may_lend =
-      halts t allowed began event a m sound thread tcb there a mine (own refl) (λ awake. awake.acting) names_none waits_nowhere
+      halts t allowed began event a m sound thread tcb there a mine (inl (λ awake. own refl)) (λ awake. awake.acting) names_none
+      waits_nowhere
   called_through_keeps (Some id) free may may_lend =
       by_loan id (free id refl) (λ r. may id r refl) (λ s. may_lend id s refl) (lent_by m thread receiver) refl

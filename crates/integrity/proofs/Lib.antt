@@ -4,6 +4,8 @@ pub mod Reach
 pub mod Held
 pub mod Shrinking
 pub mod Asleep
+pub mod Awake
+pub mod InMemory
 pub mod Bounds
 pub mod Keeps
 pub mod Steady
@@ -34,6 +36,8 @@ pub mod RemovalConfined
 pub mod RemovalShrinks
 pub mod Cascade
 pub mod RemovalCuts
+pub mod RemovalRights
+pub mod RemovalServed
 pub mod RemovalKeeps
 pub mod RemovalCalls
 pub mod WordsKeeps

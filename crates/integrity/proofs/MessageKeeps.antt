@@ -1,34 +1,68 @@
 -- Send, Call, Receive, Reply and Fetch within a caller's authority: the endpoint or the reply that is found is one that its label
 -- may use so, and whom a message or an answer reaches waits there by a recorded edge.
-use Rattle.std.{specs.Prelude.{if◌then◌else◌, is_ok}, proofs.Common.{ℕ, ◌&&◌, ◌∙◌, ◌≡◌, ◌≢◌, ◌⊎◌, Bool, List, None, Option, Some, ap}}
-use Rattle.std.proofs.{Common.{false, inl, inr, refl, subst, sym, true}, lemmas.Bool.{and_from, and_parts, false≢true}}
-use Rattle.base.specs.declared.{ids.ObjId.ObjId, kind.Kind.{Kind, Kind as authority}}
-use Rattle.machine.specs.declared.{call.Event.Event, cap.Detail.Detail as d, object.{Endpoint.Endpoint, Object.{Object, Object as o}}}
-use Rattle.machine.specs.declared.{object.Reply.Reply, slot_address.SlotAddress.SlotAddress, thread.{Message.Message, Receiving.Receiving}}
-use Rattle.machine.specs.{declared.thread.{RunState.RunState, Sending.Sending, Tcb.Tcb}, Authority.{label_of, state_links}}
-use Rattle.machine.specs.{Capabilities.can_write, Layout.Layout, Machine.{Machine, object_of, same_id}, Releasing.{given, ready}}
-use Rattle.machine.specs.{Releasing.{with_blocked, with_given, with_named, with_ready}, Step.Deliver.{answer_through, arrival_of}}
-use Rattle.machine.specs.Step.{Deliver.{delivered, linked, message_of, sending_by, sent, with_arrival}, Receive.awaiting_message}
-use Rattle.machine.specs.{Step.{Receive.with_reply_ended, Reply.with_returned, Send.called_through}, WellFormed.{IsAlike, IsCallingThrough}}
-use Rattle.machine.{specs.WellFormed.{IsReceivingWith, IsThread, IsWellFormed, WaitsAt}, proofs.{HeldThreads.calling_names, Ids.itself}}
-use Rattle.machine.proofs.{Leaving.Names, LookUps.one_id, RunsLinks.named_so}
-use Rattle.machine.specs.declared.object.ReplyState.TheVariants as reply
+use Rattle.std.specs.Prelude.{if◌then◌else◌, is_ok}
+use Rattle.std.proofs.Common.{ℕ, ◌&&◌, ◌∙◌, ◌≡◌, ◌≢◌, ◌⊎◌, Bool, List, None, Option, Some, ap, false, inl, inr, refl, subst, sym, true}
+use Rattle.std.proofs.lemmas.Bool.{and_from, and_parts, false≢true}
+use Rattle.base.specs.declared.ids.ObjId.{ObjId}
+use Rattle.base.specs.declared.kind.Kind.{Kind}
+use Rattle.base.specs.declared.kind.Kind.{Kind as authority}
+use Rattle.machine.specs.declared.call.Event.{Event}
+use Rattle.machine.specs.declared.cap.Detail.{Detail as d}
+use Rattle.machine.specs.declared.object.Endpoint.{Endpoint}
+use Rattle.machine.specs.declared.object.Object.{Object}
+use Rattle.machine.specs.declared.object.Object.{Object as o}
+use Rattle.machine.specs.declared.object.Reply.{Reply}
+use Rattle.machine.specs.declared.slot_address.SlotAddress.{SlotAddress}
+use Rattle.machine.specs.declared.thread.Message.{Message}
+use Rattle.machine.specs.declared.thread.Receiving.{Receiving}
+use Rattle.machine.specs.declared.thread.RunState.{RunState}
 use Rattle.machine.specs.declared.thread.RunState.TheVariants as state
-use Rattle.steps.proofs.{Admission.IsCaller, Arrival.arrival_same, EndpointRow.{IsEndOpen, IsReceiver, IsSender}, FetchRow.FetchDone}
-use Rattle.steps.proofs.{Joins.names_one, Lending.returned_there, MessageRows.{answers_through, caller_apart, caller_idle}}
-use Rattle.steps.proofs.MessageRows.{delivered_formed, delivered_free, delivered_other, delivered_there, received_arrived_formed}
-use Rattle.steps.proofs.MessageRows.{received_arrived_free, received_caller, received_ended_formed, received_endpoint, received_free}
-use Rattle.steps.proofs.{MessageRows.received_sender, ReceiveRow.ReceiveDone, ReplyRow.{Answers, ReplyDone}, SendRow.EndpointCallDone}
-use Rattle.steps.proofs.SendRow.{SendDone}
-use Rattle.policy.specs.{Closed.{IsClosed, caller, server}, Domain.EdgeTest, Full.{IsFull, IsFull.{links as links_to, modifies, receives}}}
-use Rattle.policy.specs.{Full.IsFull.{replies, sends}, Take.MayTake}
-use Rattle.integrity.{specs.{Acting.MayAct, Invariant.{IsHeld, IsSound}, Shrinks.IsBlocked}, proofs.ArrivalKeeps.arrival_keeps}
-use Rattle.integrity.proofs.{Asleep.{IsAwake, blocked_acts}, Held.held_of, Keeps.{Keeps, keeps_keeps, unchanged}}
-use Rattle.integrity.proofs.{LendingKeeps.{called_through_keeps, returned_keeps}, MessageParts.{IsReached, answers_allowed, at_reached}}
-use Rattle.integrity.proofs.MessageParts.{blocked_beside, deliver_keeps, halt_keeps, holds_edge, label_kept, link_keeps, reached}
-use Rattle.integrity.proofs.MessageParts.{receiver_receives, receiver_replies, same_kept, sender_calls, sender_grants, sender_sends}
-use Rattle.integrity.proofs.{MessageParts.thread_label, MessageTouches.{blocked_keeps, emptied_keeps, holding_keeps, released_keeps}}
-use Rattle.integrity.proofs.{MessageTouches.sound_after, ObjectLabels.same_label}
+use Rattle.machine.specs.declared.thread.Sending.{Sending}
+use Rattle.machine.specs.declared.thread.Tcb.{Tcb}
+use Rattle.machine.specs.Authority.{label_of, state_links}
+use Rattle.machine.specs.Capabilities.{can_write}
+use Rattle.machine.specs.Layout.{Layout}
+use Rattle.machine.specs.Machine.{Machine, object_of, same_id}
+use Rattle.machine.specs.Releasing.{given, ready, with_blocked, with_given, with_named, with_ready}
+use Rattle.machine.specs.Step.Deliver.{answer_through, arrival_of, delivered, linked, message_of, sending_by, sent, with_arrival}
+use Rattle.machine.specs.Step.Receive.{awaiting_message, with_reply_ended}
+use Rattle.machine.specs.Step.Reply.{with_returned}
+use Rattle.machine.specs.Step.Send.{called_through}
+use Rattle.machine.specs.WellFormed.{IsAlike, IsCallingThrough, IsReceivingWith, IsThread, IsWellFormed, WaitsAt}
+use Rattle.machine.proofs.HeldThreads.{calling_names}
+use Rattle.machine.proofs.Ids.{itself}
+use Rattle.machine.proofs.Leaving.{Names}
+use Rattle.machine.proofs.LookUps.{one_id}
+use Rattle.machine.proofs.RunsLinks.{named_so}
+use Rattle.machine.specs.declared.object.ReplyState.TheVariants as reply
+use Rattle.steps.proofs.Admission.{IsCaller}
+use Rattle.steps.proofs.Arrival.{arrival_same}
+use Rattle.steps.proofs.EndpointRow.{IsEndOpen, IsReceiver, IsSender}
+use Rattle.steps.proofs.FetchRow.{FetchDone}
+use Rattle.steps.proofs.Joins.{names_one}
+use Rattle.steps.proofs.Lending.{returned_there}
+use Rattle.steps.proofs.MessageRows.{answers_through, caller_apart, caller_idle, delivered_formed, delivered_free, delivered_other, delivered_there, received_arrived_formed, received_arrived_free, received_caller, received_ended_formed, received_endpoint, received_free, received_sender}
+use Rattle.steps.proofs.ReceiveRow.{ReceiveDone}
+use Rattle.steps.proofs.ReplyRow.{Answers, ReplyDone}
+use Rattle.steps.proofs.SendRow.{EndpointCallDone, SendDone}
+use Rattle.policy.specs.Closed.{IsClosed, caller, server}
+use Rattle.policy.specs.Domain.{EdgeTest}
+use Rattle.integrity.specs.Acting.{MayAct}
+use Rattle.integrity.specs.Invariant.{IsHeld, IsSound}
+use Rattle.integrity.specs.Shrinks.{IsBlocked}
+use Rattle.integrity.proofs.ArrivalKeeps.{arrival_keeps}
+use Rattle.integrity.proofs.Asleep.{blocked_acts}
+use Rattle.integrity.proofs.Held.{held_of}
+use Rattle.integrity.proofs.Keeps.{Keeps, keeps_keeps, unchanged, Changes, Takes}
+use Rattle.integrity.proofs.LendingKeeps.{called_through_keeps, returned_keeps}
+use Rattle.integrity.proofs.MessageParts.{IsReached, answers_allowed, at_reached, blocked_beside, deliver_keeps, halt_keeps, holds_edge, label_kept, link_keeps, reached, receiver_receives, receiver_replies, same_kept, sender_calls, sender_grants, sender_sends, thread_label, held_caller}
+use Rattle.integrity.proofs.MessageTouches.{blocked_keeps, emptied_keeps, holding_keeps, released_keeps, sound_after, MayHold, free_holds, waiting_apart}
+use Rattle.integrity.proofs.ObjectLabels.{same_label}
+use Rattle.integrity.specs.Awake.{IsAwake}
+use Rattle.policy.specs.Change.WayToChange.{modifies, receives, replies, sends, shares}
+use Rattle.policy.specs.Change.WayToChange.{links as links_to}
+use Rattle.policy.specs.Change.MayChangeContext.{lends, returns}
+use Rattle.integrity.proofs.Awake.{blocked_actor, has_threads}
 
 -- who waits for an answer is blocked, and is in no queue
 
@@ -116,7 +150,7 @@ module _
         blocked_keeps t allowed m event a m before thread is.thread open_to.id (state.Sending sending)
         (o.Endpoint open_to.endpoint) is.there
         (caller_idle m thread is) refl mine open_to.there (not_thread m open_to.id open_to.endpoint is.thread open_to.there is.there)
-        to_end.label to_end.labelled (modifies authority.Send refl may_send) sending_links
+        to_end.label to_end.labelled (λ awake. modifies authority.Send refl may_send) sending_links
 
     -- or who waits to receive gets it
     module _ (receiver : ObjId) (receiving : Receiving) (waits : IsReceiver m open_to.id receiver receiving) where
@@ -139,10 +173,21 @@ module _
           delivered_other m thread sending open_to.id receiver receiving sound.well_formed waits thread is.thread
           (caller_apart m thread open_to.id receiver receiving is waits) is.there
 
+      -- the receiver's label may act, since it is blocked
+
+      receiver_acts : IsAwake t allowed m a → (b : ℕ) → label_of t m receiver ≡ Some b → MayAct t allowed b
+      receiver_acts awake =
+          blocked_acts t allowed m receiver waits.tcb awake.others waits.there (subst IsBlocked (sym waits.state) tt)
+
+      receiver_actor : (awake : IsAwake t allowed m a) (b : ℕ) → label_of t m receiver ≡ Some b → awake.acts b ≡ true
+      receiver_actor awake =
+          blocked_actor t allowed m m a awake awake.others sound.of_table receiver waits.tcb waits.there
+          (subst IsBlocked (sym waits.state) tt)
+
       -- the reply through which the call is answered is one that the receiver named, and may hold who calls it
       answers_within :
           (id : ObjId) (r : ℕ) → answer_through sending receiving.reply ≡ Some id → label_of t after id ≡ Some r
-          → IsFull allowed a r × (allowed r authority.Holds a ≡ true)
+          → MayHold t allowed m a r a
       answers_within id r through target =
           let names = answers_through sending receiving.reply id through in
           let b = thread_label t allowed m event a m sound receiver waits.tcb waits.there in
@@ -156,11 +201,21 @@ module _
           receiver_receives t allowed m event a m sound open_to.id receiver receiving waits b.0 b.1 to_end.label
           to_end.labelled in
           let may_reply =
-          receiver_replies t allowed m event a m sound open_to.id receiver receiving waits b.0 b.1 id r names labelled in (
-            links_to to_end.label b.0 may_send may_receive may_reply,
-            closed.reply_holds r a
-                (caller b.0 to_end.label may_reply (may_call (answers_allowed sending receiving.reply id through)) may_receive),
-          )
+          receiver_replies t allowed m event a m sound open_to.id receiver receiving waits b.0 b.1 id r names labelled in
+          let calls = may_call (answers_allowed sending receiving.reply id through) in
+          record {
+            changes = λ awake. links_to to_end.label b.0 may_send calls may_receive (receiver_actor awake b.0 b.1) may_reply;
+            holds = closed.reply_holds r a (caller b.0 to_end.label may_reply calls may_receive);
+            serves = λ awake. record {
+              server = b.0;
+              names = may_reply;
+              serves = receiver_acts awake b.0 b.1;
+              threads = has_threads t m sound.of_table receiver waits.tcb waits.there b.0 b.1;
+              endpoint = to_end.label;
+              receives = may_receive;
+              calls = calls;
+            };
+          }
 
       -- and the receiver may run on what the caller runs on, where the call may be answered
       called_message_keeps : Makes m (called_through after thread receiver (answer_through sending receiving.reply))
@@ -177,22 +232,19 @@ module _
           (label_kept t allowed m event a m after thread (o.Tcb is.thread) (o.Tcb is.thread) message_keeps is.there after_there
           ∙ mine)
           b.0 (label_kept t allowed m event a m after receiver (o.Tcb waits.tcb) (o.Tcb _) message_keeps waits.there got ∙ b.1)
-          (sends to_end.label may_send receives)
-          (λ awake.
-          blocked_acts t allowed m receiver waits.tcb awake.others waits.there (subst IsBlocked (sym waits.state) tt) b.0 b.1)
+          (λ awake. sends to_end.label may_send receives (receiver_actor awake b.0 b.1))
+          (λ awake. receiver_acts awake b.0 b.1)
           (answer_through sending receiving.reply)
           (λ id through.
           delivered_free m thread sending open_to.id receiver receiving sound.well_formed waits id
           (answers_through sending receiving.reply id through))
           answers_within
           (λ id s through runs.
-          closed.lent_runs b.0 s (record {
-            lender = a;
-            endpoint = to_end.label;
-            calls = may_call (answers_allowed sending receiving.reply id through);
-            receives = receives;
-            runs = runs;
-          })))
+          let calls = may_call (answers_allowed sending receiving.reply id through) in (
+            closed.lent_runs b.0 s
+                (record { lender = a; endpoint = to_end.label; calls = calls; receives = receives; runs = runs }),
+            λ awake. shares (lends to_end.label runs calls),
+          )))
 
   module _ (address : ℕ) (words : List ℕ) (capability : Option ℕ) where
     pub send_keeps : SendDone m thread address words capability next → Makes m next
@@ -262,7 +314,7 @@ module _
       by_named (Some q) names =
           let found = by_reply q names in
           halt_keeps t allowed m event a m sound q found.label found.labelled (found.edge authority.Reply refl refl)
-          (λ awake. awake.others)
+          (λ awake. awake.others) (λ awake. awake.served)
 
     ended_sound : IsSound t allowed ended
     ended_sound = sound_after t allowed m event a m ended sound ends ended_formed
@@ -310,11 +362,13 @@ module _
       sender_there : IsThread arrived sender waits.tcb
       sender_there = received_sender m thread address named slot next sound.well_formed done sender sending waits
 
-      sender_full : IsFull allowed a to_sender.0
-      sender_full =
+      sender_changes : Changes t allowed m a to_sender.0
+      sender_changes awake =
           receives from_end.label may_receive
           (sender_sends t allowed m event a ended ended_sound id sender sending waits to_sender.0 from_end.label to_sender.1
           end_label)
+          (blocked_actor t allowed m ended a awake (ends.sleeps awake awake.others) ended_sound.of_table sender waits.tcb waits.there
+          (subst IsBlocked (sym waits.state) tt) to_sender.0 to_sender.1)
 
       -- its label may act, since it is blocked
       sender_acts : IsAwake t allowed m a → MayAct t allowed to_sender.0
@@ -322,18 +376,18 @@ module _
           blocked_acts t allowed ended sender waits.tcb (ends.sleeps awake awake.others) waits.there
           (subst IsBlocked (sym waits.state) tt) to_sender.0 to_sender.1
 
-      names_none : (q : ObjId) (to : ℕ) → Names waits.tcb.state q → label_of t arrived q ≡ Some to → IsFull allowed a to
+      names_none : (q : ObjId) (to : ℕ) → Names waits.tcb.state q → label_of t arrived q ≡ Some to → Changes t allowed m a to
       names_none q to names target = absurd (subst (λ run. Names run q) waits.state names)
 
       end_full :
           (q : ObjId) (to : ℕ) → WaitsAt waits.tcb.state q → label_of t arrived q ≡ Some to
-          → IsFull allowed a to ⊎ MayTake allowed a to
+          → Changes t allowed m a to ⊎ Takes t allowed m a to
       end_full q to stays target =
           let same : id ≡ q = sym waits.at ∙ subst (λ run. WaitsAt run q) waits.state stays in
           let to_is =
           at_reached t allowed m event a ended ended_sound id q from_end.label to end_label same
           (sym (label_arrived q) ∙ target) in
-          inl (modifies authority.Receive refl (ap (allowed a authority.Receive) to_is ∙ may_receive))
+          inl (λ awake. modifies authority.Receive refl (ap (allowed a authority.Receive) to_is ∙ may_receive))
 
       -- it can run, or waits for the answer through the receiver's reply
       sent_keeps : Makes arrived (sent arrived sender sending done.reply)
@@ -344,23 +398,33 @@ module _
             (if call then linked arrived sender (answer_through sending done.reply) else with_ready arrived sender)
         by_call true calls =
             link_keeps t allowed m event a arrived arrived_sound sender waits.tcb sender_there to_sender.0
-            (label_arrived sender ∙ to_sender.1) sender_full sender_acts
+            (label_arrived sender ∙ to_sender.1) sender_changes sender_acts
             names_none end_full (answer_through sending done.reply)
             (λ q through.
             received_arrived_free m thread address named slot next sound.well_formed done sender sending waits q
             (answers_through sending done.reply q through))
             (λ q r through target.
-            let may_reply = reply_used q r (answers_through sending done.reply q through) (sym (label_arrived q) ∙ target) in (
-              modifies authority.Reply refl may_reply,
-              closed.reply_holds r to_sender.0
-                  (caller a from_end.label may_reply
-                  (sender_calls t allowed m event a ended ended_sound id sender sending waits to_sender.0 from_end.label
-                  to_sender.1 end_label calls
-                  (answers_allowed sending done.reply q through)) may_receive),
-            ))
+            let may_reply = reply_used q r (answers_through sending done.reply q through) (sym (label_arrived q) ∙ target) in
+            let may_call =
+            sender_calls t allowed m event a ended ended_sound id sender sending waits to_sender.0 from_end.label to_sender.1
+            end_label calls (answers_allowed sending done.reply q through) in
+            record {
+              changes = λ awake. modifies authority.Reply refl may_reply;
+              holds = closed.reply_holds r to_sender.0 (caller a from_end.label may_reply may_call may_receive);
+              serves = λ awake. record {
+                server = a;
+                names = may_reply;
+                serves = awake.acting;
+                threads = has_threads t m sound.of_table thread is.thread is.there a mine;
+                endpoint = from_end.label;
+                receives = may_receive;
+                calls = may_call;
+              };
+            })
         by_call false calls =
             released_keeps t allowed m event a arrived takes.held sender waits.tcb ready sender_there refl refl tt to_sender.0
-            (label_arrived sender ∙ to_sender.1) sender_full sender_acts (λ q to names target. inl (names_none q to names target)) end_full
+            (label_arrived sender ∙ to_sender.1) (inl sender_changes) sender_acts
+            (λ q to names target. inl (names_none q to names target)) end_full
 
       received_keeps : Makes m (sent arrived sender sending done.reply)
       received_keeps =
@@ -390,7 +454,7 @@ module _
         (o.Endpoint done.open_to.endpoint)
         caller_there (caller_idle m thread is) refl caller_label end_there
         (not_thread ended id done.open_to.endpoint is.thread end_there caller_there) from_end.label end_label
-        (modifies authority.Receive refl may_receive) receiving_links
+        (λ awake. modifies authority.Receive refl may_receive) receiving_links
 
     holds_caller : Makes blocked (with_named blocked done.reply (reply.Waiting thread))
     holds_caller = by_named done.reply refl where
@@ -405,12 +469,13 @@ module _
           blocked_beside ended thread id is.thread (state.Receiving receiving) q caller_there
           (reply_apart ended q answers is.thread free.1 caller_there) in
           holding_keeps t allowed m event a blocked blocks.held q answers (reply.Waiting thread) r.0 (kept ∙ free.1)
-          (same_label t ended blocked q kept ∙ r.1) (modifies authority.Reply refl may_reply)
+          (same_label t ended blocked q kept ∙ r.1) (λ awake. modifies authority.Reply refl may_reply)
           (λ other to holds target.
           ap (allowed r.0 authority.Holds)
           (same_kept t allowed m event a ended blocked thread a to blocks caller_label
           (ap (label_of t blocked) (one_id thread other holds) ∙ target))
           ∙ closed.reply_holds r.0 a (server may_reply))
+          (λ awake. free_holds t allowed blocked q answers (reply.Waiting thread) (λ other called. waiting_apart thread other called))
 
     awaits_keeps : Makes m (awaiting_message ended thread receiving)
     awaits_keeps =
@@ -450,26 +515,38 @@ module _
     answer_keeps called at message there =
         let w = sound.well_formed.links.reply_called done.id called at there in
         let l = thread_label t allowed m event a m sound called w.0 w.1 in
-        let has =
-        replies to_reply.label may_reply
-        (holds_edge t allowed m event a m sound done.id called (record { address = at; state = reply.Called called })
-        to_reply.label l.0 there
-        (itself called) to_reply.labelled l.1) in
+        let holds =
+        holds_edge t allowed m event a m sound done.id called (record { address = at; state = reply.Called called })
+        to_reply.label l.0 there (itself called) to_reply.labelled l.1 in
+        let has : Changes t allowed m a l.0 =
+        λ awake.
+        replies (record {
+          reply = to_reply.label;
+          uses = may_reply;
+          called =
+              held_caller t allowed m event a awake to_reply.label l.0
+              ((awake.served done.id (record { address = at; state = reply.Called called }) there called refl).1 to_reply.label l.0
+              to_reply.labelled l.1)
+              holds
+              (blocked_actor t allowed m m a awake awake.others sound.of_table called w.0 w.1
+              (calling_blocked w.0.state done.id w.2) l.0 l.1);
+        }) in
         let mid = with_returned m thread called in
         let acts : IsAwake t allowed m a → MayAct t allowed l.0 =
         λ awake. blocked_acts t allowed m called w.0 awake.others w.1 (calling_blocked w.0.state done.id w.2) l.0 l.1 in
-        let back = returned_keeps t allowed m event a m sound thread called is.thread w.0 is.there mine w.1 l.0 l.1 has acts in
+        let back = returned_keeps t allowed m event a m sound thread called is.thread w.0 is.there mine w.1 l.0 l.1 has acts
+        (λ s runs awake. shares (returns to_reply.label runs may_reply)) in
         let link = returned_there m thread called w.0 sound.well_formed w.1 in
         keeps_keeps t allowed m event a m mid (with_given mid called message) before back
         (released_keeps t allowed m event a mid back.held called (record w.0 { context = link.0 }) (given message) link.1 refl refl
         tt l.0
         (label_kept t allowed m event a m mid called (o.Tcb w.0) (o.Tcb (record w.0 { context = link.0 })) back w.1 link.1 ∙ l.1)
-        has acts
+        (inl has) acts
         (λ q to names target.
         let same = names_one w.0.state done.id q (calling_names w.0.state done.id w.2) names in
         let to_is =
         same_kept t allowed m event a m mid q to_reply.label to back (ap (label_of t m) (sym same) ∙ to_reply.labelled) target in
-        inl (modifies authority.Reply refl (ap (allowed a authority.Reply) to_is ∙ may_reply)))
+        inl (λ awake. modifies authority.Reply refl (ap (allowed a authority.Reply) to_is ∙ may_reply)))
         (λ q to waits target. absurd (calling_waits w.0.state done.id q w.2 waits)))
 
     by_state : Answers m thread done.id words next → Makes m next

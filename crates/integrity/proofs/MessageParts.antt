@@ -1,28 +1,64 @@
 -- What the parts of a message's way keep: a receiver gets it, who called waits for the answer, and the thread of a reply is
 -- halted. All that these take is what a label has over an endpoint or a reply that is found, and the recorded edges of the
 -- threads there.
-use Rattle.std.{specs.Prelude.{if◌then◌else◌, is_ok}, proofs.Common.{ℕ, ◌&&◌, ◌<◌, ◌∙◌, ◌≡◌, ◌≢◌, ◌⊎◌, Bool, List, None, Option, Some, ap}}
-use Rattle.std.proofs.{Common.{arith, false, inl, inr, option_map, refl, subst, sym, true}, lemmas.{Bool.and_from, Option.none-some}}
-use Rattle.std.proofs.lemmas.Option.{same_Some}
-use Rattle.base.specs.{declared.{ids.ObjId.ObjId, kind.Kind.{Kind, Kind as authority}}, Kinds.is_structural}
-use Rattle.machine.specs.declared.{call.Event.Event, cap.Detail.Detail, object.{Object.{Object, Object as o}, Reply.Reply}}
-use Rattle.machine.specs.declared.thread.{Lent.Lent, Message.Message, Receiving.Receiving, RunState.RunState, Sending.Sending, Tcb.Tcb}
-use Rattle.machine.specs.{Authority.{holds_thread, label_of, links, names_reply, state_links, HasAuthority.by_link}, Capabilities.gives}
-use Rattle.machine.specs.{Changes.{with_tcb, with_waiting}, Finalising.halted, Layout.Layout, Machine.{Machine, object_of, queue_of}}
-use Rattle.machine.specs.{Machine.same_id, Releasing.{given, with_blocked, with_called, with_given, with_halted, with_holder_halted}}
-use Rattle.machine.specs.Step.Deliver.{answer_through, arrival_of, delivered, linked, message_of, with_arrival}
-use Rattle.machine.{specs.WellFormed.{IsCallingThrough, IsFree, IsReceivingWith, IsThread, WaitsAt}, proofs.Ids.{at_other, itself}}
-use Rattle.machine.proofs.{Leaving.Names, LookUps.{object_of-with_object, object_of-with_queue}}
-use Rattle.machine.specs.declared.object.ReplyState.TheVariants as reply
+use Rattle.std.specs.Prelude.{if◌then◌else◌, is_ok}
+use Rattle.std.proofs.Common.{ℕ, ◌&&◌, ◌<◌, ◌∙◌, ◌≡◌, ◌≢◌, ◌⊎◌, Bool, List, None, Option, Some, ap, arith, false, inl, inr, option_map, refl, subst, sym, true}
+use Rattle.std.proofs.lemmas.Bool.{and_from}
+use Rattle.std.proofs.lemmas.Option.{none-some, same_Some}
+use Rattle.base.specs.declared.ids.ObjId.{ObjId}
+use Rattle.base.specs.declared.kind.Kind.{Kind}
+use Rattle.base.specs.declared.kind.Kind.{Kind as authority}
+use Rattle.base.specs.Kinds.{is_structural}
+use Rattle.machine.specs.declared.call.Event.{Event}
+use Rattle.machine.specs.declared.cap.Detail.{Detail}
+use Rattle.machine.specs.declared.object.Object.{Object}
+use Rattle.machine.specs.declared.object.Object.{Object as o}
+use Rattle.machine.specs.declared.object.Reply.{Reply}
+use Rattle.machine.specs.declared.thread.Lent.{Lent}
+use Rattle.machine.specs.declared.thread.Message.{Message}
+use Rattle.machine.specs.declared.thread.Receiving.{Receiving}
+use Rattle.machine.specs.declared.thread.RunState.{RunState}
 use Rattle.machine.specs.declared.thread.RunState.TheVariants as state
-use Rattle.steps.proofs.{Arrival.arrival_same, Beside.{HolderLeaves, holder_leaves}, EndpointRow.{IsReceiver, IsSender}}
-use Rattle.steps.proofs.{Finding.FindsObject, MessageRows.{arrived_there, delivered_is, halted_between}}
-use Rattle.policy.specs.{Closed.IsClosed, Domain.{EdgeTest, SubjectsAgree}, Full.{IsFull, IsFull.{links as links_to, modifies, replies}}}
-use Rattle.policy.specs.{Full.IsFull.sends, Take.{MayTake, MayTake.ends}}
-use Rattle.integrity.{specs.{Acting.MayAct, Invariant.{IsHeld, IsSound}, Shrinks.IsBlocked}, proofs.ArrivalKeeps.arrival_keeps}
-use Rattle.integrity.proofs.{Asleep.{IsAwake, OthersSleep, blocked_acts}, Held.held_of, Keeps.{Keeps, keeps_keeps, unchanged}}
-use Rattle.integrity.proofs.{MessageTouches.{called_keeps, released_keeps}, ObjectLabels.{label_stays, labelled_there, same_label}}
+use Rattle.machine.specs.declared.thread.Sending.{Sending}
+use Rattle.machine.specs.declared.thread.Tcb.{Tcb}
+use Rattle.machine.specs.Authority.{holds_thread, label_of, links, names_reply, state_links}
+use Rattle.machine.specs.Authority.HasAuthority.{by_link}
+use Rattle.machine.specs.Capabilities.{gives}
+use Rattle.machine.specs.Changes.{with_tcb, with_waiting}
+use Rattle.machine.specs.Finalising.{halted}
+use Rattle.machine.specs.Layout.{Layout}
+use Rattle.machine.specs.Machine.{Machine, object_of, queue_of, same_id}
+use Rattle.machine.specs.Releasing.{given, with_blocked, with_called, with_given, with_halted, with_holder_halted}
+use Rattle.machine.specs.Step.Deliver.{answer_through, arrival_of, delivered, linked, message_of, with_arrival}
+use Rattle.machine.specs.WellFormed.{IsCallingThrough, IsFree, IsReceivingWith, IsThread, WaitsAt}
+use Rattle.machine.proofs.Ids.{at_other, itself}
+use Rattle.machine.proofs.Leaving.{Names}
+use Rattle.machine.proofs.LookUps.{object_of-with_object, object_of-with_queue}
+use Rattle.machine.specs.declared.object.ReplyState.TheVariants as reply
+use Rattle.steps.proofs.Arrival.{arrival_same}
+use Rattle.steps.proofs.Beside.{HolderLeaves, holder_leaves}
+use Rattle.steps.proofs.EndpointRow.{IsReceiver, IsSender}
+use Rattle.steps.proofs.Finding.{FindsObject}
+use Rattle.steps.proofs.MessageRows.{arrived_there, delivered_is, halted_between}
+use Rattle.policy.specs.Closed.{IsClosed}
+use Rattle.policy.specs.Domain.{EdgeTest, SubjectsAgree}
+use Rattle.integrity.specs.Acting.{MayAct}
+use Rattle.integrity.specs.Invariant.{IsHeld, IsSound}
+use Rattle.integrity.specs.Shrinks.{IsBlocked}
+use Rattle.integrity.proofs.ArrivalKeeps.{arrival_keeps}
+use Rattle.integrity.proofs.Asleep.{blocked_acts}
+use Rattle.integrity.proofs.Held.{held_of}
+use Rattle.integrity.proofs.Keeps.{Keeps, keeps_keeps, unchanged, Changes, Takes}
+use Rattle.integrity.proofs.MessageTouches.{called_keeps, released_keeps, MayHold, MayLessen, MayRelease}
+use Rattle.integrity.proofs.ObjectLabels.{label_stays, labelled_there, same_label}
 use Rattle.integrity.proofs.Reach.{found_in_reach}
+use Rattle.integrity.specs.Awake.{IsAwake, OthersSleep, IsServed, CallersAreServed}
+use Rattle.policy.specs.Change.WayToChange.{modifies, replies, sends}
+use Rattle.policy.specs.NarrowTake.WayToShrink.{ends, frees}
+use Rattle.policy.specs.NarrowTake.WayToShrink.{halts as halts_waiting}
+use Rattle.policy.specs.Change.{MayHoldCaller}
+use Rattle.integrity.proofs.Awake.{blocked_actor}
+use Rattle.integrity.specs.Shrinks.Stops.{halted as is_halted}
 
 -- an answer goes through a reply only where the sender may be answered
 pub answers_allowed :
@@ -80,6 +116,21 @@ module _ (t : Layout) (allowed : EdgeTest) (began : Machine) (event : Event) (a 
       let old = labelled_there t m id before was in
       let new = labelled_there t next id after is in
       same_Some after before (sym is ∙ label_kept m next id old.0 new.0 keeps old.1 new.1 ∙ was)
+
+  -- a caller whose label is served is one that a reply may hold
+  pub held_caller :
+      (awake : IsAwake t allowed began a) (r l : ℕ) → IsServed t allowed r l → allowed r authority.Holds l ≡ true
+      → awake.acts l ≡ true → MayHoldCaller allowed awake.acts r l
+  held_caller awake r l served holds waits = record {
+    holds = holds;
+    server = served.server;
+    names = served.names;
+    serves = awake.actors served.server served.serves served.threads;
+    endpoint = served.endpoint;
+    receives = served.receives;
+    calls = served.calls;
+    waits = waits;
+  }
 
   -- a machine of the run
   module _ (m : Machine) (sound : IsSound t allowed m) where
@@ -188,17 +239,34 @@ module _ (t : Layout) (allowed : EdgeTest) (began : Machine) (event : Event) (a 
       it_receives : allowed to_receiver.0 authority.Receive e ≡ true
       it_receives = receiver_receives id receiver receiving is to_receiver.0 to_receiver.1 e at
 
-      -- the reply that the receiver names
-      named_full : (named : ObjId) (r : ℕ) → receiving.reply ≡ Some named → label_of t m named ≡ Some r → IsFull allowed a r
-      named_full named r names labelled =
-          links_to e to_receiver.0 may_send it_receives
-          (receiver_replies id receiver receiving is to_receiver.0 to_receiver.1 named r names labelled)
+      it_actor : (awake : IsAwake t allowed began a) → awake.acts to_receiver.0 ≡ true
+      it_actor awake =
+          blocked_actor t allowed began m a awake (others awake) sound.of_table receiver is.tcb is.there
+          (subst IsBlocked (sym is.state) tt) to_receiver.0 to_receiver.1
+
+      -- the reply that the receiver names only loses it
+      named_taken :
+          (named : ObjId) (r : ℕ) → receiving.reply ≡ Some named → label_of t m named ≡ Some r
+          → MayLessen t allowed began a mid named r
+      named_taken named r names labelled =
+          let w =
+          sound.well_formed.links.receiver_reply receiver named is.tcb is.there
+          (subst (λ run. IsReceivingWith run named) (sym is.state) names) in
+          let queue =
+          sound.well_formed.parts.queue named (o.Reply (record { address = w.0; state = reply.Waiting receiver })) w.1 in
+          inr (
+            λ awake.
+                frees e to_receiver.0 may_send it_receives (it_actor awake)
+                (receiver_replies id receiver receiving is to_receiver.0 to_receiver.1 named r names labelled),
+            queue.0,
+            (arrival_same m sender sending receiver receiving.slot sound.well_formed named).1 ∙ queue.1,
+          )
 
       arrives : Does m mid
       arrives =
           arrival_keeps t allowed began event a m sound closed sender sending receiver receiving.slot a to_receiver.0 e mine
           to_receiver.1 may_grant it_receives
-          (inl refl)
+          (inl (refl, it_actor))
 
       label_mid : (q : ObjId) → label_of t mid q ≡ label_of t m q
       label_mid q = same_label t m mid q (arrival_same m sender sending receiver receiving.slot sound.well_formed q).0
@@ -208,42 +276,52 @@ module _ (t : Layout) (allowed : EdgeTest) (began : Machine) (event : Event) (a 
           released_keeps t allowed began event a mid arrives.held receiver is.tcb (given message)
           (arrived_there m sender sending id receiver receiving sound.well_formed is) refl refl tt to_receiver.0
           (label_mid receiver ∙ to_receiver.1)
-          (sends e may_send it_receives) it_acts
-          (λ q to names target.
-          inl (named_full q to (subst (λ run. Names run q) is.state names) (sym (label_mid q) ∙ target)))
+          (inl (λ awake. sends e may_send it_receives (it_actor awake))) it_acts
+          (λ q to names target. named_taken q to (subst (λ run. Names run q) is.state names) (sym (label_mid q) ∙ target))
           (λ q to waits target.
           let same : id ≡ q = sym is.at ∙ subst (λ run. WaitsAt run q) is.state waits in
           let to_is = at_reached id q e to at same (sym (label_mid q) ∙ target) in
-          inl (modifies authority.Send refl (ap (allowed a authority.Send) to_is ∙ may_send)))
+          inl (λ awake. modifies authority.Send refl (ap (allowed a authority.Send) to_is ∙ may_send)))
 
       pub deliver_keeps : Does m (delivered m sender sending receiver receiving)
       deliver_keeps =
           subst (λ (n : Machine). Does m n) (sym (delivered_is m sender sending id receiver receiving sound.well_formed is))
           (keeps_keeps t allowed began event a m mid (with_given mid receiver message) held arrives gives_it)
 
+    -- a thread is halted
+    pub halts :
+        (thread : ObjId) (tcb : Tcb) → IsThread m thread tcb → (l : ℕ) → label_of t m thread ≡ Some l
+        → MayRelease t allowed began a m thread l tcb (halted tcb)
+        → (IsAwake t allowed began a → MayAct t allowed l)
+        → ((id : ObjId) (to : ℕ) → Names tcb.state id → label_of t m id ≡ Some to → Changes t allowed began a to)
+        → ((id : ObjId) (to : ℕ) → WaitsAt tcb.state id → label_of t m id ≡ Some to
+        → Changes t allowed began a to ⊎ Takes t allowed began a to)
+        → Does m (with_halted m thread)
+    halts thread tcb there l labelled has acts names waits =
+        released_keeps t allowed began event a m held thread tcb halted there refl refl tt l labelled has acts
+        (λ id to named target. inl (names id to named target)) waits
+
     -- a thread whose call was delivered can't run, or waits for its answer
     module _ (thread : ObjId) (tcb : Tcb) (there : IsThread m thread tcb) (l : ℕ) (labelled : label_of t m thread ≡ Some l)
-        (has : IsFull allowed a l) (acts : IsAwake t allowed began a → MayAct t allowed l)
-        (names : (id : ObjId) (to : ℕ) → Names tcb.state id → label_of t m id ≡ Some to → IsFull allowed a to)
+        (has : Changes t allowed began a l) (acts : IsAwake t allowed began a → MayAct t allowed l)
+        (names : (id : ObjId) (to : ℕ) → Names tcb.state id → label_of t m id ≡ Some to → Changes t allowed began a to)
         (waits : (id : ObjId) (to : ℕ) → WaitsAt tcb.state id → label_of t m id ≡ Some to
-        → IsFull allowed a to ⊎ MayTake allowed a to) where
-      pub halts : Does m (with_halted m thread)
-      halts =
-          released_keeps t allowed began event a m held thread tcb halted there refl refl tt l labelled has acts
-          (λ id to named target. inl (names id to named target)) waits
+        → Changes t allowed began a to ⊎ Takes t allowed began a to) where
+      halting : Does m (with_halted m thread)
+      halting = halts thread tcb there l labelled (inl has) acts names waits
 
       given_out : (context : ObjId) → tcb.context ≡ Some context → context.0 < (with_halted m thread).next
       given_out context runs =
           let its = sound.well_formed.links.thread_context thread context tcb there runs in
           let below = held.numbered context (o.Context its.0) its.1 in
-          let grows = halts.grows in
+          let grows = halting.grows in
           omega (arith, below, grows)
 
       -- it waits through a reply, and lends at most the context that it runs on
       pub waits_keep :
           (id : ObjId) (lent : Option Lent) → IsFree m id
           → ((context : ObjId) → option_map (λ (l : Lent). l.context) lent ≡ Some context → tcb.context ≡ Some context)
-          → ((r : ℕ) → label_of t m id ≡ Some r → IsFull allowed a r × (allowed r authority.Holds l ≡ true))
+          → ((r : ℕ) → label_of t m id ≡ Some r → MayHold t allowed began a r l)
           → Does m (with_called (with_halted m thread) thread (record { reply = id; lent = lent }))
       waits_keep id lent before lends may =
           let next = with_halted m thread in
@@ -252,25 +330,24 @@ module _ (t : Layout) (allowed : EdgeTest) (began : Machine) (event : Event) (a 
           let was : Reply = record { address = before.0; state = reply.Free } in
           let is : Reply = record { address = after.0; state = reply.Free } in
           let r = sound.of_table.labelled id (o.Reply was) before.1 in
-          let allows = may r.0 r.1 in
-          keeps_keeps t allowed began event a m next (with_called next thread (record { reply = id; lent = lent })) held halts
-          (called_keeps t allowed began event a next halts.held thread (halted tcb) (record { reply = id; lent = lent }) is
+          keeps_keeps t allowed began event a m next (with_called next thread (record { reply = id; lent = lent })) held halting
+          (called_keeps t allowed began event a next halting.held thread (halted tcb) (record { reply = id; lent = lent }) is
           between.1 between.2 (λ context loan. (lends context loan, given_out context (lends context loan))) after.1 l
-          (label_kept m next thread (o.Tcb tcb) (o.Tcb (halted tcb)) halts there between.1 ∙ labelled) has acts r.0
-          (label_kept m next id (o.Reply was) (o.Reply is) halts before.1 after.1 ∙ r.1) allows.0 allows.1)
+          (label_kept m next thread (o.Tcb tcb) (o.Tcb (halted tcb)) halting there between.1 ∙ labelled) has acts r.0
+          (label_kept m next id (o.Reply was) (o.Reply is) halting before.1 after.1 ∙ r.1) (may r.0 r.1))
 
       pub link_keeps :
           (through : Option ObjId) → ((id : ObjId) → through ≡ Some id → IsFree m id)
-          → ((id : ObjId) (r : ℕ) → through ≡ Some id → label_of t m id ≡ Some r
-          → IsFull allowed a r × (allowed r authority.Holds l ≡ true))
+          → ((id : ObjId) (r : ℕ) → through ≡ Some id → label_of t m id ≡ Some r → MayHold t allowed began a r l)
           → Does m (linked m thread through)
-      link_keeps None free may = halts
+      link_keeps None free may = halting
       link_keeps (Some id) free may =
           waits_keep id None (free id refl) (λ context loan. absurd (none-some context loan)) (λ r. may id r refl)
 
     -- the thread that a reply holds is halted
     module _ (id : ObjId) (r : ℕ) (labelled : label_of t m id ≡ Some r) (may_reply : allowed a authority.Reply r ≡ true)
-        (others : IsAwake t allowed began a → OthersSleep t allowed m) where
+        (others : IsAwake t allowed began a → OthersSleep t allowed m)
+        (served : IsAwake t allowed began a → CallersAreServed t allowed m) where
       module _ (h : HolderLeaves m id) where
         to_held : (label : ℕ) × (label_of t m h.thread ≡ Some label)
         to_held = thread_label h.thread h.tcb h.there
@@ -297,21 +374,59 @@ module _ (t : Layout) (allowed : EdgeTest) (began : Machine) (event : Event) (a 
         holder_acts awake =
             blocked_acts t allowed m h.thread h.tcb (others awake) h.there (names_blocked h.tcb.state id h.names) to_held.0 to_held.1
 
+        holder_actor : (awake : IsAwake t allowed began a) → awake.acts to_held.0 ≡ true
+        holder_actor awake =
+            blocked_actor t allowed began m a awake (others awake) sound.of_table h.thread h.tcb h.there
+            (names_blocked h.tcb.state id h.names) to_held.0 to_held.1
+
+        -- a thread that waits is halted, and one that called is served
+        holder_leaves_it : MayRelease t allowed began a m h.thread to_held.0 h.tcb (halted h.tcb)
+        holder_leaves_it = by_run h.tcb.state refl h.names where
+          by_run :
+              (run : RunState) → h.tcb.state ≡ run → Names run id
+              → MayRelease t allowed began a m h.thread to_held.0 h.tcb (halted h.tcb)
+          by_run (state.Receiving receiving) is names =
+              let replies_with =
+              thread_edge h.thread id h.tcb authority.Reply to_held.0 r h.there
+              (ap (λ run. state_links run authority.Reply id) is ∙ ap (λ n. names_reply n id) names ∙ itself id) to_held.1
+              labelled in
+              let queue = sound.well_formed.parts.queue h.thread (o.Tcb h.tcb) h.there in
+              inr (
+                λ awake.
+                    halts_waiting (record {
+                      reply = r;
+                      uses = may_reply;
+                      held = record { holds = holds_it; names = replies_with; waits = holder_actor awake };
+                    }),
+                is_halted (names_blocked h.tcb.state id h.names) refl refl,
+                queue.0,
+                queue.1,
+              )
+          by_run (state.Called calling) is names =
+              let w =
+              sound.well_formed.links.called_reply h.thread id h.tcb h.there
+              (subst (λ run. IsCallingThrough run id) (sym is) names) in
+              let answers : Reply = record { address = w.0; state = reply.Called h.thread } in
+              inl (λ awake.
+              let its = (served awake id answers w.1 h.thread refl).1 r to_held.0 labelled to_held.1 in
+              replies (record { reply = r; uses = may_reply; called = held_caller awake r to_held.0 its holds_it (holder_actor awake) }))
+          by_run _ is names = absurd names
+
         named_one : (run : RunState) (q : ObjId) → Names run id → Names run q → id ≡ q
         named_one (state.Receiving receiving) q one two = same_Some id q (sym one ∙ two)
         named_one (state.Called calling) q one two = sym one ∙ two
         named_one _ q one two = absurd one
 
-        names_full : (q : ObjId) (to : ℕ) → Names h.tcb.state q → label_of t m q ≡ Some to → IsFull allowed a to
+        names_full : (q : ObjId) (to : ℕ) → Names h.tcb.state q → label_of t m q ≡ Some to → Changes t allowed began a to
         names_full q to names target =
             let to_is = at_reached id q r to labelled (named_one h.tcb.state q h.names names) target in
-            modifies authority.Reply refl (ap (allowed a authority.Reply) to_is ∙ may_reply)
+            λ awake. modifies authority.Reply refl (ap (allowed a authority.Reply) to_is ∙ may_reply)
 
         -- the endpoint at which it waits only loses it
         waits_taken :
-            (q : ObjId) (to : ℕ) → WaitsAt h.tcb.state q → label_of t m q ≡ Some to → IsFull allowed a to ⊎ MayTake allowed a to
+            (q : ObjId) (to : ℕ) → WaitsAt h.tcb.state q → label_of t m q ≡ Some to → Changes t allowed began a to ⊎ Takes t allowed began a to
         waits_taken q to waits target = by_run h.tcb.state refl h.names waits where
-          by_run : (run : RunState) → h.tcb.state ≡ run → Names run id → WaitsAt run q → IsFull allowed a to ⊎ MayTake allowed a to
+          by_run : (run : RunState) → h.tcb.state ≡ run → Names run id → WaitsAt run q → Changes t allowed began a to ⊎ Takes t allowed began a to
           by_run (state.Receiving receiving) is names at =
               let receives_there =
               thread_edge h.thread q h.tcb authority.Receive to_held.0 to h.there
@@ -321,14 +436,14 @@ module _ (t : Layout) (allowed : EdgeTest) (began : Machine) (event : Event) (a 
               thread_edge h.thread id h.tcb authority.Reply to_held.0 r h.there
               (ap (λ run. state_links run authority.Reply id) is ∙ ap (λ n. names_reply n id) names ∙ itself id) to_held.1
               labelled in
-              inr (ends r to_held.0 may_reply replies_with receives_there)
+              inr (λ awake. ends r to_held.0 may_reply replies_with (holder_actor awake) receives_there)
           by_run (state.Called calling) is names at = absurd at
           by_run _ is names at = absurd names
 
         holder_keeps : Does m (with_holder_halted m id)
         holder_keeps =
             subst (λ (n : Machine). Does m n) (sym h.changes)
-            (halts h.thread h.tcb h.there to_held.0 to_held.1 (replies r may_reply holds_it) holder_acts names_full waits_taken)
+            (halts h.thread h.tcb h.there to_held.0 to_held.1 holder_leaves_it holder_acts names_full waits_taken)
 
       pub halt_keeps : Does m (with_holder_halted m id)
       halt_keeps = by_holder (holder_leaves m id sound.well_formed.links) where

@@ -1,25 +1,47 @@
 -- The changes by which threads, queues and replies are linked, and are so no more, keep what a part of a call keeps, where the
 -- labels of the objects that they touch allow it.
-use Rattle.std.{specs.Prelude.{None, Option, Some, cond}, proofs.Common.{[], ℕ, ◌++◌, ◌<◌, ◌∙◌, ◌∷◌, ◌≡◌, ◌≢◌, ◌⊎◌, List, ap, inl, inr}}
-use Rattle.std.proofs.{Common.{not, refl, subst, sym, true}, lemmas.{Bool.false≢true, Option.{none-some, same_Some}}}
-use Rattle.base.specs.declared.{ids.ObjId.ObjId, kind.Kind.Kind}
+use Rattle.std.specs.Prelude.{None, Option, Some, cond}
+use Rattle.std.proofs.Common.{[], ℕ, ◌++◌, ◌<◌, ◌∙◌, ◌∷◌, ◌≡◌, ◌≢◌, ◌⊎◌, List, ap, inl, inr, not, refl, subst, sym, true, arith}
+use Rattle.std.proofs.lemmas.Bool.{false≢true}
+use Rattle.std.proofs.lemmas.Option.{none-some, same_Some}
+use Rattle.base.specs.declared.ids.ObjId.{ObjId}
+use Rattle.base.specs.declared.kind.Kind.{Kind}
 use Rattle.base.specs.declared.kind.Kind.TheVariants as authority
-use Rattle.machine.specs.declared.{call.Event.Event, object.{Object.{Object, Object as o}, Reply.Reply, ReplyState.ReplyState}}
+use Rattle.machine.specs.declared.call.Event.{Event}
+use Rattle.machine.specs.declared.object.Object.{Object}
+use Rattle.machine.specs.declared.object.Object.{Object as o}
+use Rattle.machine.specs.declared.object.Reply.{Reply}
+use Rattle.machine.specs.declared.object.ReplyState.{ReplyState}
 use Rattle.machine.specs.declared.object.ReplyState.TheVariants as reply
-use Rattle.machine.specs.{declared.thread.{Calling.Calling, RunState.RunState, Tcb.Tcb}, Authority.{holds_thread, label_of, lent_of, links}}
-use Rattle.machine.specs.declared.thread.Inbox.TheVariants as inbox
+use Rattle.machine.specs.declared.thread.Calling.{Calling}
+use Rattle.machine.specs.declared.thread.RunState.{RunState}
 use Rattle.machine.specs.declared.thread.RunState.TheVariants as state
-use Rattle.machine.specs.{Authority.state_links, Changes.{with_waiting, without_waiting}, Layout.Layout, Machine.{Machine, object_of}}
-use Rattle.machine.specs.{Machine.{queue_of, same_id, with_object, with_queue}, Releasing.{unblocked, with_blocked, with_called}}
-use Rattle.machine.specs.{Releasing.{with_holding, with_named, with_released}, Step.Fetch.emptied, WellFormed.{IsIdle, IsThread}}
-use Rattle.machine.{specs.WellFormed.{IsWellFormed, WaitsAt}, proofs.{Ids.{at_itself, at_other, one_or_two}, Leaving.{Names, holding_is}}}
-use Rattle.machine.proofs.{Leaving.{released_there, tcb_is, without}, LookUps.{cap_of-with_queue, object_of-with_object}}
-use Rattle.machine.proofs.{LookUps.{object_of-with_queue, one_id, queue_of-with_queue, words_of-with_queue}, RunsLinks.runs_also}
-use Rattle.machine.proofs.RunsLinks.{runs_bound, runs_by}
-use Rattle.policy.specs.{Domain.EdgeTest, Full.{IsFull, IsFull.own}, Take.MayTake}
-use Rattle.integrity.{specs.{Acting.MayAct, Invariant.{IsHeld, IsSound}, Shrinks.Lessens.{as_it_was, freed}}, proofs.Asleep.IsAwake}
-use Rattle.integrity.proofs.{Asleep.acts_of, Contents.{full, loses_links, reply_fits, tcb_fits}, Keeps.{Keeps, keeps_keeps, unchanged}}
-use Rattle.integrity.proofs.{ObjectLabels.{label_stays, same_label}, RemovalShrinks.part_of_all, SetKeeps.{queue_keeps, set_keeps}}
+use Rattle.machine.specs.declared.thread.Tcb.{Tcb}
+use Rattle.machine.specs.Authority.{holds_thread, label_of, lent_of, links, state_links}
+use Rattle.machine.specs.declared.thread.Inbox.TheVariants as inbox
+use Rattle.machine.specs.Changes.{with_waiting, without_waiting}
+use Rattle.machine.specs.Layout.{Layout}
+use Rattle.machine.specs.Machine.{Machine, object_of, queue_of, same_id, with_object, with_queue}
+use Rattle.machine.specs.Releasing.{unblocked, with_blocked, with_called, with_holding, with_named, with_released}
+use Rattle.machine.specs.Step.Fetch.{emptied}
+use Rattle.machine.specs.WellFormed.{IsIdle, IsThread, IsWellFormed, WaitsAt}
+use Rattle.machine.proofs.Ids.{at_itself, at_other, one_or_two}
+use Rattle.machine.proofs.Leaving.{Names, holding_is, released_there, tcb_is, without}
+use Rattle.machine.proofs.LookUps.{cap_of-with_queue, object_of-with_object, object_of-with_queue, one_id, queue_of-with_queue, words_of-with_queue, queue_of-with_object}
+use Rattle.machine.proofs.RunsLinks.{runs_also, runs_bound, runs_by}
+use Rattle.policy.specs.Domain.{EdgeTest}
+use Rattle.integrity.specs.Acting.{MayAct}
+use Rattle.integrity.specs.Invariant.{IsHeld, IsSound}
+use Rattle.integrity.specs.Shrinks.Lessens.{as_it_was, freed, released}
+use Rattle.integrity.proofs.Asleep.{acts_of}
+use Rattle.integrity.proofs.Contents.{loses_links, reply_fits, tcb_fits, changed, shrunk}
+use Rattle.integrity.proofs.Keeps.{Keeps, keeps_keeps, unchanged, Changes, Takes}
+use Rattle.integrity.proofs.ObjectLabels.{label_stays, same_label}
+use Rattle.integrity.proofs.RemovalShrinks.{part_of_all}
+use Rattle.integrity.proofs.SetKeeps.{queue_keeps, set_keeps}
+use Rattle.integrity.specs.Awake.{IsAwake, IsHeldAfterCall, IsServed}
+use Rattle.policy.specs.Change.WayToChange.{own}
+use Rattle.integrity.specs.Shrinks.{Stops}
 
 -- what each change is
 
@@ -106,10 +128,38 @@ links_left old new same idle authority.Runs end e =
     runs_also new old end (λ bound. sym same ∙ bound) (λ lent. absurd (idle_lends new.state end idle lent)) e
 links_left old new same idle k end e = absurd (idle_links new.state k end idle e)
 
--- a label has full authority over an object's, or may take from it, and the object has a queue, as each that is there
-abbrev pub MayLessen : EdgeTest → ℕ → Machine → ObjId → ℕ → Type 0
-MayLessen allowed a m id label =
-    IsFull allowed a label ⊎ (MayTake allowed a label × (threads : List ObjId) × (queue_of m id ≡ Some threads))
+-- a label may change an object's, or make it smaller, and the object has a queue, as each that is there
+abbrev pub MayLessen : Layout → EdgeTest → Machine → ℕ → Machine → ObjId → ℕ → Type 0
+MayLessen t allowed began a m id label =
+    Changes t allowed began a label
+    ⊎ (Takes t allowed began a label × (threads : List ObjId) × (queue_of m id ≡ Some threads))
+
+-- a label may change a thread's, or make it smaller where the thread's wait only ends
+abbrev pub MayRelease : Layout → EdgeTest → Machine → ℕ → Machine → ObjId → ℕ → Tcb → Tcb → Type 0
+MayRelease t allowed began a m thread label old new =
+    Changes t allowed began a label
+    ⊎ (Takes t allowed began a label × Stops old new × (threads : List ObjId) × (queue_of m thread ≡ Some threads))
+
+-- a reply that holds nobody who called
+free_apart : (thread : ObjId) → reply.Free ≡ reply.Called thread → ⊥
+free_apart thread is = cc
+
+pub waiting_apart : (waiting thread : ObjId) → reply.Waiting waiting ≡ reply.Called thread → ⊥
+waiting_apart waiting thread is = cc
+
+pub free_holds : (t : Layout) (allowed : EdgeTest) (m : Machine) (id : ObjId) (old : Reply) (holds : ReplyState)
+    → ((thread : ObjId) → holds ≡ reply.Called thread → ⊥)
+    → IsHeldAfterCall t allowed m id (record old { state = holds })
+free_holds t allowed m id old holds nobody thread is = absurd (nobody thread is)
+
+-- a reply of a label may come to hold a thread of another that called
+pub record MayHold (t : Layout) (allowed : EdgeTest) (began : Machine) (a holder label : ℕ) : Type 0 where
+  pub changes : Changes t allowed began a holder
+  pub holds : allowed holder authority.Holds label ≡ true
+  pub serves : IsAwake t allowed began a → IsServed t allowed holder label
+
+same_called : (one other : ObjId) → reply.Called one ≡ reply.Called other → one ≡ other
+same_called one other is = cc
 
 -- contents where threads leave queues and replies
 
@@ -177,40 +227,72 @@ unblocked_thread m thread tcb (state.Waiting notification) there = left_objects 
 unblocked_thread m thread tcb (state.Called calling) there = freed_thread m calling.reply thread tcb there
 unblocked_thread m thread tcb _ there = there
 
+-- a thread that leaves its queue and its reply still has a queue of its own
+freed_queue :
+    (m : Machine) (id q : ObjId) (threads : List ObjId) → queue_of m q ≡ Some threads
+    → queue_of (with_holding m id reply.Free) q ≡ Some threads
+freed_queue m id q threads there = elim (holds_or_stays m id reply.Free) [
+  | inl reply_there ↦
+      ap (λ (n : Machine). queue_of n q) (holding_is m id reply_there.0 reply.Free reply_there.1)
+      ∙ queue_of-with_object m id (o.Reply (record reply_there.0 { state = reply.Free })) q
+      ∙ there
+  | inr same ↦ ap (λ (n : Machine). queue_of n q) same ∙ there
+]
+
+unblocked_queue :
+    (m : Machine) (thread q : ObjId) (run : RunState) (threads : List ObjId) → queue_of m q ≡ Some threads
+    → (rest : List ObjId) × (queue_of (unblocked m thread run) q ≡ Some rest)
+unblocked_queue m thread q (state.Sending sending) threads there = queue_left m sending.endpoint thread q threads there
+unblocked_queue m thread q (state.Receiving receiving) threads there = by_reply receiving.reply where
+  left : (rest : List ObjId) × (queue_of (without_waiting m receiving.endpoint thread) q ≡ Some rest)
+  left = queue_left m receiving.endpoint thread q threads there
+
+  by_reply :
+      (named : Option ObjId) → (rest : List ObjId)
+      × (queue_of (with_named (without_waiting m receiving.endpoint thread) named reply.Free) q ≡ Some rest)
+  by_reply None = left
+  by_reply (Some id) = (left.0, freed_queue (without_waiting m receiving.endpoint thread) id q left.0 left.1)
+unblocked_queue m thread q (state.Waiting notification) threads there = queue_left m notification thread q threads there
+unblocked_queue m thread q (state.Called calling) threads there = (threads, freed_queue m calling.reply q threads there)
+unblocked_queue m thread q _ threads there = (threads, there)
+
 module _
     (t : Layout) (allowed : EdgeTest) (began : Machine) (event : Event) (a : ℕ) (m : Machine) (held : IsHeld t allowed m) where
   -- a reply holds somebody, or nobody
   pub holding_keeps :
       (id : ObjId) (old : Reply) (holds : ReplyState) (label : ℕ) → object_of m id ≡ Some (o.Reply old)
-      → label_of t m id ≡ Some label → IsFull allowed a label
+      → label_of t m id ≡ Some label → Changes t allowed began a label
       → ((thread : ObjId) (to : ℕ) → holds_thread holds thread ≡ true → label_of t m thread ≡ Some to
       → allowed label authority.Holds to ≡ true)
+      → (IsAwake t allowed began a → IsHeldAfterCall t allowed m id (record old { state = holds }))
       → Keeps t allowed began event a m (with_holding m id holds)
-  holding_keeps id old holds label there labelled has within =
+  holding_keeps id old holds label there labelled has within serves =
       subst (λ (n : Machine). Keeps t allowed began event a m n) (sym (holding_is m id old holds there))
       (set_keeps t allowed began event a m id held (o.Reply old) (o.Reply (record old { state = holds }))
       (reply_fits t allowed began event a m id old (record old { state = holds }) there refl
       (λ end from to is source target.
-      ap (λ x. allowed x authority.Holds to) (same_Some from label (sym source ∙ labelled)) ∙ within end to is target))
-      (full t allowed a m _ id label labelled has))
+      ap (λ x. allowed x authority.Holds to) (same_Some from label (sym source ∙ labelled)) ∙ within end to is target) serves)
+      (changed t allowed began a m _ id label labelled has))
 
   -- a reply holds nobody, if it is there
   freed_keeps :
-      (id : ObjId) → ((to : ℕ) → label_of t m id ≡ Some to → MayLessen allowed a m id to)
+      (id : ObjId) → ((to : ℕ) → label_of t m id ≡ Some to → MayLessen t allowed began a m id to)
       → Keeps t allowed began event a m (with_holding m id reply.Free)
   freed_keeps id may = by_reply (holds_or_stays m id reply.Free) where
     by_label :
         (old : Reply) (label : ℕ) → object_of m id ≡ Some (o.Reply old) → label_of t m id ≡ Some label
-        → MayLessen allowed a m id label → Keeps t allowed began event a m (with_holding m id reply.Free)
+        → MayLessen t allowed began a m id label → Keeps t allowed began event a m (with_holding m id reply.Free)
     by_label old label there labelled (inl has) =
         holding_keeps id old reply.Free label there labelled has (λ thread to is. absurd (false≢true is))
+        (λ awake. free_holds t allowed m id old reply.Free (λ thread is. free_apart thread is))
     by_label old label there labelled (inr take) =
         let new : Reply = record old { state = reply.Free } in
         let next : Machine = with_object m id (o.Reply new) in
         subst (λ (n : Machine). Keeps t allowed began event a m n) (sym (holding_is m id old reply.Free there))
         (set_keeps t allowed began event a m id held (o.Reply old) (o.Reply new)
-        (reply_fits t allowed began event a m id old new there refl (λ end from to is. absurd (false≢true is)))
-        (loses_links t allowed a m id label (o.Reply old) (o.Reply new) labelled take.0 there (freed old new refl refl refl refl)
+        (reply_fits t allowed began event a m id old new there refl (λ end from to is. absurd (false≢true is))
+        (λ awake. free_holds t allowed m id old reply.Free (λ thread is. free_apart thread is)))
+        (loses_links t allowed began a m id label (o.Reply old) (o.Reply new) labelled take.0 there (freed old new refl refl refl refl)
         take.1 take.2))
 
     by_reply :
@@ -224,7 +306,7 @@ module _
 
   -- a thread leaves a queue
   leaves_keeps :
-      (id thread : ObjId) → ((to : ℕ) → label_of t m id ≡ Some to → IsFull allowed a to ⊎ MayTake allowed a to)
+      (id thread : ObjId) → ((to : ℕ) → label_of t m id ≡ Some to → Changes t allowed began a to ⊎ Takes t allowed began a to)
       → Keeps t allowed began event a m (without_waiting m id thread)
   leaves_keeps id thread may = by_queue (leaves_or_stays m id thread) where
     by_content :
@@ -236,28 +318,21 @@ module _
         let rest = without thread threads in
         queue_keeps t allowed began event a m id held object rest there
         (elim (may label.0 label.1) [
-          | inl has ↦ full t allowed a m (with_queue m id rest) id label.0 label.1 has
-          | inr take ↦ record {
-            label = label.0;
-            labelled = inl label.1;
-            may = inr (
-              take,
-              inr (record {
-                old = object;
-                new = object;
-                was = there;
-                is = object_of-with_queue m id rest id ∙ there;
-                content = as_it_was refl;
-                waited = threads;
-                waiting = rest;
-                queue_was = queue;
-                queue_is = queue_of-with_queue m id rest id ∙ at_itself id (Some rest) (queue_of m id);
-                queue = part_of_all (λ other. not (same_id other thread)) threads;
-                words = words_of-with_queue m id rest id;
-                slots = λ index. inl (cap_of-with_queue m id rest (record { holder = id; index = index }));
-              }),
-            );
-          }
+          | inl has ↦ changed t allowed began a m (with_queue m id rest) id label.0 label.1 has
+          | inr take ↦ shrunk t allowed began a m (with_queue m id rest) id label.0 label.1 take (inr (record {
+            old = object;
+            new = object;
+            was = there;
+            is = object_of-with_queue m id rest id ∙ there;
+            content = as_it_was refl;
+            waited = threads;
+            waiting = rest;
+            queue_was = queue;
+            queue_is = queue_of-with_queue m id rest id ∙ at_itself id (Some rest) (queue_of m id);
+            queue = part_of_all (λ other. not (same_id other thread)) threads;
+            words = words_of-with_queue m id rest id;
+            slots = λ index. inl (cap_of-with_queue m id rest (record { holder = id; index = index }));
+          }))
         ])
 
     by_queue :
@@ -275,8 +350,8 @@ module _
   -- a thread that waits for a message leaves its queue, and the reply that it named, if it named one
   receiver_leaves :
       (endpoint : ObjId) (named : Option ObjId) (thread : ObjId)
-      → ((to : ℕ) → label_of t m endpoint ≡ Some to → IsFull allowed a to ⊎ MayTake allowed a to)
-      → ((id : ObjId) (to : ℕ) → named ≡ Some id → label_of t m id ≡ Some to → MayLessen allowed a m id to)
+      → ((to : ℕ) → label_of t m endpoint ≡ Some to → Changes t allowed began a to ⊎ Takes t allowed began a to)
+      → ((id : ObjId) (to : ℕ) → named ≡ Some id → label_of t m id ≡ Some to → MayLessen t allowed began a m id to)
       → Keeps t allowed began event a m (with_named (without_waiting m endpoint thread) named reply.Free)
   receiver_leaves endpoint None thread at names = leaves_keeps t allowed began event a m held endpoint thread at
   receiver_leaves endpoint (Some id) thread at names =
@@ -287,14 +362,14 @@ module _
       (freed_keeps t allowed began event a mid left.held id
       (λ to labelled. still to (names id to refl (sym label_kept ∙ labelled))))
     where
-      still : (to : ℕ) → MayLessen allowed a m id to → MayLessen allowed a (without_waiting m endpoint thread) id to
+      still : (to : ℕ) → MayLessen t allowed began a m id to → MayLessen t allowed began a (without_waiting m endpoint thread) id to
       still to (inl has) = inl has
       still to (inr take) = let queue = queue_left m endpoint thread id take.1 take.2 in inr (take.0, queue.0, queue.1)
 
   unblocked_keeps :
       (thread : ObjId) (run : RunState)
-      → ((id : ObjId) (to : ℕ) → Names run id → label_of t m id ≡ Some to → MayLessen allowed a m id to)
-      → ((id : ObjId) (to : ℕ) → WaitsAt run id → label_of t m id ≡ Some to → IsFull allowed a to ⊎ MayTake allowed a to)
+      → ((id : ObjId) (to : ℕ) → Names run id → label_of t m id ≡ Some to → MayLessen t allowed began a m id to)
+      → ((id : ObjId) (to : ℕ) → WaitsAt run id → label_of t m id ≡ Some to → Changes t allowed began a to ⊎ Takes t allowed began a to)
       → Keeps t allowed began event a m (unblocked m thread run)
   unblocked_keeps thread (state.Sending sending) names waits =
       leaves_keeps t allowed began event a m held sending.endpoint thread (λ to. waits sending.endpoint to refl)
@@ -310,10 +385,10 @@ module _
   pub released_keeps :
       (thread : ObjId) (tcb : Tcb) (change : Tcb → Tcb) → IsThread m thread tcb → (change tcb).address ≡ tcb.address
       → (change tcb).context ≡ tcb.context → IsIdle (change tcb).state
-      → (label : ℕ) → label_of t m thread ≡ Some label → IsFull allowed a label
+      → (label : ℕ) → label_of t m thread ≡ Some label → MayRelease t allowed began a m thread label tcb (change tcb)
       → (IsAwake t allowed began a → MayAct t allowed label)
-      → ((id : ObjId) (to : ℕ) → Names tcb.state id → label_of t m id ≡ Some to → MayLessen allowed a m id to)
-      → ((id : ObjId) (to : ℕ) → WaitsAt tcb.state id → label_of t m id ≡ Some to → IsFull allowed a to ⊎ MayTake allowed a to)
+      → ((id : ObjId) (to : ℕ) → Names tcb.state id → label_of t m id ≡ Some to → MayLessen t allowed began a m id to)
+      → ((id : ObjId) (to : ℕ) → WaitsAt tcb.state id → label_of t m id ≡ Some to → Changes t allowed began a to ⊎ Takes t allowed began a to)
       → Keeps t allowed began event a m (with_released m thread change)
   released_keeps thread tcb change there address context idle label labelled has acts names waits =
       let mid = unblocked m thread tcb.state in
@@ -326,7 +401,13 @@ module _
       (tcb_fits t allowed began event a mid thread tcb new at address (λ end k e. inl (links_left tcb new context idle k end e))
       (λ end lent. absurd (idle_lends new.state end idle lent))
       (λ awake others. inr (acts_of t allowed mid thread label (label_kept ∙ labelled) (acts awake))))
-      (full t allowed a mid _ thread label (label_kept ∙ labelled) has) in
+      (elim has [
+        | inl may ↦ changed t allowed began a mid (with_object mid thread (o.Tcb new)) thread label (label_kept ∙ labelled) may
+        | inr take ↦
+            let queue = unblocked_queue m thread thread tcb.state take.2 take.3 in
+            loses_links t allowed began a mid thread label (o.Tcb tcb) (o.Tcb new) (label_kept ∙ labelled) take.0 at
+            (released tcb new refl refl address take.1 (inl context)) queue.0 queue.1
+      ]) in
       subst (λ (n : Machine). Keeps t allowed began event a m n)
       (sym (released_there m thread tcb change there ∙ tcb_is mid thread tcb new at))
       (keeps_keeps t allowed began event a m mid (with_object mid thread (o.Tcb new)) held left set)
@@ -335,7 +416,7 @@ module _
   pub blocked_keeps :
       (caller : ObjId) (tcb : Tcb) (id : ObjId) (run : RunState) (object : Object) → IsThread m caller tcb → IsIdle tcb.state
       → lent_of run ≡ None → label_of t m caller ≡ Some a → object_of m id ≡ Some object → id ≢ caller
-      → (label : ℕ) → label_of t m id ≡ Some label → IsFull allowed a label
+      → (label : ℕ) → label_of t m id ≡ Some label → Changes t allowed began a label
       → ((k : Kind) (end : ObjId) (to : ℕ) → state_links run k end ≡ true → label_of t m end ≡ Some to → allowed a k to ≡ true)
       → Keeps t allowed began event a m (with_blocked m caller id run)
   blocked_keeps caller tcb id run object there idle alone mine at apart label labelled has within =
@@ -363,7 +444,7 @@ module _
           (tcb_fits t allowed began event a m caller tcb blocked there refl links_within
           (λ context lent. absurd (none-some context (sym alone ∙ lent)))
           (λ awake others. inr (acts_of t allowed m caller a mine awake.acting)))
-          (full t allowed a m mid caller a mine (own refl))
+          (changed t allowed began a m mid caller a mine (λ awake. own refl))
 
       same : object_of mid id ≡ object_of m id
       same = object_of-with_object m caller (o.Tcb blocked) id ∙ at_other id caller (Some (o.Tcb blocked)) (object_of m id) apart
@@ -374,7 +455,7 @@ module _
       by_queue (inl joins) =
           subst (λ (n : Machine). Keeps t allowed began event a mid n) (sym joins.1)
           (queue_keeps t allowed began event a mid id set.held object joins.0 (same ∙ at)
-          (full t allowed a mid _ id label (same_label t m mid id same ∙ labelled) has))
+          (changed t allowed began a mid _ id label (same_label t m mid id same ∙ labelled) has))
       by_queue (inr nowhere) =
           subst (λ (n : Machine). Keeps t allowed began event a mid n) (sym nowhere)
           (unchanged t allowed began event a mid set.held)
@@ -384,11 +465,11 @@ module _
       (thread : ObjId) (tcb : Tcb) (calling : Calling) (old : Reply) → IsThread m thread tcb → IsIdle tcb.state
       → ((context : ObjId) → lent_of (state.Called calling) ≡ Some context → (tcb.context ≡ Some context) × (context.0 < m.next))
       → object_of m calling.reply ≡ Some (o.Reply old)
-      → (label : ℕ) → label_of t m thread ≡ Some label → IsFull allowed a label
+      → (label : ℕ) → label_of t m thread ≡ Some label → Changes t allowed began a label
       → (IsAwake t allowed began a → MayAct t allowed label)
-      → (holder : ℕ) → label_of t m calling.reply ≡ Some holder → IsFull allowed a holder
-      → allowed holder authority.Holds label ≡ true → Keeps t allowed began event a m (with_called m thread calling)
-  called_keeps thread tcb calling old there idle lends at label labelled has acts holder reply_labelled reply_has holds =
+      → (holder : ℕ) → label_of t m calling.reply ≡ Some holder → MayHold t allowed began a holder label
+      → Keeps t allowed began event a m (with_called m thread calling)
+  called_keeps thread tcb calling old there idle lends at label labelled has acts holder reply_labelled may_hold =
       let id = calling.reply in
       let calls : Tcb = record tcb { state = state.Called calling } in
       let mid = with_object m thread (o.Tcb calls) in
@@ -397,7 +478,7 @@ module _
       (tcb_fits t allowed began event a m thread tcb calls there refl (λ end k e. inl (links_kept k end e))
       (λ context lent. (lends context lent).1)
       (λ awake others. inr (acts_of t allowed m thread label labelled (acts awake))))
-      (full t allowed a m mid thread label labelled has) in
+      (changed t allowed began a m mid thread label labelled has) in
       let apart : id ≢ thread = λ same. apart_by_kind m id thread old tcb at there (sym same) in
       let same : object_of mid id ≡ object_of m id =
       object_of-with_object m thread (o.Tcb calls) id ∙ at_other id thread (Some (o.Tcb calls)) (object_of m id) apart in
@@ -407,11 +488,24 @@ module _
       subst (λ (n : Machine). Keeps t allowed began event a m n) (sym (called_is m thread calling tcb there))
       (keeps_keeps t allowed began event a m mid (with_holding mid id (reply.Called thread)) held set
       (holding_keeps t allowed began event a mid set.held id old (reply.Called thread) holder (same ∙ at)
-      (same_label t m mid id same ∙ reply_labelled) reply_has
+      (same_label t m mid id same ∙ reply_labelled) may_hold.changes
       (λ end to is target.
       let to_is : to ≡ label =
       same_Some to label (sym target ∙ ap (label_of t mid) (sym (one_id thread end is)) ∙ thread_label ∙ labelled) in
-      ap (λ x. allowed holder authority.Holds x) to_is ∙ holds)))
+      ap (λ x. allowed holder authority.Holds x) to_is ∙ may_hold.holds)
+      (λ awake other is. (
+        let below = held.numbered thread (o.Tcb tcb) there in
+            let grows = set.grows in
+            let other_is : thread.0 ≡ other.0 = ap (λ (x : ObjId). x.0) (same_called thread other is) in
+            omega (arith, below, grows, other_is),
+        λ one caller source target.
+            let one_is : holder ≡ one = same_Some holder one (sym (same_label t m mid id same ∙ reply_labelled) ∙ source) in
+            let caller_is : label ≡ caller =
+            same_Some label caller
+            (sym (thread_label ∙ labelled) ∙ ap (label_of t mid) (same_called thread other is) ∙ target) in
+            subst (λ x. IsServed t allowed one x) caller_is
+            (subst (λ x. IsServed t allowed x label) one_is (may_hold.serves awake)),
+      ))))
     where
       links_kept :
           (k : Kind) (end : ObjId) → links (o.Tcb (record tcb { state = state.Called calling })) k end ≡ true
@@ -433,7 +527,7 @@ module _
       (tcb_fits t allowed began event a m caller tcb new there refl (λ end k e. inl (links_kept k end e))
       (λ context lent. held.of_table.lent caller context tcb there lent)
       (λ awake others. inr (acts_of t allowed m caller a mine awake.acting)))
-      (full t allowed a m (with_object m caller (o.Tcb new)) caller a mine (own refl)))
+      (changed t allowed began a m (with_object m caller (o.Tcb new)) caller a mine (λ awake. own refl)))
     where
       links_kept :
           (k : Kind) (end : ObjId) → links (o.Tcb (record tcb { inbox = inbox.Empty })) k end ≡ true

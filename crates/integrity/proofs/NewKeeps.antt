@@ -1,26 +1,45 @@
 -- A new object keeps what a part of a call keeps: it lies where the label is one on which the caller's has full authority, and links to
 -- nothing.
-use Rattle.std.proofs.Common.{[], ℕ, ◌+◌, ◌<◌, ◌∙◌, ◌≡◌, ◌≢◌, ◌≤◌, ◌⊎◌, None, Option, Some, ap, arith, false, if◌then◌else◌, inl, inr}
-use Rattle.std.proofs.{Common.{length, nat_lt, option_and_then, option_map, refl, replicate, sym, true}, lemmas.Bool.{false≢true, le-ltb}}
+use Rattle.std.proofs.Common.{[], ℕ, ◌+◌, ◌<◌, ◌∙◌, ◌≡◌, ◌≢◌, ◌≤◌, ◌⊎◌, None, Option, Some, ap, arith, false, if◌then◌else◌, inl, inr, length, nat_lt, option_and_then, option_map, refl, replicate, sym, true}
+use Rattle.std.proofs.lemmas.Bool.{false≢true, le-ltb}
 use Rattle.std.proofs.lemmas.Option.{none-some, same_Some, slice_get_within}
-use Rattle.base.specs.declared.{ids.ObjId.ObjId, kind.Kind.Kind}
+use Rattle.base.specs.declared.ids.ObjId.{ObjId}
+use Rattle.base.specs.declared.kind.Kind.{Kind}
 use Rattle.base.specs.declared.kind.Kind.TheVariants as authority
-use Rattle.machine.specs.declared.{call.Event.Event, layout.Initial.Initial, object.{Context.Context, Object.{Object, Object as o}}}
-use Rattle.machine.specs.{declared.{object.Untyped.Untyped, thread.Tcb.Tcb}, Authority.{label_at, label_of, links, HasAuthority.by_cap}}
-use Rattle.machine.specs.{Authority.HasAuthority.{by_link, by_pair, by_root}, Layout.{Layout, declared_label, initial_of}, Machine.Machine}
-use Rattle.machine.specs.{Machine.{object_of, queue_of, with_new, words_of}, Objects.{address_of, end_of, kind_of_object, word_count}}
-use Rattle.machine.{specs.WellFormed.kind_of, proofs.{Ids.{at_itself, at_other, one_or_two}, LookUps.{cap_of-with_new, object_of-with_new}}}
-use Rattle.machine.proofs.{LookUps.{parent_of-with_new, queue_of-with_new, words_of-with_new}, RunsLinks.runs_lent}
-use Rattle.policy.specs.{Domain.EdgeTest, Full.IsFull}
-use Rattle.integrity.{specs.{Confined.IsConfined, Invariant.{IsBare, IsHeld}, OfTable.IsOfTable}, proofs.Asleep.{IsAsleep, sleeps_on}}
-use Rattle.integrity.proofs.{Joined.IsJoined, Keeps.{Acts, Keeps}, ObjectLabels.{kind_there, same_label}, Shrinking.same_context}
+use Rattle.machine.specs.declared.call.Event.{Event}
+use Rattle.machine.specs.declared.layout.Initial.{Initial}
+use Rattle.machine.specs.declared.object.Context.{Context}
+use Rattle.machine.specs.declared.object.Object.{Object}
+use Rattle.machine.specs.declared.object.Object.{Object as o}
+use Rattle.machine.specs.declared.object.Untyped.{Untyped}
+use Rattle.machine.specs.declared.thread.Tcb.{Tcb}
+use Rattle.machine.specs.Authority.{label_at, label_of, links, holds_thread}
+use Rattle.machine.specs.Authority.HasAuthority.{by_cap, by_link, by_pair, by_root}
+use Rattle.machine.specs.Layout.{Layout, declared_label, initial_of}
+use Rattle.machine.specs.Machine.{Machine, object_of, queue_of, with_new, words_of}
+use Rattle.machine.specs.Objects.{address_of, end_of, kind_of_object, word_count}
+use Rattle.machine.specs.WellFormed.{kind_of}
+use Rattle.machine.proofs.Ids.{at_itself, at_other, one_or_two, itself}
+use Rattle.machine.proofs.LookUps.{cap_of-with_new, object_of-with_new, parent_of-with_new, queue_of-with_new, words_of-with_new}
+use Rattle.machine.proofs.RunsLinks.{runs_lent}
+use Rattle.policy.specs.Domain.{EdgeTest}
+use Rattle.integrity.specs.Confined.{IsConfined}
+use Rattle.integrity.specs.Invariant.{IsBare, IsHeld}
+use Rattle.integrity.specs.OfTable.{IsOfTable}
+use Rattle.integrity.proofs.Asleep.{sleeps_on}
+use Rattle.integrity.proofs.Joined.{IsJoined}
+use Rattle.integrity.proofs.Keeps.{Acts, Keeps, Changes}
+use Rattle.integrity.proofs.ObjectLabels.{kind_there, same_label}
+use Rattle.integrity.proofs.Shrinking.{same_context}
+use Rattle.integrity.specs.Awake.{IsAwake, IsAsleep}
+use Rattle.machine.specs.declared.object.ReplyState.{ReplyState}
 
 -- an object that may be made in a step of a label's thread
-pub record IsMakeable (t : Layout) (allowed : EdgeTest) (a : ℕ) (object : Object) : Type 0 where
+pub record IsMakeable (t : Layout) (allowed : EdgeTest) (began : Machine) (a : ℕ) (object : Object) : Type 0 where
   pub label : ℕ
-  -- the initial untyped memory that it lies in has a label, on which the caller's has full authority
+  -- the initial untyped memory that it lies in has a label, which the caller's may change
   pub lies : label_at t (address_of object) ≡ Some label
-  pub full : IsFull allowed a label
+  pub changes : Changes t allowed began a label
   -- all that can be made of it has this label too
   pub ranged :
       (memory : Untyped) (address : ℕ) → object ≡ o.Untyped memory → memory.base ≤ address → address < end_of (o.Untyped memory)
@@ -31,7 +50,7 @@ pub record IsMakeable (t : Layout) (allowed : EdgeTest) (a : ℕ) (object : Obje
 
 module _
     (t : Layout) (allowed : EdgeTest) (began : Machine) (event : Event) (a : ℕ) (m : Machine) (held : IsHeld t allowed m)
-    (joined : IsJoined m) (object : Object) (made : IsMakeable t allowed a object) where
+    (joined : IsJoined m) (object : Object) (made : IsMakeable t allowed began a object) where
   id : ObjId
   id = record { 0 = m.next }
 
@@ -147,6 +166,7 @@ module _
           made.ranged memory address (sym new.1) from below
           ∙ sym label_here ∙ ap (label_of t next) (sym new.0) ∙ labelled
     ];
+    inside = held.of_table.inside;
     lent = λ q context thread at lends. elim (was_or_made q (o.Tcb thread) at) [
       | inl was ↦ let below = held.of_table.lent q context thread was lends in omega (arith, below, more)
       | inr new ↦
@@ -173,13 +193,13 @@ module _
         }
   ]
 
-  acts : (q : ObjId) → Acts t allowed a m next q
+  acts : (awake : IsAwake t allowed began a) (q : ObjId) → Acts t allowed awake.acts a m next q
   unfolding next id
-  acts q = elim (one_or_two q id) [
+  acts awake q = elim (one_or_two q id) [
     | inl same ↦ inr (record {
       label = made.label;
       labelled = inr (ap (object_of m) same ∙ absent, ap (label_of t next) same ∙ label_here);
-      may = inl made.full;
+      may = inl (record { actor = awake.actor; way = made.changes awake });
     })
     | inr apart ↦ inl (record {
       content = elsewhere q apart;
@@ -217,6 +237,21 @@ module _
     sleeps = λ awake others q thread at. elim (was_or_made q (o.Tcb thread) at) [
       | inl was ↦ sleeps_on t allowed m next q thread (label_same q (o.Tcb thread) was) (others q thread was)
       | inr new ↦ inl (made.sleeps thread (sym new.1))
+    ];
+    serves = λ awake served q reply at thread is. elim (was_or_made q (o.Reply reply) at) [
+      | inl was ↦
+          let before = served q reply was thread is in
+          let below = before.0 in (
+            omega (arith, below, more),
+            λ holder caller at_holder at_caller.
+                before.1 holder caller (sym (label_same q (o.Reply reply) was) ∙ at_holder)
+                (sym (same_label t m next thread (elsewhere thread (below_apart thread below))) ∙ at_caller),
+          )
+      | inr new ↦
+          absurd
+          (false≢true
+          (sym (made.alone authority.Holds thread) ∙ ap (λ (y : Object). links y authority.Holds thread) (sym new.1)
+          ∙ ap (λ (state : ReplyState). holds_thread state thread) is ∙ itself thread))
     ];
     budgets = λ q old new was is.
         let same = same_Some (o.Context new) (o.Context old) (sym is ∙ there_same q (o.Context old) was ∙ was) in

@@ -1,18 +1,45 @@
 -- Signal, Poll and Wait within a caller's authority: the notification that is found is one that its label may notify or await, and
 -- who waits there awaits it by a recorded edge.
 use Rattle.std.proofs.Common.{ℕ, ◌∙◌, ◌≡◌, ◌≢◌, ◌⊎◌, Bool, None, Option, Some, ap, inl, inr, refl, subst, sym, true}
-use Rattle.base.specs.declared.{ids.ObjId.ObjId, kind.Kind.{Kind, Kind as authority}}
-use Rattle.machine.specs.declared.{call.Event.Event, cap.{Badged.Badged, Detail.Detail as d}, object.Notification.Notification}
-use Rattle.machine.specs.declared.{object.Object.{Object, Object as o}, thread.{RunState.{RunState, RunState as state}, Tcb.Tcb}}
-use Rattle.machine.specs.{Authority.{label_of, state_links}, Capabilities.{can_read, can_write}, Layout.Layout, Machine.Machine}
-use Rattle.machine.{specs.{Machine.{object_of, with_object}, Releasing.with_blocked, WellFormed.{IsThread, WaitsAt}}, proofs.Ids.itself}
-use Rattle.machine.proofs.{Leaving.Names, LookUps.one_id}
-use Rattle.steps.proofs.{Admission.IsCaller, MessageRows.caller_idle, NotificationRow.IsOpen, PollRow.PollDone, SignalRow.SignalDone}
-use Rattle.steps.proofs.{SignalRow.{Wakes, marked, roused}, WaitRow.WaitDone}
-use Rattle.policy.specs.{Domain.{EdgeTest, SubjectsAgree}, Full.{IsFull, IsFull.{modifies, notifies}}}
-use Rattle.integrity.{specs.{Invariant.{IsHeld, IsSound}, Shrinks.IsBlocked}, proofs.{Asleep.blocked_acts, Contents.full}}
-use Rattle.integrity.proofs.{Contents.notification_fits, Held.held_of, Keeps.Keeps, MessageParts.{IsReached, at_reached, reached}}
-use Rattle.integrity.proofs.{MessageParts.thread_edge, MessageTouches.{blocked_keeps, released_keeps}, SetKeeps.set_keeps}
+use Rattle.base.specs.declared.ids.ObjId.{ObjId}
+use Rattle.base.specs.declared.kind.Kind.{Kind}
+use Rattle.base.specs.declared.kind.Kind.{Kind as authority}
+use Rattle.machine.specs.declared.call.Event.{Event}
+use Rattle.machine.specs.declared.cap.Badged.{Badged}
+use Rattle.machine.specs.declared.cap.Detail.{Detail as d}
+use Rattle.machine.specs.declared.object.Notification.{Notification}
+use Rattle.machine.specs.declared.object.Object.{Object}
+use Rattle.machine.specs.declared.object.Object.{Object as o}
+use Rattle.machine.specs.declared.thread.RunState.{RunState}
+use Rattle.machine.specs.declared.thread.RunState.{RunState as state}
+use Rattle.machine.specs.declared.thread.Tcb.{Tcb}
+use Rattle.machine.specs.Authority.{label_of, state_links}
+use Rattle.machine.specs.Capabilities.{can_read, can_write}
+use Rattle.machine.specs.Layout.{Layout}
+use Rattle.machine.specs.Machine.{Machine, object_of, with_object}
+use Rattle.machine.specs.Releasing.{with_blocked}
+use Rattle.machine.specs.WellFormed.{IsThread, WaitsAt}
+use Rattle.machine.proofs.Ids.{itself}
+use Rattle.machine.proofs.Leaving.{Names}
+use Rattle.machine.proofs.LookUps.{one_id}
+use Rattle.steps.proofs.Admission.{IsCaller}
+use Rattle.steps.proofs.MessageRows.{caller_idle}
+use Rattle.steps.proofs.NotificationRow.{IsOpen}
+use Rattle.steps.proofs.PollRow.{PollDone}
+use Rattle.steps.proofs.SignalRow.{SignalDone, Wakes, marked, roused}
+use Rattle.steps.proofs.WaitRow.{WaitDone}
+use Rattle.policy.specs.Domain.{EdgeTest, SubjectsAgree}
+use Rattle.integrity.specs.Invariant.{IsHeld, IsSound}
+use Rattle.integrity.specs.Shrinks.{IsBlocked}
+use Rattle.integrity.proofs.Asleep.{blocked_acts}
+use Rattle.integrity.proofs.Contents.{notification_fits, changed}
+use Rattle.integrity.proofs.Held.{held_of}
+use Rattle.integrity.proofs.Keeps.{Keeps, Changes}
+use Rattle.integrity.proofs.MessageParts.{IsReached, at_reached, reached, thread_edge}
+use Rattle.integrity.proofs.MessageTouches.{blocked_keeps, released_keeps}
+use Rattle.integrity.proofs.SetKeeps.{set_keeps}
+use Rattle.policy.specs.Change.WayToChange.{modifies, notifies}
+use Rattle.integrity.proofs.Awake.{blocked_actor}
 
 module _
     (t : Layout) (allowed : EdgeTest) (event : Event) (a : ℕ) (m : Machine) (sound : IsSound t allowed m)
@@ -33,11 +60,11 @@ module _
   -- a notification's word is set
   word_keeps :
       (id : ObjId) (old new : Notification) (label : ℕ) → object_of m id ≡ Some (o.Notification old) → new.address ≡ old.address
-      → label_of t m id ≡ Some label → IsFull allowed a label
+      → label_of t m id ≡ Some label → Changes t allowed m a label
       → Keeps t allowed m event a m (with_object m id (o.Notification new))
   word_keeps id old new label was same labelled has =
       set_keeps t allowed m event a m id held (o.Notification old) (o.Notification new)
-      (notification_fits t allowed m event a m id old new was same) (full t allowed a m _ id label labelled has)
+      (notification_fits t allowed m event a m id old new was same) (changed t allowed m a m _ id label labelled has)
 
   -- the first who waits at a notification is woken
   wake_keeps :
@@ -50,15 +77,18 @@ module _
       (ap (λ run. state_links run authority.Await id) wakes.waits ∙ itself id) source.1 labelled in
       subst (λ (after : Machine). Keeps t allowed m event a m after) (sym wakes.changes)
       (released_keeps t allowed m event a m held wakes.first wakes.thread (roused badge) wakes.there refl refl tt source.0 source.1
-      (notifies label edge awaits)
+      (inl (λ awake.
+      notifies label edge awaits
+      (blocked_actor t allowed m m a awake awake.others sound.of_table wakes.first wakes.thread wakes.there
+      (subst IsBlocked (sym wakes.waits) tt) source.0 source.1)))
       (λ awake.
       blocked_acts t allowed m wakes.first wakes.thread awake.others wakes.there (subst IsBlocked (sym wakes.waits) tt) source.0 source.1)
       (λ q to names. absurd (subst (λ (run : RunState). Names run q) wakes.waits names))
       (λ q to waits target.
       let at = subst (λ (run : RunState). WaitsAt run q) wakes.waits waits in
       inl
-      (subst (IsFull allowed a) (sym (at_reached t allowed m event a m sound id q label to labelled at target))
-      (modifies authority.Notify refl edge))))
+      (subst (Changes t allowed m a) (sym (at_reached t allowed m event a m sound id q label to labelled at target))
+      (λ awake. modifies authority.Notify refl edge))))
 
   module _ (caller : ObjId) (address : ℕ) (labelled : label_of t m caller ≡ Some a) (next : Machine) where
     pub signal_keeps : SignalDone m caller address next → Keeps t allowed m event a m next
@@ -79,7 +109,7 @@ module _
       by (inl wakes) = wake_keeps open_to.id open_to.end.badge within.label next within.labelled edge wakes
       by (inr joins) =
           subst (λ (after : Machine). Keeps t allowed m event a m after) (sym joins)
-          (word_keeps open_to.id open_to.notification _ within.label open_to.there refl within.labelled (modifies authority.Notify refl edge))
+          (word_keeps open_to.id open_to.notification _ within.label open_to.there refl within.labelled (λ awake. modifies authority.Notify refl edge))
 
     -- the word of a notification is taken
     taken :
@@ -88,7 +118,7 @@ module _
         → next ≡ with_object m id (o.Notification (record notification { pending = None })) → Keeps t allowed m event a m next
     taken id notification label there at edge takes =
         subst (λ (after : Machine). Keeps t allowed m event a m after) (sym takes)
-        (word_keeps id notification _ label there refl at (modifies authority.Await refl edge))
+        (word_keeps id notification _ label there refl at (λ awake. modifies authority.Await refl edge))
 
     pub poll_keeps : PollDone m caller address next → Keeps t allowed m event a m next
     poll_keeps done =
@@ -129,4 +159,4 @@ module _
           subst (λ (after : Machine). Keeps t allowed m event a m after) (sym blocks)
           (blocked_keeps t allowed m event a m held caller is.thread open_to.id (state.Waiting open_to.id)
           (o.Notification open_to.notification) is.there (caller_idle m caller is) refl labelled open_to.there
-          (apart is.thread is.there) within.label within.labelled (modifies authority.Await refl edge) links_within)
+          (apart is.thread is.there) within.label within.labelled (λ awake. modifies authority.Await refl edge) links_within)

@@ -1,14 +1,14 @@
 -- Delete and Revoke within a caller's authority: the slot that the call names is in a CNode that the caller's label controls, and what
 -- descends from it is in objects to which that CNode's label may derive.
-use Rattle.std.proofs.Common.{ℕ, ◌∙◌, ◌≡◌, ◌⊎◌, Bool, None, Ok, Some, ap, inl, inr, refl, subst, sym}
+use Rattle.std.proofs.Common.{ℕ, ◌≡◌, ◌⊎◌, Bool, None, Ok, Some, inl, inr, subst, sym}
 use Rattle.base.specs.declared.ids.{ObjId.ObjId, SlotRef.SlotRef}
 use Rattle.machine.specs.{declared.{call.Event.Event, cap.Cap.Cap, slot_address.SlotAddress.SlotAddress}, Authority.label_of}
 use Rattle.machine.specs.{Below.is_below, Layout.Layout, Machine.{Machine, cap_of, same_slot}, Removal.removed, Step.Target.target_of}
-use Rattle.machine.proofs.LookUps.{one_slot}
-use Rattle.steps.proofs.{BelowLemmas.below_decided, RemovalRows.RemovalDone, SlotRows.target_leads}
+use Rattle.steps.proofs.{RemovalRows.RemovalDone, SlotRows.target_leads}
 use Rattle.policy.specs.{Closed.IsClosed, Domain.EdgeTest}
 use Rattle.integrity.{specs.{Invariant.IsSound, Removals.MayRemove}, proofs.{Held.held_of, Keeps.{Keeps, unchanged}, Reach.IsControlled}}
-use Rattle.integrity.proofs.{Reach.led_controlled, RemovalConfined.descends_derive, RemovalKeeps.{removed_keeps, removed_sound}}
+use Rattle.integrity.proofs.{Reach.led_controlled, RemovalKeeps.{removed_keeps, removed_sound}}
+use Rattle.integrity.proofs.RemovalRights.{may_delete_in, may_revoke_below}
 
 module _
     (t : Layout) (allowed : EdgeTest) (event : Event) (a : ℕ) (m : Machine) (sound : IsSound t allowed m) (closed : IsClosed allowed)
@@ -20,32 +20,10 @@ module _
       (target_leads m caller address slot found)
 
   may_delete : (slot : SlotRef) → target_of m caller address ≡ Ok slot → MayRemove t allowed a m (same_slot slot)
-  may_delete slot found other held is filled =
-      let mine = target_mine slot found in (
-        mine.label,
-        ap (λ (s : SlotRef). label_of t m s.holder) (sym (one_slot slot other is)) ∙ mine.labelled,
-        record {
-          controlled = mine.label;
-          control = mine.controls;
-          derive = inl refl;
-        },
-      )
+  may_delete slot found = may_delete_in t allowed a m sound closed slot (target_mine slot found)
 
   may_revoke : (slot : SlotRef) → target_of m caller address ≡ Ok slot → MayRemove t allowed a m (is_below m slot)
-  may_revoke slot found below held is filled =
-      let mine = target_mine slot found in
-      let holder = sound.well_formed.slots.holder below held filled in
-      let of = sound.of_table.labelled below.holder holder.0 holder.1 in (
-        of.0,
-        of.1,
-        record {
-          controlled = mine.label;
-          control = mine.controls;
-          derive =
-              inr
-              (descends_derive t m (same_slot slot) allowed sound closed ((below_decided m slot below).0 is) mine.label of.0 mine.labelled of.1);
-        },
-      )
+  may_revoke slot found = may_revoke_below t allowed a m sound closed slot (target_mine slot found)
 
   module _
       (chosen : SlotRef → SlotRef → Bool)
@@ -71,7 +49,7 @@ module _
           subst (λ (n : Machine). Keeps t allowed m event a m n) (sym none.1) (unchanged t allowed m event a m (held_of t allowed m sound))
       by_cap (inr some) =
           subst (λ (n : Machine). Keeps t allowed m event a m n) (sym some.2)
-          (removed_keeps t allowed m (chosen done.slot) sound closed m event a (may done.slot done.found))
+          (removed_keeps t allowed m (chosen done.slot) sound closed event a (may done.slot done.found))
 
   pub delete_keeps : RemovalDone m caller address same_slot next → IsSound t allowed next × Keeps t allowed m event a m next
   delete_keeps done = (done_sound same_slot may_delete done, done_keeps same_slot may_delete done)

@@ -163,6 +163,7 @@ module _ (t : Layout) (m : Machine) (chosen : SlotRef → Bool) where
           let was = object_was m chosen id (o.Untyped memory) at in
           sound.of_table.ranged id memory label address (was.1 ∙ ap Some (untyped_was m vanished was.0 memory was.3))
           (label_was id label labelled);
+      inside = sound.of_table.inside;
       lent = λ id context thread at lends.
           let was = object_was m chosen id (o.Tcb thread) at in
           let lent = object_lent_was m vanished was.0 thread context was.3 lends in

@@ -1,17 +1,41 @@
 -- A removal keeps what a part of a call keeps: the machine stays within the policy, and what differs shrinks and is of labels that
--- may be taken from.
-use Rattle.std.proofs.{Common.{ℕ, ◌∙◌, ◌≡◌, ◌⊎◌, Bool, Some, ap, arith, inl, inr, refl, sym}, lemmas.Option.{none-some, same_Some}}
-use Rattle.base.specs.declared.ids.{ObjId.ObjId, SlotRef.SlotRef}
-use Rattle.machine.specs.declared.{call.Event.Event, object.{Context.Context, Object.{Object, Object as o}, ObjectKind.ObjectKind as kind}}
-use Rattle.machine.specs.{declared.thread.Tcb.Tcb, Authority.label_of, Finalising.finalised, Layout.Layout, Machine.{Machine, object_of}}
-use Rattle.machine.{specs.{Objects.{address_of, kind_of_object}, Removal.{removed, vanishes}}, proofs.RemovalLooks.next-removed}
+-- may be altered.
+use Rattle.std.proofs.Common.{ℕ, ◌∙◌, ◌≡◌, ◌⊎◌, Bool, Some, ap, arith, inl, inr, refl, sym}
+use Rattle.std.proofs.lemmas.Option.{none-some, same_Some}
+use Rattle.base.specs.declared.ids.ObjId.{ObjId}
+use Rattle.base.specs.declared.ids.SlotRef.{SlotRef}
+use Rattle.machine.specs.declared.call.Event.{Event}
+use Rattle.machine.specs.declared.object.Context.{Context}
+use Rattle.machine.specs.declared.object.Object.{Object}
+use Rattle.machine.specs.declared.object.Object.{Object as o}
+use Rattle.machine.specs.declared.object.ObjectKind.{ObjectKind as kind}
+use Rattle.machine.specs.declared.thread.Tcb.{Tcb}
+use Rattle.machine.specs.Authority.{label_of}
+use Rattle.machine.specs.Finalising.{finalised}
+use Rattle.machine.specs.Layout.{Layout}
+use Rattle.machine.specs.Machine.{Machine, object_of}
+use Rattle.machine.specs.Objects.{address_of, kind_of_object}
+use Rattle.machine.specs.Removal.{removed, vanishes}
+use Rattle.machine.proofs.RemovalLooks.{next-removed}
 use Rattle.machine.proofs.RemovalStays.{like_finalised, object_was}
 use Rattle.steps.proofs.RemovalLinks.{removed_formed}
-use Rattle.policy.specs.{Closed.IsClosed, Domain.EdgeTest, Take.{MayRemoveNear, MayTake.removes}}
-use Rattle.integrity.{specs.{Invariant.IsSound, Removals.MayRemove, Shrinks.IsSame}, proofs.Asleep.{OthersSleep, SleepsOrActs}}
-use Rattle.integrity.proofs.{Asleep.shrunk_asleep, Held.held_of, Keeps.{Acts, Keeps}, ObjectLabels.labelled_there}
-use Rattle.integrity.proofs.{RemovalConfined.{label_was, removed_confined, removed_of_table}, RemovalCuts.removed_cuts}
-use Rattle.integrity.proofs.{RemovalShrinks.removed_shrinks, Shrinking.same_context}
+use Rattle.policy.specs.Closed.{IsClosed}
+use Rattle.policy.specs.Domain.{EdgeTest}
+use Rattle.integrity.specs.Invariant.{IsSound}
+use Rattle.integrity.specs.Removals.{MayRemove}
+use Rattle.integrity.specs.Shrinks.{IsSame}
+use Rattle.integrity.proofs.Asleep.{shrunk_asleep}
+use Rattle.integrity.proofs.Held.{held_of}
+use Rattle.integrity.proofs.Keeps.{Acts, Keeps}
+use Rattle.integrity.proofs.ObjectLabels.{labelled_there}
+use Rattle.integrity.proofs.RemovalConfined.{label_was, removed_confined, removed_of_table}
+use Rattle.integrity.proofs.RemovalShrinks.{removed_shrinks}
+use Rattle.integrity.proofs.Shrinking.{same_context}
+use Rattle.integrity.specs.Awake.{OthersSleep, SleepsOrActs, IsAwake}
+use Rattle.policy.specs.Change.{WayToChange}
+use Rattle.policy.specs.NarrowTake.{WayToShrink}
+use Rattle.integrity.proofs.RemovalCuts.{removed_alters}
+use Rattle.integrity.proofs.RemovalServed.{removed_served}
 
 thread_by_kind : (object : Object) → kind_of_object object ≡ kind.Tcb → (thread : Tcb) × (object ≡ o.Tcb thread)
 thread_by_kind (o.Tcb thread) is = (thread, refl)
@@ -47,11 +71,11 @@ module _
   }
 
   pub removed_keeps :
-      (began : Machine) (event : Event) (a : ℕ) → MayRemove t allowed a m chosen
-      → Keeps t allowed began event a m (removed m chosen)
-  removed_keeps began event a may = record {
+      (event : Event) (a : ℕ) → MayRemove t allowed a m chosen
+      → Keeps t allowed m event a m (removed m chosen)
+  removed_keeps event a may = record {
     held = held_of t allowed after removed_sound;
-    acts = λ id. by_change id (removed_cuts t allowed a m chosen sound closed may id);
+    acts = λ awake id. by_change awake id (removed_alters t allowed a m chosen awake sound closed may id);
     stays = λ id old new was is.
         let like = like_finalised m (vanishes m chosen) old in
         let same = stays_finalised m chosen id old new was is in
@@ -60,6 +84,7 @@ module _
         let before = object_was m chosen id new is in absurd (none-some before.0 (sym absent ∙ before.1));
     grows = let number = next-removed m chosen in omega (arith, number);
     sleeps = λ awake. sleep_on;
+    serves = λ awake served. removed_served t allowed m chosen sound served;
     budgets = λ id old new was is. inl (share_stays m chosen id old new was is);
   } where
     sleep_on : OthersSleep t allowed m → OthersSleep t allowed after
@@ -77,12 +102,23 @@ module _
             inl (shrunk_asleep m after id tcb thread (removed_shrinks m chosen sound.well_formed id (o.Tcb tcb) there) there at asleep)
         by_thread tcb there (inr acts) = inr (λ a labelled. acts a (label_was t m chosen id a labelled))
 
-    by_change : (id : ObjId) → IsSame m after id ⊎ ((label : ℕ) × (label_of t m id ≡ Some label) × MayRemoveNear allowed a label) → Acts t allowed a m after id
-    by_change id (inl same) = inl same
-    by_change id (inr cut) =
-        let there = labelled_there t m id cut.0 cut.1 in
+    by_change :
+        (awake : IsAwake t allowed m a) (id : ObjId)
+        → IsSame m after id
+        ⊎ ((label : ℕ) × (label_of t m id ≡ Some label)
+        × (WayToChange allowed awake.acts a label ⊎ WayToShrink allowed awake.acts a label))
+        → Acts t allowed awake.acts a m after id
+    by_change awake id (inl same) = inl same
+    by_change awake id (inr way) =
+        let there = labelled_there t m id way.0 way.1 in
         inr (record {
-          label = cut.0;
-          labelled = inl cut.1;
-          may = inr (removes cut.2, removed_shrinks m chosen sound.well_formed id there.0 there.1);
+          label = way.0;
+          labelled = inl way.1;
+          may = elim way.2 [
+            | inl changes ↦ inl (record { actor = awake.actor; way = changes })
+            | inr shrinks ↦ inr (
+              record { actor = awake.actor; way = shrinks },
+              removed_shrinks m chosen sound.well_formed id there.0 there.1,
+            )
+          ];
         })

@@ -1,23 +1,52 @@
 -- Every run from a sound machine is safe: by induction over its events, with one clause for each call.
-use Rattle.std.proofs.Common.{[], ℕ, ◌∙◌, ◌∷◌, ◌≡◌, ◌⊎◌, Err, List, Ok, Result, Some, ap, inl, inr, refl, subst, sym}
+use Rattle.std.proofs.Common.{[], ℕ, ◌∙◌, ◌∷◌, ◌≡◌, ◌⊎◌, Err, List, Ok, Result, Some, ap, inl, inr, refl, subst, sym, true}
 use Rattle.std.proofs.lemmas.Option.{same_Some}
-use Rattle.base.specs.declared.{ids.ObjId.ObjId, refusal.Cause.Cause}
-use Rattle.machine.specs.declared.{call.{Call.Call, Event.Event, Made.Made, Outcome.Outcome}, object.{Context.Context, Object.Object as o}}
-use Rattle.machine.specs.{declared.{object.Share.Share, thread.Tcb.Tcb}, Authority.label_of, Boot.IsBoot, Layout.Layout, Machine.Machine}
-use Rattle.machine.specs.{Machine.object_of, Outcomes.IsRefused, Run.Run, Step.{Step, admitted, made_by, running_share, settled, step_of}}
-use Rattle.machine.specs.Step.{thread_in, Step.{ends, lacks}}
+use Rattle.base.specs.declared.ids.ObjId.{ObjId}
+use Rattle.base.specs.declared.refusal.Cause.{Cause}
+use Rattle.machine.specs.declared.call.Call.{Call}
 use Rattle.machine.specs.declared.call.Call.TheVariants as call
-use Rattle.steps.proofs.{Admission.{IsCaller, admits}, Calls.{CallDone, EventDone, step_done, step_formed}, Conditions.{both_done, same_ok}}
+use Rattle.machine.specs.declared.call.Event.{Event}
+use Rattle.machine.specs.declared.call.Made.{Made}
+use Rattle.machine.specs.declared.call.Outcome.{Outcome}
+use Rattle.machine.specs.declared.object.Context.{Context}
+use Rattle.machine.specs.declared.object.Object.{Object as o}
+use Rattle.machine.specs.declared.object.Share.{Share}
+use Rattle.machine.specs.declared.thread.Tcb.{Tcb}
+use Rattle.machine.specs.Authority.{label_of}
+use Rattle.machine.specs.Boot.{IsBoot}
+use Rattle.machine.specs.Layout.{Layout}
+use Rattle.machine.specs.Machine.{Machine, object_of}
+use Rattle.machine.specs.Outcomes.{IsRefused}
+use Rattle.machine.specs.Run.{Run}
+use Rattle.machine.specs.Step.{Step, admitted, made_by, running_share, settled, step_of, thread_in}
+use Rattle.machine.specs.Step.Step.{ends, lacks}
+use Rattle.steps.proofs.Admission.{IsCaller, admits}
+use Rattle.steps.proofs.Calls.{CallDone, EventDone, step_done, step_formed}
+use Rattle.steps.proofs.Conditions.{both_done, same_ok}
 use Rattle.steps.proofs.Steps.{refused_changes_nothing}
-use Rattle.policy.specs.{Closed.IsClosed, Domain.EdgeTest}
-use Rattle.integrity.specs.{Acting.MayAct, Bounded.{IsAffected, IsBoundedStep}, Budgets.{KeepsBudgets, configures}, Invariant.IsSound}
-use Rattle.integrity.{specs.{Safe.{IsReached, IsSafe, KeepsBounds}, Shrinks.IsSame}, proofs.Asleep.{IsAsleep, OthersSleep, SleepsOrActs}}
-use Rattle.integrity.proofs.{Asleep.acts_of, Bounds.bounded_allowed, ContextKeeps.{bind_keeps, configure_keeps, may_configure}}
-use Rattle.integrity.proofs.{ContextKeeps.unbind_keeps, Keeps.{Acts, Keeps}, MessageKeeps.{endpoint_call_keeps, fetch_keeps, receive_keeps}}
-use Rattle.integrity.proofs.{MessageKeeps.{reply_keeps, send_keeps}, NotificationKeeps.{poll_keeps, signal_keeps, wait_keeps}}
-use Rattle.integrity.proofs.{RemovalCalls.{delete_keeps, revoke_keeps}, RetypeKeeps.retype_keeps, Shrinking.same_context}
-use Rattle.integrity.proofs.{SlotCalls.{derive_keeps, move_keeps}, SpaceKeeps.{clear_space_keeps, set_space_keeps}}
-use Rattle.integrity.proofs.{ThreadKeeps.{resume_keeps, suspend_keeps}, WordsKeeps.{read_keeps, write_keeps}}
+use Rattle.policy.specs.Closed.{IsClosed}
+use Rattle.policy.specs.Domain.{EdgeTest}
+use Rattle.integrity.specs.Acting.{MayAct, HoldsOfActors}
+use Rattle.integrity.specs.Budgets.{KeepsBudgets, configures}
+use Rattle.integrity.specs.Invariant.{IsSound}
+use Rattle.integrity.specs.Safe.{IsReached, IsSafe, KeepsBounds}
+use Rattle.integrity.specs.Shrinks.{IsSame}
+use Rattle.integrity.proofs.Bounds.{bounded_allowed, narrow_bounded}
+use Rattle.integrity.proofs.ContextKeeps.{bind_keeps, configure_keeps, may_configure, unbind_keeps}
+use Rattle.integrity.proofs.Keeps.{Acts, Keeps}
+use Rattle.integrity.proofs.MessageKeeps.{endpoint_call_keeps, fetch_keeps, receive_keeps, reply_keeps, send_keeps}
+use Rattle.integrity.proofs.NotificationKeeps.{poll_keeps, signal_keeps, wait_keeps}
+use Rattle.integrity.proofs.RemovalCalls.{delete_keeps, revoke_keeps}
+use Rattle.integrity.proofs.RetypeKeeps.{retype_keeps}
+use Rattle.integrity.proofs.Shrinking.{same_context}
+use Rattle.integrity.proofs.SlotCalls.{derive_keeps, move_keeps}
+use Rattle.integrity.proofs.SpaceKeeps.{clear_space_keeps, set_space_keeps}
+use Rattle.integrity.proofs.ThreadKeeps.{resume_keeps, suspend_keeps}
+use Rattle.integrity.proofs.WordsKeeps.{read_keeps, write_keeps}
+use Rattle.integrity.specs.Awake.{OthersSleep, SleepsOrActs, IsAsleep, CallersAreServed, IsAwake}
+use Rattle.policy.specs.Change.{ActorTest}
+use Rattle.integrity.specs.Altered.{IsAltered, IsNarrowStep}
+use Rattle.integrity.proofs.Awake.{has_threads}
 
 -- one clause for each call
 call_keeps :
@@ -118,89 +147,123 @@ step_acts t allowed m next event outcome sound others (ends e) = by_made (made_b
       inr (label.0, label.1, admitted_acts t allowed m event.core event.thread admission.0 others admission.1 label.0 label.1)
   by_made (Err cause) is same = inl (subst IsRefused (ap (λ p. p.0) same) tt)
 
--- a step is bounded and guards budgets, keeps what belongs to the table and what is confined, and lets those who sleep sleep on
+-- what the machines of a run keep: they are sound, each thread sleeps whose label may not act, and who called is served
+record IsKept (t : Layout) (allowed : EdgeTest) (m : Machine) : Type 0 where
+  sound : IsSound t allowed m
+  others : OthersSleep t allowed m
+  served : CallersAreServed t allowed m
+
+-- the label of a thread that may act is awake in such a machine, by each test that holds of all who may act and may have threads
+abbrev awake_at :
+    (t : Layout) (allowed : EdgeTest) (m : Machine) → IsKept t allowed m → (acts : ActorTest) → HoldsOfActors t allowed acts
+    → (thread : ObjId) (tcb : Tcb) → object_of m thread ≡ Some (o.Tcb tcb) → (a : ℕ) → label_of t m thread ≡ Some a
+    → MayAct t allowed a → IsAwake t allowed m a
+awake_at t allowed m kept acts actors thread tcb there a labelled acting = record {
+  acting = acting;
+  others = kept.others;
+  served = kept.served;
+  acts = acts;
+  actors = actors;
+  actor = actors a acting (has_threads t m kept.sound.of_table thread tcb there a labelled);
+}
+
+-- a step of such a machine is bounded by who may act, guards budgets, and leads to such a machine
 record StepKeeps (t : Layout) (allowed : EdgeTest) (m : Machine) (event : Event) (next : Machine) : Type 0 where
-  sound : IsSound t allowed next
-  bounds : IsBoundedStep t allowed m event next
+  kept : IsKept t allowed next
+  narrow : (acts : ActorTest) → HoldsOfActors t allowed acts → IsNarrowStep t allowed acts m event next
   budgets : KeepsBudgets t allowed m event next
-  asleep : OthersSleep t allowed m → OthersSleep t allowed next
 
 -- each change is within the bounds of the caller's label
 by_caller :
-    (t : Layout) (allowed : EdgeTest) (event : Event) (a : ℕ) (m next : Machine) (id : ObjId)
-    → label_of t m event.thread ≡ Some a → Acts t allowed a m next id
-    → IsSame m next id ⊎ IsAffected t allowed m next event.thread id
-by_caller t allowed event a m next id labelled (inl same) = inl same
-by_caller t allowed event a m next id labelled (inr may) = inr (record { caller = a; calls = labelled; may = may })
+    (t : Layout) (allowed : EdgeTest) (acts : ActorTest) (event : Event) (a : ℕ) (m next : Machine) (id : ObjId)
+    → label_of t m event.thread ≡ Some a → Acts t allowed acts a m next id
+    → IsSame m next id ⊎ IsAltered t allowed acts m next event.thread id
+by_caller t allowed acts event a m next id labelled (inl same) = inl same
+by_caller t allowed acts event a m next id labelled (inr may) = inr (record { caller = a; calls = labelled; may = may })
+
+nothing_changed : (t : Layout) (allowed : EdgeTest) (m : Machine) (event : Event) → IsKept t allowed m → StepKeeps t allowed m event m
+nothing_changed t allowed m event kept = record {
+  kept = kept;
+  narrow = λ acts actors id. inl (record { content = refl; queue = refl; words = refl; slots = λ index. refl });
+  budgets = λ id old new was is.
+      let same = same_context new old (same_Some (o.Context new) (o.Context old) (sym is ∙ was)) in
+      inl (ap (λ (context : Context). context.share) same);
+}
 
 step_keeps :
-    (t : Layout) (allowed : EdgeTest) (m next : Machine) → IsSound t allowed m → IsClosed allowed
+    (t : Layout) (allowed : EdgeTest) (m next : Machine) → IsKept t allowed m → IsClosed allowed
     → (event : Event) (outcome : Outcome) → Step m event outcome next → StepKeeps t allowed m event next
-step_keeps t allowed m next sound closed event outcome step = by (step_done m event outcome next sound.well_formed step) where
-  sleep_on :
-      (a : ℕ) → label_of t m event.thread ≡ Some a → Keeps t allowed m event a m next → OthersSleep t allowed m
-      → IsRefused outcome ⊎ IsOfActing t allowed m event → OthersSleep t allowed next
-  sleep_on a labelled keeps others (inl refused) =
-      subst (λ (after : Machine). OthersSleep t allowed after) (sym (refused_changes_nothing m event outcome next step refused)) others
-  sleep_on a labelled keeps others (inr of) =
-      keeps.sleeps (record { acting = acts_of t allowed m event.thread of.0 of.1 of.2 a labelled; others = others }) others
+step_keeps t allowed m next kept closed event outcome step =
+    by (step_done m event outcome next kept.sound.well_formed step)
+    (step_acts t allowed m next event outcome kept.sound kept.others step)
+  where
+    same : next ≡ m → StepKeeps t allowed m event next
+    same is = subst (λ (after : Machine). StepKeeps t allowed m event after) (sym is) (nothing_changed t allowed m event kept)
 
-  by : EventDone m event next ⊎ (next ≡ m) → StepKeeps t allowed m event next
-  by (inl done) =
-      let label = sound.of_table.labelled event.thread (o.Tcb done.caller.thread) done.caller.there in
-      let keeps = call_keeps t allowed event label.0 m next sound closed event.call refl label.1 done.caller done.done in
-      record {
-        sound = record {
-          well_formed = step_formed m event outcome next sound.well_formed step;
-          of_table = keeps.held.of_table;
-          confined = keeps.held.confined;
-        };
-        bounds = λ id. by_caller t allowed event label.0 m next id label.1 (keeps.acts id);
-        budgets = keeps.budgets;
-        asleep = λ others. sleep_on label.0 label.1 keeps others (step_acts t allowed m next event outcome sound others step);
-      }
-  by (inr same) = subst (λ (after : Machine). StepKeeps t allowed m event after) (sym same) (record {
-    sound = sound;
-    bounds = λ id. inl (record { content = refl; queue = refl; words = refl; slots = λ index. refl });
-    budgets = λ id old new was is.
-        let same = same_context new old (same_Some (o.Context new) (o.Context old) (sym is ∙ was)) in
-        inl (ap (λ (context : Context). context.share) same);
-    asleep = λ others. others;
-  })
+    by : EventDone m event next ⊎ (next ≡ m) → IsRefused outcome ⊎ IsOfActing t allowed m event → StepKeeps t allowed m event next
+    by (inr is) acts = same is
+    by (inl done) (inl refused) = same (refused_changes_nothing m event outcome next step refused)
+    by (inl done) (inr of) =
+        let keeps = call_keeps t allowed event of.0 m next kept.sound closed event.call refl of.1 done.caller done.done in
+        let awake : (acts : ActorTest) → HoldsOfActors t allowed acts → IsAwake t allowed m of.0 =
+        λ acts actors.
+        awake_at t allowed m kept acts actors event.thread done.caller.thread done.caller.there of.0 of.1 of.2 in
+        let everyone = awake (λ l. true) (λ l acting threads. refl) in
+        record {
+          kept = record {
+            sound = record {
+              well_formed = step_formed m event outcome next kept.sound.well_formed step;
+              of_table = keeps.held.of_table;
+              confined = keeps.held.confined;
+            };
+            others = keeps.sleeps everyone kept.others;
+            served = keeps.serves everyone kept.served;
+          };
+          narrow = λ acts actors id.
+              by_caller t allowed acts event of.0 m next id of.1 (keeps.acts (awake acts actors) id);
+          budgets = keeps.budgets;
+        }
 
--- sound machines, where each thread sleeps whose label may not act, lead to such machines
-run_sound :
+-- such machines lead to such machines
+run_kept :
     (t : Layout) (allowed : EdgeTest) → IsClosed allowed → (first m : Machine) (events : List Event)
-    (outcomes : List Outcome) → IsSound t allowed first × OthersSleep t allowed first → Run first events outcomes m
-    → IsSound t allowed m × OthersSleep t allowed m
-run_sound t allowed closed first m [] [] sound run =
-    subst (λ (after : Machine). IsSound t allowed after × OthersSleep t allowed after) run sound
-run_sound t allowed closed first m [] (outcome ∷ outcomes) sound run = absurd run
-run_sound t allowed closed first m (event ∷ events) [] sound run = absurd run
-run_sound t allowed closed first m (event ∷ events) (outcome ∷ outcomes) sound run =
-    let keeps = step_keeps t allowed first run.0 sound.0 closed event outcome run.1 in
-    run_sound t allowed closed run.0 m events outcomes (keeps.sound, keeps.asleep sound.1) run.2
+    (outcomes : List Outcome) → IsKept t allowed first → Run first events outcomes m → IsKept t allowed m
+run_kept t allowed closed first m [] [] kept run = subst (λ (after : Machine). IsKept t allowed after) run kept
+run_kept t allowed closed first m [] (outcome ∷ outcomes) kept run = absurd run
+run_kept t allowed closed first m (event ∷ events) [] kept run = absurd run
+run_kept t allowed closed first m (event ∷ events) (outcome ∷ outcomes) kept run =
+    run_kept t allowed closed run.0 m events outcomes
+    (step_keeps t allowed first run.0 kept closed event outcome run.1).kept run.2
 
 -- the headline, where the boot state is such a machine
 pub safe_from :
     (t : Layout) (allowed : EdgeTest) → IsClosed allowed
-    → ((boot : Machine) → IsBoot t boot → IsSound t allowed boot × OthersSleep t allowed boot) → IsSafe t allowed
+    → ((boot : Machine) → IsBoot t boot → IsSound t allowed boot × OthersSleep t allowed boot × CallersAreServed t allowed boot)
+    → IsSafe t allowed
 safe_from t allowed closed at_boot =
     record {
-      labelled = λ m reached. (sound_at m reached).0.of_table.labelled;
-      confined = λ m reached. (sound_at m reached).0.confined;
+      labelled = λ m reached. (kept_at m reached).sound.of_table.labelled;
+      confined = λ m reached. (kept_at m reached).sound.confined;
       integrity = λ m next event outcome reached step. bounded_allowed t allowed m next event (bounded m next event outcome reached step);
       bounds = bounded;
-      budgets = λ m next event outcome reached step.
-          (step_keeps t allowed m next (sound_at m reached).0 closed event outcome step).budgets;
+      narrow = λ acts actors m next event outcome reached step. (keeps m next event outcome reached step).narrow acts actors;
+      budgets = λ m next event outcome reached step. (keeps m next event outcome reached step).budgets;
       acting = λ m next event outcome reached step.
-          let sound = sound_at m reached in step_acts t allowed m next event outcome sound.0 sound.1 step;
+          let kept = kept_at m reached in step_acts t allowed m next event outcome kept.sound kept.others step;
     }
   where
-    sound_at : (m : Machine) → IsReached t m → IsSound t allowed m × OthersSleep t allowed m
-    sound_at m reached =
-        run_sound t allowed closed reached.boot m reached.events reached.outcomes
-        (at_boot reached.boot reached.booted) reached.run
+    kept_at : (m : Machine) → IsReached t m → IsKept t allowed m
+    kept_at m reached =
+        let first = at_boot reached.boot reached.booted in
+        run_kept t allowed closed reached.boot m reached.events reached.outcomes
+        (record { sound = first.0; others = first.1; served = first.2 }) reached.run
+
+    keeps :
+        (m next : Machine) (event : Event) (outcome : Outcome) → IsReached t m → Step m event outcome next
+        → StepKeeps t allowed m event next
+    keeps m next event outcome reached step = step_keeps t allowed m next (kept_at m reached) closed event outcome step
 
     bounded : KeepsBounds t allowed
-    bounded m next event outcome reached step = (step_keeps t allowed m next (sound_at m reached).0 closed event outcome step).bounds
+    bounded m next event outcome reached step =
+        narrow_bounded t allowed (λ l. true) m next event
+        ((keeps m next event outcome reached step).narrow (λ l. true) (λ l acting threads. refl))

@@ -1,17 +1,20 @@
 -- Setting an object's content, and changing who waits at it, touch that object alone.
 use Rattle.std.proofs.Common.{ℕ, ◌∙◌, ◌≡◌, List, Some}
 use Rattle.base.specs.declared.ids.ObjId.{ObjId}
-use Rattle.machine.specs.{declared.{call.Event.Event, object.Object.Object}, Layout.Layout, Machine.{Machine, object_of, queue_of}}
-use Rattle.machine.{specs.Machine.{with_object, with_queue}, proofs.{Ids.{at_itself, at_other}, LookUps.cap_of-with_object}}
-use Rattle.machine.proofs.LookUps.{cap_of-with_queue, number_of-with_object, number_of-with_queue, object_of-with_object}
-use Rattle.machine.proofs.LookUps.{object_of-with_queue, parent_of-with_object, parent_of-with_queue, queue_of-with_object}
-use Rattle.machine.proofs.LookUps.{queue_of-with_queue, words_of-with_object, words_of-with_queue}
+use Rattle.machine.specs.declared.call.Event.{Event}
+use Rattle.machine.specs.declared.object.Object.{Object}
+use Rattle.machine.specs.Layout.{Layout}
+use Rattle.machine.specs.Machine.{Machine, object_of, queue_of, with_object, with_queue}
+use Rattle.machine.proofs.Ids.{at_itself, at_other}
+use Rattle.machine.proofs.LookUps.{cap_of-with_object, cap_of-with_queue, number_of-with_object, number_of-with_queue, object_of-with_object, object_of-with_queue, parent_of-with_object, parent_of-with_queue, queue_of-with_object, queue_of-with_queue, words_of-with_object, words_of-with_queue}
 use Rattle.policy.specs.Domain.{EdgeTest}
-use Rattle.integrity.{specs.{Bounded.MayAffect, Invariant.IsHeld}, proofs.{Keeps.Keeps, TouchKeeps.{Fits, same_fits, touch_keeps}}}
+use Rattle.integrity.specs.Invariant.{IsHeld}
+use Rattle.integrity.proofs.Keeps.{Keeps, Alters}
+use Rattle.integrity.proofs.TouchKeeps.{Fits, same_fits, touch_keeps}
 
 module _ (t : Layout) (allowed : EdgeTest) (began : Machine) (event : Event) (a : ℕ) (m : Machine) (id : ObjId) (held : IsHeld t allowed m) where
   pub set_keeps :
-      (old new : Object) → Fits t allowed began event a m id old new → MayAffect t allowed a m (with_object m id new) id
+      (old new : Object) → Fits t allowed began event a m id old new → Alters t allowed began a m (with_object m id new) id
       → Keeps t allowed began event a m (with_object m id new)
   set_keeps old new fits may =
       touch_keeps t allowed began event a m id old new (with_object m id new) held fits
@@ -27,7 +30,7 @@ module _ (t : Layout) (allowed : EdgeTest) (began : Machine) (event : Event) (a 
 
   pub queue_keeps :
       (object : Object) (threads : List ObjId) → object_of m id ≡ Some object
-      → MayAffect t allowed a m (with_queue m id threads) id → Keeps t allowed began event a m (with_queue m id threads)
+      → Alters t allowed began a m (with_queue m id threads) id → Keeps t allowed began event a m (with_queue m id threads)
   queue_keeps object threads there may =
       touch_keeps t allowed began event a m id object object (with_queue m id threads) held
       (same_fits t allowed began event a m id held object there)

@@ -1,17 +1,39 @@
 -- Copy, Mint and Move within a caller's authority: both slots are in CNodes that its label controls, so that the labels of both may do the
 -- same, and derive on one another.
-use Rattle.std.{specs.Prelude.if◌then◌else◌, proofs.Common.{ℕ, ◌∙◌, ◌≡◌, ◌≢◌, ◌⊎◌, Bool, None, Some, ap, false, inl, inr, refl, subst, sym}}
-use Rattle.std.proofs.{Common.true, lemmas.Option.{none-some, same_Some}}
-use Rattle.base.specs.{declared.{ids.{ObjId.ObjId, SlotRef.SlotRef}, kind.Kind.{Kind, Kind as authority}}, Kinds.is_structural}
-use Rattle.machine.specs.{declared.{call.Event.Event, cap.Cap.Cap, slot_address.SlotAddress.SlotAddress}, Authority.label_of}
-use Rattle.machine.specs.{Authority.HasAuthority.{by_cap, by_pair}, Capabilities.gives, Layout.Layout, Machine.{Machine, cap_of, parent_of}}
-use Rattle.machine.specs.{Machine.same_slot, Tree.{copied, exchange, parent_of_copy}, WellFormed.{IsWellFormed, kind_of}}
-use Rattle.machine.proofs.{AuthorityLemmas.gives_fewer, Ids.one_or_two, LookUps.one_slot}
-use Rattle.steps.proofs.{FillsFormed.derives_formed, LedSlots.led_slot, MovesFormed.{move_formed, pair_was}, SlotRows.{Derives, MoveDone}}
-use Rattle.policy.specs.{Closed.{IsClosed, derived}, Domain.EdgeTest, Full.IsFull.modifies}
-use Rattle.integrity.{specs.Invariant.{IsHeld, IsSound}, proofs.FillKeeps.{MayFill, apart_slots, copy_derives, fill_fits, given_of_use}}
-use Rattle.integrity.proofs.{FillKeeps.in_node, Held.{bare_of, held_of}, Keeps.Keeps, Reach.{IsControlled, led_controlled}}
+use Rattle.std.specs.Prelude.{if◌then◌else◌}
+use Rattle.std.proofs.Common.{ℕ, ◌∙◌, ◌≡◌, ◌≢◌, ◌⊎◌, Bool, None, Some, ap, false, inl, inr, refl, subst, sym, true}
+use Rattle.std.proofs.lemmas.Option.{none-some, same_Some}
+use Rattle.base.specs.declared.ids.ObjId.{ObjId}
+use Rattle.base.specs.declared.ids.SlotRef.{SlotRef}
+use Rattle.base.specs.declared.kind.Kind.{Kind}
+use Rattle.base.specs.declared.kind.Kind.{Kind as authority}
+use Rattle.base.specs.Kinds.{is_structural}
+use Rattle.machine.specs.declared.call.Event.{Event}
+use Rattle.machine.specs.declared.cap.Cap.{Cap}
+use Rattle.machine.specs.declared.slot_address.SlotAddress.{SlotAddress}
+use Rattle.machine.specs.Authority.{label_of}
+use Rattle.machine.specs.Authority.HasAuthority.{by_cap, by_pair}
+use Rattle.machine.specs.Capabilities.{gives}
+use Rattle.machine.specs.Layout.{Layout}
+use Rattle.machine.specs.Machine.{Machine, cap_of, parent_of, same_slot}
+use Rattle.machine.specs.Tree.{copied, exchange, parent_of_copy}
+use Rattle.machine.specs.WellFormed.{IsWellFormed, kind_of}
+use Rattle.machine.proofs.AuthorityLemmas.{gives_fewer}
+use Rattle.machine.proofs.Ids.{one_or_two}
+use Rattle.machine.proofs.LookUps.{one_slot}
+use Rattle.steps.proofs.FillsFormed.{derives_formed}
+use Rattle.steps.proofs.LedSlots.{led_slot}
+use Rattle.steps.proofs.MovesFormed.{move_formed, pair_was}
+use Rattle.steps.proofs.SlotRows.{Derives, MoveDone}
+use Rattle.policy.specs.Closed.{IsClosed, derived}
+use Rattle.policy.specs.Domain.{EdgeTest}
+use Rattle.integrity.specs.Invariant.{IsHeld, IsSound}
+use Rattle.integrity.proofs.FillKeeps.{MayFill, apart_slots, copy_derives, fill_fits, given_of_use, in_node}
+use Rattle.integrity.proofs.Held.{bare_of, held_of}
+use Rattle.integrity.proofs.Keeps.{Keeps}
+use Rattle.integrity.proofs.Reach.{IsControlled, led_controlled}
 use Rattle.integrity.proofs.SlotKeeps.{IsAllowedIn, SlotsFit, opened, slots_keep}
+use Rattle.policy.specs.Change.WayToChange.{modifies}
 
 -- one label is near another: what may derive to it may derive to the other, and where it may derive to the other may
 record IsNear (allowed : EdgeTest) (label other : ℕ) : Type 0 where
@@ -61,11 +83,11 @@ module _
     formed : IsWellFormed next
     formed = derives_formed m caller to from next sound.well_formed done
 
-    copy_may : MayFill t allowed a m done.target (copied done.held done.detail) (parent_of_copy m done.source done.held)
+    copy_may : MayFill t allowed m a m done.target (copied done.held done.detail) (parent_of_copy m done.source done.held)
     copy_may = record {
       label = mine.label;
       labelled = mine.labelled;
-      has = modifies authority.Control refl mine.controls;
+      has = λ awake. modifies authority.Control refl mine.controls;
       edges =
           in_node t allowed m done.target (copied done.held done.detail) mine.label mine.is_node mine.labelled
           (λ k end given ends.
@@ -76,9 +98,9 @@ module _
           source_mine.labelled (derives done.source.holder done.target.holder source_mine mine);
     }
 
-    copy_fits : SlotsFit t allowed a m next
+    copy_fits : SlotsFit t allowed m a m next
     copy_fits =
-        fill_fits t allowed a m next held_before done.target (copied done.held done.detail)
+        fill_fits t allowed m a m next held_before done.target (copied done.held done.detail)
         (parent_of_copy m done.source done.held) copy_may
         done.changes formed.slots.object (bare_of next formed)
 
@@ -177,15 +199,15 @@ module _
         (apart_slots q done.target not_target)
         ∙ ap (λ tie. if tie then None else cap_of m q) (apart_slots q done.source not_source)
 
-    move_fits : SlotsFit t allowed a m next
+    move_fits : SlotsFit t allowed m a m next
     move_fits = record {
       same = done.changes.objects;
       caps = move_caps;
       pairs = move_pairs;
       slots = λ id. elim (one_or_two id done.target.holder) [
-        | inl same ↦ inr (opened t allowed m a id (subst (λ (i : ObjId). IsControlled t allowed m a i) (sym same) goal_mine))
+        | inl same ↦ inr (opened t allowed m m a id (subst (λ (i : ObjId). IsControlled t allowed m a i) (sym same) goal_mine))
         | inr apart ↦ elim (one_or_two id done.source.holder) [
-          | inl same ↦ inr (opened t allowed m a id (subst (λ (i : ObjId). IsControlled t allowed m a i) (sym same) start_mine))
+          | inl same ↦ inr (opened t allowed m m a id (subst (λ (i : ObjId). IsControlled t allowed m a i) (sym same) start_mine))
           | inr also ↦ inl (others_keep id apart also)
         ]
       ];

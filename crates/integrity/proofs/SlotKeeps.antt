@@ -1,29 +1,51 @@
 -- A change of slots keeps what a part of a call keeps: each capability and pair of the tree that is new is in the policy, and the
 -- objects whose slots change are the caller's to change.
-use Rattle.std.proofs.{Common.{ℕ, ◌∙◌, ◌≡◌, ◌⊎◌, None, Some, ap, arith, inl, inr, refl, sym, true}, lemmas.Option.{none-some, same_Some}}
-use Rattle.base.specs.declared.{ids.{ObjId.ObjId, SlotRef.SlotRef}, kind.Kind.Kind}
+use Rattle.std.proofs.Common.{ℕ, ◌∙◌, ◌≡◌, ◌⊎◌, None, Some, ap, arith, inl, inr, refl, sym, true}
+use Rattle.std.proofs.lemmas.Option.{none-some, same_Some}
+use Rattle.base.specs.declared.ids.ObjId.{ObjId}
+use Rattle.base.specs.declared.ids.SlotRef.{SlotRef}
+use Rattle.base.specs.declared.kind.Kind.{Kind}
 use Rattle.base.specs.declared.kind.Kind.TheVariants as authority
-use Rattle.machine.specs.declared.{call.Event.Event, cap.Cap.Cap, object.{Context.Context, Object.{Object, Object as o}}}
-use Rattle.machine.specs.{Authority.{label_of, HasAuthority.{by_cap, by_link, by_pair, by_root}}, Capabilities.{gives, kind_of_detail}}
-use Rattle.machine.specs.{Layout.Layout, Machine.{Machine, cap_of, object_of, parent_of}, Objects.{address_of, kind_of_object}}
-use Rattle.machine.{specs.WellFormed.kind_of, proofs.SlotChanges.SameObjects}
+use Rattle.machine.specs.declared.call.Event.{Event}
+use Rattle.machine.specs.declared.cap.Cap.{Cap}
+use Rattle.machine.specs.declared.object.Context.{Context}
+use Rattle.machine.specs.declared.object.Object.{Object}
+use Rattle.machine.specs.declared.object.Object.{Object as o}
+use Rattle.machine.specs.Authority.{label_of}
+use Rattle.machine.specs.Authority.HasAuthority.{by_cap, by_link, by_pair, by_root}
+use Rattle.machine.specs.Capabilities.{gives, kind_of_detail}
+use Rattle.machine.specs.Layout.{Layout}
+use Rattle.machine.specs.Machine.{Machine, cap_of, object_of, parent_of}
+use Rattle.machine.specs.Objects.{address_of, kind_of_object}
+use Rattle.machine.specs.WellFormed.{kind_of}
+use Rattle.machine.proofs.SlotChanges.{SameObjects}
 use Rattle.machine.specs.declared.object.ObjectKind.TheVariants as kind
 use Rattle.steps.proofs.SameObjects.{kinds_same}
-use Rattle.policy.specs.{Domain.EdgeTest, Full.{IsFull, IsFull.modifies}}
-use Rattle.integrity.{specs.{Confined.IsConfined, Invariant.{IsBare, IsHeld}, OfTable.IsOfTable}, proofs.{Asleep.sleeps_on, Contents.full}}
-use Rattle.integrity.proofs.{Keeps.{Acts, Keeps}, ObjectLabels.same_label, Reach.IsControlled, Shrinking.same_context}
+use Rattle.policy.specs.Domain.{EdgeTest}
+use Rattle.integrity.specs.Confined.{IsConfined}
+use Rattle.integrity.specs.Invariant.{IsBare, IsHeld}
+use Rattle.integrity.specs.OfTable.{IsOfTable}
+use Rattle.integrity.proofs.Asleep.{sleeps_on}
+use Rattle.integrity.proofs.Keeps.{Acts, Keeps, Changes}
+use Rattle.integrity.proofs.ObjectLabels.{same_label}
+use Rattle.integrity.proofs.Reach.{IsControlled}
+use Rattle.integrity.proofs.Shrinking.{same_context}
+use Rattle.integrity.specs.Awake.{IsAwake}
+use Rattle.policy.specs.Change.WayToChange.{modifies}
+use Rattle.integrity.proofs.Contents.{changed}
 
--- a label has full authority over an object's
-pub record IsOpened (t : Layout) (allowed : EdgeTest) (m : Machine) (a : ℕ) (id : ObjId) : Type 0 where
+-- a label may change an object's, in a step that began at some machine
+pub record IsOpened (t : Layout) (allowed : EdgeTest) (began m : Machine) (a : ℕ) (id : ObjId) : Type 0 where
   pub label : ℕ
   pub labelled : label_of t m id ≡ Some label
-  pub has : IsFull allowed a label
+  pub has : Changes t allowed began a label
 
 -- a CNode that it controls is such an object
 pub opened :
-    (t : Layout) (allowed : EdgeTest) (m : Machine) (a : ℕ) (node : ObjId) → IsControlled t allowed m a node
-    → IsOpened t allowed m a node
-opened t allowed m a node c = record { label = c.label; labelled = c.labelled; has = modifies authority.Control refl c.controls }
+    (t : Layout) (allowed : EdgeTest) (began m : Machine) (a : ℕ) (node : ObjId) → IsControlled t allowed m a node
+    → IsOpened t allowed began m a node
+opened t allowed began m a node c =
+    record { label = c.label; labelled = c.labelled; has = λ awake. modifies authority.Control refl c.controls }
 
 -- the policy has the edges of a capability in a slot: all that it gives, in a slot of a CNode, and space, in a thread's root slot
 abbrev pub IsAllowedIn : Layout → EdgeTest → Machine → SlotRef → Cap → Type 0
@@ -36,7 +58,7 @@ IsAllowedIn t allowed m slot cap =
     → allowed from authority.Space to ≡ true))
 
 -- what a change of slots has to meet
-pub record SlotsFit (t : Layout) (allowed : EdgeTest) (a : ℕ) (m next : Machine) : Type 0 where
+pub record SlotsFit (t : Layout) (allowed : EdgeTest) (began : Machine) (a : ℕ) (m next : Machine) : Type 0 where
   pub same : SameObjects m next
   -- a capability was there, or its edges are in the policy
   pub caps : (q : SlotRef) (cap : Cap) → cap_of next q ≡ Some cap → (cap_of m q ≡ Some cap) ⊎ IsAllowedIn t allowed m q cap
@@ -47,14 +69,14 @@ pub record SlotsFit (t : Layout) (allowed : EdgeTest) (a : ℕ) (m next : Machin
   -- an object's slots are as they were, or the caller's label may change it
   pub slots :
       (id : ObjId) → ((index : ℕ) → cap_of next (record { holder = id; index = index }) ≡ cap_of m (record { holder = id; index = index }))
-      ⊎ IsOpened t allowed m a id
+      ⊎ IsOpened t allowed began m a id
   -- the object of a capability is of its kind, and what is absent has nothing
   pub kinds : (q : SlotRef) (cap : Cap) → cap_of next q ≡ Some cap → kind_of next cap.object ≡ Some (kind_of_detail cap.detail)
   pub bare : (id : ObjId) → object_of next id ≡ None → IsBare next id
 
 module _
     (t : Layout) (allowed : EdgeTest) (began : Machine) (event : Event) (a : ℕ) (m next : Machine) (held : IsHeld t allowed m)
-    (fit : SlotsFit t allowed a m next) where
+    (fit : SlotsFit t allowed began a m next) where
   was : (q : ObjId) (object : Object) → object_of next q ≡ Some object → object_of m q ≡ Some object
   was q object at = sym (fit.same.objects q) ∙ at
 
@@ -95,6 +117,7 @@ module _
     initial = λ q object declared at. held.of_table.initial q object declared (was q object at);
     ranged = λ q memory label address at labelled.
         held.of_table.ranged q memory label address (was q (o.Untyped memory) at) (sym (labels q) ∙ labelled);
+    inside = held.of_table.inside;
     lent = λ q context thread at lends.
         let number = fit.same.number in
         let below = held.of_table.lent q context thread (was q (o.Tcb thread) at) lends in
@@ -102,15 +125,15 @@ module _
     counted = let number = fit.same.number in let before = held.of_table.counted in omega (arith, number, before);
   }
 
-  acts : (q : ObjId) → Acts t allowed a m next q
-  acts q = by_case (fit.slots q) where
+  acts : (awake : IsAwake t allowed began a) (q : ObjId) → Acts t allowed awake.acts a m next q
+  acts awake q = by_case (fit.slots q) where
     by_case :
         ((index : ℕ) → cap_of next (record { holder = q; index = index }) ≡ cap_of m (record { holder = q; index = index }))
-        ⊎ IsOpened t allowed m a q → Acts t allowed a m next q
+        ⊎ IsOpened t allowed began m a q → Acts t allowed awake.acts a m next q
     by_case (inl slots) =
         inl (record { content = fit.same.objects q; queue = fit.same.queues q; words = fit.same.words q; slots = slots })
     by_case (inr mine) =
-        inr (full t allowed a m next q mine.label mine.labelled mine.has)
+        inr (changed t allowed began a m next q mine.label mine.labelled mine.has awake)
 
   pub slots_keep : Keeps t allowed began event a m next
   slots_keep = record {
@@ -131,6 +154,13 @@ module _
     born = λ q object absent is. absurd (none-some object (sym absent ∙ was q object is));
     grows = let number = fit.same.number in omega (arith, number);
     sleeps = λ awake others q thread at. sleeps_on t allowed m next q thread (labels q) (others q thread (was q (o.Tcb thread) at));
+    serves = λ awake served q reply at thread is.
+        let before = served q reply (was q (o.Reply reply) at) thread is in
+        let below = before.0 in
+        let number = fit.same.number in (
+          omega (arith, below, number),
+          λ holder caller at_holder at_caller. before.1 holder caller (sym (labels q) ∙ at_holder) (sym (labels thread) ∙ at_caller),
+        );
     budgets = λ q before after there is.
         let one = same_Some (o.Context after) (o.Context before) (sym (was q (o.Context after) is) ∙ there) in
         inl (ap (λ (c : Context). c.share) (same_context after before one));

@@ -1,19 +1,43 @@
 -- Setspace and Clearspace within a caller's authority: its label controls the thread, whose root slot loses its capability, and
 -- gets that of a CNode that the label controls too.
-use Rattle.std.proofs.{Common.{ℕ, ◌∙◌, ◌≡◌, ◌⊎◌, None, Option, Some, ap, inl, inr, refl, subst, sym, true}, lemmas.Option.same_Some}
-use Rattle.base.specs.declared.{ids.{ObjId.ObjId, SlotRef.SlotRef}, kind.Kind.Kind as authority}
-use Rattle.machine.specs.declared.{call.Event.Event, cap.{Cap.Cap, Detail.Detail as d}, object.Object.Object}
-use Rattle.machine.specs.{declared.object.ObjectKind.ObjectKind as kind, Authority.label_of, Capabilities.kind_of_detail, Layout.Layout}
-use Rattle.machine.specs.{Lookup.root_of, Machine.{Machine, cap_of, object_of, same_slot}, Step.{Delete.deleted, Space.with_root}}
-use Rattle.machine.specs.{Step.Space.without_root, Tree.{copied, parent_of_copy, with_copy}, WellFormed.{IsWellFormed, kind_of}}
-use Rattle.machine.proofs.LookUps.{one_slot}
-use Rattle.steps.proofs.{Finding.FindsObject, SlotRows.with_copy_fills, SpaceFormed.{held_before, root_empty, set_formed, thread_there}}
+use Rattle.std.proofs.Common.{ℕ, ◌∙◌, ◌≡◌, ◌⊎◌, None, Option, Some, ap, inl, inr, refl, subst, sym, true}
+use Rattle.std.proofs.lemmas.Option.{same_Some}
+use Rattle.base.specs.declared.ids.ObjId.{ObjId}
+use Rattle.base.specs.declared.ids.SlotRef.{SlotRef}
+use Rattle.base.specs.declared.kind.Kind.{Kind as authority}
+use Rattle.machine.specs.declared.call.Event.{Event}
+use Rattle.machine.specs.declared.cap.Cap.{Cap}
+use Rattle.machine.specs.declared.cap.Detail.{Detail as d}
+use Rattle.machine.specs.declared.object.Object.{Object}
+use Rattle.machine.specs.declared.object.ObjectKind.{ObjectKind as kind}
+use Rattle.machine.specs.Authority.{label_of}
+use Rattle.machine.specs.Capabilities.{kind_of_detail}
+use Rattle.machine.specs.Layout.{Layout}
+use Rattle.machine.specs.Lookup.{root_of}
+use Rattle.machine.specs.Machine.{Machine, cap_of, object_of, same_slot}
+use Rattle.machine.specs.Step.Delete.{deleted}
+use Rattle.machine.specs.Step.Space.{with_root, without_root}
+use Rattle.machine.specs.Tree.{copied, parent_of_copy, with_copy}
+use Rattle.machine.specs.WellFormed.{IsWellFormed, kind_of}
+use Rattle.steps.proofs.Finding.{FindsObject}
+use Rattle.steps.proofs.SlotRows.{with_copy_fills}
+use Rattle.steps.proofs.SpaceFormed.{held_before, root_empty, set_formed, thread_there}
 use Rattle.steps.proofs.SpaceRow.{ClearDone, RootFilled, SetDone, root_filled}
-use Rattle.policy.specs.{Closed.IsClosed, Domain.EdgeTest, Full.IsFull.modifies}
-use Rattle.integrity.{specs.{Invariant.{IsHeld, IsSound}, Removals.MayRemove}, proofs.FillKeeps.{MayFill, copy_derives, fill_fits}}
-use Rattle.integrity.proofs.{Held.{bare_of, held_of}, Keeps.{Keeps, keeps_keeps, unchanged}, MessageParts.{IsReached, label_kept, reached}}
-use Rattle.integrity.proofs.{ObjectLabels.{kind_there, labelled_there}, Reach.{IsWithin, found_within}, RemovalKeeps.removed_keeps}
-use Rattle.integrity.proofs.{RemovalKeeps.removed_sound, SlotKeeps.slots_keep, ThreadKeeps.{may_control, to_thread}}
+use Rattle.policy.specs.Closed.{IsClosed}
+use Rattle.policy.specs.Domain.{EdgeTest}
+use Rattle.integrity.specs.Invariant.{IsHeld, IsSound}
+use Rattle.integrity.specs.Removals.{MayRemove}
+use Rattle.integrity.proofs.FillKeeps.{MayFill, copy_derives, fill_fits}
+use Rattle.integrity.proofs.Held.{bare_of, held_of}
+use Rattle.integrity.proofs.Keeps.{Keeps, keeps_keeps, unchanged}
+use Rattle.integrity.proofs.MessageParts.{IsReached, label_kept, reached}
+use Rattle.integrity.proofs.ObjectLabels.{kind_there, labelled_there}
+use Rattle.integrity.proofs.Reach.{IsWithin, found_within}
+use Rattle.integrity.proofs.RemovalKeeps.{removed_keeps, removed_sound}
+use Rattle.integrity.proofs.SlotKeeps.{slots_keep}
+use Rattle.integrity.proofs.ThreadKeeps.{may_control, to_thread}
+use Rattle.policy.specs.Change.WayToChange.{modifies}
+use Rattle.integrity.proofs.RemovalRights.{may_clear_root}
 
 module _
     (t : Layout) (allowed : EdgeTest) (event : Event) (a : ℕ) (m : Machine) (sound : IsSound t allowed m)
@@ -27,11 +51,10 @@ module _
     controls = may_control t allowed event a m sound closed caller mine next address thread finds
 
     may_clear : MayRemove t allowed a m (same_slot (root_of thread))
-    may_clear other held is filled = (
-      of_thread.label,
-      ap (λ (s : SlotRef). label_of t m s.holder) (sym (one_slot (root_of thread) other is)) ∙ of_thread.labelled,
-      record { controlled = of_thread.label; control = controls; derive = inl refl },
-    )
+    may_clear =
+        may_clear_root t allowed a m sound closed thread of_thread.label
+        (thread_there m thread finds.slot finds.held sound.well_formed finds.finds.holds finds.object finds.detail) of_thread.labelled
+        controls
 
     cleared : IsSound t allowed (without_root m thread) × Keeps t allowed m event a m (without_root m thread)
     cleared = by_cap (cap_of m (root_of thread)) where
@@ -42,7 +65,7 @@ module _
       by_cap None = (sound, unchanged t allowed m event a m (held_of t allowed m sound))
       by_cap (Some held) = (
         removed_sound t allowed m (same_slot (root_of thread)) sound closed,
-        removed_keeps t allowed m (same_slot (root_of thread)) sound closed m event a may_clear,
+        removed_keeps t allowed m (same_slot (root_of thread)) sound closed event a may_clear,
       )
 
   pub clear_space_keeps : ClearDone m caller address next → IsSound t allowed next × Keeps t allowed m event a m next
@@ -150,11 +173,11 @@ module _
       abbrev after : Machine
       after = with_copy mid root done.node done.held done.held.detail
 
-      may_fill : MayFill t allowed a mid root new parent
+      may_fill : MayFill t allowed m a mid root new parent
       may_fill = record {
         label = at_thread.label;
         labelled = thread_label;
-        has = modifies authority.Control refl may_act;
+        has = λ awake. modifies authority.Control refl may_act;
         edges =
             inr (
               is_thread,
@@ -179,7 +202,7 @@ module _
       copy_keeps : Keeps t allowed m event a mid after
       copy_keeps =
           slots_keep t allowed m event a mid after mid_held
-          (fill_fits t allowed a mid after mid_held root new parent may_fill
+          (fill_fits t allowed m a mid after mid_held root new parent may_fill
           (with_copy_fills mid root done.node done.held done.held.detail mid_sound.well_formed (root_empty m thread))
           after_formed.slots.object (bare_of after after_formed))
 

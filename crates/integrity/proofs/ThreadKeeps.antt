@@ -1,19 +1,42 @@
--- Suspend and Resume within a caller's authority: its label controls the thread, and what the thread waits at, and the reply that
--- holds it, only lose it.
-use Rattle.std.proofs.Common.{ℕ, ◌∙◌, ◌≡◌, ◌⊎◌, Some, ap, inl, inr, refl, subst, sym, true}
-use Rattle.base.specs.declared.{ids.ObjId.ObjId, kind.Kind.Kind as authority}
-use Rattle.machine.specs.declared.{call.Event.Event, cap.Detail.Detail as d, object.{Object.Object as o, Reply.Reply}}
-use Rattle.machine.specs.{declared.thread.{RunState.RunState, Tcb.Tcb}, Authority.{holds_thread, label_of, state_links}, Finalising.aborted}
-use Rattle.machine.specs.{Layout.Layout, Machine.{Machine, object_of, same_id}, Releasing.{ready, suspended, with_aborted, with_ready}}
-use Rattle.machine.specs.{Releasing.with_released, Step.Suspend.with_resumed, WellFormed.{IsCallingThrough, IsIdle, IsReceivingWith}}
-use Rattle.machine.{specs.WellFormed.{IsThread, WaitsAt}, proofs.{Ids.itself, Leaving.Names}}
-use Rattle.machine.specs.declared.object.ReplyState.TheVariants as reply
+-- Suspend and Resume within a caller's authority: its label controls the thread, and so may use what the thread waits at and the reply
+-- that it waits with; a reply that holds it since it called only loses it.
+use Rattle.std.proofs.Common.{ℕ, ◌∙◌, ◌≡◌, ◌⊎◌, Some, ap, inl, inr, refl, subst, sym, true, false}
+use Rattle.base.specs.declared.ids.ObjId.{ObjId}
+use Rattle.base.specs.declared.kind.Kind.{Kind}
+use Rattle.base.specs.declared.kind.Kind.{Kind as authority}
+use Rattle.machine.specs.declared.call.Event.{Event}
+use Rattle.machine.specs.declared.cap.Detail.{Detail as d}
+use Rattle.machine.specs.declared.object.Object.{Object as o}
+use Rattle.machine.specs.declared.object.Reply.{Reply}
+use Rattle.machine.specs.declared.thread.RunState.{RunState}
 use Rattle.machine.specs.declared.thread.RunState.TheVariants as state
-use Rattle.steps.proofs.{Finding.{FindsObject, found_kind}, FoundObjects.tcb_of_kind, ThreadRow.{ResumeDone, SuspendDone}}
-use Rattle.policy.specs.{Closed.IsClosed, Cut.{IsNear, IsNear.{against, along, stays}}, Domain.EdgeTest, Full.{IsFull, IsFull.modifies}}
-use Rattle.policy.specs.Take.{MayTake, MayTake.removes}
-use Rattle.integrity.{specs.{Acting.MayAct.started, Invariant.IsSound}, proofs.{Held.held_of, Keeps.{Keeps, unchanged}}}
-use Rattle.integrity.proofs.{MessageParts.{IsReached, holds_edge, reached, thread_edge}, MessageTouches.{MayLessen, released_keeps}}
+use Rattle.machine.specs.declared.thread.Tcb.{Tcb}
+use Rattle.machine.specs.Authority.{label_of, state_links, names_reply}
+use Rattle.machine.specs.Finalising.{aborted}
+use Rattle.machine.specs.Layout.{Layout}
+use Rattle.machine.specs.Machine.{Machine, object_of, same_id}
+use Rattle.machine.specs.Releasing.{ready, suspended, with_aborted, with_ready, with_released}
+use Rattle.machine.specs.Step.Suspend.{with_resumed}
+use Rattle.machine.specs.WellFormed.{IsCallingThrough, IsIdle, IsThread, WaitsAt}
+use Rattle.machine.proofs.Ids.{itself}
+use Rattle.machine.proofs.Leaving.{Names}
+use Rattle.machine.specs.declared.object.ReplyState.TheVariants as reply
+use Rattle.steps.proofs.Finding.{FindsObject, found_kind}
+use Rattle.steps.proofs.FoundObjects.{tcb_of_kind}
+use Rattle.steps.proofs.ThreadRow.{ResumeDone, SuspendDone}
+use Rattle.policy.specs.Closed.{IsClosed}
+use Rattle.policy.specs.Domain.{EdgeTest}
+use Rattle.integrity.specs.Acting.MayAct.{started}
+use Rattle.integrity.specs.Invariant.{IsSound}
+use Rattle.integrity.proofs.Held.{held_of}
+use Rattle.integrity.proofs.Keeps.{Keeps, unchanged, Changes, Takes}
+use Rattle.integrity.proofs.MessageParts.{IsReached, holds_edge, reached, thread_edge, names_blocked}
+use Rattle.integrity.proofs.MessageTouches.{MayLessen, released_keeps}
+use Rattle.policy.specs.Change.WayToChange.{modifies}
+use Rattle.policy.specs.NarrowTake.WayToShrink.{controls}
+use Rattle.policy.specs.NarrowTake.TakesByControl.{releases}
+use Rattle.integrity.proofs.Awake.{blocked_actor}
+use Rattle.base.specs.Kinds.{is_structural}
 
 -- a thread that goes on is as it was, or can run, or is aborted
 data Resumes (m : Machine) (thread : ObjId) (next : Machine) : Type 0 where
@@ -42,74 +65,65 @@ module _
     pub may_control : allowed a authority.Control to_thread.label ≡ true
     may_control = to_thread.edge authority.Control refl refl
 
-    -- what is linked with the thread may lose it
-    near_thread : (to : ℕ) → IsNear allowed to_thread.label to → MayTake allowed a to
-    near_thread to near = removes (record {
-      base = to_thread.label;
-      based = record { controlled = to_thread.label; control = may_control; derive = inl refl };
-      reached = to_thread.label;
-      edge = inl refl;
-      near = to;
-      one = near;
-      two = stays refl;
-    })
+    -- what the thread's label may use, the caller's may use
+    agrees :
+        (k : Kind) (to : ℕ) → is_structural k ≡ false → allowed to_thread.label k to ≡ true → allowed a k to ≡ true
+    agrees k to of_use edge =
+        closed.subjects_agree a to_thread.label k (record { domain = inr may_control; of_use = of_use }) to ∙ edge
 
     module _ (tcb : Tcb) (there : IsThread m thread tcb) where
-      -- the reply that holds it
-      holder_loses :
-          (id : ObjId) (to : ℕ) (answers : Reply) → object_of m id ≡ Some (o.Reply answers)
-          → holds_thread answers.state thread ≡ true → label_of t m id ≡ Some to → MayLessen allowed a m id to
-      holder_loses id to answers at holds target =
-          let queue = sound.well_formed.parts.queue id (o.Reply answers) at in
-          inr (
-            near_thread to
-                (against authority.Holds refl
-                (holds_edge t allowed m event a m sound id thread answers to to_thread.label at holds target to_thread.labelled)),
-            queue.0,
-            queue.1,
-          )
-
-      names_loses : (id : ObjId) (to : ℕ) → Names tcb.state id → label_of t m id ≡ Some to → MayLessen allowed a m id to
+      -- the reply that it waits with is the caller's to use too, and one that holds it since it called only loses it
+      names_loses : (id : ObjId) (to : ℕ) → Names tcb.state id → label_of t m id ≡ Some to → MayLessen t allowed m a m id to
       names_loses id to names target = by_run tcb.state refl names where
-        by_run : (run : RunState) → tcb.state ≡ run → Names run id → MayLessen allowed a m id to
+        by_run : (run : RunState) → tcb.state ≡ run → Names run id → MayLessen t allowed m a m id to
         by_run (state.Receiving receiving) is named =
-            let w =
-            sound.well_formed.links.receiver_reply thread id tcb there
-            (subst (λ run. IsReceivingWith run id) (sym is) named) in
-            holder_loses id to (record { address = w.0; state = reply.Waiting thread }) w.1 (itself thread) target
+            let edge =
+            thread_edge t allowed m event a m sound thread id tcb authority.Reply to_thread.label to there
+            (ap (λ run. state_links run authority.Reply id) is ∙ ap (λ n. names_reply n id) named ∙ itself id)
+            to_thread.labelled target in
+            inl (λ awake. modifies authority.Reply refl (agrees authority.Reply to refl edge))
         by_run (state.Called calling) is named =
             let w =
             sound.well_formed.links.called_reply thread id tcb there
             (subst (λ run. IsCallingThrough run id) (sym is) named) in
-            holder_loses id to (record { address = w.0; state = reply.Called thread }) w.1 (itself thread) target
+            let answers : Reply = record { address = w.0; state = reply.Called thread } in
+            let holds = holds_edge t allowed m event a m sound id thread answers to to_thread.label w.1 (itself thread) target to_thread.labelled in
+            let queue = sound.well_formed.parts.queue id (o.Reply answers) w.1 in
+            inr (
+              λ awake.
+                  controls (releases to_thread.label may_control
+                  (blocked_actor t allowed m m a awake awake.others sound.of_table thread tcb there
+                  (names_blocked tcb.state id names) to_thread.label to_thread.labelled)
+                  holds),
+              queue.0,
+              queue.1,
+            )
         by_run _ is named = absurd named
 
-      -- the object at which it waits
+      -- where it waits the caller may wait or send too
       waits_loses :
-          (id : ObjId) (to : ℕ) → WaitsAt tcb.state id → label_of t m id ≡ Some to → IsFull allowed a to ⊎ MayTake allowed a to
+          (id : ObjId) (to : ℕ) → WaitsAt tcb.state id → label_of t m id ≡ Some to
+          → Changes t allowed m a to ⊎ Takes t allowed m a to
       waits_loses id to waits target = by_run tcb.state refl waits where
-        by_run : (run : RunState) → tcb.state ≡ run → WaitsAt run id → IsFull allowed a to ⊎ MayTake allowed a to
+        by_run : (run : RunState) → tcb.state ≡ run → WaitsAt run id → Changes t allowed m a to ⊎ Takes t allowed m a to
         by_run (state.Sending sending) is at =
-            inr
-            (near_thread to
-            (along authority.Send refl
-            (thread_edge t allowed m event a m sound thread id tcb authority.Send to_thread.label to there
+            let edge =
+            thread_edge t allowed m event a m sound thread id tcb authority.Send to_thread.label to there
             (ap (λ run. state_links run authority.Send id) is ∙ ap (λ (i : ObjId). same_id i id) at ∙ itself id)
-            to_thread.labelled target)))
+            to_thread.labelled target in
+            inl (λ awake. modifies authority.Send refl (agrees authority.Send to refl edge))
         by_run (state.Receiving receiving) is at =
-            inr
-            (near_thread to
-            (along authority.Receive refl
-            (thread_edge t allowed m event a m sound thread id tcb authority.Receive to_thread.label to there
+            let edge =
+            thread_edge t allowed m event a m sound thread id tcb authority.Receive to_thread.label to there
             (ap (λ run. state_links run authority.Receive id) is ∙ ap (λ (i : ObjId). same_id i id) at ∙ itself id)
-            to_thread.labelled target)))
+            to_thread.labelled target in
+            inl (λ awake. modifies authority.Receive refl (agrees authority.Receive to refl edge))
         by_run (state.Waiting notification) is at =
-            inr
-            (near_thread to
-            (along authority.Await refl
-            (thread_edge t allowed m event a m sound thread id tcb authority.Await to_thread.label to there
+            let edge =
+            thread_edge t allowed m event a m sound thread id tcb authority.Await to_thread.label to there
             (ap (λ run. state_links run authority.Await id) is ∙ ap (λ (i : ObjId). same_id i id) at ∙ itself id)
-            to_thread.labelled target)))
+            to_thread.labelled target in
+            inl (λ awake. modifies authority.Await refl (agrees authority.Await to refl edge))
         by_run _ is at = absurd at
 
       release_keeps :
@@ -117,7 +131,8 @@ module _
           → IsIdle (change tcb).state → Keeps t allowed m event a m (with_released m thread change)
       release_keeps change address context idle =
           released_keeps t allowed m event a m (held_of t allowed m sound) thread tcb change there address context idle
-          to_thread.label to_thread.labelled (modifies authority.Control refl may_control) (λ awake. started awake.acting may_control)
+          to_thread.label to_thread.labelled (inl (λ awake. modifies authority.Control refl may_control))
+          (λ awake. started awake.acting may_control)
           names_loses waits_loses
 
   pub suspend_keeps : SuspendDone m caller address next → Keeps t allowed m event a m next

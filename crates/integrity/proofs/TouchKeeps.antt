@@ -2,16 +2,34 @@
 -- and its new links, its budget and the change are allowed.
 use Rattle.std.proofs.Common.{ℕ, ◌<◌, ◌∙◌, ◌≡◌, ◌≢◌, ◌≤◌, ◌⊎◌, None, Some, ap, arith, inl, inr, option_map, refl, subst, sym, true}
 use Rattle.std.proofs.lemmas.Option.{none-some, same_Some}
-use Rattle.base.specs.declared.{ids.{ObjId.ObjId, SlotRef.SlotRef}, kind.Kind.Kind}
-use Rattle.machine.specs.declared.{call.Event.Event, object.{Context.Context, Object.{Object, Object as o}, Untyped.Untyped}}
+use Rattle.base.specs.declared.ids.ObjId.{ObjId}
+use Rattle.base.specs.declared.ids.SlotRef.{SlotRef}
+use Rattle.base.specs.declared.kind.Kind.{Kind}
+use Rattle.machine.specs.declared.call.Event.{Event}
+use Rattle.machine.specs.declared.object.Context.{Context}
+use Rattle.machine.specs.declared.object.Object.{Object}
+use Rattle.machine.specs.declared.object.Object.{Object as o}
+use Rattle.machine.specs.declared.object.Untyped.{Untyped}
 use Rattle.machine.specs.declared.object.ObjectKind.TheVariants as kind
-use Rattle.machine.specs.{declared.thread.Tcb.Tcb, Authority.{label_at, label_of, lent_of, links, HasAuthority.by_link}, Layout.Layout}
-use Rattle.machine.specs.{Machine.{Machine, cap_of, object_of, parent_of, queue_of, words_of}, Objects.{address_of, end_of, kind_of_object}}
+use Rattle.machine.specs.declared.thread.Tcb.{Tcb}
+use Rattle.machine.specs.Authority.{label_at, label_of, lent_of, links}
+use Rattle.machine.specs.Authority.HasAuthority.{by_link}
+use Rattle.machine.specs.Layout.{Layout}
+use Rattle.machine.specs.Machine.{Machine, cap_of, object_of, parent_of, queue_of, words_of}
+use Rattle.machine.specs.Objects.{address_of, end_of, kind_of_object}
 use Rattle.machine.proofs.Ids.{one_or_two}
 use Rattle.policy.specs.Domain.{EdgeTest}
-use Rattle.integrity.{specs.{Bounded.MayAffect, Budgets.MayConfigure, Invariant.{IsBare, IsHeld}, OfTable.IsOfTable}, proofs.Asleep.IsAwake}
-use Rattle.integrity.proofs.{Asleep.{OthersSleep, SleepsOrActs, sleeps_on}, Keeps.{Acts, Keeps}, ObjectLabels.{kind_stays, label_stays}}
-use Rattle.integrity.proofs.{ObjectLabels.same_label, Shrinking.same_context, Steady.{IsSteady, LinksAllowed, steady_confined}}
+use Rattle.integrity.specs.Budgets.{MayConfigure}
+use Rattle.integrity.specs.Invariant.{IsBare, IsHeld}
+use Rattle.integrity.specs.OfTable.{IsOfTable}
+use Rattle.integrity.proofs.Asleep.{sleeps_on}
+use Rattle.integrity.proofs.Keeps.{Acts, Keeps, Alters}
+use Rattle.integrity.proofs.ObjectLabels.{kind_stays, label_stays, same_label}
+use Rattle.integrity.proofs.Shrinking.{same_context}
+use Rattle.integrity.proofs.Steady.{IsSteady, LinksAllowed, steady_confined}
+use Rattle.integrity.specs.Awake.{IsAwake, OthersSleep, SleepsOrActs, CallersAreServed, IsHeldAfterCall}
+use Rattle.machine.specs.declared.object.Reply.{Reply}
+use Rattle.integrity.specs.Altered.{MayAlter}
 
 -- all but one object's content, queue and words is as it was
 pub record Touches (m : Machine) (id : ObjId) (next : Machine) : Type 0 where
@@ -41,6 +59,10 @@ pub record Fits
   pub sleeps :
       IsAwake t allowed began a → OthersSleep t allowed m → (thread : Tcb) → new ≡ o.Tcb thread
       → SleepsOrActs t allowed m id thread
+  -- who is held by a reply since it called is served
+  pub serves :
+      IsAwake t allowed began a → CallersAreServed t allowed m → (reply : Reply) → new ≡ o.Reply reply
+      → IsHeldAfterCall t allowed m id reply
   pub share :
       (before after : Context) → old ≡ o.Context before → new ≡ o.Context after
       → (after.share ≡ before.share) ⊎ MayConfigure t allowed began event id
@@ -57,6 +79,7 @@ same_fits t allowed began event a m id held object there = record {
   links = λ end k had. inl had;
   lent = λ context thread is lends. held.of_table.lent id context thread (there ∙ ap Some is) lends;
   sleeps = λ awake others thread is. others id thread (there ∙ ap Some is);
+  serves = λ awake served reply is. served id reply (there ∙ ap Some is);
   share = λ before after was is. inl (ap (λ (c : Context). c.share) (same_context after before (sym is ∙ was)));
 }
 
@@ -67,7 +90,7 @@ memory_by_kind _ is = cc
 module _
     (t : Layout) (allowed : EdgeTest) (began : Machine) (event : Event) (a : ℕ) (m : Machine) (id : ObjId) (old new : Object)
     (next : Machine) (held : IsHeld t allowed m) (fits : Fits t allowed began event a m id old new) (touches : Touches m id next)
-    (here : object_of next id ≡ Some new) (may : MayAffect t allowed a m next id) where
+    (here : object_of next id ≡ Some new) (may : Alters t allowed began a m next id) where
   -- an object is as it was, or it is the one
   Seen : ObjId → Type 0
   Seen q = (object_of next q ≡ object_of m q) ⊎ (q ≡ id)
@@ -135,6 +158,7 @@ module _
           (ap kind_of_object object_is ∙ fits.kind ∙ kept.0, ap address_of object_is ∙ fits.address ∙ kept.1)
     ];
     ranged = ranged;
+    inside = held.of_table.inside;
     lent = λ q context thread at lends.
         let number = touches.number in
         elim (seen q) [
@@ -156,9 +180,9 @@ module _
         }
   ]
 
-  acts : (q : ObjId) → Acts t allowed a m next q
-  acts q = elim (one_or_two q id) [
-    | inl same ↦ inr (subst (λ (x : ObjId). MayAffect t allowed a m next x) (sym same) may)
+  acts : (awake : IsAwake t allowed began a) (q : ObjId) → Acts t allowed awake.acts a m next q
+  acts awake q = elim (one_or_two q id) [
+    | inl same ↦ inr (subst (λ (x : ObjId). MayAlter t allowed awake.acts a m next x) (sym same) (may awake))
     | inr apart ↦ inl (record {
       content = touches.contents q apart;
       queue = touches.queues q apart;
@@ -199,6 +223,27 @@ module _
             (fits.sleeps awake others thread (sym (new_at q (o.Tcb thread) same at)))
       ])
 
+  -- what held a thread that called still does, and is still served
+  held_on :
+      (q : ObjId) (reply : Reply) → IsHeldAfterCall t allowed m q reply → IsHeldAfterCall t allowed next q reply
+  held_on q reply holds thread is =
+      let before = holds thread is in
+      let below = before.0 in
+      let number = touches.number in (
+        omega (arith, below, number),
+        λ holder caller at called. before.1 holder caller (sym (steady.labels q) ∙ at) (sym (steady.labels thread) ∙ called),
+      )
+
+  serves : IsAwake t allowed began a → CallersAreServed t allowed m → CallersAreServed t allowed next
+  unfolding Seen
+  serves awake served q reply at =
+      held_on q reply (elim (seen q) [
+        | inl same ↦ served q reply (sym same ∙ at)
+        | inr same ↦
+            subst (λ (x : ObjId). IsHeldAfterCall t allowed m x reply) (sym same)
+            (fits.serves awake served reply (sym (new_at q (o.Reply reply) same at)))
+      ])
+
   before_there : (q : ObjId) (object : Object) → object_of next q ≡ Some object → (before : Object) × (object_of m q ≡ Some before)
   unfolding Seen
   before_there q object at = elim (seen q) [ inl same ↦ (object, sym same ∙ at) | inr same ↦ (old, was_at q same) ]
@@ -224,5 +269,6 @@ module _
     born = λ q object absent is. let before = before_there q object is in absurd (none-some before.0 (sym absent ∙ before.1));
     grows = let number = touches.number in omega (arith, number);
     sleeps = sleeps;
+    serves = serves;
     budgets = budgets;
   }

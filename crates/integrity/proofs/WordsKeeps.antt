@@ -1,15 +1,29 @@
 -- Read and Write within a caller's authority: the frame is one that its label may write, and nothing but its words changes.
-use Rattle.std.{specs.{FinMap.get-insert, Prelude.slice_set}, proofs.Common.{ℕ, ◌∙◌, ◌≡◌, ◌⊎◌, List, None, Option, Some, inl, inr, refl}}
-use Rattle.std.proofs.Common.{subst, sym}
-use Rattle.base.specs.declared.{ids.ObjId.ObjId, kind.Kind.Kind as authority}
-use Rattle.machine.specs.{declared.{call.Event.Event, cap.Detail.Detail as d, object.Object.Object}, Authority.label_of, Changes.with_word}
-use Rattle.machine.specs.{Changes.with_words, Layout.Layout, Machine.{Machine, cap_of, object_of, parent_of, queue_of, words_of}}
-use Rattle.machine.proofs.{Ids.at_other, LookUps.id_total}
+use Rattle.std.specs.FinMap.{get-insert}
+use Rattle.std.specs.Prelude.{slice_set}
+use Rattle.std.proofs.Common.{ℕ, ◌∙◌, ◌≡◌, ◌⊎◌, List, None, Option, Some, inl, inr, refl, subst, sym}
+use Rattle.base.specs.declared.ids.ObjId.{ObjId}
+use Rattle.base.specs.declared.kind.Kind.{Kind as authority}
+use Rattle.machine.specs.declared.call.Event.{Event}
+use Rattle.machine.specs.declared.cap.Detail.{Detail as d}
+use Rattle.machine.specs.declared.object.Object.{Object}
+use Rattle.machine.specs.Authority.{label_of}
+use Rattle.machine.specs.Changes.{with_word, with_words}
+use Rattle.machine.specs.Layout.{Layout}
+use Rattle.machine.specs.Machine.{Machine, cap_of, object_of, parent_of, queue_of, words_of}
+use Rattle.machine.proofs.Ids.{at_other}
+use Rattle.machine.proofs.LookUps.{id_total}
 use Rattle.steps.proofs.WordsRow.{WriteDone}
-use Rattle.policy.specs.{Closed.IsClosed, Domain.EdgeTest, Full.{IsFull, IsFull.modifies}}
-use Rattle.integrity.{specs.{Bounded.MayAffect, Invariant.{IsHeld, IsSound}}, proofs.{Contents.full, Held.held_of, Keeps.Keeps}}
-use Rattle.integrity.proofs.{Keeps.unchanged, MessageParts.{IsReached, reached}, ObjectLabels.labelled_there, TouchKeeps.same_fits}
-use Rattle.integrity.proofs.TouchKeeps.{touch_keeps}
+use Rattle.policy.specs.Closed.{IsClosed}
+use Rattle.policy.specs.Domain.{EdgeTest}
+use Rattle.integrity.specs.Invariant.{IsHeld, IsSound}
+use Rattle.integrity.proofs.Held.{held_of}
+use Rattle.integrity.proofs.Keeps.{Keeps, unchanged, Changes, Alters}
+use Rattle.integrity.proofs.MessageParts.{IsReached, reached}
+use Rattle.integrity.proofs.ObjectLabels.{labelled_there}
+use Rattle.integrity.proofs.TouchKeeps.{same_fits, touch_keeps}
+use Rattle.policy.specs.Change.WayToChange.{modifies}
+use Rattle.integrity.proofs.Contents.{changed}
 
 -- one of an object's words is set, if it has words
 word_or_stays :
@@ -29,7 +43,7 @@ module _
     (t : Layout) (allowed : EdgeTest) (began : Machine) (event : Event) (a : ℕ) (m : Machine) (id : ObjId)
     (held : IsHeld t allowed m) where
   words_keep :
-      (object : Object) (words : List ℕ) → object_of m id ≡ Some object → MayAffect t allowed a m (with_words m id words) id
+      (object : Object) (words : List ℕ) → object_of m id ≡ Some object → Alters t allowed began a m (with_words m id words) id
       → Keeps t allowed began event a m (with_words m id words)
   unfolding object_of queue_of words_of cap_of parent_of with_words
   words_keep object words there may =
@@ -46,7 +60,7 @@ module _
       there may
 
   word_keeps :
-      (index word label : ℕ) → label_of t m id ≡ Some label → IsFull allowed a label
+      (index word label : ℕ) → label_of t m id ≡ Some label → Changes t allowed began a label
       → Keeps t allowed began event a m (with_word m id index word)
   word_keeps index word label labelled has = by_word (word_or_stays m id index word) where
     by_word :
@@ -57,7 +71,7 @@ module _
         let there = labelled_there t m id label labelled in
         let words : List ℕ = slice_set sets.0 index word in
         subst (λ (n : Machine). Keeps t allowed began event a m n) (sym sets.1)
-        (words_keep there.0 words there.1 (full t allowed a m (with_words m id words) id label labelled has))
+        (words_keep there.0 words there.1 (changed t allowed began a m (with_words m id words) id label labelled has))
     by_word (inr same) =
         subst (λ (n : Machine). Keeps t allowed began event a m n) (sym same) (unchanged t allowed began event a m held)
 
@@ -75,4 +89,4 @@ module _
       reached t allowed m event a m sound closed.subjects_agree caller address done.id (d.Frame done.rights) mine done.finds in
       subst (λ (n : Machine). Keeps t allowed m event a m n) (sym done.changes)
       (word_keeps t allowed m event a m done.id (held_of t allowed m sound) index word frame.label frame.labelled
-      (modifies authority.Write refl (frame.edge authority.Write done.allowed refl)))
+      (λ awake. modifies authority.Write refl (frame.edge authority.Write done.allowed refl)))

@@ -4,6 +4,8 @@ pub mod Allowed
 pub mod Bounded
 pub mod Budgets
 pub mod Acting
+pub mod Awake
+pub mod Altered
 pub mod Safe
 pub mod Apart
 pub mod OfTable

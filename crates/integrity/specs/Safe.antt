@@ -4,8 +4,9 @@ use Rattle.std.specs.Prelude.{ℕ, ◌≡◌, ◌⊎◌, List, Some}
 use Rattle.base.specs.declared.ids.ObjId.{ObjId}
 use Rattle.machine.specs.{declared.{call.{Event.Event, Outcome.Outcome}, object.Object.Object}, Authority.label_of, Boot.IsBoot}
 use Rattle.machine.specs.{Layout.Layout, Machine.{Machine, object_of}, Outcomes.IsRefused, Run.Run, Step.Step}
-use Rattle.policy.specs.Domain.{EdgeTest}
-use Rattle.integrity.specs.{Acting.MayAct, Allowed.IsAllowedStep, Bounded.IsBoundedStep, Budgets.KeepsBudgets, Confined.IsConfined}
+use Rattle.policy.specs.{Change.ActorTest, Domain.EdgeTest}
+use Rattle.integrity.specs.{Acting.{HoldsOfActors, MayAct}, Allowed.IsAllowedStep, Altered.IsNarrowStep, Bounded.IsBoundedStep}
+use Rattle.integrity.specs.{Budgets.KeepsBudgets, Confined.IsConfined}
 
 -- some list of events, by any threads on any cores, leads from the table's boot state to the machine
 pub record IsReached (t : Layout) (m : Machine) : Type 0 where
@@ -32,6 +33,14 @@ KeepsBounds t allowed =
     (m next : Machine) (event : Event) (outcome : Outcome) → IsReached t m → Step m event outcome next
     → IsBoundedStep t allowed m event next
 
+-- no step changes an object of a label that its caller's label may not change, but for one that only shrinks, of a label that its may
+-- make smaller; whichever test of labels holds of all that may act and may have threads
+abbrev pub KeepsNarrowBounds : Layout → EdgeTest → Type 0
+KeepsNarrowBounds t allowed =
+    (acts : ActorTest) → HoldsOfActors t allowed acts
+    → (m next : Machine) (event : Event) (outcome : Outcome) → IsReached t m → Step m event outcome next
+    → IsNarrowStep t allowed acts m event next
+
 -- a context's configured budget or period changes only by a caller whose label has the policy's SchedControl edge
 abbrev pub GuardsBudgets : Layout → EdgeTest → Type 0
 GuardsBudgets t allowed =
@@ -55,5 +64,6 @@ pub record IsSafe (t : Layout) (allowed : EdgeTest) : Type 0 where
   pub confined : StaysConfined t allowed
   pub integrity : KeepsIntegrity t allowed
   pub bounds : KeepsBounds t allowed
+  pub narrow : KeepsNarrowBounds t allowed
   pub budgets : GuardsBudgets t allowed
   pub acting : RefusesOthers t allowed

@@ -12,10 +12,10 @@ pub use laws::{
 };
 pub use making::what_is_made_stays_within_authority;
 pub use removing::{
-    a_removal_changes_what_may_be_taken, deletes_and_revokes_stay_within_authority,
+    a_removal_changes_what_may_be_altered, deletes_and_revokes_stay_within_authority,
     removals_stay_confined, removals_stay_within_authority, what_a_removal_changes_shrinks,
 };
 pub use safe::{
     bounded_systems_keep_labels_apart, changes_are_of_labels_that_act, confined_systems_are_safe,
-    labels_act_from_boot_or_by_control, only_labels_that_act_use_their_authority,
+    labels_act_from_boot_or_by_control,
 };

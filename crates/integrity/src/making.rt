@@ -4,10 +4,12 @@ ghost use Rattle.base.specs.declared.ids.ObjId.{ObjId as Id};
 ghost use Rattle.machine.specs.{declared.{call.Made.Made, object.MemoryKind.MemoryKind}, Authority.label_of, Layout.Layout};
 ghost use Rattle.machine.specs.{Machine.Machine, Step.Retype.retype_of};
 ghost use Rattle.policy.specs.{Closed.IsClosed, Domain.EdgeTest};
-ghost use Rattle.integrity.specs.{Bounded.MayAffect, Confined.IsConfined, Invariant.IsSound, OfTable.IsOfTable, Shrinks.IsSame};
+ghost use Rattle.integrity.specs.{Altered.MayAlter, Awake.IsAwake, Confined.IsConfined, Invariant.IsSound, OfTable.IsOfTable, Shrinks.IsSame};
 
 /// A law: where a thread makes objects of untyped memory, the machine stays within a closed policy, each
 /// object has a label, and no object changes or is made but within the bounds of the thread's label.
+///
+/// The bounds are for a machine of a run, where only threads of labels that may act wait or have called.
 pub fn what_is_made_stays_within_authority()
     ensures confined { (t : Layout) (allowed : EdgeTest) (a : ℕ) (m next : Machine) (caller : Id) (untyped : ℕ) (of : MemoryKind)
         (bits to offset count : ℕ) (made : Made)
@@ -29,5 +31,6 @@ pub fn what_is_made_stays_within_authority()
         → IsClosed allowed
         → label_of t m caller ≡ Some a
         → retype_of m caller untyped of bits to offset count ≡ Ok (made, next)
-        → (id : Id) → IsSame m next id ⊎ MayAffect t allowed a m next id }
+        → (awake : IsAwake t allowed m a)
+        → (id : Id) → IsSame m next id ⊎ MayAlter t allowed awake.acts a m next id }
 {}

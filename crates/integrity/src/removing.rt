@@ -5,8 +5,8 @@ ghost use Rattle.machine.specs.declared.{call.Made.Made, object.Context.Context 
 ghost use Rattle.machine.specs.declared.object.Object.TheVariants as o;
 ghost use Rattle.machine.specs.{Authority.label_of, Layout.Layout, Machine.{Machine, object_of}, Removal.removed, Step.Delete.delete_of};
 ghost use Rattle.machine.specs.{Step.Revoke.revoke_of, WellFormed.IsWellFormed};
-ghost use Rattle.policy.specs.{Closed.IsClosed, Domain.EdgeTest, Take.MayRemoveNear};
-ghost use Rattle.integrity.specs.{Bounded.MayAffect, Confined.IsConfined, Invariant.IsSound, OfTable.IsOfTable, Removals.MayRemove};
+ghost use Rattle.policy.specs.{Change.MayChange, Closed.IsClosed, Domain.EdgeTest, NarrowTake.MayShrink};
+ghost use Rattle.integrity.specs.{Altered.MayAlter, Awake.IsAwake, Confined.IsConfined, Invariant.IsSound, OfTable.IsOfTable, Removals.MayRemove};
 ghost use Rattle.integrity.specs.Shrinks.{IsSame, Shrinks};
 
 /// A law: whichever slots are removed, the machine stays within a closed policy and keeps to its table.
@@ -28,14 +28,17 @@ pub fn what_a_removal_changes_shrinks()
 {}
 
 /// A law: where a label may remove the chosen slots' capabilities, each object is as it was, or is of a
-/// label from which the label may take by a removal.
-pub fn a_removal_changes_what_may_be_taken()
+/// label that the label may change or make smaller.
+pub fn a_removal_changes_what_may_be_altered()
     ensures { (t : Layout) (allowed : EdgeTest) (a : ℕ) (m : Machine) (chosen : Slot → Bool)
         → IsSound t allowed m
         → IsClosed allowed
         → MayRemove t allowed a m chosen
+        → (awake : IsAwake t allowed m a)
         → (id : Id)
-        → IsSame m (removed m chosen) id ⊎ ((label : ℕ) × (label_of t m id ≡ Some label) × MayRemoveNear allowed a label) }
+        → IsSame m (removed m chosen) id
+        ⊎ ((label : ℕ) × (label_of t m id ≡ Some label)
+        × (MayChange allowed awake.acts a label ⊎ MayShrink allowed awake.acts a label)) }
 {}
 
 /// A law: where a label may remove the chosen slots' capabilities, the machine stays sound, and no
@@ -51,7 +54,8 @@ pub fn removals_stay_within_authority()
         → IsSound t allowed m
         → IsClosed allowed
         → MayRemove t allowed a m chosen
-        → (id : Id) → IsSame m (removed m chosen) id ⊎ MayAffect t allowed a m (removed m chosen) id }
+        → (awake : IsAwake t allowed m a)
+        → (id : Id) → IsSame m (removed m chosen) id ⊎ MayAlter t allowed awake.acts a m (removed m chosen) id }
     ensures absent { (m : Machine) (chosen : Slot → Bool) (id : Id)
         → object_of m id ≡ None
         → object_of (removed m chosen) id ≡ None }
@@ -69,11 +73,13 @@ pub fn deletes_and_revokes_stay_within_authority()
         → IsClosed allowed
         → label_of t m caller ≡ Some a
         → delete_of m caller address ≡ Ok (made, next)
-        → IsSound t allowed next × ((id : Id) → IsSame m next id ⊎ MayAffect t allowed a m next id) }
+        → IsSound t allowed next
+        × ((awake : IsAwake t allowed m a) → (id : Id) → IsSame m next id ⊎ MayAlter t allowed awake.acts a m next id) }
     ensures revoke { (t : Layout) (allowed : EdgeTest) (a : ℕ) (m next : Machine) (caller : Id) (address : Place) (made : Made)
         → IsSound t allowed m
         → IsClosed allowed
         → label_of t m caller ≡ Some a
         → revoke_of m caller address ≡ Ok (made, next)
-        → IsSound t allowed next × ((id : Id) → IsSame m next id ⊎ MayAffect t allowed a m next id) }
+        → IsSound t allowed next
+        × ((awake : IsAwake t allowed m a) → (id : Id) → IsSame m next id ⊎ MayAlter t allowed awake.acts a m next id) }
 {}

@@ -3,10 +3,10 @@ ghost use Rattle.std.specs.Prelude.{ℕ, ◌≡◌, ◌≢◌, ◌↔◌, ◌⊎
 ghost use Rattle.base.specs.declared.{ids.ObjId.ObjId as Id, kind.Kind.Kind as authority};
 ghost use Rattle.machine.specs.declared.call.{Event.Event, Outcome.Outcome};
 ghost use Rattle.machine.specs.{Authority.label_of, Boot.IsBoot, Layout.Layout, Machine.{Machine, object_of}, Step.Step};
-ghost use Rattle.policy.specs.{Closed.IsClosed, Domain.EdgeTest, Full.IsFull, Take.MayTake};
+ghost use Rattle.policy.specs.{Change.{ActorTest, MayChange}, Closed.IsClosed, Domain.EdgeTest, NarrowTake.MayShrink};
 ghost use Rattle.table.specs.Rules.{IsLawful};
-ghost use Rattle.integrity.specs.{Acting.{MayAct, Starts}, Apart.{NeverChanges, OnlyTakes}, Confined.IsConfined};
-ghost use Rattle.integrity.specs.{Safe.{IsReached, IsSafe, KeepsBounds, RefusesOthers}, Shrinks.IsSame};
+ghost use Rattle.integrity.specs.{Acting.{HoldsOfActors, MayAct, Starts}, Apart.{NeverChanges, OnlyTakes}, Confined.IsConfined};
+ghost use Rattle.integrity.specs.{Safe.{IsReached, IsSafe, KeepsNarrowBounds, RefusesOthers}, Shrinks.IsSame};
 
 use table::boot_states_are_well_formed;
 
@@ -22,21 +22,23 @@ pub fn confined_systems_are_safe()
     boot_states_are_well_formed();
 }
 
-/// A law: if steps keep their bounds in every run from a table's boot state, they keep labels
+/// A law: if steps keep to who may act in every run from a table's boot state, they keep labels
 /// apart.
 ///
-/// No step of a thread of a label changes, makes or removes an object of a label on which it has no
-/// full authority and from which it may not take. Where it has no full authority, each object stays
-/// as it is, or shrinks.
+/// No step of a thread of a label changes, makes or removes an object of a label that it may not
+/// change and may not make smaller. Where it may not change it, each object stays as it is, or
+/// shrinks. This is so for each test of labels that holds of all that may act and may have threads.
 pub fn bounded_systems_keep_labels_apart()
-    ensures apart { (t : Layout) (allowed : EdgeTest) (a l : ℕ)
-        → KeepsBounds t allowed
-        → ¬ IsFull allowed a l
-        → ¬ MayTake allowed a l
+    ensures apart { (t : Layout) (allowed : EdgeTest) (acts : ActorTest) (a l : ℕ)
+        → KeepsNarrowBounds t allowed
+        → HoldsOfActors t allowed acts
+        → ¬ MayChange allowed acts a l
+        → ¬ MayShrink allowed acts a l
         → NeverChanges t a l }
-    ensures takes { (t : Layout) (allowed : EdgeTest) (a l : ℕ)
-        → KeepsBounds t allowed
-        → ¬ IsFull allowed a l
+    ensures takes { (t : Layout) (allowed : EdgeTest) (acts : ActorTest) (a l : ℕ)
+        → KeepsNarrowBounds t allowed
+        → HoldsOfActors t allowed acts
+        → ¬ MayChange allowed acts a l
         → OnlyTakes t a l }
 {}
 
@@ -63,25 +65,6 @@ pub fn changes_are_of_labels_that_act()
         → RefusesOthers t allowed
         → ¬ MayAct t allowed a
         → NeverChanges t a l }
-{}
-
-/// A law: where steps keep their bounds too, a label's authority counts only if the label may act.
-///
-/// A thread of a label that may not act, or that has no full authority on another label and may not
-/// take from it, never changes, makes or removes an object of the other. If it may not act, or has
-/// no full authority, each object of the other stays as it is, or shrinks.
-pub fn only_labels_that_act_use_their_authority()
-    ensures apart { (t : Layout) (allowed : EdgeTest) (a l : ℕ)
-        → RefusesOthers t allowed
-        → KeepsBounds t allowed
-        → (MayAct t allowed a → ¬ IsFull allowed a l)
-        → (MayAct t allowed a → ¬ MayTake allowed a l)
-        → NeverChanges t a l }
-    ensures takes { (t : Layout) (allowed : EdgeTest) (a l : ℕ)
-        → RefusesOthers t allowed
-        → KeepsBounds t allowed
-        → (MayAct t allowed a → ¬ IsFull allowed a l)
-        → OnlyTakes t a l }
 {}
 
 /// A law: in a closed policy a label may act exactly if it acts from boot on, or a label that does

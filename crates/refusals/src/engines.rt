@@ -5,8 +5,8 @@ use crate::bell::{CERTIFICATE, LOG, POLICY, SCRIPT, TABLE};
 use crate::memory::{Stopped, Wrong, are, holds, prepared, spend};
 use crate::retypes::{self, LOG_WITHOUT_MEMORY};
 use report::{
-    End, OnAccept, OnClose, Open, Silence, Sink, Source, Watched, check, check_claims, close, draw,
-    list, replay, run, run_split, start, verify, why, write_claims,
+    Basis, End, OnAccept, OnClose, Open, Silence, Sink, Source, Watched, check, check_claims,
+    close, draw, list, replay, run, run_split, start, verify, why, write_claims,
 };
 use std::sync::Wait;
 use std::thread::Threads;
@@ -352,10 +352,20 @@ where
         Engine::Replay => replay(alloc, table, policy, third, silence, out),
         Engine::Start => start(alloc, table, OnClose::Policy, silence, out),
         Engine::Missing => close(alloc, table, policy, OnClose::Missing, silence, out),
-        Engine::Why => why(alloc, table, policy, "a", "a", silence, out),
+        Engine::Why => why(
+            rt,
+            alloc,
+            Basis::System,
+            table,
+            policy,
+            "a",
+            "a",
+            silence,
+            out,
+        ),
         Engine::Claims => check_claims(rt, alloc, table, policy, third, silence, out),
         Engine::Strongest => write_claims(rt, alloc, table, policy, silence, out),
-        Engine::Draw => draw(alloc, table, policy, silence, out),
+        Engine::Draw => draw(rt, alloc, Basis::Policy, table, policy, silence, out),
         Engine::List => list(alloc, table, silence, out),
     }
 }

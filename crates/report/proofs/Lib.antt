@@ -7,4 +7,6 @@ mod OneReport
 mod OneClaimed
 mod OneLog
 mod OneClosing
+mod AskedOn
+mod OneAsked
 mod OneDrawing

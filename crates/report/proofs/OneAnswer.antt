@@ -1,11 +1,11 @@
 -- Two answers to the bytes of files are one, where two answers to what such files hold are.
-use Rattle.std.proofs.Common.{ℕ, ◌∙◌, ◌≡◌, Err, List, Ok, Result, Some, sym}
+use Rattle.std.proofs.Common.{ℕ, ◌∙◌, ◌≡◌, Err, List, Ok, Result, sym}
 use Rattle.base.specs.declared.edge.Edge.{Edge}
 use Rattle.machine.specs.Layout.{Layout}
 use Rattle.words.specs.declared.faults.Fault.{Fault}
 use Rattle.captext.specs.{Policies.read_policy_of, Tables.read_table_of}
 use Rattle.forms.specs.declared.file.File.{File, TheVariants.{Policy, Table}}
-use Rattle.commands.specs.{declared.load.{System.System, Three.Three}, Files.{Contents, and_then, read_then, whole}}
+use Rattle.commands.specs.{declared.load.{System.System, Three.Three}, Files.{Contents, and_then, whole}}
 use Rattle.report.specs.OneAnswer.{IsAnsweredOnce, SystemHasOneAnswer, TableHasOneAnswer, ThreeHaveOneAnswer}
 
 -- two answers to one value are one

@@ -1,18 +1,22 @@
 -- A policy has one closing over a table, and a label has one reason for its authority on another.
-use Rattle.std.{specs.Prelude.codes, proofs.Common.{[], ℕ, ◌++◌, ◌||◌, ◌∙◌, ◌∷◌, ◌≡◌, List, ap, refl, subst, sym}}
-use Rattle.std.proofs.{lemmas.Option.same_Some}
-use Rattle.base.specs.{declared.{edge.Edge.Edge, kind.Kind.Kind}, Kinds.kind_number}
+use Rattle.std.proofs.Common.{[], ℕ, ◌++◌, ◌||◌, ◌∙◌, ◌∷◌, ◌≡◌, List, ap, refl, subst, sym}
+use Rattle.base.specs.declared.edge.Edge.{Edge}
+use Rattle.base.specs.declared.kind.Kind.{Kind}
+use Rattle.base.specs.Kinds.{kind_number}
 use Rattle.machine.specs.Layout.{Layout}
-use Rattle.policy.specs.{declared.why.Why.{Why, Why as why}, Closing.IsLeastClosed, Domain.EdgeTest, Policy.allows, Reasons.IsFullBy}
-use Rattle.policy.{specs.Reasons.{IsTakeBy, IsWhy, edge_numbers, reason_place}, proofs.{ClosingGrowth.least_of_same, KindNumbers.same_kind}}
+use Rattle.policy.specs.Closing.{IsLeastClosed}
+use Rattle.policy.specs.Policy.{allows}
+use Rattle.policy.specs.Reasons.{edge_numbers, reason_place}
+use Rattle.policy.proofs.ClosingGrowth.{least_of_same}
+use Rattle.policy.proofs.KindNumbers.{same_kind}
 use Rattle.policy.proofs.Members.{same_rising}
 use Rattle.table.proofs.BootState.{boot_state, boot_state_is}
-use Rattle.captext.specs.PolicyText.{edge_lines}
 use Rattle.labels.proofs.EdgeLists.{allows-append}
-use Rattle.verdict.proofs.OneVerdict.{one_least}
 use Rattle.reptext.proofs.OneText.{same_answer}
-use Rattle.report.specs.{declared.closing.OnClose.{OnClose, OnClose as on_close}, Closings.{Closes, IsClosing, TellsClosing, kept_edges}}
-use Rattle.report.{specs.{Questions.{Tells, why_status, why_text}}, proofs.OneAnswer.JudgesSystemOnce}
+use Rattle.report.specs.declared.closing.OnClose.{OnClose}
+use Rattle.report.specs.declared.closing.OnClose.{OnClose as on_close}
+use Rattle.report.specs.Closings.{Closes, IsClosing, TellsClosing, kept_edges}
+use Rattle.report.proofs.OneAnswer.{JudgesSystemOnce}
 
 -- the closing of a policy
 
@@ -67,33 +71,3 @@ numbers_once (x ∷ xs) (y ∷ ys) same =
 
 pub place_once : (xs ys : List Edge) → reason_place xs ≡ reason_place ys → xs ≡ ys
 place_once xs ys same = let numbers : edge_numbers xs ≡ edge_numbers ys = cc in numbers_once xs ys numbers
-
-module _ (t : Layout) (test : EdgeTest) (a l : ℕ) where
-  abbrev Same : Why → Why → Type 0
-  Same one other = (why_text t one ≡ why_text t other) × (why_status one ≡ why_status other)
-
-  why_once : (one other : Why) → IsWhy test a l one → IsWhy test a l other → Same one other
-  why_once (why.Full xs) (why.Full ys) is also =
-      let same = one_least reason_place (IsFullBy test a l) place_once xs.items ys.items is also in
-      (ap (λ edges. codes "full\n" ++ edge_lines t edges) same, refl)
-  why_once (why.Full xs) (why.Take ys) is also = absurd (also.0 is.has.0)
-  why_once (why.Full xs) why.Nothing is also = absurd (also.0 is.has.0)
-  why_once (why.Take xs) (why.Full ys) is also = absurd (is.0 also.has.0)
-  why_once (why.Take xs) (why.Take ys) is also =
-      let same = one_least reason_place (IsTakeBy test a l) place_once xs.items ys.items is.1 also.1 in
-      (ap (λ edges. codes "take\n" ++ edge_lines t edges) same, refl)
-  why_once (why.Take xs) why.Nothing is also = absurd (also.1 is.1.has.0)
-  why_once why.Nothing (why.Full ys) is also = absurd (is.0 also.has.0)
-  why_once why.Nothing (why.Take ys) is also = absurd (is.1 also.1.has.0)
-  why_once why.Nothing why.Nothing is also = (refl, refl)
-
-pub tell_once : (actor object : List ℕ) → JudgesSystemOnce (Tells actor object)
-tell_once actor object t edges text other status another is also =
-    let of_actor = same_Some _ _ (sym is.actor_named ∙ also.actor_named) in
-    let of_object = same_Some _ _ (sym is.object_named ∙ also.object_named) in
-    let same =
-    why_once t (allows edges) also.of_actor also.of_object is.authority also.authority
-    (subst (λ a. IsWhy (allows edges) a also.of_object is.authority) of_actor
-    (subst (λ l. IsWhy (allows edges) is.of_actor l is.authority) of_object is.is_why))
-    also.is_why in
-    (is.told ∙ same.0 ∙ sym also.told, is.exit ∙ same.1 ∙ sym also.exit)

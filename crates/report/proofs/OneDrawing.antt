@@ -1,41 +1,50 @@
 -- A table and a policy have one drawing, and a table one list.
-use Rattle.std.{specs.List.flat_map, proofs.Common.{[], ℕ, ◌++◌, ◌∙◌, ◌∷◌, ◌≡◌, List, ap, codes, length, sym}}
+use Rattle.std.specs.List.{flat_map}
+use Rattle.std.proofs.Common.{[], ℕ, ◌++◌, ◌∙◌, ◌∷◌, ◌≡◌, List, ap, codes, length, sym, subst}
 use Rattle.base.specs.declared.edge.Edge.{Edge}
 use Rattle.machine.specs.Layout.{Layout}
-use Rattle.policy.specs.{Domain.EdgeTest, Places.IsLeast, Policy.allows, Reasons.{IsFullBy, IsTakeBy, reason_place}}
-use Rattle.reptext.specs.Drawing.{IsArrow, arrow_line, label_line, pairs_of, IsArrow.{dashed, itself, nothing, solid}}
+use Rattle.policy.specs.Places.{IsLeast}
+use Rattle.policy.specs.Reasons.{reason_place}
+use Rattle.reptext.specs.Drawing.{IsArrow, arrow_line, label_line, pairs_of, IsDrawing}
+use Rattle.reptext.specs.Drawing.IsArrow.{dashed, itself, nothing, solid}
 use Rattle.reptext.specs.Drawing as drawing
 use Rattle.verdict.proofs.OneVerdict.{one_least}
-use Rattle.report.{specs.Questions.{Draws, Lists}, proofs.{OneAnswer.{IsOne, JudgesSystemOnce}, OneClosing.place_once}}
+use Rattle.report.specs.Questions.{Draws, Lists, TellsDrawing}
+use Rattle.report.proofs.OneAnswer.{IsOne, JudgesSystemOnce}
+use Rattle.report.proofs.OneClosing.{place_once}
+use Rattle.policy.specs.ActorReasons.{IsChangeBy, IsShrinkBy}
+use Rattle.verdict.specs.Extents.{Reach}
+use Rattle.report.specs.declared.asking.Basis.{Basis}
+use Rattle.report.proofs.OneAsked.{answers_on_once, reach_once}
 
-module _ (test : EdgeTest) (t : Layout) where
+module _ (reach : Reach) (t : Layout) where
   -- the least reason has one first edge
   first_once : (P : List Edge → Type 0) (edge other : Edge) (more rest : List Edge) → IsLeast reason_place P (edge ∷ more)
       → IsLeast reason_place P (other ∷ rest) → edge ≡ other
   first_once P edge other more rest is also =
       let same : edge ∷ more ≡ other ∷ rest = one_least reason_place P place_once (edge ∷ more) (other ∷ rest) is also in cc
 
-  arrow_once : (a l : ℕ) (one other : List ℕ) → IsArrow test t a l one → IsArrow test t a l other → one ≡ other
+  arrow_once : (a l : ℕ) (one other : List ℕ) → IsArrow reach t a l one → IsArrow reach t a l other → one ≡ other
   arrow_once a l one other (itself same is) (itself again also) = is ∙ sym also
   arrow_once a l one other (itself same is) (solid differ edge more least also) = absurd (differ same)
   arrow_once a l one other (itself same is) (dashed differ lacks edge more least also) = absurd (differ same)
   arrow_once a l one other (itself same is) (nothing differ lacks takes also) = absurd (differ same)
   arrow_once a l one other (solid differ edge more least is) (itself same also) = absurd (differ same)
   arrow_once a l one other (solid differ edge more least is) (solid again first rest least_too also) =
-      is ∙ ap (arrow_line t a l []) (first_once (IsFullBy test a l) edge first more rest least least_too) ∙ sym also
+      is ∙ ap (arrow_line t a l []) (first_once (IsChangeBy reach.test reach.acts a l) edge first more rest least least_too) ∙ sym also
   arrow_once a l one other (solid differ edge more least is) (dashed again lacks first rest least_too also) = absurd (lacks least.has.0)
   arrow_once a l one other (solid differ edge more least is) (nothing again lacks takes also) = absurd (lacks least.has.0)
   arrow_once a l one other (dashed differ lacks edge more least is) (itself same also) = absurd (differ same)
   arrow_once a l one other (dashed differ lacks edge more least is) (solid again first rest least_too also) = absurd (lacks least_too.has.0)
   arrow_once a l one other (dashed differ lacks edge more least is) (dashed again without first rest least_too also) =
-      is ∙ ap (arrow_line t a l (codes "style=dashed, ")) (first_once (IsTakeBy test a l) edge first more rest least least_too) ∙ sym also
+      is ∙ ap (arrow_line t a l (codes "style=dashed, ")) (first_once (IsShrinkBy reach.test reach.acts a l) edge first more rest least least_too) ∙ sym also
   arrow_once a l one other (dashed differ lacks edge more least is) (nothing again without takes also) = absurd (takes least.has.0)
   arrow_once a l one other (nothing differ lacks takes is) (itself same also) = absurd (differ same)
   arrow_once a l one other (nothing differ lacks takes is) (solid again edge more least also) = absurd (lacks least.has.0)
   arrow_once a l one other (nothing differ lacks takes is) (dashed again without edge more least also) = absurd (takes least.has.0)
   arrow_once a l one other (nothing differ lacks takes is) (nothing again without neither also) = is ∙ sym also
 
-  arrows_once : (pairs : List (ℕ × ℕ)) (one other : List ℕ) → drawing.Draws test t pairs one → drawing.Draws test t pairs other → one ≡ other
+  arrows_once : (pairs : List (ℕ × ℕ)) (one other : List ℕ) → drawing.Draws reach t pairs one → drawing.Draws reach t pairs other → one ≡ other
   arrows_once [] one other is also = is ∙ sym also
   arrows_once (pair ∷ pairs) one other (arrow, rest, is, drawn, parts) (again, left, also, too, pieces) =
       parts
@@ -43,14 +52,19 @@ module _ (test : EdgeTest) (t : Layout) where
       ∙ ap (λ text. again ++ text) (arrows_once pairs rest left drawn too)
       ∙ sym pieces
 
-pub draw_once : JudgesSystemOnce Draws
-draw_once t edges text other status another is also =
-    let same = arrows_once (allows edges) t (pairs_of (length t.labels)) is.0.arrows also.0.arrows is.0.drawn also.0.drawn in (
-      is.0.is
-          ∙ ap (λ arrows. codes "digraph authority {\n" ++ (flat_map label_line t.labels ++ (arrows ++ codes "}\n"))) same
-          ∙ sym also.0.is,
-      is.1 ∙ sym also.1,
-    )
+drawn_once :
+    (on : Basis) (t : Layout) (edges : List Edge) (text other : List ℕ) → TellsDrawing on t edges text
+    → TellsDrawing on t edges other → text ≡ other
+drawn_once on t edges text other is also =
+    let reach = reach_once on t edges is.reach also.reach is.is_reach also.is_reach in
+    let first = subst (λ (r : Reach). IsDrawing t r text) reach is.drawn in
+    let same = arrows_once also.reach t (pairs_of (length t.labels)) first.arrows also.drawn.arrows first.drawn also.drawn.drawn in
+    first.is
+    ∙ ap (λ arrows. codes "digraph authority {\n" ++ (flat_map label_line t.labels ++ (arrows ++ codes "}\n"))) same
+    ∙ sym also.drawn.is
+
+pub draw_once : (on : Basis) → JudgesSystemOnce (Draws on)
+draw_once on t edges = answers_on_once on t edges (TellsDrawing on t edges) (drawn_once on t edges)
 
 pub list_once : (t : Layout) → IsOne (Lists t)
 list_once t text other status another is also = (is.0 ∙ sym also.0, is.1 ∙ sym also.1)

@@ -4,22 +4,30 @@ use Rattle.std.specs.Prelude.{ℕ, ◌≡◌, All, List, Ok, length}
 use Rattle.base.specs.declared.edge.Edge.{Edge}
 use Rattle.machine.specs.Layout.{Layout}
 use Rattle.policy.specs.Policy.{allows}
-use Rattle.verdict.specs.{declared.denial.Denial.Denial, Verdict.{IsAccepted, IsLeastBroken, rule_name}}
-use Rattle.claims.specs.{declared.{claim.Claim.Claim, holding.BrokenClaim.BrokenClaim}, ClaimsText.claims_text, Holding.AreStrongest}
-use Rattle.claims.specs.{Holding.{Holds, IsFirstBroken, IsKept}, Reading.read_claims_of}
+use Rattle.verdict.specs.declared.denial.Denial.{Denial}
+use Rattle.verdict.specs.Verdict.{IsAccepted, IsLeastBroken, rule_name}
+use Rattle.claims.specs.declared.claim.Claim.{Claim}
+use Rattle.claims.specs.declared.holding.BrokenClaim.{BrokenClaim}
+use Rattle.claims.specs.ClaimsText.{claims_text}
+use Rattle.claims.specs.Holding.{AreStrongest, Holds, IsFirstBroken, IsKept}
+use Rattle.claims.specs.Reading.{read_claims_of}
 use Rattle.forms.specs.declared.file.File.{File as file}
-use Rattle.reptext.specs.{Places.place_names, Reports.{broken_data, denial_report, hold_data, line_of}}
-use Rattle.commands.specs.{declared.end.End.End, Commands.{Input, IsDoneOnSystem, IsDoneOnThree, Output, no_label}}
+use Rattle.reptext.specs.Places.{place_names}
+use Rattle.reptext.specs.Reports.{broken_data, denial_report, hold_data, line_of}
+use Rattle.commands.specs.declared.end.End.{End}
+use Rattle.commands.specs.Commands.{Input, IsDoneOnSystem, IsDoneOnThree, Output, no_label}
 use Rattle.report.specs.Answers.{AnswersVerdict}
+use Rattle.verdict.specs.Extents.{Reach, IsReachOf}
 
 -- the answer to claims on a table and a policy: these are denied; or they are accepted, and all claims hold, so that what they claim is
 -- kept in every run from the table's boot state; or they are accepted, and this claim is the first that doesn't hold
 pub data JudgesClaims (t : Layout) (edges : List Edge) (claims : List Claim) (text : List ℕ) (status : ℕ) : Type 0 where
   denied : (denial : Denial) → IsLeastBroken t (allows edges) denial → text ≡ denial_report (rule_name denial) (place_names t denial)
       → status ≡ 1 → JudgesClaims t edges claims text status
-  hold : IsAccepted t (allows edges) → All (Holds (allows edges)) claims → All (IsKept t) claims
+  hold : IsAccepted t (allows edges) → (reach : Reach) → IsReachOf t edges reach → All (Holds reach) claims → All (IsKept t) claims
       → text ≡ line_of (hold_data (length claims)) → status ≡ 0 → JudgesClaims t edges claims text status
-  broken : IsAccepted t (allows edges) → (broken : BrokenClaim) → IsFirstBroken (allows edges) claims broken
+  broken : IsAccepted t (allows edges) → (reach : Reach) → IsReachOf t edges reach → (broken : BrokenClaim)
+      → IsFirstBroken reach claims broken
       → text ≡ line_of (broken_data broken.extent broken.number) → status ≡ 1 → JudgesClaims t edges claims text status
 
 -- claims were judged on a table and a policy
@@ -29,8 +37,10 @@ AreJudged = IsDoneOnThree file.Claims read_claims_of JudgesClaims
 -- a text is that of the strongest claims that hold of a table and a policy that are accepted. It is read as these, and what they claim
 -- is kept in every run
 pub record TellsStrongest (t : Layout) (edges : List Edge) (text : List ℕ) : Type 0 where
+  pub reach : Reach
+  pub is_reach : IsReachOf t edges reach
   pub claims : List Claim
-  pub strongest : AreStrongest t (allows edges) claims
+  pub strongest : AreStrongest t reach claims
   pub kept : All (IsKept t) claims
   pub told : text ≡ claims_text t claims
   pub read : read_claims_of t text ≡ Ok claims

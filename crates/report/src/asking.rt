@@ -1,24 +1,40 @@
-ghost use Rattle.std.specs.Prelude.{◌++◌, ◌≡◌, IfErr, IfOk, false};
+ghost use Rattle.std.specs.Prelude.{ℕ, ◌++◌, ◌<◌, ◌↔◌, ◌≡◌, IfErr, IfOk, false, true};
+ghost use Rattle.base.specs.{Labels.is_in, Refusals.out_of_memory};
+ghost use Rattle.base.specs.declared.label.TheConstants.Label as LabelLimits;
 ghost use Rattle.captext.specs.PolicyText.{edge_lines};
 ghost use Rattle.commands.specs.Commands.{IsJudged, IsJudgedSo, SystemIsJudged, input, no_label, output};
-ghost use Rattle.commands.specs.declared.load.Stop.{Stop as stop};
 ghost use Rattle.report.specs.Questions as questions;
 
 use crate::{Asked, End, Listener, Sink, Source};
-use base::Edge;
+use base::{Edge, Label, Labels, Refusal};
 use captext::write_edges;
-use commands::{Answer, Stop, System, load_system, load_table, tell};
+use commands::{Answer, Stop, System, denied, load_system, load_table, tell};
+use deal::Open;
 use policy::{Policy, Why};
 use reptext::{write_drawing, write_objects};
 use std::alloc::Global;
+use std::thread::Threads;
 use table::Table;
+use verdict::{Denial, judge};
 
-/// Which authority a label has on another by a policy, and why.
+/// What an answer on labels rests on.
+#[derive(Clone, Copy, PartialEq, Eq, Debug)]
+pub enum Basis {
+    /// The system, which is judged first: only threads of labels that may act make calls.
+    System,
+    /// The policy alone: each label counts as one whose threads make calls. This holds of no run.
+    Policy,
+}
+
+/// Tells what threads of a label may do to objects of another, and why.
 ///
-/// Writes `full` with status 0, or `take` or `none` with status 1, each in a line of its own, and then the
-/// edges of one reason, as the policy has them; or the report of the first fault, with status 2.
-pub fn why<T, P, L, O>(
+/// Writes `full`, `take` or `none` in a line of its own, and then the edges of one reason, as the policy has
+/// them, with status 0; or the report of the denial, with status 1; or the report of the first fault, with
+/// status 2.
+pub fn why<R, T, P, L, O>(
+    rt: &R,
     alloc: Global,
+    basis: Basis,
     table: &mut T,
     policy: &mut P,
     actor: &str,
@@ -27,6 +43,7 @@ pub fn why<T, P, L, O>(
     out: &mut O,
 ) -> End
 where
+    R: Threads + Sync,
     T: Source,
     P: Source,
     L: Listener,
@@ -34,38 +51,42 @@ where
     requires table { T.failed table.old ≡ false }
     requires policy { P.failed policy.old ≡ false }
     requires out { O.failed out.old ≡ false }
-    ensures { questions.IsTold actor.now object.now (input T.remaining T.failed table.old table.new)
+    ensures { questions.IsTold basis actor.now object.now (input T.remaining T.failed table.old table.new)
         (input P.remaining P.failed policy.old policy.new) (output O.contents O.failed O.is_flushed out.old out.new) result }
 {
     let system = load_system(alloc, table, policy, listener);
-    let answer = why_judged(alloc, &system, actor, object);
+    let answer = why_judged(rt, alloc, basis, &system, actor, object);
     tell(alloc, &system, answer, listener, out)
 }
 
-/// Which authority a label has on another in a system that was loaded, and why.
-fn why_judged(
+/// What a label may do to another in a system that was loaded, and why.
+fn why_judged<R: Threads + Sync>(
+    rt: &R,
     alloc: Global,
+    basis: Basis,
     loaded: &Result<System, Stop>,
     actor: &str,
     object: &str,
 ) -> Result<Answer, Stop>
-    ensures { SystemIsJudged (λ t. questions.unlabelled t actor.now object.now) (questions.Tells actor.now object.now) loaded.now result }
+    ensures { SystemIsJudged (λ t. questions.unlabelled t actor.now object.now) (questions.Tells basis actor.now object.now) loaded.now result }
 {
     match loaded {
-        Ok(System { table, policy }) => explained(alloc, table, policy, actor, object),
+        Ok(System { table, policy }) => explained(rt, alloc, basis, table, policy, actor, object),
         Err(stop) => Err(*stop),
     }
 }
 
-/// Which authority a label has on another, and why; or the first of the two names that is no label of the table.
-fn explained(
+/// What a label may do to another, and why; or the first of the two names that is no label of the table.
+fn explained<R: Threads + Sync>(
+    rt: &R,
     alloc: Global,
+    basis: Basis,
     table: &Table,
     policy: &Policy,
     actor: &str,
     object: &str,
 ) -> Result<Answer, Stop>
-    ensures { IsJudgedSo (questions.unlabelled table.now actor.now object.now) (questions.Tells actor.now object.now table.now policy.now) result }
+    ensures { IsJudgedSo (questions.unlabelled table.now actor.now object.now) (questions.Tells basis actor.now object.now table.now policy.now) result }
 {
     let Some(actor) = table.label_named(actor) else {
         return Err(Stop::NoLabel(Asked::Actor));
@@ -73,27 +94,63 @@ fn explained(
     let Some(object) = table.label_named(object) else {
         return Err(Stop::NoLabel(Asked::Object));
     };
-    let why = policy.why(alloc, actor, object)?;
-    Ok(why_answer(alloc, table, &why)?)
+    let actors = match acting(rt, alloc, basis, table, policy)? {
+        Ok(actors) => actors,
+        Err(denial) => return Ok(denied(alloc, table, denial)?),
+    };
+    let why = policy.why_among(alloc, actors, actor, object)?;
+    Ok(Answer::plain(why_text(alloc, table, &why)?, 0))
 }
 
-/// What is told of an authority.
-fn why_answer(alloc: Global, table: &Table, why: &Why) -> Result<Answer, Stop>
-    ensures text { IfOk result (λ answer. answer.text.items ≡ questions.why_text table.now why.now) }
-    ensures status { IfOk result (λ answer. answer.status ≡ questions.why_status why.now) }
-    ensures memory { IfErr result (λ why. why ≡ stop.NoMemory) }
+/// The labels whose threads make calls; or why the system is denied, where it is asked about.
+fn acting<R: Threads + Sync>(
+    rt: &R,
+    alloc: Global,
+    basis: Basis,
+    table: &Table,
+    policy: &Policy,
+) -> Result<Result<Labels, Denial>, Refusal>
+    ensures acting { IfOk result (λ answer. questions.IsActingOn basis table.now policy.now answer) }
+    ensures memory { IfErr result (λ refusal. refusal ≡ out_of_memory) }
+{
+    match basis {
+        Basis::Policy => Ok(Ok(all_labels())),
+        Basis::System => match judge(rt, alloc, table, policy, 1, &Open)? {
+            Ok(accepted) => Ok(Ok(accepted.bounds().actors())),
+            Err(denial) => Ok(Err(denial)),
+        },
+    }
+}
+
+/// All labels that there can be.
+fn all_labels() -> Labels
+    ensures { (a : ℕ) → (is_in result a ≡ true) ↔ (a < LabelLimits.COUNT) }
+{
+    let mut labels = Labels::none();
+    for number in 0..Label::COUNT {
+        if let Some(label) = Label::new(number) {
+            labels = labels.union(Labels::only(label));
+        }
+    }
+    labels
+}
+
+/// What is told of what a label may do.
+fn why_text(alloc: Global, table: &Table, why: &Why) -> Result<Vec<u8>, Refusal>
+    ensures text { IfOk result (λ text. text.items ≡ questions.why_text table.now why.now) }
+    ensures memory { IfErr result (λ refusal. refusal ≡ out_of_memory) }
 {
     match why {
-        Why::Full(edges) => Ok(Answer::plain(headed(alloc, "full\n", table, edges)?, 0)),
-        Why::Take(edges) => Ok(Answer::plain(headed(alloc, "take\n", table, edges)?, 1)),
-        Why::Nothing => Ok(Answer::plain(headed(alloc, "none\n", table, &[])?, 1)),
+        Why::Full(edges) => headed(alloc, "full\n", table, edges),
+        Why::Take(edges) => headed(alloc, "take\n", table, edges),
+        Why::Nothing => headed(alloc, "none\n", table, &[]),
     }
 }
 
 /// A line, and the lines of edges.
-fn headed(alloc: Global, line: &str, table: &Table, edges: &[Edge]) -> Result<Vec<u8>, Stop>
+fn headed(alloc: Global, line: &str, table: &Table, edges: &[Edge]) -> Result<Vec<u8>, Refusal>
     ensures text { IfOk result (λ text. text.items ≡ line.now ++ edge_lines table.now edges.now) }
-    ensures memory { IfErr result (λ why. why ≡ stop.NoMemory) }
+    ensures memory { IfErr result (λ refusal. refusal ≡ out_of_memory) }
 {
     let mut text = Vec::new(alloc);
     text.extend_from_slice(line.as_bytes())?;
@@ -101,18 +158,21 @@ fn headed(alloc: Global, line: &str, table: &Table, edges: &[Edge]) -> Result<Ve
     Ok(text)
 }
 
-/// Draws who may change or take from whom by a policy, as Graphviz reads it.
+/// Draws who may change or take from whom, as Graphviz reads it.
 ///
-/// Writes the labels, and an arrow from each to each other on which it has authority, with status 0; or the
-/// report of the first fault, with status 2. Whether the table keeps to the policy isn't asked.
-pub fn draw<T, P, L, O>(
+/// Writes the labels, and an arrow from each to each other whose objects it may change or make smaller, with
+/// status 0; or the report of the denial, with status 1; or the report of the first fault, with status 2.
+pub fn draw<R, T, P, L, O>(
+    rt: &R,
     alloc: Global,
+    basis: Basis,
     table: &mut T,
     policy: &mut P,
     listener: &mut L,
     out: &mut O,
 ) -> End
 where
+    R: Threads + Sync,
     T: Source,
     P: Source,
     L: Listener,
@@ -120,23 +180,30 @@ where
     requires table { T.failed table.old ≡ false }
     requires policy { P.failed policy.old ≡ false }
     requires out { O.failed out.old ≡ false }
-    ensures { questions.IsDrawn (input T.remaining T.failed table.old table.new)
+    ensures { questions.IsDrawn basis (input T.remaining T.failed table.old table.new)
         (input P.remaining P.failed policy.old policy.new) (output O.contents O.failed O.is_flushed out.old out.new) result }
 {
     let system = load_system(alloc, table, policy, listener);
-    let answer = drawn(alloc, &system);
+    let answer = drawn(rt, alloc, basis, &system);
     tell(alloc, &system, answer, listener, out)
 }
 
-/// The drawing of a system that was loaded.
-fn drawn(alloc: Global, loaded: &Result<System, Stop>) -> Result<Answer, Stop>
-    ensures { SystemIsJudged no_label questions.Draws loaded.now result }
+/// The drawing of a system that was loaded, or why it is denied.
+fn drawn<R: Threads + Sync>(
+    rt: &R,
+    alloc: Global,
+    basis: Basis,
+    loaded: &Result<System, Stop>,
+) -> Result<Answer, Stop>
+    ensures { SystemIsJudged no_label (questions.Draws basis) loaded.now result }
 {
-    match loaded {
-        Ok(System { table, policy }) => {
-            Ok(Answer::plain(write_drawing(alloc, table, policy)?, 0))
-        }
-        Err(stop) => Err(*stop),
+    let System { table, policy } = match loaded {
+        Ok(system) => system,
+        Err(stop) => return Err(*stop),
+    };
+    match acting(rt, alloc, basis, table, policy)? {
+        Ok(actors) => Ok(Answer::plain(write_drawing(alloc, table, policy, actors)?, 0)),
+        Err(denial) => Ok(denied(alloc, table, denial)?),
     }
 }
 

@@ -77,9 +77,10 @@ fn claims_answer(alloc: Global, accepted: &Accepted<'_>, claims: &Claims) -> Res
         claimed.JudgesClaims accepted.now.table accepted.now.policy claims.now answer.text.items answer.status) }
     ensures exit { IfOk result (λ answer. answer.status ≤ 2) }
 {
-    // That it is accepted, a system tells with its table.
-    let _ = accepted.table();
-    match first_broken(accepted, claims) {
+    // That it is accepted, a system tells with its actors.
+    let bounds = accepted.bounds();
+    let _ = bounds.actors();
+    match first_broken(&bounds, claims) {
         None => Ok(Answer::plain(hold_report(alloc, claims.as_slice().len())?, 0)),
         Some(broken) => Ok(Answer::found(
             broken_report(alloc, broken.extent, broken.number)?,
@@ -139,6 +140,8 @@ fn strongest_judged<R: Threads + Sync>(
 fn strongest_text(alloc: Global, accepted: &Accepted<'_>) -> Result<Vec<u8>, Refusal>
     ensures text { IfOk result (λ text. claimed.TellsStrongest accepted.now.table accepted.now.policy text.items) }
 {
-    let claims = strongest(alloc, accepted)?;
+    let bounds = accepted.bounds();
+    let _ = bounds.actors();
+    let claims = strongest(alloc, &bounds)?;
     claims::write(alloc, &claims, accepted.table())
 }

@@ -3,7 +3,7 @@ ghost use Rattle.evtext.specs.{Log.read_log_of, Script.read_script_of};
 ghost use Rattle.claims.specs.Reading.{read_claims_of};
 ghost use Rattle.certificate.specs.Reading.{read_certificate_of};
 ghost use Rattle.forms.specs.declared.file.File.TheVariants as file;
-ghost use Rattle.report.specs.{declared.{checking.OnAccept.OnAccept, closing.OnClose.OnClose}, Answers.{Checks, Verifies}};
+ghost use Rattle.report.specs.{declared.{asking.Basis.Basis, checking.OnAccept.OnAccept, closing.OnClose.OnClose}, Answers.{Checks, Verifies}};
 ghost use Rattle.report.specs.{Claimed.{JudgesClaims, WritesStrongest}, Closings.Closes, Questions.{Draws, Lists, Tells}, Replays.Replays};
 ghost use Rattle.report.specs.OneAnswer.{RunsInMemory, SystemHasOneAnswer, TableHasOneAnswer, ThreeHaveOneAnswer};
 
@@ -17,8 +17,8 @@ pub fn reports_are_functions_of_the_bytes()
     ensures replay { ThreeHaveOneAnswer file.Log (λ t. read_log_of) Replays }
     ensures close { (written : OnClose) → SystemHasOneAnswer (Closes written) }
     ensures start { (written : OnClose) → TableHasOneAnswer (λ t. Closes written t []) }
-    ensures why { (actor object : List ℕ) → SystemHasOneAnswer (Tells actor object) }
-    ensures draw { SystemHasOneAnswer Draws }
+    ensures why { (basis : Basis) (actor object : List ℕ) → SystemHasOneAnswer (Tells basis actor object) }
+    ensures draw { (basis : Basis) → SystemHasOneAnswer (Draws basis) }
     ensures list { TableHasOneAnswer Lists }
     ensures claims { ThreeHaveOneAnswer file.Claims read_claims_of JudgesClaims }
     ensures strongest { SystemHasOneAnswer WritesStrongest }

@@ -12,7 +12,7 @@ mod running;
 mod splitting;
 mod verifying;
 
-pub use asking::{draw, list, why};
+pub use asking::{Basis, draw, list, why};
 pub use checking::{OnAccept, check};
 pub use claiming::{check_claims, write_claims};
 pub use closing::{OnClose, close, start};

@@ -1,14 +1,26 @@
 -- A drawing grows label by label, and pair by pair; and where a label has authority on another there is an edge that gives it.
-use Rattle.std.{specs.{List.{flat_map, range_with_len}, Prelude.{IfSome, IsSome, codes}}, proofs.Common.{[], ℕ, ◌++◌, ◌+◌, ◌<◌, ◌==◌, ◌∙◌}}
-use Rattle.std.proofs.Common.{◌∷◌, ◌≡◌, ◌≢◌, List, None, Option, Some, ap, append_assoc, arith, false, get_or, length, refl, subst, sym}
-use Rattle.std.proofs.{Common.{take, true}, lemmas.{Bool.Decides.nat_tests, List.{append-nil, flat_map_more, map-id, take_more}}}
+use Rattle.std.specs.List.{flat_map, range_with_len}
+use Rattle.std.specs.Prelude.{IfSome, IsSome, codes}
+use Rattle.std.proofs.Common.{[], ℕ, ◌++◌, ◌+◌, ◌<◌, ◌==◌, ◌∙◌, ◌∷◌, ◌≡◌, ◌≢◌, List, None, Option, Some, ap, append_assoc, arith, false, get_or, length, refl, subst, sym, take, true}
+use Rattle.std.proofs.lemmas.Bool.Decides.{nat_tests}
+use Rattle.std.proofs.lemmas.List.{append-nil, flat_map_more, map-id, take_more}
 use Rattle.std.proofs.lemmas.List.FromFn.{map-range_with_len_more}
 use Rattle.base.specs.declared.edge.Edge.{Edge}
 use Rattle.machine.specs.Layout.{Layout}
-use Rattle.policy.specs.{Domain.EdgeTest, Full.{IsFull, IsFull.{grants, links, modifies, notifies, own, receives, replies, sends}}}
-use Rattle.policy.specs.{Places.IsLeast, Reasons.{IsFullBy, IsTakeBy, reason_place}, Take.{MayTake, MayTake.{ends, removes, unbinds}}}
-use Rattle.reptext.specs.Drawing.{AddsArrows, Draws, IsArrow, arrow_line, pairs_with, IsArrow.{dashed, itself, nothing, solid}}
+use Rattle.policy.specs.Places.{IsLeast}
+use Rattle.policy.specs.Reasons.{reason_place}
+use Rattle.reptext.specs.Drawing.{AddsArrows, Draws, IsArrow, arrow_line, pairs_with}
+use Rattle.reptext.specs.Drawing.IsArrow.{dashed, itself, nothing, solid}
 use mathlib.Core.Bool.{false≢true}
+use Rattle.policy.specs.ActorReasons.{IsChangeBy, IsShrinkBy, change_edges, shrink_edges}
+use Rattle.policy.specs.Change.{WayToChange}
+use Rattle.policy.specs.Change.WayToChange.{grants, links, modifies, notifies, own, receives, replies, sends, shares}
+use Rattle.policy.specs.Change.MayChangeContext.{configures, binds, lends}
+use Rattle.policy.specs.Change.MayChangeContext.{returns as returns_it}
+use Rattle.policy.specs.NarrowTake.{WayToShrink}
+use Rattle.policy.specs.NarrowTake.WayToShrink.{unbinds, stops, halts, ends, frees, controls}
+use Rattle.policy.specs.NarrowTake.TakesByControl.{removes, releases, wakes, drops}
+use Rattle.verdict.specs.Extents.{Reach, MayChangeIn, MayShrinkIn}
 
 -- one text more, for the next of some values
 pub piece_more : {X : Type 0} (f : X → List ℕ) (xs : List X) (i : ℕ) (d : X) (before text longer : List ℕ) → i < length xs
@@ -40,20 +52,34 @@ pairs_more count n =
 is_there : (edge : Edge) (more edges : List Edge) → edge ∷ more ≡ edges → 0 < length edges
 is_there edge more edges is = let P : List Edge → Type 0 = λ xs. 0 < length xs in subst P is (omega arith)
 
-pub full_reason_there : (test : EdgeTest) (a l : ℕ) (edges : List Edge) → a ≢ l → IsFullBy test a l edges → 0 < length edges
-full_reason_there test a l edges apart (own one, is) = absurd (apart (sym one))
-full_reason_there test a l edges apart (modifies kind is_modifying there, is) = is_there _ _ edges is
-full_reason_there test a l edges apart (sends endpoint sent received, is) = is_there _ _ edges is
-full_reason_there test a l edges apart (receives endpoint received sent, is) = is_there _ _ edges is
-full_reason_there test a l edges apart (notifies notification notified awaited, is) = is_there _ _ edges is
-full_reason_there test a l edges apart (links endpoint receiver sent received replied, is) = is_there _ _ edges is
-full_reason_there test a l edges apart (grants endpoint receiver granted received controlled, is) = is_there _ _ edges is
-full_reason_there test a l edges apart (replies reply replied held, is) = is_there _ _ edges is
+pub change_reason_there : (reach : Reach) (a l : ℕ) (edges : List Edge) → a ≢ l → IsChangeBy reach.test reach.acts a l edges → 0 < length edges
+change_reason_there reach a l edges apart (may, is) = by may.way is where
+  by : (way : WayToChange reach.test reach.acts a l) → change_edges way ≡ edges → 0 < length edges
+  by (own one) is = absurd (apart (sym one))
+  by (modifies kind is_changing there) is = is_there _ _ edges is
+  by (shares (configures core used governed)) is = is_there _ _ edges is
+  by (shares (binds thread used controlled)) is = is_there _ _ edges is
+  by (shares (lends endpoint ran called)) is = is_there _ _ edges is
+  by (shares (returns_it reply ran answered)) is = is_there _ _ edges is
+  by (sends endpoint sent received waits) is = is_there _ _ edges is
+  by (receives endpoint received sent waits) is = is_there _ _ edges is
+  by (notifies notification notified awaited waits) is = is_there _ _ edges is
+  by (links endpoint receiver sent called received waits named) is = is_there _ _ edges is
+  by (grants endpoint receiver granted received waits controlled) is = is_there _ _ edges is
+  by (replies answer) is = is_there _ _ edges is
 
-pub take_reason_there : (test : EdgeTest) (a l : ℕ) (edges : List Edge) → IsTakeBy test a l edges → 0 < length edges
-take_reason_there test a l edges (unbinds context used ran, is) = is_there _ _ edges is
-take_reason_there test a l edges (ends reply receiver used answered received, is) = is_there _ _ edges is
-take_reason_there test a l edges (removes path, is) = is_there _ _ edges is
+pub shrink_reason_there : (reach : Reach) (a l : ℕ) (edges : List Edge) → IsShrinkBy reach.test reach.acts a l edges → 0 < length edges
+shrink_reason_there reach a l edges (may, is) = by may.way is where
+  by : (way : WayToShrink reach.test reach.acts a l) → shrink_edges way ≡ edges → 0 < length edges
+  by (unbinds used) is = is_there _ _ edges is
+  by (stops context used ran) is = is_there _ _ edges is
+  by (halts halt) is = is_there _ _ edges is
+  by (ends reply receiver used named waits received) is = is_there _ _ edges is
+  by (frees endpoint receiver sent received waits named) is = is_there _ _ edges is
+  by (controls (removes controlled kind is_removed control there)) is = is_there _ _ edges is
+  by (controls (releases caller control waits held)) is = is_there _ _ edges is
+  by (controls (wakes controlled end kind is_waiting control reset there waits)) is = is_there _ _ edges is
+  by (controls (drops controlled endpoint receiver control reset received waits named)) is = is_there _ _ edges is
 
 headed : (edges : List Edge) → 0 < length edges → (edge : Edge) × (more : List Edge) × (edges ≡ edge ∷ more)
 headed [] there = absurd (omega arith)
@@ -77,10 +103,10 @@ label_there None is there = false≢true there
 
 -- what is drawn for one list of pairs after another is drawn for both
 
-module _ (test : EdgeTest) (t : Layout) where
-  draws_both : (one other : List (ℕ × ℕ)) (first second : List ℕ) → Draws test t one first → Draws test t other second
-      → Draws test t (one ++ other) (first ++ second)
-  draws_both [] other first second empty drawn = subst (λ text. Draws test t other (text ++ second)) (sym empty) drawn
+module _ (reach : Reach) (t : Layout) where
+  draws_both : (one other : List (ℕ × ℕ)) (first second : List ℕ) → Draws reach t one first → Draws reach t other second
+      → Draws reach t (one ++ other) (first ++ second)
+  draws_both [] other first second empty drawn = subst (λ text. Draws reach t other (text ++ second)) (sym empty) drawn
   draws_both (pair ∷ pairs) other first second (arrow, rest, is, drawn, parts) also = (
     arrow,
     rest ++ second,
@@ -89,59 +115,59 @@ module _ (test : EdgeTest) (t : Layout) where
     ap (λ text. text ++ second) parts ∙ append_assoc arrow rest second,
   )
 
-  adds_both : (one other : List (ℕ × ℕ)) (old mid new : List ℕ) → AddsArrows test t one old mid → AddsArrows test t other mid new
-      → AddsArrows test t (one ++ other) old new
+  adds_both : (one other : List (ℕ × ℕ)) (old mid new : List ℕ) → AddsArrows reach t one old mid → AddsArrows reach t other mid new
+      → AddsArrows reach t (one ++ other) old new
   adds_both one other old mid new (first, drawn, is) (second, also, more) = (
     first ++ second,
     draws_both one other first second drawn also,
     more ∙ ap (λ text. text ++ second) is ∙ append_assoc old first second,
   )
 
-  adds_one : (a l : ℕ) (old new arrow : List ℕ) → IsArrow test t a l arrow → new ≡ old ++ arrow
-      → AddsArrows test t ((a, l) ∷ []) old new
+  adds_one : (a l : ℕ) (old new arrow : List ℕ) → IsArrow reach t a l arrow → new ≡ old ++ arrow
+      → AddsArrows reach t ((a, l) ∷ []) old new
   adds_one a l old new arrow is grown = (arrow, (arrow, [], is, refl, sym (append-nil arrow)), grown)
 
   -- no arrow from a label to itself, nor where it has no authority
 
-  pub adds_itself : (a l : ℕ) (old : List ℕ) → (a == l) ≡ true → AddsArrows test t ((a, l) ∷ []) old old
+  pub adds_itself : (a l : ℕ) (old : List ℕ) → (a == l) ≡ true → AddsArrows reach t ((a, l) ∷ []) old old
   adds_itself a l old is = adds_one a l old old [] (itself (same a l is) refl) (sym (append-nil old))
 
-  pub adds_nothing : (a l : ℕ) (old : List ℕ) → (a == l) ≡ false → ¬ IsFull test a l → ¬ MayTake test a l → AddsArrows test t ((a, l) ∷ []) old old
+  pub adds_nothing : (a l : ℕ) (old : List ℕ) → (a == l) ≡ false → ¬ MayChangeIn reach a l → ¬ MayShrinkIn reach a l → AddsArrows reach t ((a, l) ∷ []) old old
   adds_nothing a l old is lacks takes = adds_one a l old old [] (nothing (differ a l is) lacks takes refl) (sym (append-nil old))
 
   -- an arrow with the first edge of the reason
 
-  pub adds_solid : (a l : ℕ) (edges : List Edge) (old new : List ℕ) → (a == l) ≡ false → IsLeast reason_place (IsFullBy test a l) edges
+  pub adds_solid : (a l : ℕ) (edges : List Edge) (old new : List ℕ) → (a == l) ≡ false → IsLeast reason_place (IsChangeBy reach.test reach.acts a l) edges
       → ((edge : Edge) (more : List Edge) → edges ≡ edge ∷ more → new ≡ old ++ arrow_line t a l [] edge)
-      → AddsArrows test t ((a, l) ∷ []) old new
+      → AddsArrows reach t ((a, l) ∷ []) old new
   adds_solid a l edges old new is least grown =
-      let head = headed edges (full_reason_there test a l edges (differ a l is) least.has) in
+      let head = headed edges (change_reason_there reach a l edges (differ a l is) least.has) in
       let edge : Edge = head.0 in
       let more : List Edge = head.1 in
       adds_one a l old new (arrow_line t a l [] edge)
-      (solid (differ a l is) edge more (subst (IsLeast reason_place (IsFullBy test a l)) head.2 least) refl) (grown edge more head.2)
+      (solid (differ a l is) edge more (subst (IsLeast reason_place (IsChangeBy reach.test reach.acts a l)) head.2 least) refl) (grown edge more head.2)
 
-  pub adds_dashed : (a l : ℕ) (edges : List Edge) (old new : List ℕ) → (a == l) ≡ false → ¬ IsFull test a l
-      → IsLeast reason_place (IsTakeBy test a l) edges
+  pub adds_dashed : (a l : ℕ) (edges : List Edge) (old new : List ℕ) → (a == l) ≡ false → ¬ MayChangeIn reach a l
+      → IsLeast reason_place (IsShrinkBy reach.test reach.acts a l) edges
       → ((edge : Edge) (more : List Edge) → edges ≡ edge ∷ more → new ≡ old ++ arrow_line t a l (codes "style=dashed, ") edge)
-      → AddsArrows test t ((a, l) ∷ []) old new
+      → AddsArrows reach t ((a, l) ∷ []) old new
   adds_dashed a l edges old new is lacks least grown =
-      let head = headed edges (take_reason_there test a l edges least.has) in
+      let head = headed edges (shrink_reason_there reach a l edges least.has) in
       let edge : Edge = head.0 in
       let more : List Edge = head.1 in
       adds_one a l old new (arrow_line t a l (codes "style=dashed, ") edge)
-      (dashed (differ a l is) lacks edge more (subst (IsLeast reason_place (IsTakeBy test a l)) head.2 least) refl) (grown edge more head.2)
+      (dashed (differ a l is) lacks edge more (subst (IsLeast reason_place (IsShrinkBy reach.test reach.acts a l)) head.2 least) refl) (grown edge more head.2)
 
   -- the next pair of a label
-  pub adds_pair : (a n : ℕ) (old mid new : List ℕ) → AddsArrows test t (pairs_with n a) old mid → AddsArrows test t ((a, n) ∷ []) mid new
-      → AddsArrows test t (pairs_with (n + 1) a) old new
+  pub adds_pair : (a n : ℕ) (old mid new : List ℕ) → AddsArrows reach t (pairs_with n a) old mid → AddsArrows reach t ((a, n) ∷ []) mid new
+      → AddsArrows reach t (pairs_with (n + 1) a) old new
   adds_pair a n old mid new so_far one =
-      subst (λ pairs. AddsArrows test t pairs old new) (sym (with_more a n)) (adds_both (pairs_with n a) ((a, n) ∷ []) old mid new so_far one)
+      subst (λ pairs. AddsArrows reach t pairs old new) (sym (with_more a n)) (adds_both (pairs_with n a) ((a, n) ∷ []) old mid new so_far one)
 
   -- the pairs of the next label
-  pub adds_label : (count n : ℕ) (old mid new : List ℕ) → AddsArrows test t (flat_map (pairs_with count) (range_with_len 0 n)) old mid
-      → AddsArrows test t (pairs_with count n) mid new
-      → AddsArrows test t (flat_map (pairs_with count) (range_with_len 0 (n + 1))) old new
+  pub adds_label : (count n : ℕ) (old mid new : List ℕ) → AddsArrows reach t (flat_map (pairs_with count) (range_with_len 0 n)) old mid
+      → AddsArrows reach t (pairs_with count n) mid new
+      → AddsArrows reach t (flat_map (pairs_with count) (range_with_len 0 (n + 1))) old new
   adds_label count n old mid new so_far of_label =
-      subst (λ pairs. AddsArrows test t pairs old new) (sym (pairs_more count n))
+      subst (λ pairs. AddsArrows reach t pairs old new) (sym (pairs_more count n))
       (adds_both (flat_map (pairs_with count) (range_with_len 0 n)) (pairs_with count n) old mid new so_far of_label)

@@ -1,11 +1,16 @@
--- The drawing of who may change or take from whom, as Graphviz reads it: the labels, and an arrow from each to each other on which it has
--- authority, solid where that is full and dashed where it may only take, with an edge that gives it (the authority is that of 'seL4
--- Enforces Integrity', section 4, restated; its drawing is confine's own).
-use Rattle.std.specs.{List.{flat_map, range_with_len}, Prelude.{[], ℕ, ◌++◌, ◌∷◌, ◌≡◌, ◌≢◌, List, codes, length, map}}
-use Rattle.base.specs.{declared.edge.Edge.Edge, Kinds.kind_name}
+-- The drawing of who may change or take from whom, as Graphviz reads it: the labels, and an arrow from each to each other whose objects it
+-- may change or make smaller, solid where it may change them and dashed where it may not, with an edge of the reason (compare the integrity
+-- of 'seL4 Enforces Integrity', section 4; its drawing is confine's own).
+use Rattle.std.specs.List.{flat_map, range_with_len}
+use Rattle.std.specs.Prelude.{[], ℕ, ◌++◌, ◌∷◌, ◌≡◌, ◌≢◌, List, codes, length, map}
+use Rattle.base.specs.declared.edge.Edge.{Edge}
+use Rattle.base.specs.Kinds.{kind_name}
 use Rattle.machine.specs.Layout.{Layout}
-use Rattle.policy.specs.{Domain.EdgeTest, Full.IsFull, Places.IsLeast, Reasons.{IsFullBy, IsTakeBy, reason_place}, Take.MayTake}
+use Rattle.policy.specs.Places.{IsLeast}
+use Rattle.policy.specs.Reasons.{reason_place}
 use Rattle.captext.specs.PolicyText.{label_name}
+use Rattle.policy.specs.ActorReasons.{IsChangeBy, IsShrinkBy}
+use Rattle.verdict.specs.Extents.{Reach, MayChangeIn, MayShrinkIn}
 
 -- the line of a label
 abbrev pub label_line : List ℕ → List ℕ
@@ -17,28 +22,28 @@ arrow_line t a l style edge =
     codes "  \"" ++ (label_name t a ++ (codes "\" -> \"" ++ (label_name t l ++ (codes "\" [" ++ (style ++ (codes "label=\""
     ++ (label_name t edge.from ++ (codes " " ++ (kind_name edge.kind ++ (codes " " ++ (label_name t edge.to ++ codes "\"]\n")))))))))))
 
--- what is drawn from one label to another: the arrow of its authority, with the first edge of the reason for it
-pub data IsArrow (test : EdgeTest) (t : Layout) (a l : ℕ) (text : List ℕ) : Type 0 where
+-- what is drawn from one label to another: an arrow, with the first edge of the reason for it
+pub data IsArrow (reach : Reach) (t : Layout) (a l : ℕ) (text : List ℕ) : Type 0 where
   -- from a label to itself none
-  itself : a ≡ l → text ≡ [] → IsArrow test t a l text
-  -- a solid one for full authority
-  solid : a ≢ l → (edge : Edge) (more : List Edge) → IsLeast reason_place (IsFullBy test a l) (edge ∷ more)
-      → text ≡ arrow_line t a l [] edge → IsArrow test t a l text
-  -- a dashed one where it may only take
-  dashed : a ≢ l → ¬ IsFull test a l → (edge : Edge) (more : List Edge) → IsLeast reason_place (IsTakeBy test a l) (edge ∷ more)
-      → text ≡ arrow_line t a l (codes "style=dashed, ") edge → IsArrow test t a l text
+  itself : a ≡ l → text ≡ [] → IsArrow reach t a l text
+  -- a solid one where the one may change the other's objects
+  solid : a ≢ l → (edge : Edge) (more : List Edge) → IsLeast reason_place (IsChangeBy reach.test reach.acts a l) (edge ∷ more)
+      → text ≡ arrow_line t a l [] edge → IsArrow reach t a l text
+  -- a dashed one where it may only make them smaller
+  dashed : a ≢ l → ¬ MayChangeIn reach a l → (edge : Edge) (more : List Edge) → IsLeast reason_place (IsShrinkBy reach.test reach.acts a l) (edge ∷ more)
+      → text ≡ arrow_line t a l (codes "style=dashed, ") edge → IsArrow reach t a l text
   -- none where it may do neither
-  nothing : a ≢ l → ¬ IsFull test a l → ¬ MayTake test a l → text ≡ [] → IsArrow test t a l text
+  nothing : a ≢ l → ¬ MayChangeIn reach a l → ¬ MayShrinkIn reach a l → text ≡ [] → IsArrow reach t a l text
 
 -- what is drawn for pairs of labels, one after another
-abbrev pub Draws : EdgeTest → Layout → List (ℕ × ℕ) → List ℕ → Type 0
-Draws test t [] text = text ≡ []
-Draws test t (pair ∷ pairs) text =
-    (arrow : List ℕ) × (rest : List ℕ) × IsArrow test t pair.0 pair.1 arrow × Draws test t pairs rest × (text ≡ arrow ++ rest)
+abbrev pub Draws : Reach → Layout → List (ℕ × ℕ) → List ℕ → Type 0
+Draws reach t [] text = text ≡ []
+Draws reach t (pair ∷ pairs) text =
+    (arrow : List ℕ) × (rest : List ℕ) × IsArrow reach t pair.0 pair.1 arrow × Draws reach t pairs rest × (text ≡ arrow ++ rest)
 
 -- to a text what is drawn for pairs of labels was added
-abbrev pub AddsArrows : EdgeTest → Layout → List (ℕ × ℕ) → List ℕ → List ℕ → Type 0
-AddsArrows test t pairs old new = (arrows : List ℕ) × Draws test t pairs arrows × (new ≡ old ++ arrows)
+abbrev pub AddsArrows : Reach → Layout → List (ℕ × ℕ) → List ℕ → List ℕ → Type 0
+AddsArrows reach t pairs old new = (arrows : List ℕ) × Draws reach t pairs arrows × (new ≡ old ++ arrows)
 
 -- the pairs of a label with each of so many
 abbrev pub pairs_with : ℕ → ℕ → List (ℕ × ℕ)
@@ -49,7 +54,7 @@ abbrev pub pairs_of : ℕ → List (ℕ × ℕ)
 pairs_of count = flat_map (pairs_with count) (range_with_len 0 count)
 
 -- the whole drawing
-pub record IsDrawing (t : Layout) (test : EdgeTest) (text : List ℕ) : Type 0 where
+pub record IsDrawing (t : Layout) (reach : Reach) (text : List ℕ) : Type 0 where
   pub arrows : List ℕ
-  pub drawn : Draws test t (pairs_of (length t.labels)) arrows
+  pub drawn : Draws reach t (pairs_of (length t.labels)) arrows
   pub is : text ≡ codes "digraph authority {\n" ++ (flat_map label_line t.labels ++ (arrows ++ codes "}\n"))

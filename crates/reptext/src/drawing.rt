@@ -1,28 +1,36 @@
 ghost use Rattle.std.specs.{List.flat_map, Prelude.{[], ◌++◌, ◌<◌, ◌∷◌, ◌≡◌, IfErr, IfOk, List, OnErr, OnOk, length, string_bytes}};
 ghost use Rattle.base.specs.{declared.edge.Edge.Edge as EdgeOf, Refusals.out_of_memory};
-ghost use Rattle.policy.specs.Policy.{allows};
+ghost use Rattle.verdict.specs.Extents.{reach_by};
 ghost use Rattle.reptext.specs.Drawing.{AddsArrows, IsDrawing, arrow_line, label_line, pairs_of, pairs_with};
 
-use base::{Edge, Label, Refusal};
+use base::{Edge, Label, Labels, Refusal};
 use captext::label_name;
 use policy::{Policy, Why};
 use std::alloc::{AllocError, Global};
 use table::Table;
 
-/// Who may change or take from whom by a policy, as Graphviz reads it: the labels of the table, and from
-/// each an arrow to each other on which it has authority, with the first edge of the reason that
-/// [`Policy::why`] gives. The arrow is solid where the authority is full, and dashed where it is to take.
+/// Returns the drawing of who may change or take from whom where threads of the labels `actors` make calls,
+/// as Graphviz reads it.
+///
+/// It has the labels of the table, and from each an arrow to each other whose objects it may change or make
+/// smaller, with the first edge of the reason that [`Policy::why_among`] gives. The arrow is solid where it may
+/// change them, and dashed where it may only make them smaller.
 ///
 /// # Errors
 ///
 /// 40 where memory is refused.
-pub fn write_drawing(alloc: Global, table: &Table, policy: &Policy) -> Result<Vec<u8>, Refusal>
-    ensures text { IfOk result (λ text. IsDrawing table.now (allows policy.now) text.items) }
+pub fn write_drawing(
+    alloc: Global,
+    table: &Table,
+    policy: &Policy,
+    actors: Labels,
+) -> Result<Vec<u8>, Refusal>
+    ensures text { IfOk result (λ text. IsDrawing table.now (reach_by policy.now actors) text.items) }
     ensures memory { IfErr result (λ refusal. refusal ≡ out_of_memory) }
 {
     let mut text = String::from_str(alloc, "digraph authority {\n")?;
     write_labels(&mut text, table)?;
-    write_arrows(alloc, &mut text, table, policy)?;
+    write_arrows(alloc, &mut text, table, policy, actors)?;
     text.push_str("}\n")?;
     Ok(text.into_bytes())
 }
@@ -48,15 +56,16 @@ fn write_arrows(
     text: &mut String,
     table: &Table,
     policy: &Policy,
+    actors: Labels,
 ) -> Result<(), Refusal>
-    ensures drawn { OnOk result (AddsArrows (allows policy.now) table.now (pairs_of (length table.now.labels))
+    ensures drawn { OnOk result (AddsArrows (reach_by policy.now actors) table.now (pairs_of (length table.now.labels))
         (string_bytes text.old) (string_bytes text.new)) }
     ensures memory { IfErr result (λ refusal. refusal ≡ out_of_memory) }
 {
     let _ = table.objects();
     for number in 0..table.label_count() {
         if let Some(actor) = Label::new(number as u16) {
-            write_arrows_from(alloc, text, table, policy, actor)?;
+            write_arrows_from(alloc, text, table, policy, actors, actor)?;
         }
     }
     Ok(())
@@ -68,42 +77,45 @@ fn write_arrows_from(
     text: &mut String,
     table: &Table,
     policy: &Policy,
+    actors: Labels,
     actor: Label,
 ) -> Result<(), Refusal>
-    ensures drawn { OnOk result (AddsArrows (allows policy.now) table.now (pairs_with (length table.now.labels) actor)
+    ensures drawn { OnOk result (AddsArrows (reach_by policy.now actors) table.now (pairs_with (length table.now.labels) actor)
         (string_bytes text.old) (string_bytes text.new)) }
     ensures memory { IfErr result (λ refusal. refusal ≡ out_of_memory) }
 {
     let _ = table.objects();
     for number in 0..table.label_count() {
         if let Some(object) = Label::new(number as u16) {
-            write_authority(alloc, text, table, policy, actor, object)?;
+            write_arrow_of(alloc, text, table, policy, actors, actor, object)?;
         }
     }
     Ok(())
 }
 
-/// Writes the arrow for the authority of a label on another, if it has any.
-fn write_authority(
+/// Writes the arrow from a label to another, if there is one.
+fn write_arrow_of(
     alloc: Global,
     text: &mut String,
     table: &Table,
     policy: &Policy,
+    actors: Labels,
     actor: Label,
     object: Label,
 ) -> Result<(), Refusal>
-    ensures drawn { OnOk result (AddsArrows (allows policy.now) table.now ((actor, object) ∷ [])
+    ensures drawn { OnOk result (AddsArrows (reach_by policy.now actors) table.now ((actor, object) ∷ [])
         (string_bytes text.old) (string_bytes text.new)) }
     ensures memory { IfErr result (λ refusal. refusal ≡ out_of_memory) }
 {
     if actor == object {
         return Ok(());
     }
-    // That there is no authority is seen sooner than searched for.
-    if !policy.full(actor, object) && !policy.take(actor, object) {
+    // That there is none is seen sooner than searched for.
+    let changes = policy.may_change(actors, actor, object);
+    if !changes && !policy.may_shrink(actors, actor, object) {
         return Ok(());
     }
-    match policy.why(alloc, actor, object)? {
+    match policy.why_among(alloc, actors, actor, object)? {
         Why::Full(edges) => Ok(write_arrow(text, table, actor, object, "", &edges)?),
         Why::Take(edges) => Ok(write_arrow(text, table, actor, object, "style=dashed, ", &edges)?),
         Why::Nothing => Ok(()),

@@ -3,8 +3,8 @@ ghost use Rattle.std.specs.Prelude.{◌≡◌, false};
 
 use crate::failing::{Given, Page};
 use report::{
-    End, File, OnAccept, OnClose, Open, Silence, Sink, Source, Watched, check, check_claims, close,
-    draw, list, replay, run, run_split, verify, why, write_claims,
+    Basis, End, File, OnAccept, OnClose, Open, Silence, Sink, Source, Watched, check, check_claims,
+    close, draw, list, replay, run, run_split, verify, why, write_claims,
 };
 use std::alloc::AllocGlobal;
 use std::sync::Wait;
@@ -138,8 +138,26 @@ where
             &mut Silence,
             out,
         ),
-        Command::Why => why(rt.alloc(), table, policy, "a", "b", &mut Silence, out),
-        Command::Draw => draw(rt.alloc(), table, policy, &mut Silence, out),
+        Command::Why => why(
+            rt,
+            rt.alloc(),
+            Basis::System,
+            table,
+            policy,
+            "a",
+            "b",
+            &mut Silence,
+            out,
+        ),
+        Command::Draw => draw(
+            rt,
+            rt.alloc(),
+            Basis::System,
+            table,
+            policy,
+            &mut Silence,
+            out,
+        ),
         Command::List => list(rt.alloc(), table, &mut Silence, out),
         Command::Claims => check_claims(rt, rt.alloc(), table, policy, third, &mut Silence, out),
         Command::Strongest => write_claims(rt, rt.alloc(), table, policy, &mut Silence, out),

@@ -8,4 +8,4 @@ pub mod OutsideObjects
 pub mod Extents
 pub mod Outsides
 pub mod BootPlaces
-pub mod Actors
+pub mod WhoActs

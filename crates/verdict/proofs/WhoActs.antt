@@ -1,18 +1,33 @@
 -- The search for the labels that act: those that act from boot on are the labels of ready threads that bindings name.
-use Rattle.std.proofs.Common.{[], ℕ, ◌+◌, ◌==◌, ◌||◌, ◌↔◌, ◌∙◌, ◌∷◌, ◌≡◌, ◌≤◌, ◌⊎◌, Bool, None, Option, Some, ap, arith, cond, false}
-use Rattle.std.proofs.Common.{inl, inr, length, refl, slice_get, sym, true}
-use Rattle.std.{specs.Option.option_and_then, proofs.lemmas.Bool.{eq-eqb, eqb-true, false≢true, or_cases, or_left, or_right}}
+use Rattle.std.proofs.Common.{[], ℕ, ◌+◌, ◌==◌, ◌||◌, ◌↔◌, ◌∙◌, ◌∷◌, ◌≡◌, ◌≤◌, ◌⊎◌, Bool, None, Option, Some, ap, arith, cond, false, inl, inr, length, refl, slice_get, sym, true, ◌&&◌}
+use Rattle.std.specs.Option.{option_and_then}
+use Rattle.std.proofs.lemmas.Bool.{eq-eqb, eqb-true, false≢true, or_cases, or_left, or_right, and_parts, and_from}
 use Rattle.std.proofs.lemmas.Option.{none-some, same_Some, slice_get_within}
-use Rattle.base.specs.declared.{ids.ObjId.ObjId, kind.Kind.TheVariants.Control, labels.Labels.Labels}
+use Rattle.base.specs.declared.ids.ObjId.{ObjId}
+use Rattle.base.specs.declared.kind.Kind.TheVariants.{Control}
+use Rattle.base.specs.declared.labels.Labels.{Labels}
 use Rattle.base.specs.Labels.{is_in}
-use Rattle.machine.specs.declared.{layout.{Binding.Binding, Initial.Initial}, object.Object.{Object, Object as o}}
-use Rattle.machine.specs.declared.thread.{RunState.{RunState, RunState as state}, Tcb.Tcb}
-use Rattle.machine.specs.{Authority.label_of, Layout.{Layout, initial_of}, Outcomes.IsRefused}
-use Rattle.policy.specs.{Domain.EdgeTest, Steps.IsTarget}
+use Rattle.machine.specs.declared.layout.Binding.{Binding}
+use Rattle.machine.specs.declared.layout.Initial.{Initial}
+use Rattle.machine.specs.declared.object.Object.{Object}
+use Rattle.machine.specs.declared.object.Object.{Object as o}
+use Rattle.machine.specs.declared.thread.RunState.{RunState}
+use Rattle.machine.specs.declared.thread.RunState.{RunState as state}
+use Rattle.machine.specs.declared.thread.Tcb.{Tcb}
+use Rattle.machine.specs.Authority.{label_of}
+use Rattle.machine.specs.Layout.{Layout, initial_of}
+use Rattle.machine.specs.Outcomes.{IsRefused}
+use Rattle.policy.specs.Domain.{EdgeTest}
+use Rattle.policy.specs.Steps.{IsTarget}
 use Rattle.policy.proofs.Stepping.{IsBelow, more_below, none_more, only_kind, target_by}
-use Rattle.table.{specs.Rules.IsLawful, proofs.Lookups.{bound_at, bound_from}}
-use Rattle.integrity.specs.{Acting.{MayAct, Starts}, Safe.RefusesOthers}
-use Rattle.verdict.specs.Acting.{RefusesAllBut, is_ready, is_ready_state, ready_label}
+use Rattle.table.specs.Rules.{IsLawful}
+use Rattle.table.proofs.Lookups.{bound_at, bound_from}
+use Rattle.integrity.specs.Acting.{MayAct, Starts, MayHaveThreads}
+use Rattle.integrity.specs.Safe.{RefusesOthers}
+use Rattle.verdict.specs.Acting.{RefusesAllBut, is_ready, is_ready_state, ready_label, has_threads}
+use Rattle.machine.specs.declared.object.ObjectKind.TheVariants as kind
+use Rattle.machine.specs.Objects.{kind_of_object}
+use Rattle.verdict.specs.Extents.{IsActor}
 
 -- what it is to be ready
 
@@ -152,3 +167,82 @@ others_refused t allowed labels acting refuses m next event outcome reached step
         → IsRefused outcome ⊎ ((a : ℕ) × (label_of t m event.thread ≡ Some a) × (is_in labels a ≡ true))
     by (inl refused) = inl refused
     by (inr acts) = inr (acts.0, acts.1, (acting acts.0).1 acts.2)
+
+-- the object at this place is of this label, and a thread or memory of which threads can be made
+pub record HasSource (t : Layout) (a k : ℕ) : Type 0 where
+  pub initial : Initial
+  pub here : slice_get t.objects k ≡ Some initial
+  pub labelled : initial.label ≡ a
+  pub source : has_threads initial.object ≡ true
+
+source_kind :
+    (object : Object) → has_threads object ≡ true
+    → (kind_of_object object ≡ kind.Tcb) ⊎ (kind_of_object object ≡ kind.Untyped)
+source_kind (o.Tcb thread) is = inl refl
+source_kind (o.Untyped memory) is = inr refl
+source_kind _ is = absurd (false≢true is)
+
+kind_source :
+    (object : Object) → (kind_of_object object ≡ kind.Tcb) ⊎ (kind_of_object object ≡ kind.Untyped) → has_threads object ≡ true
+kind_source (o.Tcb thread) is = refl
+kind_source (o.Untyped memory) is = refl
+kind_source _ (inl is) = cc
+kind_source _ (inr is) = cc
+
+-- one object more
+module _ (t : Layout) (a n : ℕ) (initial : Initial) (here : slice_get t.objects n ≡ Some initial) where
+  source_is : HasSource t a n → (initial.label ≡ a) × (has_threads initial.object ≡ true)
+  source_is has =
+      let same = same_Some initial has.initial (sym here ∙ has.here) in
+      (ap (λ (i : Initial). i.label) same ∙ has.labelled, ap (λ (i : Initial). has_threads i.object) same ∙ has.source)
+
+  pub one_source :
+      (before : Bool) → has_threads initial.object ≡ true → (before ≡ true) ↔ IsBelow (HasSource t a) n
+      → ((before || (a == initial.label)) ≡ true) ↔ IsBelow (HasSource t a) (n + 1)
+  one_source before source so_far =
+      more_below n before (a == initial.label) so_far
+      (λ same. record { initial = initial; here = here; labelled = sym (eqb-true a initial.label same); source = source })
+      (λ has. eq-eqb a initial.label (sym (source_is has).0))
+
+  pub no_source :
+      (before : Bool) → has_threads initial.object ≡ false → (before ≡ true) ↔ IsBelow (HasSource t a) n
+      → (before ≡ true) ↔ IsBelow (HasSource t a) (n + 1)
+  no_source before none so_far = none_more n before so_far (λ has. false≢true (sym none ∙ (source_is has).1))
+
+-- of all objects
+module _ (t : Layout) (a : ℕ) where
+  pub threads_from : (n : ℕ) → IsBelow (HasSource t a) n → MayHaveThreads t a
+  unfolding initial_of
+  threads_from n below =
+      let has = below.2 in record {
+        id = record { 0 = below.0 };
+        initial = has.initial;
+        declares = has.here;
+        labelled = has.labelled;
+        is_source = source_kind has.initial.object has.source;
+      }
+
+  pub threads_below : (n : ℕ) → length t.objects ≤ n → MayHaveThreads t a → IsBelow (HasSource t a) n
+  unfolding initial_of
+  threads_below n all threads = (
+    threads.id.0,
+    omega (arith, slice_get_within t.objects threads.id.0 threads.initial threads.declares, all),
+    record {
+      initial = threads.initial;
+      here = threads.declares;
+      labelled = threads.labelled;
+      source = kind_source threads.initial.object threads.is_source;
+    },
+  )
+
+-- the labels that act and may have threads are those whose threads make calls
+pub both_actors :
+    (t : Layout) (allowed : EdgeTest) (acting threads both : Labels)
+    → ((a : ℕ) → is_in both a ≡ (is_in acting a && is_in threads a))
+    → ((a : ℕ) → (is_in acting a ≡ true) ↔ MayAct t allowed a)
+    → ((a : ℕ) → (is_in threads a ≡ true) ↔ MayHaveThreads t a)
+    → (a : ℕ) → (is_in both a ≡ true) ↔ IsActor t allowed a
+both_actors t allowed acting threads both meets acts have a = (
+  λ is. let parts = and_parts (is_in acting a) (is_in threads a) (sym (meets a) ∙ is) in ((acts a).0 parts.0, (have a).0 parts.1),
+  λ actor. meets a ∙ and_from (is_in acting a) (is_in threads a) ((acts a).1 actor.0) ((have a).1 actor.1),
+)

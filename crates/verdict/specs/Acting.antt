@@ -1,4 +1,4 @@
--- Which threads of a table are ready at boot, and that in every run only the labels of a set have steps that aren't refused
+-- Which threads of a table are ready at boot, which objects threads can be made of, and that in every run only the labels of a set have steps that aren't refused
 -- (confine's own).
 use Rattle.std.specs.{Option.option_and_then, Prelude.{ℕ, ◌≡◌, ◌⊎◌, Bool, None, Option, Some, false, if◌then◌else◌, true}}
 use Rattle.base.specs.{declared.{ids.ObjId.ObjId, labels.Labels.Labels}, Labels.is_in}
@@ -16,6 +16,12 @@ is_ready_state _ = false
 abbrev pub is_ready : Object → Bool
 is_ready (o.Tcb thread) = is_ready_state thread.state
 is_ready _ = false
+
+-- whether an object is a thread, or memory of which threads can be made
+abbrev pub has_threads : Object → Bool
+has_threads (o.Tcb _) = true
+has_threads (o.Untyped _) = true
+has_threads _ = false
 
 -- the label of an initial thread that is ready
 abbrev pub ready_label : Layout → ObjId → Option ℕ

@@ -1,13 +1,15 @@
 ghost use Rattle.std.specs.Prelude.{ℕ, ◌↔◌, ◌≡◌, false, true};
 ghost use Rattle.base.specs.Labels.{is_in};
-ghost use Rattle.policy.specs.Policy.{allows};
-ghost use Rattle.integrity.specs.{Acting.{MayAct, Starts}, Apart.NeverChanges};
-ghost use Rattle.verdict.specs.Acting.{RefusesAllBut, is_ready, ready_label};
+ghost use Rattle.policy.specs.{Closed.IsClosed, Policy.allows};
+ghost use Rattle.integrity.specs.{Acting.{MayAct, MayHaveThreads, Starts}, Apart.NeverChanges};
+ghost use Rattle.verdict.specs.Acting.{RefusesAllBut, has_threads, is_ready, ready_label};
+ghost use Rattle.verdict.specs.Extents.{IsActor};
 
 use crate::Accepted;
 use base::{Kind, Label, Labels, ObjId};
 use integrity::{changes_are_of_labels_that_act, labels_act_from_boot_or_by_control};
 use machine::{Object, RunState};
+use policy::Policy;
 use table::Table;
 
 impl Accepted<'_> {
@@ -21,11 +23,26 @@ impl Accepted<'_> {
         ensures refused { RefusesAllBut self.now.table result }
         ensures kept { (a l : ℕ) → is_in result a ≡ false → NeverChanges self.now.table a l }
     {
-        labels_act_from_boot_or_by_control();
         changes_are_of_labels_that_act();
-        let starting = starting(self.table());
-        starting.union(self.policy().targets(starting, &[Kind::Control]))
+        labels_that_act(self.table(), self.policy())
     }
+}
+
+/// Returns the labels whose threads may make calls in runs of a table by a closed policy: they may act, and
+/// have threads in the table, or memory of which threads can be made.
+pub fn actors(table: &Table, policy: &Policy) -> Labels
+    ensures { IsClosed (allows policy.now) → (a : ℕ) → (is_in result a ≡ true) ↔ IsActor table.now (allows policy.now) a }
+{
+    labels_that_act(table, policy).intersection(with_threads(table))
+}
+
+// The labels that may act by a closed policy.
+fn labels_that_act(table: &Table, policy: &Policy) -> Labels
+    ensures { IsClosed (allows policy.now) → (a : ℕ) → (is_in result a ≡ true) ↔ MayAct table.now (allows policy.now) a }
+{
+    labels_act_from_boot_or_by_control();
+    let starting = starting(table);
+    starting.union(policy.targets(starting, &[Kind::Control]))
 }
 
 // The labels with a thread that is ready at boot and bound to a context.
@@ -61,4 +78,24 @@ fn is_ready(object: &Object) -> bool
         Object::Tcb(thread) => matches!(thread.state, RunState::Ready),
         _ => false,
     }
+}
+
+// The labels that may have threads.
+fn with_threads(table: &Table) -> Labels
+    ensures { (a : ℕ) → (is_in result a ≡ true) ↔ MayHaveThreads table.now a }
+{
+    let mut found = Labels::none();
+    for initial in table.objects() {
+        if has_threads(&initial.object) {
+            found = found.union(Labels::only(initial.label));
+        }
+    }
+    found
+}
+
+// Whether an object is a thread, or memory of which threads can be made.
+fn has_threads(object: &Object) -> bool
+    ensures { result ≡ has_threads object.now }
+{
+    matches!(object, Object::Tcb(_) | Object::Untyped(_))
 }

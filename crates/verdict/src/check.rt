@@ -1,7 +1,8 @@
 ghost use Rattle.std.specs.Prelude.{ℕ, ◌<◌, ◌≡◌, ◌≤◌, IfErr, IfOk};
 ghost use Rattle.base.specs.Refusals.{out_of_memory};
 ghost use Rattle.policy.specs.Policy.{allows};
-ghost use Rattle.integrity.specs.Safe.{GuardsBudgets, KeepsBounds, KeepsIntegrity, LabelsObjects, RefusesOthers, StaysConfined};
+ghost use Rattle.integrity.specs.Safe.{GuardsBudgets, KeepsBounds, KeepsIntegrity, KeepsNarrowBounds, LabelsObjects, RefusesOthers};
+ghost use Rattle.integrity.specs.Safe.{StaysConfined};
 ghost use Rattle.verdict.specs.System.{IsVerdict};
 
 use crate::bindings::first_binding;
@@ -43,6 +44,7 @@ pub fn judge<'a, R: Threads + Sync, G: Gate + Sync>(
     ensures confined { IfOk result (λ answer. IfOk answer (λ accepted. StaysConfined table.now (allows policy.now))) }
     ensures integrity { IfOk result (λ answer. IfOk answer (λ accepted. KeepsIntegrity table.now (allows policy.now))) }
     ensures bounds { IfOk result (λ answer. IfOk answer (λ accepted. KeepsBounds table.now (allows policy.now))) }
+    ensures narrow { IfOk result (λ answer. IfOk answer (λ accepted. KeepsNarrowBounds table.now (allows policy.now))) }
     ensures budgets { IfOk result (λ answer. IfOk answer (λ accepted. GuardsBudgets table.now (allows policy.now))) }
     ensures acting { IfOk result (λ answer. IfOk answer (λ accepted. RefusesOthers table.now (allows policy.now))) }
     ensures arrived { IfOk result (λ answer. IfOk answer (λ accepted. (worker : ℕ) → worker < workers → G.HasArrived gate.now worker)) }

@@ -5,6 +5,7 @@
 mod accepted;
 mod acting;
 mod bindings;
+mod bounds;
 mod check;
 mod denial;
 mod excess;
@@ -14,6 +15,8 @@ mod safe;
 mod slots;
 
 pub use accepted::Accepted;
+pub use acting::actors;
+pub use bounds::Bounds;
 pub use check::judge;
 pub use denial::Denial;
 pub use excess::outside;

@@ -1,7 +1,7 @@
-use Rattle.policy.specs.Policy.{allows}
+use Rattle.verdict.specs.Extents.{reach_of}
 use Rattle.claims.specs.Holding.{AreStrongestBefore}
 use Rattle.claims.proofs.gathering.strongest_by.Given as goal
 
 -- the claims of the labels so far are there
 abbrev pub invariant-loop-number : goal.invariant-loop-number
-invariant-loop-number l = AreStrongestBefore l.table (allows l.policy) l.number 0 l.claims
+invariant-loop-number l = AreStrongestBefore l.table (reach_of l.bounds) l.number 0 l.claims

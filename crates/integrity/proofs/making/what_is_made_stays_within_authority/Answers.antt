@@ -22,6 +22,6 @@ returns c = record {
       (keeps t allowed a m next caller untyped of bits to offset count made sound closed labelled e).held.confined;
   labelled = λ t allowed a m next caller untyped of bits to offset count made sound closed labelled e.
       (keeps t allowed a m next caller untyped of bits to offset count made sound closed labelled e).held.of_table;
-  changes = λ t allowed a m next caller untyped of bits to offset count made sound closed labelled e.
-      (keeps t allowed a m next caller untyped of bits to offset count made sound closed labelled e).acts;
+  changes = λ t allowed a m next caller untyped of bits to offset count made sound closed labelled e awake.
+      (keeps t allowed a m next caller untyped of bits to offset count made sound closed labelled e).acts awake;
 }

@@ -4,8 +4,8 @@ use Rattle.integrity.proofs.removing.removals_stay_within_authority.Goals as goa
 pub returns : goal.returns
 returns c = record {
   sound = removed_sound;
-  changes = λ t allowed a m chosen sound closed may id.
-      (removed_keeps t allowed m chosen sound closed m (some_event id) a may).acts id;
+  changes = λ t allowed a m chosen sound closed may awake id.
+      (removed_keeps t allowed m chosen sound closed (some_event id) a may).acts awake id;
   absent = absent_after;
   budgets = share_stays;
 }

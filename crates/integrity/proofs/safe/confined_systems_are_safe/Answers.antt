@@ -1,5 +1,5 @@
 -- From what is known of boot states, by induction over runs.
-use Rattle.integrity.proofs.{AtBoot.{boot_asleep, boot_of_table}, Runs.safe_from}
+use Rattle.integrity.proofs.{AtBoot.{boot_asleep, boot_of_table, boot_served}, Runs.safe_from}
 use Rattle.integrity.proofs.safe.confined_systems_are_safe.Goals as goal
 
 pub returns : goal.returns
@@ -11,4 +11,5 @@ returns c = λ t allowed lawful closed confined.
         confined = confined boot booted;
       },
       boot_asleep t allowed boot lawful booted,
+      boot_served t allowed boot lawful booted,
     ))

@@ -1,4 +1,4 @@
-use Rattle.std.{specs.Prelude.IfOk, proofs.Common.{arith, subst}}
+use Rattle.std.{proofs.Common.{arith, subst}}
 use Rattle.verdict.specs.System.{System}
 use Rattle.report.specs.Claimed as claimed
 use Rattle.report.proofs.claiming.claims_judged.Goals as goal

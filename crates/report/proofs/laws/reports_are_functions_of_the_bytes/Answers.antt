@@ -6,7 +6,7 @@ use Rattle.certificate.specs.Reading.{read_certificate_of}
 use Rattle.forms.specs.declared.file.File.{File as file}
 use Rattle.report.specs.{Answers.{Checks, Verifies}, Claimed.{JudgesClaims, WritesStrongest}, Closings.Closes, OneAnswer.RunsInMemory}
 use Rattle.report.{specs.{Questions.{Draws, Lists, Tells}, Replays.Replays}, proofs.OneAnswer.{of_system, of_table, of_three}}
-use Rattle.report.proofs.{OneClaimed.{claims_once, strongest_told_once}, OneClosing.{close_once, tell_once}, OneDrawing.draw_once}
+use Rattle.report.proofs.{OneClaimed.{claims_once, strongest_told_once}, OneAsked.tell_once, OneClosing.close_once, OneDrawing.draw_once}
 use Rattle.report.proofs.{OneDrawing.list_once, OneLog.{replay_once, run_told_once}, OneReport.{check_once, verify_once}}
 use Rattle.report.proofs.laws.reports_are_functions_of_the_bytes.Goals as goal
 
@@ -26,10 +26,10 @@ pub returns-clause-start : goal.returns-clause-start
 returns-clause-start c = λ written. of_table (λ t. Closes written t []) (λ t. close_once written t [])
 
 pub returns-clause-why : goal.returns-clause-why
-returns-clause-why c = λ actor object. of_system (Tells actor object) (tell_once actor object)
+returns-clause-why c = λ basis actor object. of_system (Tells basis actor object) (tell_once basis actor object)
 
 pub returns-clause-draw : goal.returns-clause-draw
-returns-clause-draw c = of_system Draws draw_once
+returns-clause-draw c = λ basis. of_system (Draws basis) (draw_once basis)
 
 pub returns-clause-list : goal.returns-clause-list
 returns-clause-list c = of_table Lists list_once

@@ -3,7 +3,7 @@ use Rattle.std.proofs.Common.{◌+◌, ◌↔◌, ◌∙◌, ◌||◌, ◌≡◌
 use Rattle.base.specs.Labels.{is_in}
 use Rattle.policy.proofs.Stepping.{IsBelow}
 use Rattle.table.proofs.Lookups.{read_at}
-use Rattle.verdict.proofs.Actors.{HasReady, none_ready, one_ready, starts_below, starts_from}
+use Rattle.verdict.proofs.WhoActs.{HasReady, none_ready, one_ready, starts_below, starts_from}
 use Rattle.verdict.proofs.acting.starting.Goals.{in-Some, in_default}
 use Rattle.verdict.proofs.acting.starting.Goals as goal
 

@@ -2,7 +2,7 @@
 use Rattle.std.proofs.Common.{ℕ, ◌↔◌, ◌≡◌, true}
 use Rattle.base.specs.Labels.{is_in}
 use Rattle.policy.proofs.Stepping.{IsBelow}
-use Rattle.verdict.proofs.Actors.{HasReady}
+use Rattle.verdict.proofs.WhoActs.{HasReady}
 use Rattle.verdict.proofs.acting.starting.Given as goal
 
 abbrev pub invariant-loop-binding : goal.invariant-loop-binding
