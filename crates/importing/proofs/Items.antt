@@ -1,0 +1,33 @@
+-- What a list shows of another one: tests, and what stands at a place.
+use Rattle.std.specs.{List.{list_any, position, position_or_len}}
+use Rattle.std.proofs.Common.{[], ℕ, ◌+◌, ◌∙◌, ◌∷◌, ◌≡◌, ◌||◌, Bool, List, None, Some, ap, cond, length, map, nat_lt, not, refl, suc, zero}
+use Rattle.std.specs.{Option.{option_map}, Prelude.{slice_get}}
+
+-- a test of any of what is seen
+pub any_seen : {X Y : Type 0} (see : X → Y) (test : Y → Bool) (xs : List X)
+    → list_any test (map see xs) ≡ list_any (λ x. test (see x)) xs
+any_seen see test [] = refl
+any_seen see test (x ∷ xs) = ap (λ b. test (see x) || b) (any_seen see test xs)
+
+-- what stands at a place of what is seen
+pub get_seen : {X Y : Type 0} (see : X → Y) (xs : List X) (n : ℕ)
+    → slice_get (map see xs) n ≡ option_map see (slice_get xs n)
+get_seen see [] n = refl
+get_seen see (x ∷ xs) zero = refl
+get_seen see (x ∷ xs) (suc n) = get_seen see xs n
+
+-- the place of what is seen
+pub position_seen : {X Y : Type 0} (see : X → Y) (test : Y → Bool) (xs : List X)
+    → position test (map see xs) ≡ position (λ x. test (see x)) xs
+position_seen {X = X} see test xs =
+    ap (λ n. cond (nat_lt n (length (map see xs))) (Some n) None) (before xs)
+    ∙ ap (λ n. cond (nat_lt (position_or_len (λ x. test (see x)) xs) n) (Some (position_or_len (λ x. test (see x)) xs)) None)
+    (length_seen xs)
+  where
+    before : (ys : List X) → position_or_len test (map see ys) ≡ position_or_len (λ x. test (see x)) ys
+    before [] = refl
+    before (y ∷ ys) = ap (λ n. cond (not (test (see y))) (1 + n) 0) (before ys)
+
+    length_seen : (ys : List X) → length (map see ys) ≡ length ys
+    length_seen [] = refl
+    length_seen (y ∷ ys) = ap suc (length_seen ys)

@@ -1,0 +1,100 @@
+-- How labels are added one after another.
+use Rattle.std.specs.{List.{AllByRecursion, AllPairs}}
+use Rattle.std.proofs.Common.{[], ℕ, ◌++◌, ◌+◌, ◌<◌, ◌∙◌, ◌∷◌, ◌≡◌, ◌≢◌, ◌≤◌, Bool, List, add-one, ap, arith, cond, false, get_or, length, nat_le, refl, subst, suc, sym, take, true, zero}
+use Rattle.std.proofs.lemmas.List.{get_or-take, length-take-le, take_all}
+use Rattle.table.specs.{Building.{AdmitsLabel, with_label}, Names.{label_named}}
+use Rattle.table.proofs.FrontLemmas.{no_place}
+use Rattle.machine.specs.Layout.{Layout, most_labels}
+use Rattle.microkit.specs.{LabelView.{bytes_of}, Names.{IsLabelName}}
+use Rattle.std.specs.Global.{Vec}
+use Rattle.machine.specs.declared.layout.Version.TheVariants as version
+use Rattle.std.proofs.lemmas.Bool.Decides.{nat_tests}
+use Rattle.words.specs.Name.{is_name}
+use Rattle.importing.specs.Built.{labelled, version_for}
+
+-- the first so many labels
+abbrev pub first_labels : List (List ℕ) → ℕ → Layout
+first_labels names i = record (labelled names) { labels = take i names }
+
+pub is_spelled : (names : List (List ℕ)) (i : ℕ) (d : List ℕ) → AllByRecursion IsLabelName names → i < length names
+    → is_name (get_or names i d) ≡ true
+is_spelled [] i d all below = absurd (omega (arith, below))
+is_spelled (name ∷ names) zero d all below = all.0.0
+is_spelled (name ∷ names) (suc i) d all below = is_spelled names i d all.1 (omega (arith, below))
+
+pub one_more : (names : List (List ℕ)) (i : ℕ) (d : List ℕ) → i < length names
+    → take (i + 1) names ≡ take i names ++ get_or names i d ∷ []
+one_more names i d below = rw add-one (by names i below)
+  where
+    by : (xs : List (List ℕ)) (k : ℕ) → k < length xs → take (suc k) xs ≡ take k xs ++ get_or xs k d ∷ []
+    by [] k below = absurd (omega (arith, below))
+    by (x ∷ xs) zero below = refl
+    by (x ∷ xs) (suc k) below = ap (λ ys. x ∷ ys) (by xs k (omega (arith, below)))
+
+same_any : (xs : List (List ℕ)) (i : ℕ) (d e : List ℕ) → i < length xs → get_or xs i d ≡ get_or xs i e
+same_any [] i d e below = absurd (omega (arith, below))
+same_any (x ∷ xs) zero d e below = refl
+same_any (x ∷ xs) (suc i) d e below = same_any xs i d e (omega (arith, below))
+
+-- there is room for each of at most 256 labels
+room : (i count : ℕ) → i < count → count ≤ 256 → i < most_labels (version_for count)
+room i count below few = cases (nat_le count 64) refl
+  where
+    cases : (small : Bool) → nat_le count 64 ≡ small → i < most_labels (cond small version.One version.Two)
+    cases true is = grind (arith, nat_tests)
+    cases false is = omega (arith, below, few)
+
+pub admits_next : (names : List (List ℕ)) (i : ℕ) (d : List ℕ) → AllByRecursion IsLabelName names
+    → AllPairs (λ one other. one ≢ other) names → length names ≤ 256 → i < length names
+    → AdmitsLabel (first_labels names i) (get_or names i d)
+unfolding label_named
+admits_next names i d all distinct few below =
+    let size : length (take i names) ≡ i = length-take-le i names (omega arith) in
+    record {
+      spelled = is_spelled names i d all below;
+      fresh = no_place (get_or names i d) (take i names) (λ k e within same.
+          let before : k < i = omega (arith, within, size) in
+          distinct k i e before below
+          (sym (get_or-take i names k e before) ∙ same ∙ same_any names i d e below));
+      room = subst (λ n. n < most_labels (version_for (length names))) (sym size) (room i (length names) below few);
+    }
+
+-- the same of names as they lie in memory
+
+pub seen_at : (names : List (Vec ℕ)) (i : ℕ) (d : Vec ℕ) → get_or (bytes_of names) i d.items ≡ (get_or names i d).items
+seen_at [] i d = refl
+seen_at (name ∷ names) zero d = refl
+seen_at (name ∷ names) (suc i) d = seen_at names i d
+
+pub seen_length : (names : List (Vec ℕ)) → length (bytes_of names) ≡ length names
+seen_length [] = refl
+seen_length (name ∷ names) = ap suc (seen_length names)
+
+named : (names : List (Vec ℕ)) (i : ℕ) (item : Vec ℕ) (name : List ℕ) → item ≡ get_or names i item → name ≡ item.items
+    → get_or (bytes_of names) i item.items ≡ name
+named names i item name at is = seen_at names i item ∙ ap (λ (v : Vec ℕ). v.items) (sym at) ∙ sym is
+
+pub admits_at : (names : List (Vec ℕ)) (i : ℕ) (item : Vec ℕ) (draft : Layout) (name : List ℕ)
+    → AllByRecursion IsLabelName (bytes_of names) → AllPairs (λ one other. one ≢ other) (bytes_of names)
+    → length names ≤ 256 → i < length names → item ≡ get_or names i item → name ≡ item.items
+    → draft ≡ first_labels (bytes_of names) i → AdmitsLabel draft name
+admits_at names i item draft name all distinct few below at is so_far =
+    let size = seen_length names in
+    subst (λ t. AdmitsLabel t name) (sym so_far)
+    (subst (λ n. AdmitsLabel (first_labels (bytes_of names) i) n) (named names i item name at is)
+    (admits_next (bytes_of names) i item.items all distinct (omega (arith, few, size)) (omega (arith, below, size))))
+
+pub more_at : (names : List (Vec ℕ)) (i : ℕ) (item : Vec ℕ) (draft : Layout) (name : List ℕ) → i < length names
+    → item ≡ get_or names i item → name ≡ item.items → draft ≡ first_labels (bytes_of names) i
+    → with_label draft name ≡ first_labels (bytes_of names) (i + 1)
+more_at names i item draft name below at is so_far =
+    let size = seen_length names in
+    ap (λ t. with_label t name) so_far
+    ∙ ap (λ n. with_label (first_labels (bytes_of names) i) n) (sym (named names i item name at is))
+    ∙ ap (λ xs. record (labelled (bytes_of names)) { labels = xs })
+    (sym (one_more (bytes_of names) i item.items (omega (arith, below, size))))
+
+pub all_at : (names : List (Vec ℕ)) (i : ℕ) → length names ≤ i → first_labels (bytes_of names) i ≡ labelled (bytes_of names)
+all_at names i past =
+    let size = seen_length names in
+    ap (λ xs. record (labelled (bytes_of names)) { labels = xs }) (take_all i (bytes_of names) (omega (arith, past, size)))

@@ -1,0 +1,11 @@
+pub mod Items
+pub mod Ids
+pub mod Maps
+pub mod Numbers
+pub mod Takes
+pub mod Alignment
+pub mod Ends
+pub mod Steps
+pub mod Labels
+pub mod Counts
+pub mod Whole

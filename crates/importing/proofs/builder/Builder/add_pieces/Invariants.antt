@@ -1,0 +1,8 @@
+-- The pieces that are left, behind the table so far, come to what all of them come to.
+use Rattle.std.proofs.Common.{◌≡◌, drop}
+use Rattle.importing.specs.{Built.{pieces_added}, PlanView.{plan_of}}
+use Rattle.importing.proofs.builder.Builder.add_pieces.Given as goal
+
+abbrev pub invariant-loop-piece : goal.invariant-loop-piece
+invariant-loop-piece l =
+    pieces_added (plan_of l.plan) (drop l.piece-index l.pieces) l.self ≡ pieces_added (plan_of l.plan) l.pieces l.initial.self

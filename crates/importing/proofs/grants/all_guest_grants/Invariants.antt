@@ -1,0 +1,9 @@
+-- The capabilities so far are those of the first virtual machines.
+use Rattle.std.specs.List.{flat_map, range_with_len}
+use Rattle.std.proofs.Common.{◌≡◌}
+use Rattle.microkit.specs.View.{description_of}
+use Rattle.importing.specs.Grants.{guest_grants}
+use Rattle.importing.proofs.grants.all_guest_grants.Given as goal
+
+abbrev pub invariant-loop-n : goal.invariant-loop-n
+invariant-loop-n l = l.grants.items ≡ flat_map (guest_grants (description_of l.description) l.minting) (range_with_len 0 l.n)

@@ -1,0 +1,10 @@
+-- The bindings that are left, behind the table so far, come to what all of them come to.
+use Rattle.std.proofs.Common.{◌≡◌, drop}
+use Rattle.microkit.specs.View.{description_of}
+use Rattle.importing.specs.Tables.{bonds_added}
+use Rattle.importing.proofs.tables.add_bonds.Given as goal
+
+abbrev pub invariant-loop-bond : goal.invariant-loop-bond
+invariant-loop-bond l =
+    bonds_added (description_of l.description) l.pieces (drop l.bond-index l.bonds) l.draft
+    ≡ bonds_added (description_of l.description) l.pieces l.bonds l.initial.draft

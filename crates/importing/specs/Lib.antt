@@ -1,0 +1,9 @@
+pub mod Pieces
+pub mod Objects
+pub mod Slots
+pub mod Plan
+pub mod Grants
+pub mod Built
+pub mod PlanView
+pub mod Tables
+pub mod Whole

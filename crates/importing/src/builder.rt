@@ -1,0 +1,237 @@
+//! A table that is built up from a description: its labels and objects.
+ghost use Rattle.std.specs.{List.{AllByRecursion, AllPairs}, Option.option_copied};
+ghost use Rattle.std.specs.Prelude.{[], ◌&&◌, ◌<◌, ◌≡◌, ◌≢◌, ◌≤◌, IfOk, OnOk, false, is_some, length, nat_le};
+ghost use Rattle.std.specs.Prelude.{slice_get, true, unwrap_or};
+ghost use Rattle.base.specs.declared.limits.TheConstants.{ADDRESS_END};
+ghost use Rattle.base.specs.declared.label.TheConstants.Label as LabelLimits;
+ghost use Rattle.machine.specs.Objects.{end_of, size_bits, size_of};
+ghost use Rattle.microkit.specs.{LabelView.bytes_of, Names.IsLabelName};
+ghost use Rattle.words.specs.{Name.is_name, Reading.Reads};
+ghost use Rattle.table.specs.{Building.{AdmitsLabel, has_room, with_label}, Names.object_named};
+ghost use Rattle.importing.specs.Built.{object_added, object_placed, piece_added, pieces_added, started, version_for};
+ghost use Rattle.importing.specs.Built.{with_object};
+ghost use Rattle.importing.specs.{Objects.{IsPlaced, IsSmall}, PlanView.{plan_of}};
+
+use crate::objects::object_of;
+use crate::pieces::{Children, Grant, Piece};
+use crate::plan::{label_of, object_name, part_of, piece_line, subject_of};
+use base::Label;
+use machine::{Initial, Object, Version};
+use microkit::{Description, Subject};
+use std::alloc::{AllocError, Global};
+use std::marker::Model;
+use table::{Draft, is_addressable};
+use words::{Fault, Wrong, name_of};
+
+/// What a table is built up from.
+#[derive(Drop)]
+pub(crate) struct Plan<'a> {
+    pub description: &'a Description,
+    pub children: Children,
+    /// What has a label, and its names.
+    pub subjects: Vec<Subject>,
+    pub names: Vec<Vec<u8>>,
+    pub grants: Vec<Grant>,
+}
+
+/// A table of which the labels and some objects were added, and the first address that is free.
+#[derive(Drop)]
+pub(crate) struct Builder {
+    draft: Draft,
+    next: u64,
+}
+
+impl Model for Builder {
+    ghost use Rattle.std.specs.Prelude.{◌≤◌};
+    ghost use Rattle.base.specs.declared.limits.TheConstants.{ADDRESS_END};
+    ghost use Rattle.importing.specs.Built.{Built, EndBelow};
+
+    ghost Value = { Built };
+
+    ghost view = { λ b. record { table = b.draft; next = b.next } };
+
+    ghost invariant = { λ b. EndBelow b.draft.objects b.next × (b.next ≤ ADDRESS_END) };
+}
+
+impl Builder {
+    /// Returns a table of these labels, without objects.
+    #[tactic(auto)]
+    pub(crate) fn new(alloc: Global, names: &[Vec<u8>]) -> Result<Builder, AllocError>
+        requires names { AllByRecursion IsLabelName (bytes_of names.now) }
+        requires distinct { AllPairs (λ one other. one ≢ other) (bytes_of names.now) }
+        requires few { length names.now ≤ LabelLimits.COUNT }
+        ensures { IfOk result (λ builder. builder ≡ started (bytes_of names.now)) }
+    {
+        let mut draft = Draft::new(alloc, version_for(names));
+        for name in names {
+            add_name(&mut draft, name)?;
+        }
+        Ok(Builder {
+            draft,
+            next: 0x1000,
+        })
+    }
+
+    /// Returns the table so far.
+    pub(crate) fn into_draft(self) -> Draft
+        ensures { result ≡ self.table }
+    {
+        self.draft
+    }
+
+    /// Adds the objects of pieces.
+    ///
+    /// # Errors
+    ///
+    /// The first fault of a piece; 40 where memory is refused.
+    #[tactic(auto, using(crate::proofs::Steps::none_left, crate::proofs::Steps::one_added, crate::proofs::Steps::one_refused))]
+    pub(crate) fn add_pieces(
+        &mut self,
+        alloc: Global,
+        plan: &Plan<'_>,
+        pieces: &[Piece],
+    ) -> Result<(), Fault>
+        ensures { Reads (λ _. self.new) result (pieces_added (plan_of plan.now) pieces.now self.old) }
+    {
+        for piece in pieces {
+            self.add_piece(alloc, plan, *piece)?;
+        }
+        Ok(())
+    }
+
+    #[tactic(auto, unfolding(crate::specs::Built::piece_added, words::specs::Reading::bind))]
+    fn add_piece(&mut self, alloc: Global, plan: &Plan<'_>, piece: Piece) -> Result<(), Fault>
+        ensures { Reads (λ _. self.new) result (piece_added (plan_of plan.now) piece self.old) }
+    {
+        let line = piece_line(plan.description, piece);
+        let subject = subject_of(plan.description, piece);
+        let Some(label) = label_of(&plan.subjects, subject) else {
+            return Err(Fault::at(Wrong::UnknownName, line));
+        };
+        let part = part_of(plan.description, piece);
+        let name = object_name(alloc, label_name(&plan.names, label), part)?;
+        let next = self.next;
+        match object_of(plan.description, plan.children, &plan.grants, piece, next) {
+            Some(object) => self.add_object(line, &name, label, object),
+            None => Err(Fault::at(Wrong::Limit, line)),
+        }
+    }
+
+    #[tactic(auto, unfolding(crate::specs::Built::object_added, words::specs::Reading::bind))]
+    fn add_object(
+        &mut self,
+        line: u64,
+        word: &[u8],
+        label: usize,
+        object: Object,
+    ) -> Result<(), Fault>
+        requires { IsPlaced self.old.next object }
+        ensures { Reads (λ _. self.new) result (object_added line word.now label object self.old) }
+    {
+        match name_of(word) {
+            Some(name) => self.place(line, name, label, object),
+            None => Err(Fault::at(Wrong::Limit, line)),
+        }
+    }
+
+    #[tactic(auto, unfolding(crate::specs::Built::object_placed))]
+    fn place(&mut self, line: u64, name: &str, label: usize, object: Object) -> Result<(), Fault>
+        requires spelled { is_name name.now ≡ true }
+        requires placed { IsPlaced self.old.next object }
+        ensures { Reads (λ _. self.new) result (object_placed line name.now label object self.old) }
+    {
+        if self.draft.object_named(name).is_some() {
+            return Err(Fault::at(Wrong::Double, line));
+        }
+        if label >= self.draft.label_count() {
+            return Err(Fault::at(Wrong::UnknownName, line));
+        }
+        if !is_within(&self.draft, &object) {
+            return Err(Fault::at(Wrong::Limit, line));
+        }
+        let Some(label) = Label::new(label as u16) else {
+            return Err(Fault::at(Wrong::UnknownName, line));
+        };
+        self.put(name, label, object)?;
+        Ok(())
+    }
+
+    #[tactic(auto, using(crate::proofs::Ends::admits, crate::proofs::Ends::ends_more))]
+    fn put(&mut self, name: &str, label: Label, object: Object) -> Result<(), AllocError>
+        requires spelled { is_name name.now ≡ true }
+        requires fresh { is_some (object_named self.old.table name.now) ≡ false }
+        requires label { label < length self.old.table.labels }
+        requires placed { IsPlaced self.old.next object }
+        requires room { has_room self.old.table object ≡ true }
+        requires end { end_of object ≤ ADDRESS_END }
+        ensures { OnOk result (self.new ≡ with_object self.old name.now (record { label = label; object = object })) }
+    {
+        let end = end_of(&object);
+        self.draft.add_object(name, Initial { label, object })?;
+        self.next = end;
+        Ok(())
+    }
+}
+
+// Whether one object more is within the limits, and ends within the addresses that there are.
+fn is_within(draft: &Draft, object: &Object) -> bool
+    ensures { result ≡ (has_room draft.now object.now && nat_le (end_of object.now) ADDRESS_END) }
+{
+    draft.has_room(object) && is_addressable(object)
+}
+
+#[tactic(auto, unfolding(words::specs::Name::name_of))]
+fn add_name(draft: &mut Draft, name: &[u8]) -> Result<(), AllocError>
+    requires { AdmitsLabel draft.old name.now }
+    ensures { OnOk result (draft.new ≡ with_label draft.old name.now) }
+{
+    match name_of(name) {
+        Some(text) => draft.add_label(text),
+        None => Ok(()),
+    }
+}
+
+fn version_for(names: &[Vec<u8>]) -> Version
+    ensures { result ≡ version_for (length names.now) }
+{
+    if names.len() <= 64 {
+        Version::One
+    } else {
+        Version::Two
+    }
+}
+
+#[tactic(auto, using(crate::proofs::Items::get_seen))]
+fn label_name(names: &[Vec<u8>], label: usize) -> &[u8]
+    ensures { result.now ≡ unwrap_or (slice_get (bytes_of names.now) label) [] }
+{
+    match names.get(label) {
+        Some(name) => name,
+        None => b"",
+    }
+}
+
+// The address after an object's last byte.
+fn end_of(object: &Object) -> u64
+    requires end { end_of object.now ≤ ADDRESS_END }
+    requires small { IsSmall (size_bits object.now) }
+    ensures { result ≡ end_of object.now }
+{
+    object.address() + size_of(object)
+}
+
+fn size_of(object: &Object) -> u64
+    requires { IsSmall (size_bits object.now) }
+    ensures { result ≡ size_of object.now }
+{
+    match object {
+        Object::Untyped(memory) => 1 << memory.bits,
+        Object::CNode(node) => 1 << (node.radix.bits() + 5),
+        Object::Tcb(_) => 1024,
+        Object::Endpoint(_) => 16,
+        Object::Notification(_) | Object::Reply(_) => 32,
+        Object::Context(_) => 256,
+        Object::Frame(_) => 4096,
+        Object::Control(_) => 0,
+    }
+}

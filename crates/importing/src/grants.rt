@@ -1,0 +1,366 @@
+//! The capabilities that the CNodes of domains and virtual machines have.
+ghost use Rattle.std.specs.List.{filter_map, flat_map, list_any, range_with_len};
+ghost use Rattle.std.specs.Prelude.{[], ◌&&◌, ◌++◌, ◌==◌, ◌≡◌, ◌≤◌, filter, IfOk, length, map, not, slice_get, Some};
+ghost use Rattle.std.specs.Prelude.{take};
+ghost use Rattle.microkit.specs.View.{description_of};
+ghost use Rattle.importing.specs.Grants.{domain_grants, domain_root, fault_of, faults_held, frame_held, frame_rights};
+ghost use Rattle.importing.specs.Grants.{grant, grants_of, guest_grants, guest_space_of, is_mapped_by, is_new};
+ghost use Rattle.importing.specs.Grants.{is_user, maps_held, numbered, processor_root, root_of, roots_of, slot_grant};
+ghost use Rattle.importing.specs.Grants.{slot_grants, space_of, user_code, user_number};
+
+use crate::objects::radix_of;
+use crate::pieces::{Children, Form, Grant, Minting, Piece};
+use crate::plan::machine_number;
+use crate::slots::{Held, MAPS, capability, parent_held, read_write, slot_held};
+use base::Rights;
+use machine::{Detail, Guard};
+use microkit::{Description, Map, Processor, User};
+use std::alloc::{AllocError, Global};
+
+fn user_code(user: User) -> u64
+    ensures { result ≡ user_code user }
+{
+    match user {
+        User::Domain(_) => 0,
+        User::Machine(_) => 1,
+    }
+}
+
+fn user_number(user: User) -> usize
+    ensures { result ≡ user_number user }
+{
+    match user {
+        User::Domain(n) | User::Machine(n) => n,
+    }
+}
+
+fn is_user(one: User, other: User) -> bool
+    ensures { result ≡ is_user one other }
+{
+    user_code(one) == user_code(other) && user_number(one) == user_number(other)
+}
+
+// Whether a user maps a region by one of these maps.
+fn is_mapped_by(maps: &[Map], user: User, region: usize) -> bool
+    ensures { result ≡ is_mapped_by maps.now user region }
+{
+    maps.iter()
+        .any(|map| is_user(map.user, user) && map.region == region)
+}
+
+// Whether a user may write to a region by one of these maps.
+fn may_write(maps: &[Map], user: User, region: usize) -> bool
+    ensures { result ≡ list_any (λ map. is_user map.user user && (map.region == region && map.writable)) maps.now }
+{
+    maps.iter().any(|map| is_user(map.user, user) && map.region == region && map.writable)
+}
+
+fn frame_rights(maps: &[Map], user: User, region: usize) -> Rights
+    ensures { result ≡ frame_rights maps.now user region }
+{
+    if may_write(maps, user, region) {
+        read_write()
+    } else {
+        Rights::READ
+    }
+}
+
+fn frame_held(maps: &[Map], user: User, region: usize) -> Held
+    ensures { result ≡ frame_held maps.now user region }
+{
+    capability(
+        Form::Frame,
+        region,
+        Detail::Frame(frame_rights(maps, user, region)),
+    )
+}
+
+// Whether a user maps a region by one of these maps, and by none before it.
+fn is_new(maps: &[Map], user: User, i: usize, map: &Map) -> bool
+    requires { i ≤ length maps.now }
+    ensures { result ≡ is_new maps.now user i map.now }
+{
+    is_user(map.user, user) && !is_mapped_by(&maps[..i], user, map.region)
+}
+
+// The capabilities for the regions that a user maps, one for each region.
+#[tactic(auto, using(crate::proofs::Maps::found_more, crate::proofs::Maps::found_same, crate::proofs::Maps::found_all))]
+fn maps_held(alloc: Global, maps: &[Map], user: User) -> Result<Vec<Held>, AllocError>
+    ensures { IfOk result (λ found. found.items ≡ maps_held maps.now user) }
+{
+    let mut found = Vec::new(alloc);
+    for (i, map) in maps.iter().enumerate() {
+        if is_new(maps, user, i, map) {
+            found.push(frame_held(maps, user, map.region))?;
+        }
+    }
+    Ok(found)
+}
+
+fn grant(holder: Piece, index: u64, held: Held) -> Grant
+    ensures { result ≡ grant holder index held }
+{
+    Grant {
+        holder,
+        index,
+        target: held.target,
+        detail: held.detail,
+    }
+}
+
+// Capabilities in the slots of a holder from one on.
+#[tactic(auto, using(crate::proofs::Numbers::one_more, crate::proofs::Numbers::none_left))]
+fn numbered(
+    alloc: Global,
+    holder: Piece,
+    first: u64,
+    helds: &[Held],
+) -> Result<Vec<Grant>, AllocError>
+    requires { first ≤ 458 }
+    ensures { IfOk result (λ grants. grants.items ≡ numbered holder first helds.now) }
+{
+    let mut grants = Vec::new(alloc);
+    for (i, held) in helds.iter().enumerate() {
+        grants.push(grant(holder, first + i as u64, *held))?;
+    }
+    Ok(grants)
+}
+
+/// Returns the CNode of a domain.
+pub(crate) fn space_of(number: usize) -> Piece
+    ensures { result ≡ space_of number }
+{
+    Piece {
+        form: Form::Space,
+        number,
+    }
+}
+
+/// Returns the CNode of a virtual machine.
+pub(crate) fn guest_space_of(number: usize) -> Piece
+    ensures { result ≡ guest_space_of number }
+{
+    Piece {
+        form: Form::GuestSpace,
+        number,
+    }
+}
+
+fn slot_grant(
+    description: &Description,
+    minting: Minting,
+    children: Children,
+    domain: usize,
+    index: u64,
+) -> Option<Grant>
+    ensures { result ≡ slot_grant (description_of description.now) minting children domain index }
+{
+    match slot_held(description, minting, children, domain, index) {
+        Some(held) => Some(grant(space_of(domain), index, held)),
+        None => None,
+    }
+}
+
+// The capabilities below those of the maps.
+fn slot_grants(
+    alloc: Global,
+    description: &Description,
+    minting: Minting,
+    children: Children,
+    domain: usize,
+) -> Result<Vec<Grant>, AllocError>
+    ensures { IfOk result (λ grants. grants.items
+        ≡ slot_grants (description_of description.now) minting children domain) }
+{
+    (0..MAPS)
+        .filter_map(|index| slot_grant(description, minting, children, domain, index))
+        .collect(alloc)
+}
+
+// What a domain's CNode has.
+#[tactic(auto, unfolding(crate::specs::Grants::domain_grants))]
+fn domain_grants(
+    alloc: Global,
+    description: &Description,
+    minting: Minting,
+    children: Children,
+    domain: usize,
+) -> Result<Vec<Grant>, AllocError>
+    ensures { IfOk result (λ grants. grants.items
+        ≡ domain_grants (description_of description.now) minting children domain) }
+{
+    let mut grants = slot_grants(alloc, description, minting, children, domain)?;
+    let maps = maps_held(alloc, &description.maps, User::Domain(domain))?;
+    let mapped = numbered(alloc, space_of(domain), MAPS, &maps)?;
+    grants.extend_from_slice(&mapped)?;
+    Ok(grants)
+}
+
+fn fault_of(minting: Minting, machine: usize, processor: &Processor) -> Option<Held>
+    ensures { result ≡ fault_of minting machine processor.now }
+{
+    if processor.machine == machine {
+        parent_held(minting, processor.id)
+    } else {
+        None
+    }
+}
+
+fn faults_held(
+    alloc: Global,
+    minting: Minting,
+    machine: usize,
+    processors: &[Processor],
+) -> Result<Vec<Held>, AllocError>
+    ensures { IfOk result (λ found. found.items ≡ faults_held minting machine processors.now) }
+{
+    processors
+        .iter()
+        .filter_map(|processor| fault_of(minting, machine, processor))
+        .collect(alloc)
+}
+
+// What a virtual machine's CNode has.
+#[tactic(auto, unfolding(crate::specs::Grants::guest_grants))]
+fn guest_grants(
+    alloc: Global,
+    description: &Description,
+    minting: Minting,
+    machine: usize,
+) -> Result<Vec<Grant>, AllocError>
+    ensures { IfOk result (λ grants. grants.items ≡ guest_grants (description_of description.now) minting machine) }
+{
+    let mut found = maps_held(alloc, &description.maps, User::Machine(machine))?;
+    let faults = faults_held(alloc, minting, machine, &description.processors)?;
+    found.extend_from_slice(&faults)?;
+    numbered(alloc, guest_space_of(machine), 1, &found)
+}
+
+/// Returns what all CNodes have.
+#[tactic(auto, unfolding(crate::specs::Grants::grants_of))]
+pub(crate) fn grants_of(
+    alloc: Global,
+    description: &Description,
+    minting: Minting,
+    children: Children,
+) -> Result<Vec<Grant>, AllocError>
+    ensures { IfOk result (λ grants. grants.items ≡ grants_of (description_of description.now) minting children) }
+{
+    let mut grants = all_domain_grants(alloc, description, minting, children)?;
+    let guests = all_guest_grants(alloc, description, minting)?;
+    grants.extend_from_slice(&guests)?;
+    Ok(grants)
+}
+
+#[tactic(auto, using(crate::proofs::Numbers::flat_more))]
+fn all_domain_grants(
+    alloc: Global,
+    description: &Description,
+    minting: Minting,
+    children: Children,
+) -> Result<Vec<Grant>, AllocError>
+    ensures { IfOk result (λ grants. grants.items
+        ≡ flat_map (domain_grants (description_of description.now) minting children)
+        (range_with_len 0 (length description.now.domains.items))) }
+{
+    let mut grants = Vec::new(alloc);
+    for n in 0..description.domains.len() {
+        let more = domain_grants(alloc, description, minting, children, n)?;
+        grants.extend_from_slice(&more)?;
+    }
+    Ok(grants)
+}
+
+#[tactic(auto, using(crate::proofs::Numbers::flat_more))]
+fn all_guest_grants(
+    alloc: Global,
+    description: &Description,
+    minting: Minting,
+) -> Result<Vec<Grant>, AllocError>
+    ensures { IfOk result (λ grants. grants.items
+        ≡ flat_map (guest_grants (description_of description.now) minting)
+        (range_with_len 0 (length description.now.machines.items))) }
+{
+    let mut grants = Vec::new(alloc);
+    for n in 0..description.machines.len() {
+        let more = guest_grants(alloc, description, minting, n)?;
+        grants.extend_from_slice(&more)?;
+    }
+    Ok(grants)
+}
+
+// The root of a thread.
+fn root_of(grants: &[Grant], thread: Piece, space: Piece) -> Option<Grant>
+    ensures { result ≡ root_of grants.now thread space }
+{
+    match radix_of(grants, space) {
+        Some(radix) => Some(Grant {
+            holder: thread,
+            index: 0,
+            target: space,
+            detail: Detail::CNode(Guard {
+                size: 64 - radix.bits(),
+                value: 0,
+            }),
+        }),
+        None => None,
+    }
+}
+
+fn domain_root(grants: &[Grant], domain: usize) -> Option<Grant>
+    ensures { result ≡ domain_root grants.now domain }
+{
+    let thread = Piece {
+        form: Form::Main,
+        number: domain,
+    };
+    root_of(grants, thread, space_of(domain))
+}
+
+fn processor_root(description: &Description, grants: &[Grant], processor: usize) -> Option<Grant>
+    ensures { result ≡ processor_root (description_of description.now) grants.now processor }
+{
+    let thread = Piece {
+        form: Form::Processor,
+        number: processor,
+    };
+    let machine = machine_number(description, processor);
+    root_of(grants, thread, guest_space_of(machine))
+}
+
+/// Returns the roots of all threads.
+#[tactic(auto, unfolding(crate::specs::Grants::roots_of))]
+pub(crate) fn roots_of(
+    alloc: Global,
+    description: &Description,
+    grants: &[Grant],
+) -> Result<Vec<Grant>, AllocError>
+    ensures { IfOk result (λ roots. roots.items ≡ roots_of (description_of description.now) grants.now) }
+{
+    let mut roots = domain_roots(alloc, grants, description.domains.len())?;
+    let processors = processor_roots(alloc, description, grants)?;
+    roots.extend_from_slice(&processors)?;
+    Ok(roots)
+}
+
+fn domain_roots(alloc: Global, grants: &[Grant], count: usize) -> Result<Vec<Grant>, AllocError>
+    ensures { IfOk result (λ roots. roots.items ≡ filter_map (domain_root grants.now) (range_with_len 0 count)) }
+{
+    (0..count)
+        .filter_map(|n| domain_root(grants, n))
+        .collect(alloc)
+}
+
+fn processor_roots(
+    alloc: Global,
+    description: &Description,
+    grants: &[Grant],
+) -> Result<Vec<Grant>, AllocError>
+    ensures { IfOk result (λ roots. roots.items
+        ≡ filter_map (processor_root (description_of description.now) grants.now)
+        (range_with_len 0 (length description.now.processors.items))) }
+{
+    (0..description.processors.len())
+        .filter_map(|n| processor_root(description, grants, n))
+        .collect(alloc)
+}
