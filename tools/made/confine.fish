@@ -79,12 +79,12 @@ complete -c confine -n '__confine_at why 2' -F
 complete -c confine -n '__confine_at why 3' -a '(__confine_labels)'
 complete -c confine -n '__confine_at why 4' -a '(__confine_labels)'
 complete -c confine -n '__confine_at why' -l explain -d 'Tells in sentences, on standard error, what is denied or faulty, and a way out'
-complete -c confine -n '__confine_at why' -l policy-alone -d 'Asks the policy alone, as if threads of each label made calls: this holds of no run'
+complete -c confine -n '__confine_at why' -l policy-alone -d 'Asks the policy alone, as if all labels made calls: this holds of no run'
 complete -c confine -n '__confine_at why' -s h -l help -d 'Print help'
 complete -c confine -n '__confine_at draw 1' -F
 complete -c confine -n '__confine_at draw 2' -F
 complete -c confine -n '__confine_at draw' -l explain -d 'Tells in sentences, on standard error, what is denied or faulty, and a way out'
-complete -c confine -n '__confine_at draw' -l policy-alone -d 'Asks the policy alone, as if threads of each label made calls: this holds of no run'
+complete -c confine -n '__confine_at draw' -l policy-alone -d 'Asks the policy alone, as if all labels made calls: this holds of no run'
 complete -c confine -n '__confine_at draw' -s h -l help -d 'Print help'
 complete -c confine -n '__confine_at claims 1' -F
 complete -c confine -n '__confine_at claims 2' -F

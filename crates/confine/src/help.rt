@@ -165,7 +165,7 @@ pub const ACTOR: &str = "The label that acts, by its name in the table";
 pub const OBJECT: &str = "The label whose objects it acts on";
 
 pub const POLICY_ALONE: &str =
-    "Asks the policy alone, as if threads of each label made calls: this holds of no run";
+    "Asks the policy alone, as if all labels made calls: this holds of no run";
 
 // An example of a small table.
 macro_rules! with_table {
