@@ -10,6 +10,7 @@ import pathlib
 import re
 
 WORKED = pathlib.Path(__file__).resolve().parent / "worked"
+EXAMPLES = WORKED.parent.parent / "examples"
 TEXTS = ["table", "policy", "script", "certificate", "log", "claims"]
 
 # The command that a word asks for.
@@ -243,8 +244,10 @@ def expected(words, system, script, file, line):
 
 @functools.cache
 def system_of(name):
-    """The texts of a system. It may lack what the program says of it."""
-    folder = WORKED / "systems" / name
+    """The texts of a system: an example, or one of tests/worked/systems. It may lack what the program says of it."""
+    folder = EXAMPLES / name
+    if not folder.is_dir():
+        folder = WORKED / "systems" / name
     if not all((folder / file).is_file() for file in TEXTS[:3]):
         raise Wrong("a file can't be read")
     return {file: (folder / file).read_bytes() if (folder / file).is_file() else b"" for file in [*TEXTS, "report"]}
