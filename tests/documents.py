@@ -15,7 +15,8 @@
 - a row of a table whose last cell is a report, or 'accepted', is the answer to these files with the
   changes that the cells before it tell, as `X` becomes `Y`;
 - one with numbered lines is the beginning of a file of the system;
-- one that begins with `denied by` is what `check --explain` says of them on standard error.
+- one that begins with a line of a file and `denied by`, as `table:8: denied by`, is what `check --explain` says of them on standard
+  error, with the change that `<!-- change: .. -->` tells.
 
 A report or a sentence that is too long for a line of the document goes on in the next, which begins with two spaces more; the sentence is
 broken where it has a space.
@@ -32,6 +33,7 @@ import re
 TOP = pathlib.Path(__file__).resolve().parent.parent
 FILES = ["table", "policy", "script", "certificate", "log"]
 KINDS = [*FILES, "claims"]  # of which an example may lack the last
+DENIED = re.compile(r"\w+:\d+: denied by ")
 NOT_WELL = '"verdict":"(deny|illegal|broken)"|"state":"outside"'
 MARKS = str.maketrans({"␣": " ", "␍": "\r"})
 
@@ -180,8 +182,9 @@ def examples_of(path):
             text = in_one_line(text) if text.startswith("{") else text
             yield where, changed(files, change, text) | {"asked": asked}, text
             change = ""
-        elif form == "block" and text.startswith("denied by "):
-            yield where, files, in_one_line(text, " ")
+        elif form == "block" and DENIED.match(text):
+            yield where, changed(files, change, text), in_one_line(text, " ")
+            change = ""
         elif form == "row":
             *told, answer = [cell.strip() for cell in text.strip("|").split("|")]
             if answer == "accepted" or re.match(r'`\{".*\}`$', answer):
@@ -189,7 +192,7 @@ def examples_of(path):
 
 
 def is_answered(answer, status, out):
-    if answer.startswith("denied by "):
+    if DENIED.match(answer):
         return (status, out) == (1, answer)
     if answer == "accepted\n":
         return status == 0 and out.startswith("confine-log 1\n")
@@ -202,7 +205,7 @@ def commands_of(answer, asked):
     """The commands that give such an answer."""
     if re.match("full\n|take\n|none\n", answer):
         return [["why", "table", "policy", *asked]]
-    if answer.startswith("denied by "):
+    if DENIED.match(answer):
         return [["check", "table", "policy", "--explain"]]
     if answer.startswith("edge "):
         return [["close", "table", "policy", "--missing"]]

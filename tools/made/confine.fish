@@ -36,11 +36,11 @@ complete -c confine -f
 complete -c confine -n '__confine_at "" 0' -a check -d 'Checks a table against a policy, and prints who may change what, or which rule is broken'
 complete -c confine -n '__confine_at "" 0' -a verify -d 'Checks a table against a policy, and whether a certificate is the table'\''s'
 complete -c confine -n '__confine_at "" 0' -a run -d 'Checks a table against a policy, runs a script of kernel calls and prints its log'
-complete -c confine -n '__confine_at "" 0' -a replay -d 'Tells whether a system could have made a log, and whether the log ends within a policy'
-complete -c confine -n '__confine_at "" 0' -a close -d 'Writes the least policy to which a table keeps, with the edges of one that is named'
-complete -c confine -n '__confine_at "" 0' -a why -d 'Tells what threads of a label may do to objects of another, and by which edges'
+complete -c confine -n '__confine_at "" 0' -a replay -d 'Reports whether a system could have made a log, and whether it ends within a policy'
+complete -c confine -n '__confine_at "" 0' -a close -d 'Writes the smallest policy that accepts a table, and keeps the edges of POLICY'
+complete -c confine -n '__confine_at "" 0' -a why -d 'Reports what threads of a label may do to objects of another, and by which edges'
 complete -c confine -n '__confine_at "" 0' -a draw -d 'Draws, for Graphviz, who may change or take from whom, and by which edge'
-complete -c confine -n '__confine_at "" 0' -a claims -d 'Tells whether claims hold: at most how much authority labels have on others'
+complete -c confine -n '__confine_at "" 0' -a claims -d 'Reports whether claims hold: how much authority labels have on others at most'
 complete -c confine -n '__confine_at "" 0' -a list -d 'Lists the objects of a table: by which number a script names each, its kind, name, label'
 complete -c confine -n '__confine_at "" 0' -a help -d 'Prints the help of a command'
 complete -c confine -n '__confine_at help 1' -a 'check verify run replay close why draw claims list'
@@ -48,50 +48,50 @@ complete -c confine -n '__confine_at "" 0' -s h -l help -d 'Print help'
 complete -c confine -n '__confine_at "" 0' -s V -l version -d 'Print version'
 complete -c confine -n '__confine_at check 1' -F
 complete -c confine -n '__confine_at check 2' -F
-complete -c confine -n '__confine_at check' -l explain -d 'Tells in sentences, on standard error, what is denied or faulty, and a way out'
-complete -c confine -n '__confine_at check' -l workers -x -d 'Threads that look over the slots side by side, 1 to 16 [default: 1]'
-complete -c confine -n '__confine_at check' -l cert -d 'Writes the certificate of an accepted table in place of the report'
+complete -c confine -n '__confine_at check' -l explain -d 'Says in sentences, on standard error, what is denied or faulty, and what to do'
+complete -c confine -n '__confine_at check' -l workers -x -d 'Threads that check the slots at the same time, 1 to 16 [default: 1]'
+complete -c confine -n '__confine_at check' -l cert -d 'Writes the certificate of an accepted table instead of the report'
 complete -c confine -n '__confine_at check' -s h -l help -d 'Print help'
 complete -c confine -n '__confine_at verify 1' -F
 complete -c confine -n '__confine_at verify 2' -F
 complete -c confine -n '__confine_at verify 3' -F
-complete -c confine -n '__confine_at verify' -l explain -d 'Tells in sentences, on standard error, what is denied or faulty, and a way out'
+complete -c confine -n '__confine_at verify' -l explain -d 'Says in sentences, on standard error, what is denied or faulty, and what to do'
 complete -c confine -n '__confine_at verify' -s h -l help -d 'Print help'
 complete -c confine -n '__confine_at run 1' -F
 complete -c confine -n '__confine_at run 2' -F
 complete -c confine -n '__confine_at run 3' -F
-complete -c confine -n '__confine_at run' -l explain -d 'Tells in sentences, on standard error, what is denied or faulty, and a way out'
-complete -c confine -n '__confine_at run' -l split -d 'Has a worker for each core make its calls, side by side; their order may differ'
+complete -c confine -n '__confine_at run' -l explain -d 'Says in sentences, on standard error, what is denied or faulty, and what to do'
+complete -c confine -n '__confine_at run' -l split -d 'Runs a worker for each core; the order of calls may differ from run to run'
 complete -c confine -n '__confine_at run' -s h -l help -d 'Print help'
 complete -c confine -n '__confine_at replay 1' -F
 complete -c confine -n '__confine_at replay 2' -F
 complete -c confine -n '__confine_at replay 3' -F
-complete -c confine -n '__confine_at replay' -l explain -d 'Tells in sentences, on standard error, what is denied or faulty, and a way out'
+complete -c confine -n '__confine_at replay' -l explain -d 'Says in sentences, on standard error, what is denied or faulty, and what to do'
 complete -c confine -n '__confine_at replay' -s h -l help -d 'Print help'
 complete -c confine -n '__confine_at close 1' -F
 complete -c confine -n '__confine_at close 2' -F
-complete -c confine -n '__confine_at close' -l explain -d 'Tells in sentences, on standard error, what is denied or faulty, and a way out'
-complete -c confine -n '__confine_at close' -l missing -d 'Writes the lines alone that POLICY lacks; the status is 1 where there are any'
-complete -c confine -n '__confine_at close' -l surplus -d 'Writes the lines of POLICY alone that nothing asks for; status as with --missing'
+complete -c confine -n '__confine_at close' -l explain -d 'Says in sentences, on standard error, what is denied or faulty, and what to do'
+complete -c confine -n '__confine_at close' -l missing -d 'Writes only the lines that POLICY lacks; the status is 1 if there are any'
+complete -c confine -n '__confine_at close' -l surplus -d 'Writes only the lines of POLICY that nothing requires; status as with --missing'
 complete -c confine -n '__confine_at close' -s h -l help -d 'Print help'
 complete -c confine -n '__confine_at why 1' -F
 complete -c confine -n '__confine_at why 2' -F
 complete -c confine -n '__confine_at why 3' -a '(__confine_labels)'
 complete -c confine -n '__confine_at why 4' -a '(__confine_labels)'
-complete -c confine -n '__confine_at why' -l explain -d 'Tells in sentences, on standard error, what is denied or faulty, and a way out'
-complete -c confine -n '__confine_at why' -l policy-alone -d 'Asks the policy alone, as if all labels made calls: this holds of no run'
+complete -c confine -n '__confine_at why' -l explain -d 'Says in sentences, on standard error, what is denied or faulty, and what to do'
+complete -c confine -n '__confine_at why' -l policy-alone -d 'Reads the policy alone, as if all labels made calls: this holds of no run'
 complete -c confine -n '__confine_at why' -s h -l help -d 'Print help'
 complete -c confine -n '__confine_at draw 1' -F
 complete -c confine -n '__confine_at draw 2' -F
-complete -c confine -n '__confine_at draw' -l explain -d 'Tells in sentences, on standard error, what is denied or faulty, and a way out'
-complete -c confine -n '__confine_at draw' -l policy-alone -d 'Asks the policy alone, as if all labels made calls: this holds of no run'
+complete -c confine -n '__confine_at draw' -l explain -d 'Says in sentences, on standard error, what is denied or faulty, and what to do'
+complete -c confine -n '__confine_at draw' -l policy-alone -d 'Reads the policy alone, as if all labels made calls: this holds of no run'
 complete -c confine -n '__confine_at draw' -s h -l help -d 'Print help'
 complete -c confine -n '__confine_at claims 1' -F
 complete -c confine -n '__confine_at claims 2' -F
 complete -c confine -n '__confine_at claims 3' -F
-complete -c confine -n '__confine_at claims' -l explain -d 'Tells in sentences, on standard error, what is denied or faulty, and a way out'
+complete -c confine -n '__confine_at claims' -l explain -d 'Says in sentences, on standard error, what is denied or faulty, and what to do'
 complete -c confine -n '__confine_at claims' -l all -d 'Writes the strongest claims that hold, on all pairs of labels, in place of CLAIMS'
 complete -c confine -n '__confine_at claims' -s h -l help -d 'Print help'
 complete -c confine -n '__confine_at list 1' -F
-complete -c confine -n '__confine_at list' -l explain -d 'Tells in sentences, on standard error, what is denied or faulty, and a way out'
+complete -c confine -n '__confine_at list' -l explain -d 'Says in sentences, on standard error, what is denied or faulty, and what to do'
 complete -c confine -n '__confine_at list' -s h -l help -d 'Print help'

@@ -275,7 +275,7 @@ async function offerMissing(turn, given, answer, report) {
   const edges = told?.status === 1 ? decoded(told.output).trimEnd().split("\n") : [];
   find("missing").hidden = edges.length === 0;
   if (edges.length === 0) return;
-  const reasons = new Map(decoded(told.error).split("\n").map((line) => line.split(": ")).map(([reason, edge]) => [edge, reason]));
+  const reasons = new Map(decoded(told.error).split("\n").map((line) => line.split(": ")).map((parts) => [parts.at(-1), parts.at(-2)]));
   const sentence = decoded(answer.error);
   const named = edges.filter((edge) => sentence.includes(`\`${edge}\``));
   const ordered = [...named, ...edges.filter((edge) => !named.includes(edge))];

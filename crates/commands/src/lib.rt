@@ -3,6 +3,7 @@
 #![tactic(auto)]
 
 mod answer;
+mod choices;
 mod end;
 mod later;
 mod listener;
@@ -11,6 +12,7 @@ mod telling;
 
 pub use answer::{Answer, Made, denied};
 pub use captext::Fault;
+pub use choices::{Basis, OnAccept, OnClose};
 pub use devices::{ReadError, Sink, Source};
 pub use end::{Asked, End};
 pub use later::{Entries, LaterFile, Script};

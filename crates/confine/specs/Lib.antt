@@ -1,3 +1,1 @@
-pub mod Meaning
 pub mod Opening
-pub mod Requests

@@ -6,10 +6,10 @@ use Rattle.devices.specs.Watched.{failed_of, is_flushed_of}
 use Rattle.commands.specs.{declared.end.End.End, Commands.{Input, Output, input, output}, Ends.status_of}
 use Rattle.report.specs.{Answers.{IsChecked, IsRun, IsRunSplit, IsVerifiedWith}, Claimed.{AreJudged, AreWritten}}
 use Rattle.report.specs.{Closings.{IsClosedOver, IsStarted}, Questions.{IsDrawn, IsListed, IsTold}, Replays.IsReplayed}
-use Rattle.confine.specs.declared.request.{OfSystem.{OfSystem, TheVariants.{Check, Close, Draw, Strongest, Why}}, SplitRun.SplitRun}
-use Rattle.confine.specs.declared.request.{OfTable.{OfTable, OfTable as of_table}, OfThree.OfThree, Request.Request}
-use Rattle.confine.specs.declared.request.OfThree.TheVariants.{Claims, Replay, Run, Verify}
-use Rattle.confine.specs.{declared.request.Request.Request as request, Requests.OnEach}
+use Rattle.invocation.specs.declared.request.OfSystem.{OfSystem, TheVariants.{Check, Close, Draw, Strongest, Why}}
+use Rattle.invocation.specs.declared.request.{OfTable.{OfTable, OfTable as of_table}, OfThree.OfThree, Request.Request}
+use Rattle.invocation.specs.declared.request.OfThree.TheVariants.{Claims, Replay, Run, Verify}
+use Rattle.invocation.specs.{declared.request.Request.Request as request, Requests.OnEach}
 
 -- what is written to, before and after
 abbrev pub written : {W : Type 0} → (W → Option (List ℕ)) → Watched W → Watched W → Output (Watched W)
@@ -71,10 +71,6 @@ abbrev pub RunsSplit : {F O : Type 0} → (F → Option (List ℕ)) → Output O
 RunsSplit remaining out (request.OfThree asked table policy third) (request.OfThree also t p x) end =
     IsRunSplit (read remaining table t) (read remaining policy p) (read remaining third x) out end
 RunsSplit remaining out _ _ end = ⊥
-
--- the names of the files of a run by workers
-abbrev pub names_of : SplitRun → Request (Bor (List ℕ))
-names_of run = request.OfThree Run run.table run.policy run.script
 
 -- a request's files were opened by their names, it was done, which left these of them, and this is the exit status of how that ended
 pub record IsServed

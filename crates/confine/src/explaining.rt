@@ -1,11 +1,12 @@
+//! What `--explain` prints on standard error: the sentences on what a command finds.
 use crate::files::Opened;
-use crate::request::{Invocation, OfSystem, OfTable, OfThree, Request};
 use captext::object_name;
 use causes::{Caller, explain_illegal, explain_refusal};
 use explain::{
-    explain_broken, explain_closing, explain_closing_command, explain_denial, explain_notes,
-    explain_outside, explain_reach, explain_unlabelled, explain_why,
+    Names, explain_broken, explain_closing, explain_denial, explain_notes, explain_outside,
+    explain_reach, explain_unlabelled, explain_why,
 };
+use invocation::{Invocation, OfSystem, OfTable, OfThree, Request};
 use machine::{Event, Outcome};
 use policy::Policy;
 use report::{
@@ -18,7 +19,6 @@ use std::io::ErrorKind;
 use std::marker::PhantomData;
 use std::thread::Threads;
 use table::Table;
-use verdict::Denial;
 
 /// What an answer by a policy alone is worth.
 const BY_POLICY_ALONE: &str =
@@ -92,8 +92,19 @@ impl<'a, R: AllocGlobal + Eprint> Explainer<'a, R> {
     fn tell_finding(&self, heard: &Heard<'_>, finding: &Finding) {
         let (alloc, table) = (self.rt.alloc(), heard.table);
         match finding {
-            Finding::Denied(denial) => self.tell(self.denial_told(table, denial)),
-            Finding::Outside(denial) => self.tell(explain_outside(alloc, table, denial)),
+            Finding::Denied(denial) => {
+                if let Some(policy) = heard.policy {
+                    self.tell(explain_denial(alloc, &self.names(), table, policy, denial));
+                }
+            }
+            Finding::Outside(denial) => {
+                let log = self.invocation.request.name_of(File::Log);
+                let entries = match heard.outcomes {
+                    Some(Outcomes::OfLog(log)) => log.len(),
+                    _ => 0,
+                };
+                self.tell(explain_outside(alloc, log, entries, table, denial));
+            }
             Finding::Illegal(entry) => self.tell(self.illegal_told(heard, *entry)),
             Finding::Broken(broken) => {
                 if let Some(policy) = heard.policy {
@@ -103,13 +114,14 @@ impl<'a, R: AllocGlobal + Eprint> Explainer<'a, R> {
         }
     }
 
-    /// The sentence on a denial, and the command that mends it.
-    fn denial_told(&self, table: &Table, denial: &Denial) -> Result<String, AllocError> {
-        let (alloc, request) = (self.rt.alloc(), self.invocation.request);
-        let mut sentence = explain_denial(alloc, table, denial)?;
-        let (table, policy) = (request.name_of(File::Table), request.name_of(File::Policy));
-        sentence.push_str(&explain_closing_command(alloc, denial, table, policy)?)?;
-        Ok(sentence)
+    /// The names of the files that a denial is on.
+    fn names(&self) -> Names<'a> {
+        let request = self.invocation.request;
+        Names {
+            table: request.name_of(File::Table),
+            policy: request.name_of(File::Policy),
+            certificate: request.name_of(File::Certificate),
+        }
     }
 
     /// The sentence on an entry of a log that is no step, and what the kernel answers there, unless that would take more memory
@@ -167,16 +179,16 @@ impl<'a, R: AllocGlobal + Eprint> Explainer<'a, R> {
     fn tell_more(&self, leave: &(impl Threads + Sync), heard: &Heard<'_>) {
         let (alloc, table) = (self.rt.alloc(), heard.table);
         match (self.invocation.request, heard.policy, heard.outcomes) {
-            (Request::OfTable(OfTable::Start(OnClose::Policy | OnClose::Missing), _), _, _) => {
+            (Request::OfTable(OfTable::Start(OnClose::Policy | OnClose::Missing), file), _, _) => {
                 let policy = Policy::new(alloc);
-                self.tell_lines(explain_closing(leave, alloc, table, &policy));
+                self.tell_lines(explain_closing(leave, alloc, file, table, &policy));
                 drop(policy);
             }
             (
-                Request::OfSystem(OfSystem::Close(OnClose::Policy | OnClose::Missing), _, _),
+                Request::OfSystem(OfSystem::Close(OnClose::Policy | OnClose::Missing), file, _),
                 Some(policy),
                 _,
-            ) => self.tell_lines(explain_closing(leave, alloc, table, policy)),
+            ) => self.tell_lines(explain_closing(leave, alloc, file, table, policy)),
             (Request::OfSystem(OfSystem::Check { .. }, _, _), Some(policy), _) => {
                 self.tell_lines(explain_notes(alloc, table));
                 self.tell_lines(explain_reach(alloc, table, policy));

@@ -1,19 +1,25 @@
+//! How the files of a request are opened.
 ghost use Rattle.std.specs.{Fn.FnReturnsAt, Prelude.{◌≡◌, IfOk, Some, false}};
 ghost use Rattle.devices.specs.{Bounded.bytes_allowed, Watched.failed_of};
 ghost use Rattle.confine.specs.declared.files.TheConstants.{MOST_BYTES};
-ghost use Rattle.confine.specs.{Opening.{AreOpenedBy, AreSound, IsOpenedBy}, Requests.IsWithinLimits};
+ghost use Rattle.confine.specs.Opening.{AreOpenedBy, AreSound, IsOpenedBy};
+ghost use Rattle.invocation.specs.Requests.{IsWithinLimits};
 
-use crate::request::Request;
 use devices::Bounded;
 use either::Either;
+use invocation::Request;
 use report::{Unopened, Watched, open_result};
 use std::fs::{self, Files};
 use std::io;
 
-/// How many bytes of a file can be read, 1 GiB: no text within the limits has as many but a certificate, and of these no right one.
+/// How many bytes of a file are read at most, 1 GiB. No text within the limits is longer, but for certificates that aren't right.
 pub const MOST_BYTES: u64 = 1 << 30;
 
-/// Opens a file, of which so many bytes can be read.
+/// Opens a file, of which at most [`MOST_BYTES`] are read.
+///
+/// # Errors
+///
+/// The system's error, if the file can't be opened.
 pub fn open<R: Files>(rt: &R, path: &str) -> io::Result<Bounded<R::File>>
     ensures limit { IfOk result (λ file. bytes_allowed file ≡ Some MOST_BYTES) }
 {
@@ -26,7 +32,7 @@ pub fn open<R: Files>(rt: &R, path: &str) -> io::Result<Bounded<R::File>>
 /// A file that a request names, as opening it gave it.
 pub type Opened<F> = Watched<Either<F, Unopened>>;
 
-/// The file of this name.
+/// Opens the file of this name. If that fails, reading the file gives the error.
 pub(crate) fn open_by<F, O: Fn(&str) -> io::Result<F>>(opener: &O, name: &str) -> Opened<F>
     requires { O.IsAlwaysCallable opener.now }
     ensures opened { IsOpenedBy (FnReturnsAt O.Fn opener.now) name.now result }
@@ -35,7 +41,7 @@ pub(crate) fn open_by<F, O: Fn(&str) -> io::Result<F>>(opener: &O, name: &str) -
     open_result(opener(name))
 }
 
-/// A request with the files of its names.
+/// Opens the files of a request by their names.
 pub(crate) fn open_all<'a, F, O: Fn(&str) -> io::Result<F>>(
     opener: &O,
     request: Request<'a, &'a str>,

@@ -4,24 +4,21 @@
 ghost use Rattle.std.specs.{Fn.FnReturnsAt, Prelude.{◌≡◌, ◌≤◌, IfOk, IsErr, OnErr, false}};
 ghost use Rattle.devices.specs.Watched.{failed_of};
 ghost use Rattle.commands.specs.{Commands.{input, output}, Ends.status_of};
-ghost use Rattle.confine.specs.Opening.{AreSound, IsServed, RunsSplit, names_of, Serves, ServesSystem, ServesTable, ServesThree, written};
-ghost use Rattle.confine.specs.Requests.{HasFewWorkers, HaveArrived, IsWithinLimits, OnInTurn, SystemHasArrived};
+ghost use Rattle.confine.specs.Opening.{AreSound, IsServed, RunsSplit, Serves, ServesSystem, ServesTable, ServesThree, written};
+ghost use Rattle.invocation.specs.Requests.{HasFewWorkers, HaveArrived, IsWithinLimits, OnInTurn, SystemHasArrived, names_of};
 
 mod explaining;
 mod files;
-mod help;
-mod meaning;
-mod request;
 
 use clap::error::ErrorKind;
 use explaining::Explainer;
 use files::{Opened, open_all, open_by};
+use invocation::{
+    CommandLine, Invocation, OfSystem, OfTable, OfThree, Request, SplitRun, help, read_request,
+};
 use report::{
     End, Gate, Listener, Open, Sink, Source, Watched, check, check_claims, close, draw, list,
     replay, run, run_split, start, verify, why, write_claims,
-};
-use request::{
-    CommandLine, Invocation, OfSystem, OfTable, OfThree, Request, SplitRun, read_request,
 };
 use std::alloc::Global;
 use std::env::Env;

@@ -1,4 +1,5 @@
 //! The sentence on a claim that doesn't hold.
+use crate::capability::separator;
 use crate::sentences::EdgeLine;
 use base::{Edge, Refusal};
 use captext::label_name;
@@ -96,6 +97,20 @@ pub(crate) fn push_edges(
         let line = EdgeLine { table, edge: *edge };
         write!(sentence, "{separator}`{line}`")?;
         separator = ", ";
+    }
+    Ok(())
+}
+
+/// Adds edges to a sentence, as in `edge a send b`, `edge a call b` and `edge a read b`.
+pub(crate) fn push_edges_and(
+    sentence: &mut String,
+    table: &Table,
+    edges: &[Edge],
+) -> Result<(), AllocError> {
+    for (number, edge) in edges.iter().enumerate() {
+        let separator = separator(number, edges.len());
+        let line = EdgeLine { table, edge: *edge };
+        write!(sentence, "{separator}`{line}`")?;
     }
     Ok(())
 }

@@ -1,3 +1,4 @@
+//! The lines on the edges that closing adds to a policy.
 use crate::asked::asked_edge;
 use crate::denials::explain_edge;
 use base::{Edge, Kind, Label, Refusal};
@@ -13,18 +14,19 @@ pub(crate) const MOST_EDGES: usize = LABELS * Kind::ALL.len() * LABELS;
 
 const LABELS: usize = Label::COUNT as usize;
 
-/// A line for each edge that a policy lacks: the rule and the place that ask for it, and the edge, as
-/// `A1 space.0: edge app await bell`.
+/// Returns a line for each edge that a policy lacks: the rule and the place that ask for it, and the edge, as
+/// `table:11: A1 space.0: edge app await bell`, where the place is a line of the table of this name.
 ///
 /// Each is what the verdict asks for first, where the edges of the lines before are there. So each line costs a verdict.
 pub fn explain_closing<R: Threads + Sync>(
     rt: &R,
     alloc: Global,
+    file: &str,
     table: &Table,
     policy: &Policy,
 ) -> Result<String, Refusal> {
     let mut closed = Policy::new(alloc);
-    let lines = lines_for(rt, alloc, table, policy, &mut closed);
+    let lines = lines_for(rt, alloc, file, table, policy, &mut closed);
     drop(closed);
     lines
 }
@@ -33,6 +35,7 @@ pub fn explain_closing<R: Threads + Sync>(
 fn lines_for<R: Threads + Sync>(
     rt: &R,
     alloc: Global,
+    file: &str,
     table: &Table,
     policy: &Policy,
     closed: &mut Policy,
@@ -40,7 +43,7 @@ fn lines_for<R: Threads + Sync>(
     add_edges(alloc, closed, policy)?;
     let mut lines = String::new(alloc);
     for _ in 0..MOST_EDGES {
-        if !push_line(rt, alloc, table, closed, &mut lines)? {
+        if !push_line(rt, alloc, file, table, closed, &mut lines)? {
             break;
         }
     }
@@ -59,11 +62,12 @@ fn add_edges(alloc: Global, closed: &mut Policy, policy: &Policy) -> Result<(), 
 fn push_line<R: Threads + Sync>(
     rt: &R,
     alloc: Global,
+    file: &str,
     table: &Table,
     closed: &mut Policy,
     lines: &mut String,
 ) -> Result<bool, Refusal> {
-    match first_line(rt, alloc, table, closed)? {
+    match first_line(rt, alloc, file, table, closed)? {
         Some((edge, line)) => {
             closed.add(edge)?;
             writeln!(lines, "{line}")?;
@@ -77,24 +81,26 @@ fn push_line<R: Threads + Sync>(
 fn first_line<R: Threads + Sync>(
     rt: &R,
     alloc: Global,
+    file: &str,
     table: &Table,
     policy: &Policy,
 ) -> Result<Option<(Edge, String)>, Refusal> {
     match judge(rt, alloc, table, policy, 1, &Open)? {
         Ok(_) => Ok(None),
-        Err(denial) => Ok(line_of(alloc, table, policy, &denial)?),
+        Err(denial) => Ok(line_of(alloc, file, table, policy, &denial)?),
     }
 }
 
 /// The edge that a denial asks for, and the line for it, if one edge would mend it.
 fn line_of(
     alloc: Global,
+    file: &str,
     table: &Table,
     policy: &Policy,
     denial: &Denial,
 ) -> Result<Option<(Edge, String)>, AllocError> {
     match mending_edge(table, policy, denial) {
-        Some(edge) => Ok(Some((edge, explain_edge(alloc, table, denial, edge)?))),
+        Some(edge) => Ok(Some((edge, explain_edge(alloc, file, table, denial, edge)?))),
         None => Ok(None),
     }
 }

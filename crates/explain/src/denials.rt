@@ -1,84 +1,147 @@
+//! The sentences on denials: where a table and a policy, or the end of a log, break a rule, and what may be done.
 use crate::asked::asked_edge;
+use crate::capability::push_capability;
+use crate::closing::mending_edge;
+use crate::lines::{Start, line_of_edge, line_of_place};
+use crate::premises::premises;
 use crate::sentences::{EdgeLine, OtherWay, PlaceNames, Reason};
-use base::Edge;
-use policy::Broken;
+use base::{Edge, Refusal};
+use policy::{Broken, Policy};
 use std::alloc::{AllocError, Global};
 use std::fmt;
 use table::Table;
 use verdict::Denial;
 
-/// Which edges a denial asks for.
+/// The names of the files that a denial is on. One that isn't read has an empty name.
 #[derive(Clone, Copy)]
-enum Asked {
-    Edge(Edge),
-    /// The one of the two that the policy lacks.
-    OneOf(Edge, Edge),
-    Nothing,
+pub struct Names<'a> {
+    pub table: &'a str,
+    pub policy: &'a str,
+    pub certificate: &'a str,
 }
 
-fn asked_of(table: &Table, denial: &Denial) -> Asked {
-    if let Denial::Policy(
-        Broken::SubjectsDisagree {
-            subject,
-            other,
-            kind,
-            target,
-        },
-    ) = *denial
-    {
-        let edge_from = |from| Edge {
-            from,
-            kind,
-            to: target,
-        };
-        return Asked::OneOf(edge_from(subject), edge_from(other));
-    }
-    match asked_edge(table, denial) {
-        Some(edge) => Asked::Edge(edge),
-        None => Asked::Nothing,
-    }
-}
-
-/// Why a table and a policy are denied, in a sentence, and what may be done.
+/// Returns a sentence on a denial: the line of its place, why the rule is broken there, and what may be done.
 ///
-/// P1 asks for one of two edges, and the sentence names both.
-pub fn explain_denial(alloc: Global, table: &Table, denial: &Denial) -> Result<String, AllocError> {
+/// Of A1 it names all edges that the policy lacks for the capability. The place of a rule of closed policies is the first edge
+/// by which the rule asks for another.
+///
+/// # Errors
+///
+/// 40 where memory is refused.
+pub fn explain_denial(
+    alloc: Global,
+    names: &Names<'_>,
+    table: &Table,
+    policy: &Policy,
+    denial: &Denial,
+) -> Result<String, Refusal> {
+    let mut sentence = String::new(alloc);
+    push_denial(alloc, &mut sentence, names, table, policy, denial)?;
+    Ok(sentence)
+}
+
+/// Adds the sentence on a denial.
+fn push_denial(
+    alloc: Global,
+    sentence: &mut String,
+    names: &Names<'_>,
+    table: &Table,
+    policy: &Policy,
+    denial: &Denial,
+) -> Result<(), Refusal> {
+    push_start(alloc, sentence, names, table, policy, denial)?;
     let rule = denial.rule();
-    let reason = Reason { table, denial };
-    let other = OtherWay { table, denial };
-    match asked_of(table, denial) {
-        Asked::Edge(edge) => {
-            let line = EdgeLine { table, edge };
-            format!(in alloc;
-                "denied by {rule}: {reason}, and the policy has no such edge: add `{line}`, or {other}"
-            )
+    write!(sentence, "denied by {rule}: ")?;
+    let missing = match *denial {
+        Denial::Capability { slot, label, .. } => {
+            push_capability(alloc, sentence, table, policy, slot, label)?
         }
-        Asked::OneOf(one, two) => {
-            let one = EdgeLine { table, edge: one };
-            let two = EdgeLine { table, edge: two };
-            format!(in alloc;
-                "denied by {rule}: {reason}: add the missing one of `{one}` and `{two}`, or {other}"
-            )
-        }
-        Asked::Nothing => format!(in alloc; "denied by {rule}: {reason}: {other}"),
+        _ => push_place(sentence, table, policy, denial)?,
+    };
+    push_command(sentence, names, missing)?;
+    Ok(())
+}
+
+/// Adds the line of the place of a denial, of the file that it is in.
+fn push_start(
+    alloc: Global,
+    sentence: &mut String,
+    names: &Names<'_>,
+    table: &Table,
+    policy: &Policy,
+    denial: &Denial,
+) -> Result<(), Refusal> {
+    let (file, line) = match *denial {
+        Denial::Policy(broken) => (names.policy, line_of_premise(alloc, policy, broken)?),
+        // The report counts lines after the header.
+        Denial::Certificate { line } => (names.certificate, Some(line.saturating_add(1))),
+        _ => (names.table, line_of_place(table, denial)),
+    };
+    let start = Start { file, line };
+    write!(sentence, "{start}")?;
+    Ok(())
+}
+
+/// Returns the line of the first edge by which a rule of closed policies asks for another.
+fn line_of_premise(
+    alloc: Global,
+    policy: &Policy,
+    broken: Broken,
+) -> Result<Option<usize>, Refusal> {
+    let [first, _, _, _] = premises(policy, broken);
+    match first {
+        Some(edge) => line_of_edge(alloc, policy, edge),
+        None => Ok(None),
     }
 }
 
-/// The command that writes the line that a denial asks for in its place, after [`explain_denial`]'s sentence: of the files
-/// by these names. No line mends a certificate, and nothing is said.
-pub fn explain_closing_command(
-    alloc: Global,
+/// Adds why a rule is broken, and what may be done, but by A1; gives how many edges are missing.
+fn push_place(
+    sentence: &mut String,
+    table: &Table,
+    policy: &Policy,
     denial: &Denial,
-    table: &str,
-    policy: &str,
-) -> Result<String, AllocError> {
-    match *denial {
-        Denial::Certificate { .. } => Ok(String::new(alloc)),
-        _ => {
-            let (table, policy) = (Pasted(table), Pasted(policy));
-            format!(in alloc; "; `confine close {table} {policy}` writes the line in its place")
+) -> Result<usize, AllocError> {
+    let reason = Reason { table, denial };
+    let other = OtherWay {
+        table,
+        policy,
+        denial,
+    };
+    let lacks = match *denial {
+        // P1 asks for one of two edges, and its reason says that only one is there.
+        Denial::Policy(Broken::SubjectsDisagree { .. }) => "",
+        _ => ", and the policy has no such edge",
+    };
+    match mending_edge(table, policy, denial) {
+        Some(edge) => {
+            let edge = EdgeLine { table, edge };
+            write!(sentence, "{reason}{lacks}: {other}, or add `{edge}`")?;
+            Ok(1)
+        }
+        None => {
+            write!(sentence, "{reason}: {other}")?;
+            Ok(0)
         }
     }
+}
+
+/// Adds the command that writes the missing lines in their place, if there are any.
+fn push_command(
+    sentence: &mut String,
+    names: &Names<'_>,
+    missing: usize,
+) -> Result<(), AllocError> {
+    let (table, policy) = (Pasted(names.table), Pasted(names.policy));
+    let lines = match missing {
+        0 => return Ok(()),
+        1 => "line in its place",
+        _ => "lines in their place",
+    };
+    write!(
+        sentence,
+        "; `confine close {table} {policy}` writes the {lines}"
+    )
 }
 
 /// A name of a file as a shell takes it: in quotes, where it has other characters than names mostly have.
@@ -99,37 +162,44 @@ impl fmt::Display for Pasted<'_> {
     }
 }
 
-/// Where the last state of a log lies outside a policy, in a sentence, and which edge it would take.
+/// Returns a sentence on the last state of a log, which lies outside a policy: the log's last line, and which edge it would take.
 pub fn explain_outside(
     alloc: Global,
+    log: &str,
+    entries: usize,
     table: &Table,
     denial: &Denial,
 ) -> Result<String, AllocError> {
     let rule = denial.rule();
+    // The header is a line too.
+    let line = entries.saturating_add(1);
     match asked_edge(table, denial) {
         Some(edge) => {
             let reason = Reason { table, denial };
-            let line = EdgeLine { table, edge };
+            let edge = EdgeLine { table, edge };
             format!(in alloc;
-                "outside by {rule}: after the last entry {reason}, and the policy has no such edge: `{line}`"
+                "{log}:{line}: outside by {rule}: after the last entry {reason}, and the policy has no such edge: `{edge}`"
             )
         }
         None => format!(in alloc;
-            "outside by {rule}: after the last entry an object that the log made (the report has its number, after `#`) gives authority, or is under some, that the policy lacks"
+            "{log}:{line}: outside by {rule}: after the last entry an object that the log made (the report has its number, after `#`) gives authority, or is under some, that the policy lacks"
         ),
     }
 }
 
-/// The line for an edge that closing adds: the rule and the place that ask for it, and the edge, as
-/// `A1 space.0: edge app await bell`.
+/// Returns the line for an edge that closing adds: the rule and the place that ask for it, and the edge, as
+/// `table:11: A1 space.0: edge app await bell`. It begins with the place's line, where that is one of the table of this name.
 pub(crate) fn explain_edge(
     alloc: Global,
+    file: &str,
     table: &Table,
     denial: &Denial,
     edge: Edge,
 ) -> Result<String, AllocError> {
+    let line = line_of_place(table, denial);
+    let start = Start { file, line };
     let rule = denial.rule();
     let place = PlaceNames { table, denial };
-    let line = EdgeLine { table, edge };
-    format!(in alloc; "{rule} {place}: {line}")
+    let edge = EdgeLine { table, edge };
+    format!(in alloc; "{start}{rule} {place}: {edge}")
 }

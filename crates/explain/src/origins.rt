@@ -1,12 +1,14 @@
 //! The sentences on whence the edges of a reason come: from a place of the table, by a rule from other edges,
-//! or from the policy alone.
+//! or from the policy alone; and, of labels with no reason, why there is none.
 use crate::asked::asked_edge;
 use crate::broken::push_edges;
 use crate::closing::{MOST_EDGES, mending_edge};
+use crate::lines::{Start, line_of_place};
+use crate::nothing::push_nothing;
 use crate::premises::premises;
 use crate::reach::labels_of;
 use crate::sentences::{EdgeLine, Reason};
-use base::{Edge, Kind, Labels, Refusal, SlotRef};
+use base::{Edge, Kind, Label, Labels, Refusal, SlotRef};
 use labels::{authority, filled_edges};
 use policy::{Broken, Policy, Why, first_broken};
 use std::alloc::{AllocError, Global};
@@ -15,7 +17,7 @@ use table::Table;
 use verdict::{Denial, actors};
 
 /// Returns a line for each edge of the reason that [`Policy::why_among`] gives, and then for each edge by
-/// which a rule asks for one of those before: where it comes from.
+/// which a rule asks for one of those before: where it comes from. Where there is no authority, it returns why that is so.
 ///
 /// If `alone`, each label counts as one whose threads make calls, else those of which it is so in the system.
 /// `file` is the table's name.
@@ -29,21 +31,58 @@ pub fn explain_why<R: Threads + Sync>(
     actor: &str,
     object: &str,
 ) -> Result<String, Refusal> {
+    let mut lines = String::new(alloc);
     let actors = if alone {
         labels_of(table)
     } else {
         actors(table, policy)
     };
-    let mut edges = reason(alloc, table, policy, actors, actor, object)?;
-    let mut lines = String::new(alloc);
+    if let (Some(actor), Some(object)) = (table.label_named(actor), table.label_named(object)) {
+        push_why(
+            rt, alloc, &mut lines, file, table, policy, actors, actor, object,
+        )?;
+    }
+    Ok(lines)
+}
+
+/// Adds where the edges of the reason for an authority come from, or why there is none.
+fn push_why<R: Threads + Sync>(
+    rt: &R,
+    alloc: Global,
+    lines: &mut String,
+    file: &str,
+    table: &Table,
+    policy: &Policy,
+    actors: Labels,
+    actor: Label,
+    object: Label,
+) -> Result<(), Refusal> {
+    match policy.why_among(alloc, actors, actor, object)? {
+        Why::Full(edges) | Why::Take(edges) => {
+            push_origins(rt, alloc, lines, file, table, policy, edges)
+        }
+        Why::Nothing => push_nothing(alloc, lines, table, policy, actors, actor, object),
+    }
+}
+
+/// Adds where these edges come from, and then where those come from by which a rule asks for one of those before.
+fn push_origins<R: Threads + Sync>(
+    rt: &R,
+    alloc: Global,
+    lines: &mut String,
+    file: &str,
+    table: &Table,
+    policy: &Policy,
+    mut edges: Vec<Edge>,
+) -> Result<(), Refusal> {
     for number in 0..MOST_EDGES {
         let asking = match edges.get(number) {
-            Some(edge) => push_origin(rt, alloc, &mut lines, file, table, policy, edge)?,
+            Some(edge) => push_origin(rt, alloc, lines, file, table, policy, edge)?,
             None => break,
         };
         push_new(&mut edges, &asking)?;
     }
-    Ok(lines)
+    Ok(())
 }
 
 /// Adds whence an edge comes, and gives the edges by which a rule asks for it, if that is whence.
@@ -60,31 +99,14 @@ fn push_origin<R: Threads + Sync>(
     write!(lines, "`{line}` comes ")?;
     match place_of(alloc, table, edge)? {
         Some(denial) => {
-            let number = line_of(table, &denial);
             let denial = &denial;
+            let line = line_of_place(table, denial);
+            let start = Start { file, line };
             let reason = Reason { table, denial };
-            writeln!(lines, "from {file}:{number}: {reason}")?;
+            writeln!(lines, "from {start}{reason}")?;
             Ok(Vec::new(alloc))
         }
         None => push_rule(rt, alloc, lines, table, policy, edge),
-    }
-}
-
-/// The edges of the reason for an authority; none, where a name is no label's.
-fn reason(
-    alloc: Global,
-    table: &Table,
-    policy: &Policy,
-    actors: Labels,
-    actor: &str,
-    object: &str,
-) -> Result<Vec<Edge>, Refusal> {
-    let (Some(actor), Some(object)) = (table.label_named(actor), table.label_named(object)) else {
-        return Ok(Vec::new(alloc));
-    };
-    match policy.why_among(alloc, actors, actor, object)? {
-        Why::Full(edges) | Why::Take(edges) => Ok(edges),
-        Why::Nothing => Ok(Vec::new(alloc)),
     }
 }
 
@@ -135,33 +157,6 @@ fn place_at(table: &Table, slot: SlotRef, edge: &Edge) -> Option<Denial> {
             label: edge.to,
         }),
     }
-}
-
-/// The line of a place in the table's text.
-fn line_of(table: &Table, place: &Denial) -> usize {
-    let caps = table.caps();
-    let pairs = table.pairs();
-    let bindings = table.bindings();
-    let (before, number) = match *place {
-        Denial::Capability { slot, .. } | Denial::Root { slot, .. } => {
-            (0, caps.iter().position(|filled| filled.slot == slot))
-        }
-        Denial::Pair { child, .. } => (
-            caps.len(),
-            pairs.iter().position(|pair| pair.child == child),
-        ),
-        Denial::Binding { thread, .. } => (
-            caps.len().saturating_add(pairs.len()),
-            bindings.iter().position(|binding| binding.thread == thread),
-        ),
-        _ => (0, None),
-    };
-    // Lines count from 1, and the header and those of the labels and objects come first.
-    let first = table.label_count().saturating_add(table.object_count());
-    let line = first
-        .saturating_add(before)
-        .saturating_add(number.unwrap_or(0));
-    line.saturating_add(2)
 }
 
 /// Adds by which rule an edge comes, from which others, and gives these; or that the policy alone has it.

@@ -50,7 +50,7 @@ pub(crate) fn premises(policy: &Policy, broken: Broken) -> [Option<Edge>; 4] {
 }
 
 /// An edge, if the policy has it.
-fn there(policy: &Policy, from: Label, kind: Kind, to: Label) -> Option<Edge> {
+pub(crate) fn there(policy: &Policy, from: Label, kind: Kind, to: Label) -> Option<Edge> {
     if policy.has(Edge { from, kind, to }) {
         Some(Edge { from, kind, to })
     } else {

@@ -1,8 +1,9 @@
 //! The sentences on denials: why a rule is broken, and what mends it beside the edge.
+use crate::premises::{premises, there};
 use base::{Edge, Kind, Label, ObjId, SlotRef};
 use captext::{SlotName, label_name, object_name};
 use labels::declared_label;
-use policy::Broken;
+use policy::{Broken, Policy};
 use std::fmt::{self, Display};
 use table::Table;
 use verdict::Denial;
@@ -24,7 +25,7 @@ impl fmt::Display for EdgeLine<'_> {
 }
 
 /// The label of an object, by its name.
-fn name_of_label<'a>(table: &'a Table, id: ObjId) -> &'a str {
+pub(crate) fn name_of_label<'a>(table: &'a Table, id: ObjId) -> &'a str {
     match declared_label(table, id) {
         Some(label) => label_name(table, label),
         None => "",
@@ -32,7 +33,7 @@ fn name_of_label<'a>(table: &'a Table, id: ObjId) -> &'a str {
 }
 
 /// What an edge of the kind lets a label do, before the words 'what is labelled'.
-fn verb(kind: Kind) -> &'static str {
+pub(crate) fn verb(kind: Kind) -> &'static str {
     match kind {
         Kind::Control => "control",
         Kind::Reset => "reset",
@@ -54,20 +55,19 @@ fn verb(kind: Kind) -> &'static str {
     }
 }
 
-/// What else to do about a capability that gives the kind: some kinds come with its rights, and the
-/// others whatever it says.
-fn other_way(kind: Kind) -> &'static str {
-    match kind {
+/// Whether a capability gives the kind by its rights, and not whatever they are.
+pub(crate) fn comes_by_right(kind: Kind) -> bool {
+    matches!(
+        kind,
         Kind::Send
-        | Kind::Receive
-        | Kind::Grant
-        | Kind::Call
-        | Kind::Notify
-        | Kind::Await
-        | Kind::Read
-        | Kind::Write => "give the capability fewer rights",
-        _ => "take the capability out of the slot",
-    }
+            | Kind::Receive
+            | Kind::Grant
+            | Kind::Call
+            | Kind::Notify
+            | Kind::Await
+            | Kind::Read
+            | Kind::Write
+    )
 }
 
 /// Why a rule is broken.
@@ -345,15 +345,16 @@ pub(crate) fn ends(broken: &Broken) -> (Label, Label) {
 #[derive(Clone, Copy)]
 pub(crate) struct OtherWay<'a> {
     pub table: &'a Table,
+    pub policy: &'a Policy,
     pub denial: &'a Denial,
 }
 
 impl fmt::Display for OtherWay<'_> {
     fn fmt<W: fmt::Write>(&self, f: &mut fmt::Formatter<W>) -> fmt::Result {
-        let table = self.table;
+        let (table, policy) = (self.table, self.policy);
         match *self.denial {
-            Denial::Policy(broken) => tell_rule_way(f, table, &broken),
-            Denial::Capability { kind, .. } => f.write_str(other_way(kind)),
+            Denial::Policy(broken) => tell_rule_way(f, table, policy, &broken),
+            Denial::Capability { .. } => f.write_str("give the capability fewer rights"),
             Denial::Root { .. } => f.write_str(
                 "let the root be a CNode to whose label there is such an edge",
             ),
@@ -380,11 +381,16 @@ impl fmt::Display for OtherWay<'_> {
 fn tell_rule_way<W: fmt::Write>(
     f: &mut fmt::Formatter<W>,
     table: &Table,
+    policy: &Policy,
     broken: &Broken,
 ) -> fmt::Result {
     let (one, two) = names_of_ends(table, broken);
     let kind = match *broken {
-        Broken::SubjectsDisagree { .. } => return tell_other_domain(f, one, two),
+        Broken::SubjectsDisagree { subject, other, .. } => {
+            let [_, twin, _, _] = premises(policy, *broken);
+            tell_edge(f, table, "take ", twin)?;
+            return tell_other_domain(f, table, policy, subject, other);
+        }
         Broken::GrantLacks { .. } => return tell_no_grant(f, one, two),
         Broken::ControlLacks { .. } => "control",
         Broken::ContextLacks { .. } => "context",
@@ -393,17 +399,37 @@ fn tell_rule_way<W: fmt::Write>(
     write!(f, "take `edge {one} {kind} {two}` away")
 }
 
-/// What mends it where two labels of a domain disagree.
+/// An edge after some words, if there is one.
+fn tell_edge<W: fmt::Write>(
+    f: &mut fmt::Formatter<W>,
+    table: &Table,
+    words: &str,
+    edge: Option<Edge>,
+) -> fmt::Result {
+    match edge {
+        Some(edge) => {
+            let edge = EdgeLine { table, edge };
+            write!(f, "{words}`{edge}`")
+        }
+        None => Ok(()),
+    }
+}
+
+/// What else mends it where two labels of a domain disagree.
 fn tell_other_domain<W: fmt::Write>(
     f: &mut fmt::Formatter<W>,
-    one: &str,
-    two: &str,
+    table: &Table,
+    policy: &Policy,
+    subject: Label,
+    other: Label,
 ) -> fmt::Result {
-    write!(
-        f,
-        "take the other one away, or what puts `{two}` into that domain: "
-    )?;
-    write!(f, "`edge {one} space {two}` or `edge {one} control {two}`")
+    let name = label_name(table, other);
+    write!(f, " away, or what puts `{name}` into that domain, ")?;
+    let space = there(policy, subject, Kind::Space, other);
+    let control = there(policy, subject, Kind::Control, other);
+    let between = if space.is_some() { " and " } else { "" };
+    tell_edge(f, table, "", space)?;
+    tell_edge(f, table, between, control)
 }
 
 /// What mends it where one label may grant to another.

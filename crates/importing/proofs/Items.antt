@@ -16,18 +16,19 @@ get_seen see [] n = refl
 get_seen see (x ∷ xs) zero = refl
 get_seen see (x ∷ xs) (suc n) = get_seen see xs n
 
+-- as much is seen as there is
+pub length_seen : {X Y : Type 0} (see : X → Y) (xs : List X) → length (map see xs) ≡ length xs
+length_seen see [] = refl
+length_seen see (x ∷ xs) = ap suc (length_seen see xs)
+
 -- the place of what is seen
 pub position_seen : {X Y : Type 0} (see : X → Y) (test : Y → Bool) (xs : List X)
     → position test (map see xs) ≡ position (λ x. test (see x)) xs
 position_seen {X = X} see test xs =
     ap (λ n. cond (nat_lt n (length (map see xs))) (Some n) None) (before xs)
     ∙ ap (λ n. cond (nat_lt (position_or_len (λ x. test (see x)) xs) n) (Some (position_or_len (λ x. test (see x)) xs)) None)
-    (length_seen xs)
+    (length_seen see xs)
   where
     before : (ys : List X) → position_or_len test (map see ys) ≡ position_or_len (λ x. test (see x)) ys
     before [] = refl
     before (y ∷ ys) = ap (λ n. cond (not (test (see y))) (1 + n) 0) (before ys)
-
-    length_seen : (ys : List X) → length (map see ys) ≡ length ys
-    length_seen [] = refl
-    length_seen (y ∷ ys) = ap suc (length_seen ys)

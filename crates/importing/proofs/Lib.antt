@@ -1,6 +1,8 @@
 pub mod Items
 pub mod Ids
 pub mod Maps
+pub mod Copies
+pub mod Generations
 pub mod Numbers
 pub mod Takes
 pub mod Alignment

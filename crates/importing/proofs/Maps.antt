@@ -3,7 +3,7 @@ use Rattle.std.proofs.Common.{[], ℕ, ◌++◌, ◌+◌, ◌<◌, ◌∙◌, �
 use Rattle.std.proofs.lemmas.List.{append-nil, drop_all}
 use Rattle.microkit.specs.declared.description.{Map.{Map}, User.{User}}
 use Rattle.importing.specs.declared.slots.Held.{Held}
-use Rattle.importing.specs.Grants.{frame_held, is_new, regions_from}
+use Rattle.importing.specs.Tails.{frame_held, is_new, regions_from}
 
 -- one more of a list
 pub take_more : {X : Type 0} (xs : List X) (i : ℕ) (d : X) → i < length xs → take i xs ++ get_or xs i d ∷ [] ≡ take (i + 1) xs

@@ -1,58 +1,12 @@
 -- The capabilities that the CNodes of domains and virtual machines have (confine's own).
-use Rattle.std.specs.{List.{filter_map, flat_map, list_any, range_with_len}}
-use Rattle.std.specs.Prelude.{[], ℕ, ◌&&◌, ◌++◌, ◌+◌, ◌-◌, ◌==◌, ◌∷◌, Bool, List, None, Option, if◌then◌else◌, length, map, not, option_map, take}
-use Rattle.base.specs.{Rights.{rights_with}, declared.rights.Rights.{Rights}}
+use Rattle.std.specs.List.{filter_map, flat_map, range_with_len}
+use Rattle.std.specs.Prelude.{[], ℕ, ◌++◌, ◌+◌, ◌-◌, ◌∷◌, List, Option, length, option_map}
 use Rattle.machine.specs.declared.cap.Detail.{Detail, Detail as detail}
 use Rattle.microkit.specs.Description.{Description}
-use Rattle.microkit.specs.declared.description.{Map.{Map}, Processor.{Processor}, User.{User}}
-use Rattle.microkit.specs.declared.description.User.TheVariants as user
-use Rattle.importing.specs.{Objects.{radix_of}, Plan.{machine_number}}
-use Rattle.importing.specs.Slots.{capability, parent_held, slot_held}
+use Rattle.importing.specs.{Objects.{radix_of}, Plan.{machine_number}, Slots.{slot_held}, Tails.{guest_held, tail_held}}
 use Rattle.importing.specs.declared.{pieces.{Children.{Children}, Grant.{Grant}, Minting.{Minting}, Piece.{Piece}}, slots.{Held.{Held}}}
 use Rattle.importing.specs.declared.slots.TheConstants.{MAPS}
 use Rattle.importing.specs.declared.pieces.Form.TheVariants as form
-
--- two users are one
-
-abbrev pub user_code : User → ℕ
-user_code (user.Domain n) = 0
-user_code (user.Machine n) = 1
-
-abbrev pub user_number : User → ℕ
-user_number (user.Domain n) = n
-user_number (user.Machine n) = n
-
-abbrev pub is_user : User → User → Bool
-is_user one other = user_code one == user_code other && user_number one == user_number other
-
--- a user maps a region by one of these maps
-abbrev pub is_mapped_by : List Map → User → ℕ → Bool
-is_mapped_by maps user region = list_any (λ (map : Map). is_user map.user user && map.region == region) maps
-
--- a map at a place is the first by which the user maps the region
-abbrev pub is_new : List Map → User → ℕ → Map → Bool
-is_new maps user i one = is_user one.user user && not (is_mapped_by (take i maps) user one.region)
-
--- the rights for a region: the union of those of its maps
-abbrev pub frame_rights : List Map → User → ℕ → Rights
-frame_rights maps user region =
-    if list_any (λ (map : Map). is_user map.user user && (map.region == region && map.writable)) maps
-    then rights_with 3 else rights_with 1
-
-abbrev pub frame_held : List Map → User → ℕ → Held
-frame_held maps user region = capability form.Frame region (detail.Frame (frame_rights maps user region))
-
--- the regions that a user maps, each once, in the order of the first maps, behind those that were seen
-abbrev pub regions_from : List Map → User → List Map → List ℕ
-regions_from seen user [] = []
-regions_from seen user (one ∷ maps) =
-    if is_user one.user user && not (is_mapped_by seen user one.region)
-    then one.region ∷ regions_from (seen ++ one ∷ []) user maps
-    else regions_from (seen ++ one ∷ []) user maps
-
--- the capabilities for the regions that a user maps, one for each region
-abbrev pub maps_held : List Map → User → List Held
-maps_held maps user = map (frame_held maps user) (regions_from [] user maps)
 
 -- a capability in a slot of a holder
 abbrev pub grant : Piece → ℕ → Held → Grant
@@ -69,7 +23,7 @@ space_of n = record { form = form.Space; number = n }
 abbrev pub guest_space_of : ℕ → Piece
 guest_space_of n = record { form = form.GuestSpace; number = n }
 
--- the capabilities below those of the maps
+-- the capabilities below slot 458
 abbrev pub slot_grant : Description → Minting → Children → ℕ → ℕ → Option Grant
 slot_grant d minting children n index = option_map (grant (space_of n) index) (slot_held d minting children n index)
 
@@ -79,19 +33,12 @@ slot_grants d minting children n = filter_map (slot_grant d minting children n) 
 -- what a domain's CNode has
 unfoldable pub domain_grants : Description → Minting → Children → ℕ → List Grant
 domain_grants d minting children n =
-    slot_grants d minting children n ++ numbered (space_of n) MAPS (maps_held d.maps (user.Domain n))
-
--- the endpoint at which a virtual processor's domain gets its faults
-abbrev pub fault_of : Minting → ℕ → Processor → Option Held
-fault_of minting machine processor = if processor.machine == machine then parent_held minting processor.id else None
-
-abbrev pub faults_held : Minting → ℕ → List Processor → List Held
-faults_held minting machine processors = filter_map (fault_of minting machine) processors
+    slot_grants d minting children n ++ numbered (space_of n) MAPS (tail_held d minting children n)
 
 -- what a virtual machine's CNode has: its maps from slot 1 on, then an endpoint for each virtual processor
 unfoldable pub guest_grants : Description → Minting → ℕ → List Grant
 guest_grants d minting n =
-    numbered (guest_space_of n) 1 (maps_held d.maps (user.Machine n) ++ faults_held minting n d.processors)
+    numbered (guest_space_of n) 1 (guest_held d minting n)
 
 -- what all CNodes have
 unfoldable pub grants_of : Description → Minting → Children → List Grant

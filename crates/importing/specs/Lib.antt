@@ -2,6 +2,7 @@ pub mod Pieces
 pub mod Objects
 pub mod Slots
 pub mod Plan
+pub mod Tails
 pub mod Grants
 pub mod Built
 pub mod PlanView

@@ -1,101 +1,19 @@
 //! The capabilities that the CNodes of domains and virtual machines have.
-ghost use Rattle.std.specs.List.{filter_map, flat_map, list_any, range_with_len};
-ghost use Rattle.std.specs.Prelude.{[], ◌&&◌, ◌++◌, ◌==◌, ◌≡◌, ◌≤◌, filter, IfOk, length, map, not, slice_get, Some};
-ghost use Rattle.std.specs.Prelude.{take};
+ghost use Rattle.std.specs.List.{filter_map, flat_map, range_with_len};
+ghost use Rattle.std.specs.Prelude.{◌≡◌, ◌≤◌, IfOk, length};
 ghost use Rattle.microkit.specs.View.{description_of};
-ghost use Rattle.importing.specs.Grants.{domain_grants, domain_root, fault_of, faults_held, frame_held, frame_rights};
-ghost use Rattle.importing.specs.Grants.{grant, grants_of, guest_grants, guest_space_of, is_mapped_by, is_new};
-ghost use Rattle.importing.specs.Grants.{is_user, maps_held, numbered, processor_root, root_of, roots_of, slot_grant};
-ghost use Rattle.importing.specs.Grants.{slot_grants, space_of, user_code, user_number};
+ghost use Rattle.importing.specs.Grants.{domain_grants, domain_root, grant, grants_of, guest_grants, guest_space_of};
+ghost use Rattle.importing.specs.Grants.{numbered, processor_root, root_of, roots_of, slot_grant, slot_grants};
+ghost use Rattle.importing.specs.Grants.{space_of};
 
 use crate::objects::radix_of;
 use crate::pieces::{Children, Form, Grant, Minting, Piece};
 use crate::plan::machine_number;
-use crate::slots::{Held, MAPS, capability, parent_held, read_write, slot_held};
-use base::Rights;
+use crate::slots::{Held, MAPS, slot_held};
+use crate::tails::{guest_held, tail_held};
 use machine::{Detail, Guard};
-use microkit::{Description, Map, Processor, User};
+use microkit::Description;
 use std::alloc::{AllocError, Global};
-
-fn user_code(user: User) -> u64
-    ensures { result ≡ user_code user }
-{
-    match user {
-        User::Domain(_) => 0,
-        User::Machine(_) => 1,
-    }
-}
-
-fn user_number(user: User) -> usize
-    ensures { result ≡ user_number user }
-{
-    match user {
-        User::Domain(n) | User::Machine(n) => n,
-    }
-}
-
-fn is_user(one: User, other: User) -> bool
-    ensures { result ≡ is_user one other }
-{
-    user_code(one) == user_code(other) && user_number(one) == user_number(other)
-}
-
-// Whether a user maps a region by one of these maps.
-fn is_mapped_by(maps: &[Map], user: User, region: usize) -> bool
-    ensures { result ≡ is_mapped_by maps.now user region }
-{
-    maps.iter()
-        .any(|map| is_user(map.user, user) && map.region == region)
-}
-
-// Whether a user may write to a region by one of these maps.
-fn may_write(maps: &[Map], user: User, region: usize) -> bool
-    ensures { result ≡ list_any (λ map. is_user map.user user && (map.region == region && map.writable)) maps.now }
-{
-    maps.iter().any(|map| is_user(map.user, user) && map.region == region && map.writable)
-}
-
-fn frame_rights(maps: &[Map], user: User, region: usize) -> Rights
-    ensures { result ≡ frame_rights maps.now user region }
-{
-    if may_write(maps, user, region) {
-        read_write()
-    } else {
-        Rights::READ
-    }
-}
-
-fn frame_held(maps: &[Map], user: User, region: usize) -> Held
-    ensures { result ≡ frame_held maps.now user region }
-{
-    capability(
-        Form::Frame,
-        region,
-        Detail::Frame(frame_rights(maps, user, region)),
-    )
-}
-
-// Whether a user maps a region by one of these maps, and by none before it.
-fn is_new(maps: &[Map], user: User, i: usize, map: &Map) -> bool
-    requires { i ≤ length maps.now }
-    ensures { result ≡ is_new maps.now user i map.now }
-{
-    is_user(map.user, user) && !is_mapped_by(&maps[..i], user, map.region)
-}
-
-// The capabilities for the regions that a user maps, one for each region.
-#[tactic(auto, using(crate::proofs::Maps::found_more, crate::proofs::Maps::found_same, crate::proofs::Maps::found_all))]
-fn maps_held(alloc: Global, maps: &[Map], user: User) -> Result<Vec<Held>, AllocError>
-    ensures { IfOk result (λ found. found.items ≡ maps_held maps.now user) }
-{
-    let mut found = Vec::new(alloc);
-    for (i, map) in maps.iter().enumerate() {
-        if is_new(maps, user, i, map) {
-            found.push(frame_held(maps, user, map.region))?;
-        }
-    }
-    Ok(found)
-}
 
 fn grant(holder: Piece, index: u64, held: Held) -> Grant
     ensures { result ≡ grant holder index held }
@@ -190,34 +108,10 @@ fn domain_grants(
         ≡ domain_grants (description_of description.now) minting children domain) }
 {
     let mut grants = slot_grants(alloc, description, minting, children, domain)?;
-    let maps = maps_held(alloc, &description.maps, User::Domain(domain))?;
-    let mapped = numbered(alloc, space_of(domain), MAPS, &maps)?;
-    grants.extend_from_slice(&mapped)?;
+    let tail = tail_held(alloc, description, minting, children, domain)?;
+    let numbered_tail = numbered(alloc, space_of(domain), MAPS, &tail)?;
+    grants.extend_from_slice(&numbered_tail)?;
     Ok(grants)
-}
-
-fn fault_of(minting: Minting, machine: usize, processor: &Processor) -> Option<Held>
-    ensures { result ≡ fault_of minting machine processor.now }
-{
-    if processor.machine == machine {
-        parent_held(minting, processor.id)
-    } else {
-        None
-    }
-}
-
-fn faults_held(
-    alloc: Global,
-    minting: Minting,
-    machine: usize,
-    processors: &[Processor],
-) -> Result<Vec<Held>, AllocError>
-    ensures { IfOk result (λ found. found.items ≡ faults_held minting machine processors.now) }
-{
-    processors
-        .iter()
-        .filter_map(|processor| fault_of(minting, machine, processor))
-        .collect(alloc)
 }
 
 // What a virtual machine's CNode has.
@@ -230,9 +124,7 @@ fn guest_grants(
 ) -> Result<Vec<Grant>, AllocError>
     ensures { IfOk result (λ grants. grants.items ≡ guest_grants (description_of description.now) minting machine) }
 {
-    let mut found = maps_held(alloc, &description.maps, User::Machine(machine))?;
-    let faults = faults_held(alloc, minting, machine, &description.processors)?;
-    found.extend_from_slice(&faults)?;
+    let found = guest_held(alloc, description, minting, machine)?;
     numbered(alloc, guest_space_of(machine), 1, &found)
 }
 

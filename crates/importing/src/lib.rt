@@ -3,11 +3,14 @@
 
 mod builder;
 mod grants;
+mod laws;
 mod objects;
 mod pieces;
 mod plan;
 mod slots;
 mod tables;
+mod tails;
 
-pub use pieces::Minting;
+pub use laws::parents_have_what_children_have;
+pub use pieces::{Children, Minting};
 pub use tables::table_of;

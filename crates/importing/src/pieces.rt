@@ -249,7 +249,8 @@ fn has_children(domains: &[Domain], domain: usize) -> bool
     domains.iter().any(|one| has_parent(one, domain))
 }
 
-fn has_parent(one: &Domain, domain: usize) -> bool
+/// Returns whether a domain is a child of another one.
+pub(crate) fn has_parent(one: &Domain, domain: usize) -> bool
     ensures { result ≡ has_parent domain (domain_of one.now) }
 {
     match one.parent {

@@ -361,7 +361,7 @@ fn table_by(alloc: Global, plan: &Plan<'_>, pieces: &[Piece]) -> Result<Table, F
     }
 }
 
-/// Returns the table of a description, with the threads of children at their parents.
+/// Returns the table of a description.
 ///
 /// # Errors
 ///
@@ -371,22 +371,30 @@ fn table_by(alloc: Global, plan: &Plan<'_>, pieces: &[Piece]) -> Result<Table, F
 /// virtual processors of a virtual machine have one id, none of which a description has that was
 /// read. 40 at line 0 where memory is refused.
 #[tactic(auto, using(crate::proofs::Whole::table_whole))]
-pub fn table_of(alloc: Global, description: &Description, minting: Minting) -> Result<Table, Fault>
+pub fn table_of(
+    alloc: Global,
+    description: &Description,
+    minting: Minting,
+    children: Children,
+) -> Result<Table, Fault>
     // Which table it is, or which fault is the first.
-    ensures exact { Reads (λ table. table) result
-        (table_at (description_of description.now) minting Children.Control) }
+    ensures exact { Reads (λ table. table) result (table_at (description_of description.now) minting children) }
     // The table as whole lists.
-    ensures whole { IfOk result (λ table. IsTableOf (description_of description.now) minting Children.Control table) }
+    ensures whole { IfOk result (λ table. IsTableOf (description_of description.now) minting children table) }
 {
-    table_at(alloc, description, minting)
+    table_at(alloc, description, minting, children)
 }
 
 #[tactic(auto, unfolding(crate::specs::Tables::table_at, words::specs::Reading::bind))]
-fn table_at(alloc: Global, description: &Description, minting: Minting) -> Result<Table, Fault>
-    ensures { Reads (λ table. table) result
-        (table_at (description_of description.now) minting Children.Control) }
+fn table_at(
+    alloc: Global,
+    description: &Description,
+    minting: Minting,
+    children: Children,
+) -> Result<Table, Fault>
+    ensures { Reads (λ table. table) result (table_at (description_of description.now) minting children) }
 {
-    let plan = planned(alloc, description, minting, Children::Control)?;
+    let plan = planned(alloc, description, minting, children)?;
     let pieces = pieces_of(alloc, description, minting)?;
     table_by(alloc, &plan, &pieces)
 }
@@ -404,11 +412,77 @@ mod tests {
 <channel><end pd='client' id='1' pp='true'/><end pd='server' id='2'/></channel>
 </system>";
         let description = read_description(rt.alloc(), text)?;
-        let table = table_of(rt.alloc(), &description, Minting::Least)?;
+        let table = table_of(rt.alloc(), &description, Minting::Least, Children::Control)?;
         assert_eq!(rt; table.label_count(), 3);
         assert_eq!(rt; table.object_count(), 10);
         assert_eq!(rt; table.caps().len(), 9);
         assert_eq!(rt; table.bindings().len(), 2);
+        Ok(())
+    }
+
+    const FAMILY: &[u8] = b"<system>
+<memory_region name='shared' size='0x1000'/>
+<protection_domain name='restarter' priority='254'>
+<protection_domain name='crasher' priority='253' id='1'>
+<map mr='shared' vaddr='0x2000000' perms='rw'/>
+</protection_domain>
+<protection_domain name='steady' priority='200' id='2'/>
+</protection_domain>
+<protection_domain name='hello' priority='1'>
+<map mr='shared' vaddr='0x2000000' perms='r'/>
+</protection_domain>
+<channel><end pd='restarter' id='3'/><end pd='hello' id='1'/></channel>
+</system>";
+
+    #[test]
+    fn a_parent_holds_the_threads_of_children(rt: HostRuntime) -> Result<(), Fault> {
+        let description = read_description(rt.alloc(), FAMILY)?;
+        let table = table_of(rt.alloc(), &description, Minting::Least, Children::Control)?;
+        assert_eq!(rt; table.object_count(), 19);
+        assert_eq!(rt; table.caps().len(), 18);
+        Ok(())
+    }
+
+    #[test]
+    fn a_parent_holds_what_its_children_hold(rt: HostRuntime) -> Result<(), Fault> {
+        let description = read_description(rt.alloc(), FAMILY)?;
+        let table = table_of(rt.alloc(), &description, Minting::Least, Children::Directed)?;
+        assert_eq!(rt; table.object_count(), 19);
+        assert_eq!(rt; table.caps().len(), 21);
+        // The last copy is of the capability by which the second child's faults reach the parent.
+        let parent = SlotRef {
+            holder: ObjId(0),
+            index: 462,
+        };
+        let child = SlotRef {
+            holder: ObjId(2),
+            index: 2,
+        };
+        assert_eq!(rt; table.cap(parent), table.cap(child));
+        assert_eq!(rt; table.cap(parent).is_some(), true);
+        Ok(())
+    }
+
+    #[test]
+    fn copies_of_copies_reach_the_first_domain(rt: HostRuntime) -> Result<(), Fault> {
+        let text = b"<system>
+<memory_region name='ram' size='0x1000'/>
+<protection_domain name='top' priority='9'>
+<protection_domain name='middle' priority='8' id='1'>
+<protection_domain name='low' priority='7' id='2'>
+<map mr='ram' vaddr='0x2000000' perms='rw'/>
+<virtual_machine name='guest' priority='6'>
+<vcpu id='0'/>
+<map mr='ram' vaddr='0x4000000' perms='r'/>
+</virtual_machine>
+</protection_domain>
+</protection_domain>
+</protection_domain>
+</system>";
+        let description = read_description(rt.alloc(), text)?;
+        let table = table_of(rt.alloc(), &description, Minting::Least, Children::Directed)?;
+        assert_eq!(rt; table.caps().len(), 38);
+        assert_eq!(rt; table.bindings().len(), 4);
         Ok(())
     }
 }

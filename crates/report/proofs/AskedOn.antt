@@ -4,8 +4,8 @@ use Rattle.base.specs.declared.{edge.Edge.Edge, labels.Labels.Labels}
 use Rattle.machine.specs.Layout.{Layout}
 use Rattle.verdict.specs.{declared.denial.Denial.Denial, Extents.reach_by, Verdict.rule_name}
 use Rattle.reptext.specs.{Places.place_names, Reports.denial_report}
-use Rattle.report.specs.declared.asking.Basis.{Basis}
-use Rattle.report.specs.declared.asking.Basis.{Basis as basis}
+use Rattle.commands.specs.declared.choices.Basis.{Basis}
+use Rattle.commands.specs.declared.choices.Basis.{Basis as basis}
 use Rattle.report.specs.{Answers.accepted, Questions.{AnswersOn, IsActingOn, IsReachOn}}
 use Rattle.report.proofs.Denied.{denied_by}
 

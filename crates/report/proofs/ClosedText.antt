@@ -10,7 +10,8 @@ use Rattle.integrity.specs.Confined.{IsConfined}
 use Rattle.verdict.specs.Verdict.{IsAccepted}
 use Rattle.reptext.proofs.OneText.{same_answer}
 use Rattle.commands.specs.declared.answer.Answer.{Answer}
-use Rattle.report.specs.{declared.closing.OnClose.OnClose as on_close, Closings.{Closes, IsAuthorityOf, IsClosing}}
+use Rattle.commands.specs.declared.choices.OnClose.{OnClose as on_close}
+use Rattle.report.specs.Closings.{Closes, IsAuthorityOf, IsClosing}
 use Rattle.report.{specs.Closings.{IsInEachPolicyFor, missing_edges, missing_status}, proofs.ClosedLabels.{either_within, least_within}}
 use Rattle.report.proofs.{ClosedLabels.{listed_within, within_listed}, Missing.{none_if_within, within_if_none}}
 

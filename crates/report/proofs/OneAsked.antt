@@ -9,8 +9,8 @@ use Rattle.policy.specs.ActorReasons.{IsChangeBy, IsShrinkBy, IsWhyAmong}
 use Rattle.policy.specs.{Policy.allows, Reasons.reason_place}
 use Rattle.captext.specs.PolicyText.{edge_lines}
 use Rattle.verdict.{specs.Extents.Reach, proofs.{Extents.{one_reach, same_reach}, OneVerdict.one_least}}
-use Rattle.report.specs.declared.asking.Basis.{Basis}
-use Rattle.report.specs.declared.asking.Basis.{Basis as basis}
+use Rattle.commands.specs.declared.choices.Basis.{Basis}
+use Rattle.commands.specs.declared.choices.Basis.{Basis as basis}
 use Rattle.report.specs.Questions.{AnswersOn, IsReachOn, Tells, TellsWhy, why_text}
 use Rattle.report.proofs.{OneAnswer.JudgesSystemOnce, OneClosing.place_once, OneReport.verdict_once}
 

@@ -13,8 +13,8 @@ use Rattle.policy.proofs.Members.{same_rising}
 use Rattle.table.proofs.BootState.{boot_state, boot_state_is}
 use Rattle.labels.proofs.EdgeLists.{allows-append}
 use Rattle.reptext.proofs.OneText.{same_answer}
-use Rattle.report.specs.declared.closing.OnClose.{OnClose}
-use Rattle.report.specs.declared.closing.OnClose.{OnClose as on_close}
+use Rattle.commands.specs.declared.choices.OnClose.{OnClose}
+use Rattle.commands.specs.declared.choices.OnClose.{OnClose as on_close}
 use Rattle.report.specs.Closings.{Closes, IsClosing, TellsClosing, kept_edges}
 use Rattle.report.proofs.OneAnswer.{JudgesSystemOnce}
 

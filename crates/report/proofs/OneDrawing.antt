@@ -14,7 +14,7 @@ use Rattle.report.proofs.OneAnswer.{IsOne, JudgesSystemOnce}
 use Rattle.report.proofs.OneClosing.{place_once}
 use Rattle.policy.specs.ActorReasons.{IsChangeBy, IsShrinkBy}
 use Rattle.verdict.specs.Extents.{Reach}
-use Rattle.report.specs.declared.asking.Basis.{Basis}
+use Rattle.commands.specs.declared.choices.Basis.{Basis}
 use Rattle.report.proofs.OneAsked.{answers_on_once, reach_once}
 
 module _ (reach : Reach) (t : Layout) where

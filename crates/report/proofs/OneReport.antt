@@ -9,7 +9,8 @@ use Rattle.verdict.proofs.OneVerdict.{one_verdict}
 use Rattle.certificate.specs.{declared.line.Line.Line, Right.right_certificate}
 use Rattle.checker.specs.{declared.verifying.NotAccepted.{NotAccepted as not_accepted}, Verified.{DiffersFirst, IsDenied, IsVerified}}
 use Rattle.reptext.{specs.{Places.place_names, Reports.{accept_data, denial_report, line_of}}, proofs.OneText.report_once}
-use Rattle.report.specs.{declared.checking.OnAccept.{OnAccept, OnAccept as on_accept}, Answers.{Answers, AnswersVerdict, Checks}}
+use Rattle.commands.specs.declared.choices.OnAccept.{OnAccept, OnAccept as on_accept}
+use Rattle.report.specs.Answers.{Answers, AnswersVerdict, Checks}
 use Rattle.report.{specs.Answers.{TellsCheck, Verifies, accepted, denied}, proofs.OneAnswer.{JudgesOnce, JudgesSystemOnce}}
 
 -- an acceptance that is told by one text, and denials of which there is one, and none beside an acceptance

@@ -12,7 +12,7 @@ use Rattle.checker.specs.{declared.verifying.NotAccepted.{NotAccepted as not_acc
 use Rattle.reptext.specs.{Places.place_names, Reports.{IsCheckReport, accept_data, denial_report, line_of}}
 use Rattle.forms.specs.declared.file.File.TheVariants as file
 use Rattle.commands.specs.{declared.end.End.End, Commands.{Input, IsDoneOnSystem, IsDoneOnThree, Output, no_label}}
-use Rattle.report.specs.declared.checking.OnAccept.{OnAccept, OnAccept as on_accept}
+use Rattle.commands.specs.declared.choices.OnAccept.{OnAccept, OnAccept as on_accept}
 
 -- a table and a policy are accepted and the text tells it, with status 0; or they are denied and it tells why, with status 1
 pub data Answers

@@ -7,7 +7,7 @@ use Rattle.policy.specs.{Closing.{IsLeastClosed, IsWithin}, Policy.{IsRising, al
 use Rattle.captext.specs.{Policies.read_policy_of, PolicyText.{IsPolicyOf, edge_lines, policy_text}}
 use Rattle.verdict.specs.Verdict.{IsAccepted}
 use Rattle.commands.specs.{declared.end.End.End, Commands.{Input, IsDoneOnSystem, IsDoneOnTable, Output, no_label}}
-use Rattle.report.specs.declared.closing.OnClose.{OnClose, OnClose as on_close}
+use Rattle.commands.specs.declared.choices.OnClose.{OnClose, OnClose as on_close}
 
 -- these edges are the authority of the table's boot state
 abbrev pub IsAuthorityOf : Layout → List Edge → Type 0

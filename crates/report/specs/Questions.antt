@@ -16,8 +16,8 @@ use Rattle.commands.specs.declared.end.End.{End}
 use Rattle.commands.specs.Commands.{Input, IsDoneOnSystem, IsDoneOnTable, Output, no_label}
 use Rattle.policy.specs.ActorReasons.{IsWhyAmong}
 use Rattle.verdict.specs.Extents.{Reach, IsReachOf, reach_by}
-use Rattle.report.specs.declared.asking.Basis.{Basis}
-use Rattle.report.specs.declared.asking.Basis.{Basis as basis}
+use Rattle.commands.specs.declared.choices.Basis.{Basis}
+use Rattle.commands.specs.declared.choices.Basis.{Basis as basis}
 use Rattle.report.specs.Answers.{AnswersVerdict}
 use Rattle.base.specs.declared.label.TheConstants.Label as Label
 use Rattle.verdict.specs.declared.denial.Denial.{Denial}

@@ -5,7 +5,7 @@ ghost use Rattle.captext.specs.PolicyText.{edge_lines};
 ghost use Rattle.commands.specs.Commands.{IsJudged, IsJudgedSo, SystemIsJudged, input, no_label, output};
 ghost use Rattle.report.specs.Questions as questions;
 
-use crate::{Asked, End, Listener, Sink, Source};
+use crate::{Asked, Basis, End, Listener, Sink, Source};
 use base::{Edge, Label, Labels, Refusal};
 use captext::write_edges;
 use commands::{Answer, Stop, System, denied, load_system, load_table, tell};
@@ -16,15 +16,6 @@ use std::alloc::Global;
 use std::thread::Threads;
 use table::Table;
 use verdict::{Denial, judge};
-
-/// What an answer on labels rests on.
-#[derive(Clone, Copy, PartialEq, Eq, Debug)]
-pub enum Basis {
-    /// The system, which is judged first: only threads of labels that may act make calls.
-    System,
-    /// The policy alone: each label counts as one whose threads make calls. This holds of no run.
-    Policy,
-}
 
 /// Tells what threads of a label may do to objects of another, and why.
 ///

@@ -2,7 +2,7 @@ ghost use Rattle.std.specs.Prelude.{ℕ, ◌<◌, ◌≡◌, ◌≤◌, IfOk, fa
 ghost use Rattle.commands.specs.{Commands.{SystemIsJudged, input, no_label, output}, Ends.status_of};
 ghost use Rattle.report.specs.Answers as answers;
 
-use crate::{End, Gate, Listener, Sink, Source};
+use crate::{End, Gate, Listener, OnAccept, Sink, Source};
 use base::Refusal;
 use commands::{Answer, Stop, System, denied, load_system, tell};
 use policy::Policy;
@@ -11,15 +11,6 @@ use std::alloc::Global;
 use std::thread::Threads;
 use table::Table;
 use verdict::judge;
-
-/// What [`check`] writes where a table and a policy are accepted.
-#[derive(Clone, Copy, PartialEq, Eq, Debug)]
-pub enum OnAccept {
-    /// The report, with each label's cut and full authority.
-    Report,
-    /// The text of the table's certificate.
-    Certificate,
-}
 
 /// Checks a table against a policy by 1 to 16 workers, each of which arrives at the gate first.
 ///

@@ -3,7 +3,7 @@ ghost use Rattle.captext.specs.PolicyText.{edge_lines};
 ghost use Rattle.commands.specs.Commands.{IsJudged, SystemIsJudged, input, no_label, output};
 ghost use Rattle.report.specs.Closings as closings;
 
-use crate::{End, Listener, Sink, Source};
+use crate::{End, Listener, OnClose, Sink, Source};
 use base::{Edge, Refusal};
 use captext::{write_edges, write_policy};
 use commands::{Answer, Stop, System, load_system, load_table, tell};
@@ -13,19 +13,6 @@ use policy::Policy;
 use std::alloc::Global;
 use table::Table;
 use verdict::a_verdict_is_on_the_boot_state;
-
-/// What [`close`] writes.
-#[derive(Clone, Copy, PartialEq, Eq, Debug)]
-pub enum OnClose {
-    /// The text of the least policy, with status 0.
-    Policy,
-    /// The lines of those of its edges that the given policy lacks: with status 0 where there are none,
-    /// and so the table keeps to the given policy, and 1 where there are some.
-    Missing,
-    /// The lines of those edges of the given policy that the least one for the table alone lacks: with
-    /// status 0 where there are none, and 1 where there are some.
-    Surplus,
-}
 
 /// Closes a policy over a table: finds the least policy that has the policy's edges and to which the
 /// table keeps; for [`OnClose::Surplus`] the least one to which it keeps, whatever the policy has.

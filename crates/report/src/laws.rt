@@ -3,7 +3,8 @@ ghost use Rattle.evtext.specs.{Log.read_log_of, Script.read_script_of};
 ghost use Rattle.claims.specs.Reading.{read_claims_of};
 ghost use Rattle.certificate.specs.Reading.{read_certificate_of};
 ghost use Rattle.forms.specs.declared.file.File.TheVariants as file;
-ghost use Rattle.report.specs.{declared.{asking.Basis.Basis, checking.OnAccept.OnAccept, closing.OnClose.OnClose}, Answers.{Checks, Verifies}};
+ghost use Rattle.commands.specs.declared.choices.{Basis.Basis, OnAccept.OnAccept, OnClose.OnClose};
+ghost use Rattle.report.specs.Answers.{Checks, Verifies};
 ghost use Rattle.report.specs.{Claimed.{JudgesClaims, WritesStrongest}, Closings.Closes, Questions.{Draws, Lists, Tells}, Replays.Replays};
 ghost use Rattle.report.specs.OneAnswer.{RunsInMemory, SystemHasOneAnswer, TableHasOneAnswer, ThreeHaveOneAnswer};
 

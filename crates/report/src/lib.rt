@@ -12,11 +12,13 @@ mod running;
 mod splitting;
 mod verifying;
 
-pub use asking::{Basis, draw, list, why};
-pub use checking::{OnAccept, check};
+pub use asking::{draw, list, why};
+pub use checking::check;
 pub use claiming::{check_claims, write_claims};
-pub use closing::{OnClose, close, start};
-pub use commands::{Asked, End, Fault, File, Finding, Heard, Listener, Outcomes, Silence};
+pub use closing::{close, start};
+pub use commands::{
+    Asked, Basis, End, Fault, File, Finding, Heard, Listener, OnAccept, OnClose, Outcomes, Silence,
+};
 pub use deal::{Gate, Open};
 pub use devices::{ReadError, Sink, Source, Unopened, Watched, WriteError, open_result};
 pub use laws::reports_are_functions_of_the_bytes;

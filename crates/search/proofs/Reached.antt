@@ -1,11 +1,12 @@
 -- Scripts that lead a step further, and that a script leads to one state.
-use Rattle.std.proofs.Common.{[], ◌++◌, ◌∙◌, ◌∷◌, ◌≡◌, All, List, ap, arith, refl, subst, suc, sym}
+use Rattle.std.proofs.Common.{[], ℕ, ◌++◌, ◌+◌, ◌<◌, ◌∙◌, ◌∷◌, ◌≡◌, ◌≢◌, All, List, ap, append_assoc, arith, drop, get_or, length, refl, subst, suc, sym, take}
+use Rattle.std.proofs.lemmas.List.{take-append-drop, take_more}
 use Rattle.std.proofs.lemmas.List.Elements.{All-push}
-use Rattle.base.specs.declared.refusal.Refusal.{Refusal}
+use Rattle.base.specs.{declared.refusal.Refusal.Refusal, Refusals.out_of_memory}
 use Rattle.machine.specs.declared.call.{Event.Event, Outcome.{Outcome, Outcome as o}}
 use Rattle.machine.specs.{Boot.IsBoot, Layout.Layout, Machine.Machine, Outcomes.IsRefused, Run.Run, Step.{Step}}
 use Rattle.kernel.proofs.RunLemmas.{run_further}
-use Rattle.search.specs.Shown.{IsMade, IsReachedBy}
+use Rattle.search.specs.Shown.{IsMade, IsReachedBy, IsStopped}
 
 pub reached_first : (t : Layout) (boot : Machine) → IsBoot t boot → IsReachedBy t [] boot
 reached_first t boot booted = record {
@@ -59,3 +60,29 @@ pub made_unless : (outcome : Outcome) → ((refusal : Refusal) → outcome ≡ o
 made_unless (o.Refused refusal) apart = λ _. apart refusal refl
 made_unless (o.Done answer) apart = λ refused. refused
 made_unless o.Blocked apart = λ refused. refused
+
+-- a list around one of its members
+around : (script : List Event) (i : ℕ) (event : Event) → i < length script → event ≡ get_or script i event
+    → script ≡ take i script ++ event ∷ drop (i + 1) script
+around script i event within same =
+    sym (take-append-drop (i + 1) script)
+    ∙ ap (λ (front : List Event). front ++ drop (i + 1) script)
+    (take_more script i event within ∙ ap (λ (e : Event). take i script ++ e ∷ []) (sym same))
+    ∙ append_assoc (take i script) (event ∷ []) (drop (i + 1) script)
+
+pub stopped_at :
+    (t : Layout) (script : List Event) (i : ℕ) (event : Event) → i < length script → event ≡ get_or script i event → (m : Machine)
+    → IsReachedBy t (take i script) m → (refusal : Refusal) (next : Machine) → Step m event (o.Refused refusal) next
+    → refusal ≢ out_of_memory → IsStopped t script
+stopped_at t script i event within same m reached refusal next step condition = record {
+  before = take i script;
+  event = event;
+  after = drop (i + 1) script;
+  are = around script i event within same;
+  m = m;
+  reached = reached;
+  refusal = refusal;
+  next = next;
+  step = step;
+  condition = condition;
+}

@@ -1,8 +1,8 @@
 -- What a script of kernel calls shows of two labels: its last call is made by a thread of the one and changes an object of the
 -- other (compare integrity in 'seL4 Enforces Integrity', section 4; that a run shows where it ends is confine's own).
-use Rattle.std.specs.Prelude.{[], ℕ, ◌++◌, ◌∷◌, ◌≡◌, All, Bool, List, Some}
-use Rattle.base.specs.declared.ids.ObjId.{ObjId}
-use Rattle.machine.specs.{declared.call.{Event.Event, Outcome.Outcome}, Authority.label_of, Boot.IsBoot, Layout.Layout, Machine.Machine}
+use Rattle.std.specs.Prelude.{[], ℕ, ◌++◌, ◌∷◌, ◌≡◌, ◌≢◌, All, Bool, List, Some}
+use Rattle.base.specs.{declared.{ids.ObjId.ObjId, refusal.Refusal.Refusal}, Refusals.out_of_memory}
+use Rattle.machine.specs.{declared.call.{Event.Event, Outcome.{Outcome, TheVariants.Refused}}, Authority.label_of, Boot.IsBoot, Layout.Layout, Machine.Machine}
 use Rattle.machine.specs.{Outcomes.IsRefused, Run.Run, Step.Step}
 use Rattle.integrity.specs.{Allowed.IsLabelled, Shrinks.{IsSame, Shrinks}}
 use Rattle.search.specs.declared.question.Question.{Question}
@@ -18,6 +18,19 @@ pub record IsReachedBy (t : Layout) (events : List Event) (m : Machine) : Type 0
   pub outcomes : List Outcome
   pub run : Run boot events outcomes m
   pub made : All IsMade outcomes
+
+-- one of the events is refused where those before it lead, and not for want of memory
+pub record IsStopped (t : Layout) (events : List Event) : Type 0 where
+  pub before : List Event
+  pub event : Event
+  pub after : List Event
+  pub are : events ≡ before ++ event ∷ after
+  pub m : Machine
+  pub reached : IsReachedBy t before m
+  pub refusal : Refusal
+  pub next : Machine
+  pub step : Step m event (Refused refusal) next
+  pub condition : refusal ≢ out_of_memory
 
 -- an event that isn't refused, by a thread of one label, changes, makes or removes an object of another
 pub record IsChange (t : Layout) (m : Machine) (event : Event) (next : Machine) (actor object : ℕ) (id : ObjId) : Type 0 where

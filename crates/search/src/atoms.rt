@@ -1,9 +1,13 @@
 //! Atoms: the single facts of a state by which a search tells what is new in it.
+use crate::seeming::changes;
 use base::{ObjId, SlotRef};
-use machine::{Cap, Detail, Inbox, Object, ObjectKind, ReplyState, RunState};
+use bitflags::Flags;
+use labels::label_of;
+use machine::{Cap, Detail, Inbox, Object, ObjectKind, ReplyState, RunState, Tcb};
 use objects::State;
 use std::alloc::{AllocError, Global};
-use std::collections::BTreeSet;
+use std::collections::{BTreeMap, BTreeSet};
+use table::Table;
 
 /// The kind of an atom.
 #[derive(Clone, Copy, PartialEq, Eq, PartialOrd, Ord, Debug)]
@@ -12,10 +16,12 @@ enum Aspect {
     Holds,
     /// A thread has a root.
     Root,
-    /// A CNode has an empty slot.
+    /// All slots but one are filled.
     Gap,
     /// A slot's capability was derived from another's.
     Pair,
+    /// An object is gone.
+    Gone,
     /// A thread can't run.
     Inactive,
     Ready,
@@ -23,178 +29,351 @@ enum Aspect {
     Receiving,
     Waiting,
     Called,
-    /// A thread was given something.
-    Given,
-    /// A thread runs on a context.
+    /// A thread was given a message, a word, or the news that its wait was aborted.
+    Message,
+    Word,
+    Aborted,
+    /// A thread runs on a context, or on none.
     Bound,
-    /// A notification has a word.
+    /// A notification has a word, or none.
     Pending,
-    /// A reply waits for a thread's message, or holds a thread.
+    Silent,
+    /// A reply waits for nothing, for a thread's message, or holds a thread.
+    Free,
     Named,
     Answering,
-    /// Objects were made of untyped memory.
+    /// Objects were made of untyped memory, or none any more.
     Used,
+    Unused,
     /// A context is configured.
     Configured,
+}
+
+/// An object as atoms name it.
+#[derive(Clone, Copy, PartialEq, Eq, PartialOrd, Ord, Debug)]
+enum Name {
+    /// No object.
+    Nothing,
+    /// An object of the table.
+    Declared(u64),
+    /// An object that was made: those of a kind and of a label of this number aren't told apart.
+    Made(Option<ObjectKind>, Option<u16>),
 }
 
 /// A single fact of a state: of which objects it is, and with which rights.
 #[derive(Clone, Copy, PartialEq, Eq, PartialOrd, Ord, Debug)]
 struct Atom {
     aspect: Aspect,
-    of: u64,
-    to: u64,
-    rights: u8,
-    kind: Option<ObjectKind>,
+    of: Name,
+    to: Name,
+    /// The bits of a capability's rights, or the index of an empty slot.
+    number: u64,
+}
+
+/// Two atoms of one state, by their numbers.
+#[derive(Clone, Copy, PartialEq, Eq, PartialOrd, Ord, Debug)]
+struct Two {
+    one: usize,
+    other: usize,
+}
+
+/// What a state has to have to be new.
+#[derive(Clone, Copy, PartialEq, Eq, Debug)]
+pub enum News {
+    /// An atom that no earlier state had.
+    Atom,
+    /// Two atoms that no earlier state had both.
+    Two,
 }
 
 /// The atoms that were seen so far.
 #[derive(Drop)]
-pub struct Known {
-    atoms: BTreeSet<Atom>,
+pub struct Known<'a> {
+    table: &'a Table,
+    news: News,
+    /// The number of objects of the boot state.
+    count: u64,
+    /// The atoms, each with its number: those of the boot state come first.
+    atoms: BTreeMap<Atom, usize>,
+    /// The number of atoms of the boot state.
+    first: usize,
+    twos: BTreeSet<Two>,
 }
 
-impl Known {
-    /// Returns none at all.
-    pub fn new(alloc: Global) -> Known {
-        Known {
-            atoms: BTreeSet::new(alloc),
-        }
-    }
-
-    /// Notes the atoms of a state, and returns whether one of them wasn't known.
+impl<'a> Known<'a> {
+    /// Returns the atoms of the boot state.
     ///
     /// # Errors
     ///
     /// [`AllocError`] where memory is refused.
-    pub fn note(&mut self, state: &State) -> Result<bool, AllocError> {
-        let mut news = false;
-        for number in 0..state.next_id() {
-            let id = ObjId(number);
-            if let Some(&object) = state.object(id) {
-                let content = self.note_content(id, &object)?;
-                let slots = self.note_slots(state, id, &object)?;
-                news = news || content || slots;
-            }
-        }
-        Ok(news)
-    }
-
-    // Notes one atom, and returns whether it wasn't known.
-    fn add(&mut self, aspect: Aspect, of: ObjId, to: u64) -> Result<bool, AllocError> {
-        let atom = Atom {
-            aspect,
-            of: of.0,
-            to,
-            rights: 0,
-            kind: None,
+    pub fn new(
+        alloc: Global,
+        table: &'a Table,
+        news: News,
+        boot: &State,
+    ) -> Result<Known<'a>, AllocError> {
+        let mut known = Known {
+            table,
+            news,
+            count: boot.next_id(),
+            atoms: BTreeMap::new(alloc),
+            first: 0,
+            twos: BTreeSet::new(alloc),
         };
-        let fresh = self.atoms.insert(atom)?;
-        Ok(fresh)
-    }
-
-    // Notes that an object holds a capability, and returns whether that wasn't known.
-    fn add_cap(&mut self, aspect: Aspect, of: ObjId, cap: &Cap) -> Result<bool, AllocError> {
-        let atom = Atom {
-            aspect,
-            of: of.0,
-            to: cap.object.0,
-            rights: rights(cap),
-            kind: Some(cap.detail.kind()),
-        };
-        let fresh = self.atoms.insert(atom)?;
-        Ok(fresh)
-    }
-
-    // Notes what an object's content says.
-    fn note_content(&mut self, id: ObjId, object: &Object) -> Result<bool, AllocError> {
-        match object {
-            Object::Tcb(thread) => {
-                let (aspect, at) = waits(&thread.state);
-                let run = self.add(aspect, id, at)?;
-                let given = thread.inbox != Inbox::Empty && self.add(Aspect::Given, id, 0)?;
-                let bound = match thread.context {
-                    Some(context) => self.add(Aspect::Bound, id, context.0)?,
-                    None => false,
-                };
-                Ok(run || given || bound)
-            }
-            Object::Notification(bell) => {
-                Ok(bell.pending.is_some() && self.add(Aspect::Pending, id, 0)?)
-            }
-            Object::Reply(reply) => match reply.state {
-                ReplyState::Free => Ok(false),
-                ReplyState::Waiting(thread) => self.add(Aspect::Named, id, thread.0),
-                ReplyState::Called(thread) => self.add(Aspect::Answering, id, thread.0),
-            },
-            Object::Untyped(memory) => {
-                Ok(memory.watermark > memory.base && self.add(Aspect::Used, id, 0)?)
-            }
-            Object::Context(context) => {
-                Ok(context.share.is_some() && self.add(Aspect::Configured, id, 0)?)
-            }
-            _ => Ok(false),
+        let mut found = Vec::new(alloc);
+        for number in 0..boot.next_id() {
+            known.list(boot, ObjId(number), &mut found)?;
         }
+        for atom in &found {
+            let _ = known.number(atom)?;
+        }
+        known.first = known.atoms.len();
+        Ok(known)
     }
 
-    // Notes what an object's slots hold.
-    fn note_slots(
+    /// Notes the atoms of those objects of a state that a call changed, and returns whether it is new.
+    ///
+    /// # Errors
+    ///
+    /// [`AllocError`] where memory is refused.
+    pub fn note(
         &mut self,
+        alloc: Global,
+        boot: &State,
         state: &State,
-        id: ObjId,
-        object: &Object,
+        changes: &[ObjId],
     ) -> Result<bool, AllocError> {
-        let mut news = false;
+        let mut found = Vec::new(alloc);
+        for id in changes {
+            self.list(state, *id, &mut found)?;
+        }
+        let before = self.atoms.len();
+        let numbers = self.numbers(alloc, &found)?;
+        let is_new = self.atoms.len() != before;
+        match self.news {
+            News::Atom => Ok(is_new),
+            News::Two => {
+                let has_two = self.note_twos(alloc, boot, state, &numbers)?;
+                Ok(is_new || has_two)
+            }
+        }
+    }
+
+    // The number of an atom, which is known then.
+    fn number(&mut self, atom: &Atom) -> Result<usize, AllocError> {
+        let number = self.atoms.len();
+        match self.atoms.insert(*atom, number)? {
+            Some(before) => {
+                self.atoms.insert(*atom, before)?;
+                Ok(before)
+            }
+            None => Ok(number),
+        }
+    }
+
+    // The numbers of those atoms that the boot state doesn't have.
+    fn numbers(&mut self, alloc: Global, found: &[Atom]) -> Result<Vec<usize>, AllocError> {
+        let mut numbers = Vec::new(alloc);
+        for atom in found {
+            let number = self.number(atom)?;
+            if number >= self.first {
+                numbers.push(number)?;
+            }
+        }
+        Ok(numbers)
+    }
+
+    // Notes the atoms of these numbers each with those in which a state differs from the boot state, and returns
+    // whether two weren't known.
+    fn note_twos(
+        &mut self,
+        alloc: Global,
+        boot: &State,
+        state: &State,
+        numbers: &[usize],
+    ) -> Result<bool, AllocError> {
+        let mut found = Vec::new(alloc);
+        for id in &changes(alloc, boot, state)? {
+            self.list(state, *id, &mut found)?;
+        }
+        let others = self.numbers(alloc, &found)?;
+        let before = self.twos.len();
+        for one in numbers {
+            for other in &others {
+                let two = Two {
+                    one: (*one).min(*other),
+                    other: (*one).max(*other),
+                };
+                self.twos.insert(two)?;
+            }
+        }
+        Ok(self.twos.len() != before)
+    }
+
+    // Lists the atoms of an object.
+    fn list(&self, state: &State, id: ObjId, found: &mut Vec<Atom>) -> Result<(), AllocError> {
+        let of = self.name(state, id);
+        let Some(object) = state.object(id) else {
+            return push(found, Aspect::Gone, &of, &Name::Nothing, 0);
+        };
+        let (aspect, at) = content_of(object);
+        let place = self.name_if(state, at);
+        push(found, aspect, &of, &place, 0)?;
+        if let Object::Tcb(thread) = object {
+            self.list_thread(state, thread, &of, found)?;
+        }
         for index in 0..object.slot_count() {
             let slot = SlotRef { holder: id, index };
-            let fresh = self.note_slot(state, slot, object)?;
-            news = news || fresh;
+            self.list_slot(state, slot, object, &of, found)?;
         }
-        Ok(news)
+        match only_gap(state, id, object) {
+            Some(index) => push(found, Aspect::Gap, &of, &Name::Nothing, index),
+            None => Ok(()),
+        }
     }
 
-    // Notes what a slot holds.
-    fn note_slot(
-        &mut self,
+    // Lists the atoms that threads alone have.
+    fn list_thread(
+        &self,
+        state: &State,
+        thread: &Tcb,
+        of: &Name,
+        found: &mut Vec<Atom>,
+    ) -> Result<(), AllocError> {
+        let context = self.name_if(state, thread.context);
+        push(found, Aspect::Bound, of, &context, 0)?;
+        match given(&thread.inbox) {
+            Some(aspect) => push(found, aspect, of, &Name::Nothing, 0),
+            None => Ok(()),
+        }
+    }
+
+    // Lists the atoms of a slot.
+    fn list_slot(
+        &self,
         state: &State,
         slot: SlotRef,
         object: &Object,
-    ) -> Result<bool, AllocError> {
-        let Some(cap) = state.cap(slot) else {
-            return self.add(Aspect::Gap, slot.holder, 0);
+        of: &Name,
+        found: &mut Vec<Atom>,
+    ) -> Result<(), AllocError> {
+        let Some(cap) = state.held(slot) else {
+            return Ok(());
         };
         let aspect = match object {
             Object::Tcb(_) => Aspect::Root,
             _ => Aspect::Holds,
         };
-        let held = self.add_cap(aspect, slot.holder, &cap)?;
-        let paired = match state.parent(slot) {
-            Some(parent) => self.add(Aspect::Pair, slot.holder, parent.holder.0)?,
-            None => false,
+        let held = self.name(state, cap.object);
+        push(found, aspect, of, &held, rights(cap))?;
+        let Some(parent) = state.parent(slot) else {
+            return Ok(());
         };
-        Ok(held || paired)
+        let from = self.name(state, parent.holder);
+        push(found, Aspect::Pair, of, &from, 0)
+    }
+
+    // The name of an object in atoms.
+    fn name(&self, state: &State, id: ObjId) -> Name {
+        if id.0 < self.count {
+            return Name::Declared(id.0);
+        }
+        let kind = match state.object(id) {
+            Some(object) => Some(object.kind()),
+            None => None,
+        };
+        let label = match label_of(self.table, state, id) {
+            Some(label) => Some(label.number()),
+            None => None,
+        };
+        Name::Made(kind, label)
+    }
+
+    // The name of an object, if there is one.
+    fn name_if(&self, state: &State, id: Option<ObjId>) -> Name {
+        match id {
+            Some(id) => self.name(state, id),
+            None => Name::Nothing,
+        }
+    }
+}
+
+// Adds an atom to a list.
+fn push(
+    found: &mut Vec<Atom>,
+    aspect: Aspect,
+    of: &Name,
+    to: &Name,
+    number: u64,
+) -> Result<(), AllocError> {
+    found.push(Atom {
+        aspect,
+        of: *of,
+        to: *to,
+        number,
+    })?;
+    Ok(())
+}
+
+// The one slot of an object that is empty, if all others are filled.
+fn only_gap(state: &State, id: ObjId, object: &Object) -> Option<u64> {
+    let mut gap = None;
+    for index in 0..object.slot_count() {
+        let slot = SlotRef { holder: id, index };
+        if state.held(slot).is_none() {
+            if gap.is_some() {
+                return None;
+            }
+            gap = Some(index);
+        }
+    }
+    gap
+}
+
+// What an object's content says, and of which other object.
+fn content_of(object: &Object) -> (Aspect, Option<ObjId>) {
+    match object {
+        Object::Tcb(thread) => waits(&thread.state),
+        Object::Notification(bell) if bell.pending.is_some() => (Aspect::Pending, None),
+        Object::Reply(reply) => match reply.state {
+            ReplyState::Free => (Aspect::Free, None),
+            ReplyState::Waiting(thread) => (Aspect::Named, Some(thread)),
+            ReplyState::Called(thread) => (Aspect::Answering, Some(thread)),
+        },
+        Object::Untyped(memory) if memory.watermark > memory.base => (Aspect::Used, None),
+        Object::Untyped(_) => (Aspect::Unused, None),
+        Object::Context(context) if context.share.is_some() => (Aspect::Configured, None),
+        _ => (Aspect::Silent, None),
     }
 }
 
 // The kind of a thread's state, and the object that it waits at or through.
-fn waits(state: &RunState) -> (Aspect, u64) {
+fn waits(state: &RunState) -> (Aspect, Option<ObjId>) {
     match state {
-        RunState::Inactive => (Aspect::Inactive, 0),
-        RunState::Ready => (Aspect::Ready, 0),
-        RunState::Sending(sending) => (Aspect::Sending, sending.endpoint.0),
-        RunState::Receiving(receiving) => (Aspect::Receiving, receiving.endpoint.0),
-        RunState::Waiting(notification) => (Aspect::Waiting, notification.0),
-        RunState::Called(calling) => (Aspect::Called, calling.reply.0),
+        RunState::Inactive => (Aspect::Inactive, None),
+        RunState::Ready => (Aspect::Ready, None),
+        RunState::Sending(sending) => (Aspect::Sending, Some(sending.endpoint)),
+        RunState::Receiving(receiving) => (Aspect::Receiving, Some(receiving.endpoint)),
+        RunState::Waiting(notification) => (Aspect::Waiting, Some(*notification)),
+        RunState::Called(calling) => (Aspect::Called, Some(calling.reply)),
+    }
+}
+
+// What a thread was given.
+fn given(inbox: &Inbox) -> Option<Aspect> {
+    match inbox {
+        Inbox::Empty => None,
+        Inbox::Message(_) => Some(Aspect::Message),
+        Inbox::Word(_) => Some(Aspect::Word),
+        Inbox::Aborted => Some(Aspect::Aborted),
     }
 }
 
 // The bits of a capability's rights.
-fn rights(cap: &Cap) -> u8 {
-    use bitflags::Flags;
-
+fn rights(cap: &Cap) -> u64 {
     match cap.detail {
-        Detail::Endpoint(end) | Detail::Notification(end) => end.rights.bits(),
-        Detail::Frame(rights) => rights.bits(),
+        Detail::Endpoint(end) | Detail::Notification(end) => u64::from(end.rights.bits()),
+        Detail::Frame(rights) => u64::from(rights.bits()),
         _ => 0,
     }
 }

@@ -4,14 +4,13 @@ ghost use Rattle.base.specs.Refusals.{plain};
 ghost use Rattle.machine.specs.WellFormed.{IsWellFormed};
 ghost use Rattle.search.specs.Shown.{Answers};
 
-use crate::atoms::Known;
-use crate::lessening::lessens;
+use crate::atoms::{Known, News};
 use crate::question::Question;
 use crate::reaching::reach;
+use crate::seeming::{answering, changes, is_near};
 use crate::showing::{makes, shows};
-use crate::trying::calls_in;
-use base::{ObjId, Refusal, SlotRef};
-use labels::label_of;
+use crate::trying::{Choice, calls_in};
+use base::Refusal;
 use machine::Event;
 use objects::State;
 use std::alloc::{AllocError, Global};
@@ -26,6 +25,30 @@ pub struct Found {
     pub steps: u64,
 }
 
+/// The scripts that lead to states which a search goes on from, and what it has seen.
+#[derive(Drop)]
+struct Front<'a> {
+    boot: State,
+    known: Known<'a>,
+    kept: Vec<Kept>,
+    /// The number of kept scripts after which the actor's calls were tried.
+    own: usize,
+    /// The number of those before which the others' calls were tried after each.
+    others: usize,
+    /// The number of those before which they were tried after each that is near.
+    near: usize,
+}
+
+/// A script that leads to a state which a search goes on from.
+#[derive(Drop)]
+struct Kept {
+    script: Vec<Event>,
+    /// Whether its last call changed an object of one of the labels that are asked about.
+    is_near: bool,
+    /// Whether the others' calls were tried after it.
+    is_done: bool,
+}
+
 /// Searches for a script that answers a question, and tries at most so many calls.
 ///
 /// A script that is found answers the question. That none is found says nothing.
@@ -38,22 +61,53 @@ pub fn find(alloc: Global, table: &Table, question: &Question, steps: u64) -> Re
     ensures bounded { IfOk result (λ found. found.steps ≤ steps) }
     ensures refused { IfErr result (λ refusal. refusal ≡ plain 40) }
 {
-    let mut known = Known::new(alloc);
-    let mut kept = Vec::new(alloc);
-    kept.push(Vec::new(alloc))?;
+    let first = pass(alloc, table, question, steps - steps / 3, News::Atom)?;
+    if first.script.is_some() {
+        return Ok(first);
+    }
+    let second = pass(alloc, table, question, steps - first.steps, News::Two)?;
+    Ok(Found {
+        script: second.script,
+        steps: first.steps + second.steps,
+    })
+}
+
+// Searches with at most so many calls, from states that are new in this sense.
+fn pass(
+    alloc: Global,
+    table: &Table,
+    question: &Question,
+    steps: u64,
+    news: News,
+) -> Result<Found, Refusal>
+    ensures found { IfOk result (λ found. IfSome found.script (λ script. Answers table.now question.now script.items)) }
+    ensures bounded { IfOk result (λ found. found.steps ≤ steps) }
+    ensures refused { IfErr result (λ refusal. refusal ≡ plain 40) }
+{
     let mut spent = 0;
-    for number in 0..usize::MAX {
-        let Some(script) = kept_at(alloc, &kept, number)? else {
+    let Some(mut front) = begin(alloc, table, news)? else {
+        return Ok(Found {
+            script: None,
+            steps: 0,
+        });
+    };
+    for turn in 0..usize::MAX {
+        let Some((number, own)) = next(&mut front, turn) else {
             break;
+        };
+        let choice = Choice {
+            actor: question.actor,
+            own,
+            wide: news == News::Two,
         };
         let found = follow(
             alloc,
             table,
             question,
-            &script,
+            &choice,
+            number,
             steps - spent,
-            &mut known,
-            &mut kept,
+            &mut front,
         )?;
         spent += found.steps;
         if let Some(script) = found.script {
@@ -72,14 +126,78 @@ pub fn find(alloc: Global, table: &Table, question: &Question, steps: u64) -> Re
     })
 }
 
+// A search that goes on from the boot state alone.
+fn begin<'a>(alloc: Global, table: &'a Table, news: News) -> Result<Option<Front<'a>>, Refusal>
+    ensures refused { IfErr result (λ refusal. refusal ≡ plain 40) }
+{
+    let Some(boot) = reach(alloc, table, &[])? else {
+        return Ok(None);
+    };
+    let known = Known::new(alloc, table, news, &boot)?;
+    let mut kept = Vec::new(alloc);
+    kept.push(Kept {
+        script: Vec::new(alloc),
+        is_near: true,
+        is_done: false,
+    })?;
+    Ok(Some(Front {
+        boot,
+        known,
+        kept,
+        own: 0,
+        others: 0,
+        near: 0,
+    }))
+}
+
+// The number of the script to go on from, and whether the actor's calls are tried after it. Its calls come
+// first: two turns of three are theirs. Every other turn of the others is for a script that is near.
+fn next(front: &mut Front<'_>, turn: usize) -> Option<(usize, bool)> {
+    let count = front.kept.len();
+    if front.own < count && (turn % 3 != 2 || front.others >= front.own) {
+        let number = front.own;
+        front.own = number + 1;
+        return Some((number, true));
+    }
+    if turn % 2 == 0 {
+        if let Some(number) = open_from(&front.kept, front.near, front.own, true) {
+            front.near = number + 1;
+            finish(&mut front.kept, number);
+            return Some((number, false));
+        }
+    }
+    let number = open_from(&front.kept, front.others, front.own, false)?;
+    front.others = number + 1;
+    finish(&mut front.kept, number);
+    Some((number, false))
+}
+
+// The number of the first kept script, of those between two numbers, after which the others' calls weren't tried;
+// of those that are near, or of all.
+fn open_from(kept: &[Kept], from: usize, to: usize, near: bool) -> Option<usize>
+    ensures { IfSome result (λ number. number < to) }
+{
+    for number in from..to {
+        if let Some(script) = kept.get(number) {
+            if !script.is_done && (script.is_near || !near) {
+                return Some(number);
+            }
+        }
+    }
+    None
+}
+
+// Notes that the others' calls were tried after a kept script.
+fn finish(kept: &mut [Kept], number: usize) {
+    if let Some(script) = kept.get_mut(number) {
+        script.is_done = true;
+    }
+}
+
 // The kept script of that number, if there is one.
-fn kept_at(
-    alloc: Global,
-    kept: &[Vec<Event>],
-    number: usize,
-) -> Result<Option<Vec<Event>>, AllocError> {
+fn kept_at(alloc: Global, kept: &[Kept], number: usize) -> Result<Option<Vec<Event>>, AllocError> {
     match kept.get(number) {
-        Some(script) => Ok(Some(copied(alloc, script)?)),
+        Some(kept) => Ok(Some(copied(alloc, &kept.script)?)),
         None => Ok(None),
     }
 }
@@ -91,38 +209,61 @@ fn copied(alloc: Global, script: &[Event]) -> Result<Vec<Event>, AllocError> {
     Ok(events)
 }
 
-// Tries the calls after a script, but no more than so many, and keeps the scripts that lead to something
-// new.
+// Tries the calls after the kept script of a number, but no more than so many, and keeps the scripts that lead
+// to something new.
 fn follow(
     alloc: Global,
     table: &Table,
     question: &Question,
-    script: &[Event],
+    choice: &Choice,
+    number: usize,
     most: u64,
-    known: &mut Known,
-    kept: &mut Vec<Vec<Event>>,
+    front: &mut Front<'_>,
 ) -> Result<Found, Refusal>
     ensures found { IfOk result (λ found. IfSome found.script (λ script. Answers table.now question.now script.items)) }
     ensures bounded { IfOk result (λ found. found.steps ≤ most) }
     ensures refused { IfErr result (λ refusal. refusal ≡ plain 40) }
 {
-    let Some(from) = reach(alloc, table, script)? else {
+    let Some(script) = kept_at(alloc, &front.kept, number)? else {
         return Ok(Found {
             script: None,
             steps: 0,
         });
     };
-    note(known, &from)?;
-    let calls = calls_in(alloc, table, &from, question.actor)?;
+    let Some(from) = reach(alloc, table, &script)? else {
+        return Ok(Found {
+            script: None,
+            steps: 0,
+        });
+    };
+    let calls = calls_in(alloc, table, &from, choice)?;
+    try_all(alloc, table, question, &script, &from, &calls, most, front)
+}
+
+// Tries calls after a script, but no more than so many.
+fn try_all(
+    alloc: Global,
+    table: &Table,
+    question: &Question,
+    script: &[Event],
+    from: &State,
+    calls: &[Event],
+    most: u64,
+    front: &mut Front<'_>,
+) -> Result<Found, Refusal>
+    ensures found { IfOk result (λ found. IfSome found.script (λ script. Answers table.now question.now script.items)) }
+    ensures bounded { IfOk result (λ found. found.steps ≤ most) }
+    ensures refused { IfErr result (λ refusal. refusal ≡ plain 40) }
+{
     let mut at = 0;
     for _ in 0..calls.len() {
-        let Some(index) = made_after(alloc, table, script, &calls, at, most)? else {
+        let Some((index, state)) = made_after(alloc, table, script, calls, at, most)? else {
             at = calls.len();
             break;
         };
         at = index + 1;
-        let answer = try_call(
-            alloc, table, question, script, &from, &calls, index, known, kept,
+        let answer = judge(
+            alloc, table, question, script, from, &state, calls, index, front,
         )?;
         if let Some(script) = answer {
             return Ok(Found {
@@ -137,13 +278,7 @@ fn follow(
     })
 }
 
-// Notes the atoms of a state.
-fn note(known: &mut Known, state: &State) -> Result<(), AllocError> {
-    let _ = known.note(state)?;
-    Ok(())
-}
-
-// The index of the first call, from an index on, that isn't refused after a script.
+// The first call, from an index on, that isn't refused after a script, and the state that it leads to.
 fn made_after(
     alloc: Global,
     table: &Table,
@@ -151,29 +286,31 @@ fn made_after(
     calls: &[Event],
     at: usize,
     most: u64,
-) -> Result<Option<usize>, Refusal>
-    ensures within { IfOk result (λ made. IfSome made (λ index. index < length calls.now)) }
+) -> Result<Option<(usize, State)>, Refusal>
+    ensures within { IfOk result (λ made. IfSome made (λ pair. pair.0 < length calls.now)) }
     ensures refused { IfErr result (λ refusal. refusal ≡ plain 40) }
 {
     let Some(mut state) = reach(alloc, table, script)? else {
         return Ok(None);
     };
-    let made = first_made(&mut state, calls, at, most);
-    Ok(made)
+    match first_made(&mut state, calls, at, most) {
+        Some(index) => Ok(Some((index, state))),
+        None => Ok(None),
+    }
 }
 
-// Tries a call after a script: the script with the call, where that answers the question. It is kept if it
-// leads to something new.
-fn try_call(
+// Judges a call that leads from a script's state to another: the script with the call, where that answers the
+// question. It is kept if it leads to something new.
+fn judge(
     alloc: Global,
     table: &Table,
     question: &Question,
     script: &[Event],
     from: &State,
+    to: &State,
     calls: &[Event],
     index: usize,
-    known: &mut Known,
-    kept: &mut Vec<Vec<Event>>,
+    front: &mut Front<'_>,
 ) -> Result<Option<Vec<Event>>, Refusal>
     ensures found { IfOk result (λ answer. IfSome answer (λ script. Answers table.now question.now script.items)) }
     ensures refused { IfErr result (λ refusal. refusal ≡ plain 40) }
@@ -181,17 +318,18 @@ fn try_call(
     let Some(last) = calls.get(index) else {
         return Ok(None);
     };
-    let whole = longer(alloc, script, *last)?;
-    let Some(state) = reach(alloc, table, &whole)? else {
-        return Ok(None);
-    };
-    if let Some(id) = changed(table, from, &state, last.thread, question) {
+    let changes = changes(alloc, from, to)?;
+    if let Some(id) = answering(table, from, to, &changes, last.thread, question) {
         if shows(alloc, table, script, *last, question, id)? {
-            return Ok(Some(whole));
+            return Ok(Some(longer(alloc, script, *last)?));
         }
     }
-    if known.note(&state)? {
-        kept.push(whole)?;
+    if front.known.note(alloc, &front.boot, to, &changes)? {
+        front.kept.push(Kept {
+            script: longer(alloc, script, *last)?,
+            is_near: is_near(table, from, to, &changes, question),
+            is_done: false,
+        })?;
     }
     Ok(None)
 }
@@ -224,71 +362,4 @@ fn longer(alloc: Global, script: &[Event], last: Event) -> Result<Vec<Event>, Al
     events.extend_from_slice(script)?;
     events.push(last)?;
     Ok(events)
-}
-
-// An object of the question's label that seems to have changed by a call of the question's actor.
-fn changed(
-    table: &Table,
-    old: &State,
-    new: &State,
-    thread: ObjId,
-    question: &Question,
-) -> Option<ObjId> {
-    if label_of(table, old, thread) != Some(question.actor) {
-        return None;
-    }
-    for number in 0..new.next_id() {
-        let id = ObjId(number);
-        let label = match old.object(id) {
-            Some(_) => label_of(table, old, id),
-            None => label_of(table, new, id),
-        };
-        if label == Some(question.object)
-            && seems_changed(old, new, id)
-            && (question.taking == seems_less(old, new, id))
-        {
-            return Some(id);
-        }
-    }
-    None
-}
-
-// Whether an object differs in its content, its first thread or its slots.
-fn seems_changed(old: &State, new: &State, id: ObjId) -> bool {
-    if old.object(id) != new.object(id) || old.first_waiting(id) != new.first_waiting(id) {
-        return true;
-    }
-    if old.word(id, 0) != new.word(id, 0) {
-        return true;
-    }
-    let Some(object) = old.object(id) else {
-        return false;
-    };
-    for index in 0..object.slot_count() {
-        let slot = SlotRef { holder: id, index };
-        if old.cap(slot) != new.cap(slot) {
-            return true;
-        }
-    }
-    false
-}
-
-// Whether a changed object seems to have lost something, and no more.
-fn seems_less(old: &State, new: &State, id: ObjId) -> bool {
-    let Some(is) = new.object(id) else {
-        return true;
-    };
-    let Some(was) = old.object(id) else {
-        return false;
-    };
-    if !lessens(was, is) || old.word(id, 0) != new.word(id, 0) {
-        return false;
-    }
-    for index in 0..was.slot_count() {
-        let slot = SlotRef { holder: id, index };
-        if new.cap(slot).is_some() && old.cap(slot) != new.cap(slot) {
-            return false;
-        }
-    }
-    true
 }

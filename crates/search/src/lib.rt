@@ -8,6 +8,7 @@ mod finding;
 mod lessening;
 mod question;
 mod reaching;
+mod seeming;
 mod showing;
 mod sight;
 mod spaces;

@@ -1,8 +1,9 @@
 //! The state that a script leads to.
-ghost use Rattle.std.specs.Prelude.{◌≡◌, IfErr, IfNone, IfOk, IfSome, List};
-ghost use Rattle.base.specs.Refusals.{plain};
+ghost use Rattle.std.specs.Prelude.{◌↔◌, ◌≡◌, IfErr, IfNone, IfOk, IfSome, IsTrue, List};
+ghost use Rattle.base.specs.Refusals.{out_of_memory, plain};
+ghost use Rattle.machine.specs.declared.call.Outcome.TheVariants.{Refused};
 ghost use Rattle.machine.specs.{declared.call.Event.Event as Ev, Layout.Layout, Machine.Machine, WellFormed.IsWellFormed};
-ghost use Rattle.search.specs.Shown.{IsReachedBy};
+ghost use Rattle.search.specs.Shown.{IsReachedBy, IsStopped};
 
 use base::Refusal;
 use kernel::{boot, each_table_has_one_boot_state, step};
@@ -11,13 +12,14 @@ use objects::State;
 use std::alloc::Global;
 use table::Table;
 
-/// Returns the state to which a script leads from a table's boot state; `None` where one of its calls
-/// is refused.
+/// Returns the state to which a script leads from a table's boot state; `None` exactly where one of its
+/// calls is refused.
 ///
 /// # Errors
 ///
 /// 40 where memory is refused, to the boot or to one of the calls.
 pub fn reach(alloc: Global, table: &Table, script: &[Event]) -> Result<Option<State>, Refusal>
+    ensures stopped { IfOk result (λ answer. IfNone answer (IsStopped table.now script.now)) }
     ensures reached { IfOk result (λ answer. IfSome answer (IsReachedBy table.now script.now)) }
     ensures well_formed { IfOk result (λ answer. IfSome answer IsWellFormed) }
     ensures refused { IfErr result (λ refusal. refusal ≡ plain 40) }
@@ -25,7 +27,7 @@ pub fn reach(alloc: Global, table: &Table, script: &[Event]) -> Result<Option<St
     let mut state = boot(alloc, table)?;
     for event in script {
         let outcome = step(&mut state, *event);
-        if outcome == Outcome::Refused(Refusal::OUT_OF_MEMORY) {
+        if is_lack(&outcome) {
             return Err(Refusal::OUT_OF_MEMORY);
         }
         if let Outcome::Refused(_) = outcome {
@@ -33,6 +35,13 @@ pub fn reach(alloc: Global, table: &Table, script: &[Event]) -> Result<Option<St
         }
     }
     Ok(Some(state))
+}
+
+// Whether a call was refused memory.
+fn is_lack(outcome: &Outcome) -> bool
+    ensures { IsTrue result ↔ (outcome.now ≡ Refused out_of_memory) }
+{
+    *outcome == Outcome::Refused(Refusal::OUT_OF_MEMORY)
 }
 
 /// A law: a script leads to one state.

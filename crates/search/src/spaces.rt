@@ -18,6 +18,7 @@ pub struct Entry {
 #[derive(Clone, Copy, PartialEq, Eq, Debug)]
 pub struct Place {
     pub slot: SlotAddress,
+    pub at: SlotRef,
     pub cap: Cap,
 }
 
@@ -25,8 +26,7 @@ pub struct Place {
 #[derive(Clone, Copy, PartialEq, Eq, Debug)]
 pub struct Gap {
     pub slot: SlotAddress,
-    /// The index within the CNode.
-    pub index: u64,
+    pub at: SlotRef,
 }
 
 /// What a thread finds in its capability space.
@@ -170,10 +170,17 @@ fn list_slots(state: &State, entry: &Entry, space: &mut Space) -> Result<(), All
         };
         let named = name_of(entry, guard, &node, index);
         match state.cap(slot) {
-            Some(cap) => space.places.push(Place { slot: named, cap })?,
+            Some(cap) => space.places.push(Place {
+                slot: named,
+                at: slot,
+                cap,
+            })?,
             None if full => {
                 full = false;
-                space.gaps.push(Gap { slot: named, index })?;
+                space.gaps.push(Gap {
+                    slot: named,
+                    at: slot,
+                })?;
             }
             None => {}
         }

@@ -1,9 +1,11 @@
 //! Which calls a search tries in a state: one row for each kind of call.
 use crate::spaces::{Entry, Gap, Place, Space, space_of};
-use base::{CoreNo, Label, ObjId, Rights};
+use base::{CoreNo, Label, ObjId, Rights, SlotRef};
 use bitflags::Flags;
 use labels::label_of;
-use machine::{Badged, Call, CapData, Detail, Event, MemoryKind, Object, RunState};
+use machine::{
+    Badged, Call, CapData, Detail, Event, MemoryKind, Object, ObjectKind, ReplyState, RunState,
+};
 use objects::State;
 use std::alloc::{AllocError, Global};
 use table::Table;
@@ -12,18 +14,37 @@ use table::Table;
 const WORDS: [u64; 4] = [0; 4];
 
 /// The kinds of object that are made, with the smallest size of each.
-const KINDS: [(MemoryKind, u64); 8] = [
-    (MemoryKind::Endpoint, 0),
-    (MemoryKind::Notification, 0),
-    (MemoryKind::Reply, 0),
-    (MemoryKind::Tcb, 0),
-    (MemoryKind::Context, 0),
-    (MemoryKind::CNode, 1),
-    (MemoryKind::Untyped, 4),
-    (MemoryKind::Frame, 0),
+const MAKINGS: [(MemoryKind, ObjectKind, u64); 8] = [
+    (MemoryKind::Endpoint, ObjectKind::Endpoint, 0),
+    (MemoryKind::Tcb, ObjectKind::Tcb, 0),
+    (MemoryKind::Context, ObjectKind::Context, 0),
+    (MemoryKind::CNode, ObjectKind::CNode, 1),
+    (MemoryKind::Notification, ObjectKind::Notification, 0),
+    (MemoryKind::Reply, ObjectKind::Reply, 0),
+    (MemoryKind::Untyped, ObjectKind::Untyped, 4),
+    (MemoryKind::Frame, ObjectKind::Frame, 0),
 ];
 
-/// Returns the calls to be tried in a state: those of the actor's threads first.
+/// Whose calls are tried, and how many kinds of them.
+#[derive(Clone, Copy, PartialEq, Eq, Debug)]
+pub struct Choice {
+    /// The label of which a thread makes the last call.
+    pub actor: Label,
+    /// Whether calls of its threads are tried; else those of all others.
+    pub own: bool,
+    /// Whether calls are tried that seldom lead further.
+    pub wide: bool,
+}
+
+/// A state in which calls are tried.
+#[derive(Clone, Copy)]
+struct Scene<'a> {
+    table: &'a Table,
+    state: &'a State,
+    wide: bool,
+}
+
+/// Returns the calls to be tried in a state.
 ///
 /// # Errors
 ///
@@ -32,43 +53,35 @@ pub fn calls_in(
     alloc: Global,
     table: &Table,
     state: &State,
-    actor: Label,
+    choice: &Choice,
 ) -> Result<Vec<Event>, AllocError> {
     let mut events = Vec::new(alloc);
+    let scene = Scene {
+        table,
+        state,
+        wide: choice.wide,
+    };
     for number in 0..state.next_id() {
-        list_events(alloc, table, state, ObjId(number), actor, true, &mut events)?;
-    }
-    for number in 0..state.next_id() {
-        list_events(
-            alloc,
-            table,
-            state,
-            ObjId(number),
-            actor,
-            false,
-            &mut events,
-        )?;
+        let thread = ObjId(number);
+        if let Some(core) = core_of(state, thread) {
+            let is_own = label_of(table, state, thread) == Some(choice.actor);
+            if is_own == choice.own {
+                list_events(alloc, &scene, thread, core, &mut events)?;
+            }
+        }
     }
     Ok(events)
 }
 
-// Lists the events of an object, if it is a thread that runs and is, or isn't, the actor's.
+// Lists the events of a thread that runs.
 fn list_events(
     alloc: Global,
-    table: &Table,
-    state: &State,
+    scene: &Scene<'_>,
     thread: ObjId,
-    actor: Label,
-    acts: bool,
+    core: CoreNo,
     events: &mut Vec<Event>,
 ) -> Result<(), AllocError> {
-    if is_of(table, state, thread, actor) != acts {
-        return Ok(());
-    }
-    let Some(core) = core_of(state, thread) else {
-        return Ok(());
-    };
-    let calls = list_calls(alloc, state, thread)?;
+    let calls = list_calls(alloc, scene, thread)?;
     for call in &calls {
         events.push(Event {
             core,
@@ -77,11 +90,6 @@ fn list_events(
         })?;
     }
     Ok(())
-}
-
-// Whether an object has a label.
-fn is_of(table: &Table, state: &State, id: ObjId, label: Label) -> bool {
-    label_of(table, state, id) == Some(label)
 }
 
 // The core on which a thread runs, if it is ready and runs.
@@ -99,18 +107,18 @@ fn core_of(state: &State, thread: ObjId) -> Option<CoreNo> {
 }
 
 // Lists the calls of a thread.
-fn list_calls(alloc: Global, state: &State, thread: ObjId) -> Result<Vec<Call>, AllocError> {
+fn list_calls(alloc: Global, scene: &Scene<'_>, thread: ObjId) -> Result<Vec<Call>, AllocError> {
     let mut calls = Vec::new(alloc);
-    let space = space_of(alloc, state, thread)?;
+    let space = space_of(alloc, scene.state, thread)?;
     for entry in &space.entries {
-        list_uses(state, &space, entry, &mut calls)?;
+        list_uses(scene, &space, entry, &mut calls)?;
     }
-    for place in &space.places {
-        list_removals(place, &mut calls)?;
-    }
+    list_removals(scene, &space, true, &mut calls)?;
     for gap in &space.gaps {
-        list_fillings(gap, &space.places, &mut calls)?;
+        list_fillings(scene, gap, &space.places, &mut calls)?;
     }
+    list_removals(scene, &space, false, &mut calls)?;
+    add(&mut calls, Call::Fetch)?;
     Ok(calls)
 }
 
@@ -120,75 +128,161 @@ fn add(calls: &mut Vec<Call>, call: Call) -> Result<(), AllocError> {
     Ok(())
 }
 
-// Lists the calls that empty a place.
-fn list_removals(place: &Place, calls: &mut Vec<Call>) -> Result<(), AllocError> {
-    add(calls, Call::Delete { slot: place.slot })?;
-    add(calls, Call::Revoke { slot: place.slot })?;
-    Ok(())
-}
-
-// Lists the calls that fill a gap.
-fn list_fillings(gap: &Gap, places: &[Place], calls: &mut Vec<Call>) -> Result<(), AllocError> {
-    for place in places {
-        list_copies(gap, place, calls)?;
+// Lists the calls that empty the places of CNodes that are full, or of those that aren't.
+fn list_removals(
+    scene: &Scene<'_>,
+    space: &Space,
+    full: bool,
+    calls: &mut Vec<Call>,
+) -> Result<(), AllocError> {
+    for place in &space.places {
+        if has_gap(space, place.at.holder) != full {
+            add(calls, Call::Delete { slot: place.slot })?;
+            if scene.state.first_child(place.at).is_some() {
+                add(calls, Call::Revoke { slot: place.slot })?;
+            }
+        }
     }
     Ok(())
 }
 
+// Whether a CNode has an empty slot.
+fn has_gap(space: &Space, node: ObjId) -> bool {
+    for gap in &space.gaps {
+        if gap.at.holder == node {
+            return true;
+        }
+    }
+    false
+}
+
+// Lists the calls that fill a gap, each with a capability of which the CNode has none yet.
+fn list_fillings(
+    scene: &Scene<'_>,
+    gap: &Gap,
+    places: &[Place],
+    calls: &mut Vec<Call>,
+) -> Result<(), AllocError> {
+    for place in places {
+        if scene.wide {
+            list_copies(gap, place, calls)?;
+        } else if !holds(scene.state, gap.at.holder, place) {
+            list_copy(gap, place, Rights::all(), calls)?;
+        }
+    }
+    Ok(())
+}
+
+// Whether a CNode holds a capability like the one in a place.
+fn holds(state: &State, node: ObjId, place: &Place) -> bool {
+    let Some(object) = state.object(node) else {
+        return false;
+    };
+    for index in 0..object.slot_count() {
+        let slot = SlotRef {
+            holder: node,
+            index,
+        };
+        if let Some(cap) = state.held(slot) {
+            if cap.object == place.cap.object && cap.detail == place.cap.detail {
+                return true;
+            }
+        }
+    }
+    false
+}
+
 // Lists the calls that use a capability.
 fn list_uses(
-    state: &State,
+    scene: &Scene<'_>,
     space: &Space,
     entry: &Entry,
     calls: &mut Vec<Call>,
 ) -> Result<(), AllocError> {
     let address = entry.address;
     match entry.cap.detail {
-        Detail::Notification(_) => {
-            add(calls, Call::Signal { address })?;
-            add(calls, Call::Poll { address })?;
-            add(calls, Call::Wait { address })?;
-            Ok(())
-        }
-        Detail::Endpoint(end) => list_messages(state, space, entry, end, calls),
-        Detail::Reply => add(
-            calls,
-            Call::Reply {
-                address,
-                words: WORDS,
-            },
-        ),
-        Detail::Frame(_) => add(
+        Detail::Notification(end) => list_signals(address, end, calls),
+        Detail::Endpoint(end) => list_messages(scene.state, space, entry, end, calls),
+        Detail::Reply => list_answers(scene.state, entry, calls),
+        Detail::Frame(rights) => list_writes(address, rights, calls),
+        Detail::Tcb => list_controls(scene.state, space, entry, calls),
+        Detail::Context => list_bindings(scene.state, space, entry, calls),
+        Detail::Control => list_shares(space, address, calls),
+        Detail::Untyped => list_makings(scene, space, entry, calls),
+        Detail::CNode(_) => Ok(()),
+    }
+}
+
+// Lists the calls at a notification.
+fn list_signals(address: u64, end: Badged, calls: &mut Vec<Call>) -> Result<(), AllocError> {
+    if end.rights.contains(Rights::WRITE) {
+        add(calls, Call::Signal { address })?;
+    }
+    if end.rights.contains(Rights::READ) {
+        add(calls, Call::Poll { address })?;
+        add(calls, Call::Wait { address })?;
+    }
+    Ok(())
+}
+
+// Lists the call that writes a frame.
+fn list_writes(address: u64, rights: Rights, calls: &mut Vec<Call>) -> Result<(), AllocError> {
+    if rights.contains(Rights::WRITE) {
+        add(
             calls,
             Call::Write {
                 address,
                 index: 0,
                 word: 1,
             },
+        )?;
+    }
+    Ok(())
+}
+
+// Lists the call that answers through a reply.
+fn list_answers(state: &State, entry: &Entry, calls: &mut Vec<Call>) -> Result<(), AllocError> {
+    let Some(Object::Reply(reply)) = state.object(entry.cap.object) else {
+        return Ok(());
+    };
+    match reply.state {
+        ReplyState::Called(_) => add(
+            calls,
+            Call::Reply {
+                address: entry.address,
+                words: WORDS,
+            },
         ),
-        Detail::Tcb => list_controls(space, address, calls),
-        Detail::Context => list_bindings(space, address, calls),
-        Detail::Control => list_shares(space, address, calls),
-        Detail::Untyped => list_makings(space, address, calls),
-        Detail::CNode(_) => Ok(()),
+        _ => Ok(()),
     }
 }
 
 // Lists the calls that bind a context, or unbind it.
-fn list_bindings(space: &Space, context: u64, calls: &mut Vec<Call>) -> Result<(), AllocError> {
-    add(calls, Call::Unbind { context })?;
+fn list_bindings(
+    state: &State,
+    space: &Space,
+    entry: &Entry,
+    calls: &mut Vec<Call>,
+) -> Result<(), AllocError> {
+    let context = entry.address;
+    if is_bound(state, entry.cap.object) {
+        return add(calls, Call::Unbind { context });
+    }
     for other in &space.entries {
         if let Detail::Tcb = other.cap.detail {
-            add(
-                calls,
-                Call::Bind {
-                    context,
-                    thread: other.address,
-                },
-            )?;
+            let thread = other.address;
+            add(calls, Call::Bind { context, thread })?;
         }
     }
     Ok(())
+}
+
+// Whether a thread runs on a context.
+fn is_bound(state: &State, context: ObjId) -> bool {
+    match state.object(context) {
+        Some(Object::Context(context)) => context.thread.is_some(),
+        _ => false,
+    }
 }
 
 // Lists the calls that configure a context.
@@ -304,67 +398,109 @@ fn list_receives(
 }
 
 // Lists the calls that control a thread.
-fn list_controls(space: &Space, thread: u64, calls: &mut Vec<Call>) -> Result<(), AllocError> {
-    add(calls, Call::Suspend { thread })?;
-    add(calls, Call::Resume { thread })?;
-    add(calls, Call::ClearSpace { thread })?;
+fn list_controls(
+    state: &State,
+    space: &Space,
+    entry: &Entry,
+    calls: &mut Vec<Call>,
+) -> Result<(), AllocError> {
+    let thread = entry.address;
+    if is_inactive(state, entry.cap.object) {
+        add(calls, Call::Resume { thread })?;
+    } else {
+        add(calls, Call::Suspend { thread })?;
+        add(calls, Call::Resume { thread })?;
+    }
+    let root = root_of(state, entry.cap.object);
+    if root.is_some() {
+        add(calls, Call::ClearSpace { thread })?;
+    }
     for other in &space.entries {
         if let Detail::CNode(_) = other.cap.detail {
-            add(
-                calls,
-                Call::SetSpace {
-                    thread,
-                    space: other.address,
-                },
-            )?;
+            if root != Some(other.cap.object) {
+                let space = other.address;
+                add(calls, Call::SetSpace { thread, space })?;
+            }
         }
     }
     Ok(())
+}
+
+// Whether a thread was stopped, or hasn't been started.
+fn is_inactive(state: &State, thread: ObjId) -> bool {
+    match state.object(thread) {
+        Some(Object::Tcb(tcb)) => tcb.state == RunState::Inactive,
+        _ => false,
+    }
+}
+
+// The CNode at which a thread's look-ups begin.
+fn root_of(state: &State, thread: ObjId) -> Option<ObjId> {
+    match state.root(thread) {
+        Some(cap) => Some(cap.object),
+        None => None,
+    }
 }
 
 // Lists the calls that make an object of untyped memory.
-fn list_makings(space: &Space, untyped: u64, calls: &mut Vec<Call>) -> Result<(), AllocError> {
-    for gap in &space.gaps {
-        for (kind, bits) in KINDS {
-            add(
-                calls,
-                Call::Retype {
-                    untyped,
-                    kind,
-                    bits,
-                    to: gap.slot.root,
-                    offset: gap.index,
-                    count: 1,
-                },
-            )?;
+fn list_makings(
+    scene: &Scene<'_>,
+    space: &Space,
+    entry: &Entry,
+    calls: &mut Vec<Call>,
+) -> Result<(), AllocError> {
+    for (kind, made, bits) in &MAKINGS {
+        if scene.wide || (leads_further(*made) && !is_made(scene, entry.cap.object, *made)) {
+            for gap in &space.gaps {
+                add(
+                    calls,
+                    Call::Retype {
+                        untyped: entry.address,
+                        kind: *kind,
+                        bits: *bits,
+                        to: gap.slot.root,
+                        offset: gap.at.index,
+                        count: 1,
+                    },
+                )?;
+            }
         }
     }
     Ok(())
 }
 
-// Lists the calls that fill a gap from a place.
+// Whether an object of a kind often leads further where it is made.
+fn leads_further(kind: ObjectKind) -> bool {
+    matches!(
+        kind,
+        ObjectKind::Endpoint | ObjectKind::Tcb | ObjectKind::Context | ObjectKind::CNode
+    )
+}
+
+// Whether an object of a kind was made already, with the label of a piece of untyped memory.
+fn is_made(scene: &Scene<'_>, memory: ObjId, kind: ObjectKind) -> bool {
+    let label = label_of(scene.table, scene.state, memory);
+    let declared = scene.table.objects().len() as u64;
+    for number in declared..scene.state.next_id() {
+        let id = ObjId(number);
+        if let Some(object) = scene.state.object(id) {
+            if object.kind() == kind && label_of(scene.table, scene.state, id) == label {
+                return true;
+            }
+        }
+    }
+    false
+}
+
+// Lists the calls that fill a gap from a place, with all rights and with fewer.
 fn list_copies(gap: &Gap, place: &Place, calls: &mut Vec<Call>) -> Result<(), AllocError> {
     let to = gap.slot;
     let from = place.slot;
-    add(
-        calls,
-        Call::Copy {
-            to,
-            from,
-            rights: Rights::all(),
-        },
-    )?;
+    list_copy(gap, place, Rights::all(), calls)?;
     add(calls, Call::Move { to, from })?;
     match place.cap.detail {
         Detail::Endpoint(_) | Detail::Notification(_) => {
-            add(
-                calls,
-                Call::Copy {
-                    to,
-                    from,
-                    rights: Rights::READ,
-                },
-            )?;
+            list_copy(gap, place, Rights::READ, calls)?;
             add(
                 calls,
                 Call::Mint {
@@ -375,14 +511,24 @@ fn list_copies(gap: &Gap, place: &Place, calls: &mut Vec<Call>) -> Result<(), Al
                 },
             )
         }
-        Detail::Frame(_) => add(
-            calls,
-            Call::Copy {
-                to,
-                from,
-                rights: Rights::READ,
-            },
-        ),
+        Detail::Frame(_) => list_copy(gap, place, Rights::READ, calls),
         _ => Ok(()),
     }
+}
+
+// Lists the copy of a place to a gap.
+fn list_copy(
+    gap: &Gap,
+    place: &Place,
+    rights: Rights,
+    calls: &mut Vec<Call>,
+) -> Result<(), AllocError> {
+    add(
+        calls,
+        Call::Copy {
+            to: gap.slot,
+            from: place.slot,
+            rights,
+        },
+    )
 }

@@ -1,5 +1,5 @@
 use Rattle.std.proofs.Common.{refl, sym}
-use Rattle.confine.specs.declared.request.{OfThree.TheVariants.Run, Request.TheVariants.OfThree}
+use Rattle.invocation.specs.declared.request.{OfThree.TheVariants.Run, Request.TheVariants.OfThree}
 use Rattle.confine.proofs.answer_split.Goals as goal
 
 pub returns-clause-served : goal.returns-clause-served

@@ -1,8 +1,10 @@
 use Rattle.std.proofs.Common.{[], ◌++◌, ◌+◌, ◌∙◌, ◌∷◌, ◌≡◌, List, ap, sym, subst, take}
+use mathlib.Core.Bool.{false≢true}
 use Rattle.std.proofs.lemmas.List.{take_all, take_more}
-use Rattle.machine.specs.declared.call.{Event.Event}
+use Rattle.machine.specs.declared.call.{Event.Event, Outcome.{Outcome as o}}
+use Rattle.machine.specs.Step.{Step}
 use Rattle.search.specs.Shown.{IsReachedBy}
-use Rattle.search.proofs.Reached.{made_unless, reached_first, reached_further}
+use Rattle.search.proofs.Reached.{made_unless, reached_first, reached_further, stopped_at}
 use Rattle.search.proofs.reaching.reach.Goals as goal
 
 pub loop-event-init : goal.loop-event-init
@@ -31,3 +33,12 @@ pub returns-clause-reached : goal.returns-clause-reached
 returns-clause-reached c =
     subst (λ (events : List Event). IsReachedBy c.args.table.now events c.loop-event.state)
     (take_all c.loop-event.event-index c.args.script.now c.loop-event-test.false) c.loop-event.invariant.reached
+
+pub returns-in-Refused-clause-stopped : goal.returns-in-Refused-clause-stopped
+returns-in-Refused-clause-stopped c =
+    let item = c.event-item.result in
+    let is = c.in-Refused.is in
+    stopped_at c.args.table.now c.args.script.now c.loop-event.event-index item c.loop-event-test.true c.event-item.is c.loop-event.state
+    c.loop-event.invariant.reached c.in-Refused.field-0 c.step-outcome.new.state
+    (subst (λ outcome. Step c.loop-event.state item outcome c.step-outcome.new.state) is c.step-outcome.ensures.stepped)
+    (λ lack. false≢true (sym c.if-is_lack.false ∙ c.is_lack.ensures.1 (is ∙ ap (λ r. o.Refused r) lack)))

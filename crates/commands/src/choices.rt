@@ -1,0 +1,32 @@
+//! What a user chooses of a command: what it writes, or on what its answer rests.
+
+/// What `check` writes where a table and a policy are accepted.
+#[derive(Clone, Copy, PartialEq, Eq, Debug)]
+pub enum OnAccept {
+    /// The report, with each label's cut and full authority.
+    Report,
+    /// The text of the table's certificate.
+    Certificate,
+}
+
+/// What `close` writes.
+#[derive(Clone, Copy, PartialEq, Eq, Debug)]
+pub enum OnClose {
+    /// The text of the least policy, with status 0.
+    Policy,
+    /// The lines of those of its edges that the given policy lacks: with status 0 where there are none,
+    /// and so the table keeps to the given policy, and 1 where there are some.
+    Missing,
+    /// The lines of those edges of the given policy that the least one for the table alone lacks: with
+    /// status 0 where there are none, and 1 where there are some.
+    Surplus,
+}
+
+/// What an answer on labels rests on.
+#[derive(Clone, Copy, PartialEq, Eq, Debug)]
+pub enum Basis {
+    /// The system, which is judged first: only threads of labels that may act make calls.
+    System,
+    /// The policy alone: each label counts as one whose threads make calls. This holds of no run.
+    Policy,
+}

@@ -1,0 +1,92 @@
+//! The sentence on why a label has no authority on another.
+use crate::broken::push_edges;
+use base::{Edge, Label, Labels, Refusal};
+use captext::label_name;
+use machine::ObjectKind;
+use policy::Policy;
+use std::alloc::{AllocError, Global};
+use table::Table;
+
+/// Adds why `actor` can neither change objects of `object` nor make them smaller, where only threads of the labels
+/// `actors` make calls.
+pub(crate) fn push_nothing(
+    alloc: Global,
+    lines: &mut String,
+    table: &Table,
+    policy: &Policy,
+    actors: Labels,
+    actor: Label,
+    object: Label,
+) -> Result<(), Refusal> {
+    let name = label_name(table, actor);
+    if actors.has(actor) {
+        push_harmless(alloc, lines, table, policy, actor, object)?;
+    } else if may_have_threads(table, actor) {
+        writeln!(
+            lines,
+            "no thread of `{name}` ever runs: none is ready at boot and bound to a context, and no label whose threads run has an edge of control to `{name}`"
+        )?;
+    } else {
+        writeln!(
+            lines,
+            "`{name}` has no thread, and no untyped memory to make one of"
+        )?;
+    }
+    Ok(())
+}
+
+/// Returns whether a label has a thread, or memory of which threads can be made.
+fn may_have_threads(table: &Table, label: Label) -> bool {
+    table.objects().iter().any(|initial| initial.label == label
+        && matches!(initial.object.kind(), ObjectKind::Tcb | ObjectKind::Untyped))
+}
+
+/// Adds that no edges give the authority, and which edges of the policy join the two labels nevertheless.
+fn push_harmless(
+    alloc: Global,
+    lines: &mut String,
+    table: &Table,
+    policy: &Policy,
+    actor: Label,
+    object: Label,
+) -> Result<(), Refusal> {
+    let joining = edges_between(alloc, policy, actor, object)?;
+    push_none_by(lines, table, actor, object, &joining)?;
+    Ok(())
+}
+
+/// Returns the edges of a policy from one label to another, in the policy's order.
+fn edges_between(
+    alloc: Global,
+    policy: &Policy,
+    from: Label,
+    to: Label,
+) -> Result<Vec<Edge>, Refusal> {
+    let mut between = Vec::new(alloc);
+    for edge in policy.edges(alloc)?.iter() {
+        if edge.from == from && edge.to == to {
+            between.push(*edge)?;
+        }
+    }
+    Ok(between)
+}
+
+/// Adds the sentence on two labels that these edges join.
+fn push_none_by(
+    lines: &mut String,
+    table: &Table,
+    actor: Label,
+    object: Label,
+    joining: &[Edge],
+) -> Result<(), AllocError> {
+    let (actor, object) = (label_name(table, actor), label_name(table, object));
+    write!(
+        lines,
+        "by no edges of the policy may `{actor}` change objects of `{object}`, or make them smaller"
+    )?;
+    if !joining.is_empty() {
+        lines.push_str(", not even by ")?;
+        push_edges(lines, table, joining)?;
+    }
+    lines.push('\n')
+}

@@ -1,0 +1,148 @@
+-- What the words of a command line ask for: each command, with its words and options, and the request that they make (confine's own).
+use Rattle.std.specs.Borrow.{Bor}
+use Rattle.std.specs.Prelude.{[], ℕ, ◌≡◌, ◌∷◌, Bool, List, None, Option, Some, codes, decimal, false, find, if◌then◌else◌, is_some, option_and_then, option_copied, option_map, true}
+use Rattle.std.specs.Str.{bytes_eq}
+use Rattle.clap.specs.declared.parser.matches.ArgMatches.{ArgMatches}
+use Rattle.clap.specs.declared.parser.matches.Found.{Found}
+use Rattle.clap.specs.Matches.{first_value, one_text, subcommand_name_of}
+use Rattle.clap.specs.Simple.{subcommand_rows_of}
+use Rattle.clap.specs.Walk.{rows_of}
+use Rattle.commands.specs.declared.choices.OnAccept.{OnAccept}
+use Rattle.commands.specs.declared.choices.OnAccept.{OnAccept as on_accept}
+use Rattle.commands.specs.declared.choices.OnClose.{OnClose}
+use Rattle.commands.specs.declared.choices.OnClose.{OnClose as on_close}
+use Rattle.invocation.specs.declared.meaning.Verb.{Verb}
+use Rattle.invocation.specs.declared.meaning.Verb.{Verb as verb}
+use Rattle.invocation.specs.declared.meaning.Words.{Words}
+use Rattle.invocation.specs.declared.request.OfSystem.{OfSystem}
+use Rattle.invocation.specs.declared.request.OfSystem.{OfSystem as of_system}
+use Rattle.invocation.specs.declared.request.CommandLine.{CommandLine}
+use Rattle.invocation.specs.declared.request.CommandLine.TheVariants.{InTurn, Split}
+use Rattle.invocation.specs.declared.request.OfTable.{OfTable as of_table}
+use Rattle.invocation.specs.declared.request.OfThree.{OfThree}
+use Rattle.invocation.specs.declared.request.OfThree.{OfThree as of_three}
+use Rattle.invocation.specs.declared.request.Request.{Request}
+use Rattle.invocation.specs.declared.request.Request.{Request as request}
+use Rattle.commands.specs.declared.choices.Basis.{Basis}
+use Rattle.commands.specs.declared.choices.Basis.{Basis as basis}
+
+infixl 10 ◌>>=◌
+abbrev ◌>>=◌ : {A B : Type 0} → Option A → (A → Option B) → Option B
+value >>= next = option_and_then next value
+
+-- a word of the command line
+abbrev pub Name : Type 0
+Name = Bor (List ℕ)
+
+-- how many workers there may be
+abbrev pub few_counts : List ℕ
+few_counts = 1 ∷ 2 ∷ 3 ∷ 4 ∷ 5 ∷ 6 ∷ 7 ∷ 8 ∷ 9 ∷ 10 ∷ 11 ∷ 12 ∷ 13 ∷ 14 ∷ 15 ∷ 16 ∷ []
+
+-- the number of workers that a word spells, in decimal
+unfoldable pub few_of : List ℕ → Option ℕ
+few_of word = find (λ n. bytes_eq (decimal n) word) few_counts
+
+-- what `check` writes
+abbrev pub on_accept_of : Words → OnAccept
+on_accept_of words = if words.cert then on_accept.Certificate else on_accept.Report
+
+-- what `close` writes
+abbrev pub on_close_of : Words → OnClose
+on_close_of words = if words.missing then on_close.Missing else if words.surplus then on_close.Surplus else on_close.Policy
+
+-- what an answer on labels rests on
+abbrev pub basis_of : Words → Basis
+basis_of words = if words.policy_alone then basis.Policy else basis.System
+
+-- a request that is done in turn
+abbrev pub in_turn : Words → Request Name → Option CommandLine
+in_turn words asked = Some (InTurn (record { request = asked; explains = words.explain }))
+
+-- .. of a table and a policy
+abbrev pub of_two : Words → OfSystem → Option CommandLine
+of_two words asked = do
+  policy ← words.policy
+  in_turn words (request.OfSystem asked words.table policy)
+
+-- .. of a table, a policy and a third file
+abbrev pub of_all : Words → OfThree → Option Name → Option CommandLine
+of_all words asked file = do
+  policy ← words.policy
+  third ← file
+  in_turn words (request.OfThree asked words.table policy third)
+
+-- a run by workers
+abbrev pub split_of : Words → Option CommandLine
+split_of words = do
+  policy ← words.policy
+  script ← words.script
+  Some (Split (record { table = words.table; policy = policy; script = script; explains = words.explain }))
+
+-- what each command asks for with these words; nothing, if it lacks one
+abbrev pub asked_by : Verb → Words → Option CommandLine
+asked_by verb.Check words = do
+  word ← words.workers
+  workers ← few_of word.now
+  of_two words (of_system.Check workers (on_accept_of words))
+asked_by verb.Verify words = of_all words of_three.Verify words.certificate
+asked_by verb.Run words = if words.split then split_of words else of_all words of_three.Run words.script
+asked_by verb.Replay words = of_all words of_three.Replay words.log
+asked_by verb.Close words =
+    if is_some words.policy then of_two words (of_system.Close (on_close_of words))
+    else in_turn words (request.OfTable (of_table.Start (on_close_of words)) words.table)
+asked_by verb.Why words = do
+  actor ← words.actor
+  object ← words.object
+  of_two words (of_system.Why (basis_of words) actor object)
+asked_by verb.Draw words = of_two words (of_system.Draw (basis_of words))
+asked_by verb.Claims words = if words.all then of_two words of_system.Strongest else of_all words of_three.Claims words.claims
+asked_by verb.List words = in_turn words (request.OfTable of_table.List words.table)
+
+abbrev pub command_line_of : Words → Option CommandLine
+command_line_of words = asked_by words.verb words
+
+-- the names of the commands
+abbrev pub verb_name : Verb → List ℕ
+verb_name verb.Check = codes "check"
+verb_name verb.Verify = codes "verify"
+verb_name verb.Run = codes "run"
+verb_name verb.Replay = codes "replay"
+verb_name verb.Close = codes "close"
+verb_name verb.Why = codes "why"
+verb_name verb.Draw = codes "draw"
+verb_name verb.Claims = codes "claims"
+verb_name verb.List = codes "list"
+
+-- this word, or none, was found under this id
+abbrev pub IsFound : Found → List ℕ × Option Name → Type 0
+IsFound found (id, word) = option_copied word ≡ first_value found id
+
+-- an option was given, or not, by what was found under this id
+abbrev pub IsGiven : Found → List ℕ × Bool → Type 0
+IsGiven found (id, given) =
+    (one_text found id ≡ None → given ≡ false) × (one_text found id ≡ Some (codes "true") → given ≡ true)
+    × (one_text found id ≡ Some (codes "false") → given ≡ false)
+
+abbrev pub Each : {X : Type 0} → (X → Type 0) → List X → Type 0
+Each P [] = Unit {0}
+Each P (x ∷ xs) = P x × Each P xs
+
+-- each word and option was found under its id
+abbrev pub AreFound : Found → Words → Type 0
+AreFound found words =
+    Each (IsFound found)
+    ((codes "table", Some words.table) ∷ (codes "policy", words.policy) ∷ (codes "certificate", words.certificate)
+    ∷ (codes "script", words.script) ∷ (codes "log", words.log) ∷ (codes "claims", words.claims) ∷ (codes "actor", words.actor)
+    ∷ (codes "object", words.object) ∷ (codes "workers", words.workers) ∷ [])
+    × Each (IsGiven found)
+    ((codes "explain", words.explain) ∷ (codes "cert", words.cert) ∷ (codes "missing", words.missing) ∷ (codes "surplus", words.surplus)
+    ∷ (codes "split", words.split) ∷ (codes "all", words.all) ∷ (codes "policy-alone", words.policy_alone) ∷ [])
+
+-- a line asks for what its command and the words found for that make
+pub record IsAskedIn (matches : ArgMatches) (line : CommandLine) : Type 0 where
+  pub words : Words
+  pub found : Found
+  pub command : subcommand_name_of matches ≡ Some (verb_name words.verb)
+  pub rows : option_map (λ rows. rows.1) (subcommand_rows_of matches) ≡ Some (rows_of found)
+  pub read : AreFound found words
+  pub asks : command_line_of words ≡ Some line

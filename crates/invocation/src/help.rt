@@ -1,0 +1,572 @@
+//! The texts of `--help`: what each command is for, what its files hold, and an example to be pasted
+//! into a shell. `tests/command-line` runs the examples, and compares what they print with what is
+//! shown.
+
+pub const ABOUT: &str =
+    "Checks what the threads of a system of capabilities may do, and runs and replays their calls";
+
+pub const ABOUT_CHECK: &str =
+    "Checks a table against a policy, and prints who may change what, or which rule is broken";
+
+pub const ABOUT_VERIFY: &str =
+    "Checks a table against a policy, and whether a certificate is the table's";
+
+pub const ABOUT_RUN: &str =
+    "Checks a table against a policy, runs a script of kernel calls and prints its log";
+
+pub const ABOUT_REPLAY: &str =
+    "Reports whether a system could have made a log, and whether it ends within a policy";
+
+pub const ABOUT_CLOSE: &str =
+    "Writes the smallest policy that accepts a table, and keeps the edges of POLICY";
+
+pub const ABOUT_WHY: &str =
+    "Reports what threads of a label may do to objects of another, and by which edges";
+
+pub const ABOUT_DRAW: &str =
+    "Draws, for Graphviz, who may change or take from whom, and by which edge";
+
+pub const ABOUT_CLAIMS: &str =
+    "Reports whether claims hold: how much authority labels have on others at most";
+
+pub const ABOUT_LIST: &str =
+    "Lists the objects of a table: by which number a script names each, its kind, name, label";
+
+// Clap indents what a file holds by twelve columns.
+pub const TABLE: &str = "\
+The objects, the capabilities and who holds them. The first line is `confine-table 1`,
+for up to 64 labels, or `confine-table 2`, for up to 256. The last line is `end`.
+Between them stand these lines, in this order:
+
+  label NAME
+  untyped NAME LABEL ADDRESS BITS                 2^BITS bytes that no object uses yet
+  cnode NAME LABEL ADDRESS RADIX                  2^RADIX slots
+  tcb NAME LABEL ADDRESS ready                    a thread; or `inactive`
+  endpoint NAME LABEL ADDRESS                     `notification`, `reply`, `frame` alike
+  context NAME LABEL ADDRESS CORE BUDGET PERIOD   microseconds; or `-` for the three
+  control NAME LABEL CORE                         may configure contexts for this core
+  cap SLOT CNODE GUARDBITS GUARD
+  cap SLOT ENDPOINT RIGHTS BADGE                  a notification alike
+  cap SLOT FRAME RIGHTS
+  cap SLOT OBJECT                                 of the other five kinds
+  child SLOT SLOT                                 the second was derived from the first
+  bind TCB CONTEXT                                what the thread runs on
+
+Objects of different kinds may stand in any order. They are numbered from 0 in the
+order of their lines. SLOT is CNODE.NUMBER, or TCB.root: the root slot of a thread
+holds the CNode where the thread finds its capabilities. RIGHTS is `-`, or some of
+`rwgy` in this order; notifications and frames have only `rw`. ADDRESS and GUARD are
+0x and lower-case hexadecimal. All other numbers are decimal. `cap` lines are sorted
+by slot, `child` lines by their second slot, and `bind` lines by thread.";
+
+pub const POLICY: &str = "\
+What each label may do to other labels. The first line is `confine-policy 1`, the last
+is `end`. The lines between them are sorted by label, kind and label:
+
+  edge LABEL KIND LABEL
+
+The kinds, in their order: control, reset, send, receive, grant, call, notify, await,
+read, write, reply, context, schedcontrol, space, derive, runs, holds.";
+
+pub const POLICY_TO_CLOSE: &str = "\
+Edges that the policy must have in any case, in the format of `confine check`. Without
+this file the policy has only the edges that the table and the rules require.";
+
+pub const CERTIFICATE: &str = "\
+What each capability of the table gives, as `confine check --cert` writes it. The
+first line is `confine-cert 1`, the last is `end`. Between them stand these lines:
+
+  cap SLOT LABEL KINDS LABEL     a slot of a CNode; KINDS as in `reset,notify`
+  space TCB.root LABEL LABEL     the root slot of a thread
+  derive SLOT SLOT LABEL LABEL   a `child` line
+  runs TCB CONTEXT LABEL LABEL   a `bind` line
+
+The two labels are those of the holder and of the object; in a `derive` line, of the
+two holders; in a `runs` line, of the thread and its context.";
+
+pub const SCRIPT: &str = "\
+The kernel calls. The first line is `confine-script 1`, the last is `end`. Between
+them stand these lines. THREAD is the number of an object:
+
+  CORE THREAD signal ADDRESS                        `poll`, `wait` alike
+  CORE THREAD send ADDRESS WORD WORD WORD WORD CAP  `call` alike
+  CORE THREAD recv ADDRESS REPLY SLOT
+  CORE THREAD reply ADDRESS WORD WORD WORD WORD
+  CORE THREAD fetch                                 what the thread was given
+  CORE THREAD copy SLOT SLOT RIGHTS                 to the first slot, from the second
+  CORE THREAD mint SLOT SLOT RIGHTS badge BADGE
+  CORE THREAD mint SLOT SLOT RIGHTS guard BITS VALUE
+  CORE THREAD move SLOT SLOT
+  CORE THREAD delete SLOT                           removes the capability there
+  CORE THREAD revoke SLOT                           removes what was derived from it
+  CORE THREAD retype MEMORY KIND BITS CNODE INDEX COUNT
+  CORE THREAD read FRAME INDEX
+  CORE THREAD write FRAME INDEX WORD
+  CORE THREAD setspace TCB CNODE                    the root of its space
+  CORE THREAD clearspace TCB                        `suspend`, `resume` alike
+  CORE THREAD configure CONTROL CONTEXT BUDGET PERIOD
+  CORE THREAD bind CONTEXT TCB
+  CORE THREAD unbind CONTEXT
+
+SLOT is three numbers: the address of a CNode, an index, and how many low bits of the
+index are looked up from there, 1 to 64. A message has four words. It may also take
+the capability at the address CAP to the SLOT of the receiver. The receiver answers a
+call through the reply object at the address REPLY. `-` stands for no CAP, no REPLY or
+no SLOT. When the last capability for an object is removed, the object is removed too,
+with all that it holds. A retype makes COUNT objects, 1 to 16, of the untyped memory
+at the address MEMORY, and puts their capabilities into the CNode at the address
+CNODE, from the slot INDEX on. KIND is a word of the table's objects, but not
+`control`. BITS is the size of untyped memory, or the radix of a CNode; for other
+kinds any number will do. A frame has the words 0 to 511. Suspend stops a thread, and
+resume lets it go on; a thread that waited learns that its call was aborted. FRAME,
+TCB, CONTROL and CONTEXT are addresses too. BUDGET and PERIOD are in microseconds. All
+numbers are decimal.";
+
+pub const LOG: &str = "\
+The kernel calls and their outcomes. The first line is `confine-log 1`, the last is
+`end`. The lines between them are those of a script, each with ` = ` and an outcome:
+
+  done                                    `done aborted`, `done count COUNT` alike
+  done word WORD
+  done msg BADGE WORD WORD WORD WORD CAP  CAP is 1 if a capability was received, else 0
+  blocked
+  refused CODE DETAIL";
+
+pub const CLAIMS: &str = "\
+How much authority labels have on others at most. The first line is `confine-claims 1`,
+the last is `end`. The lines between them are sorted by the first label, and then by
+the second:
+
+  none LABEL LABEL   threads of the first never change an object of the second
+  take LABEL LABEL   .. other than by shrinking it";
+
+pub const VERSION: &str = "0.15.0";
+
+pub const EXPLAIN: &str =
+    "Says in sentences, on standard error, what is denied or faulty, and what to do";
+
+pub const WORKERS: &str = "Threads that check the slots at the same time, 1 to 16";
+
+pub const WRONG_WORKERS: &str = "'--workers <N>' takes a decimal number from 1 to 16";
+
+pub const CERT: &str = "Writes the certificate of an accepted table instead of the report";
+
+pub const SPLIT: &str =
+    "Runs a worker for each core; the order of calls may differ from run to run";
+
+pub const MISSING: &str =
+    "Writes only the lines that POLICY lacks; the status is 1 if there are any";
+
+pub const SURPLUS: &str =
+    "Writes only the lines of POLICY that nothing requires; status as with --missing";
+
+pub const ALL: &str =
+    "Writes the strongest claims that hold, on all pairs of labels, in place of CLAIMS";
+
+pub const ACTOR: &str = "The label whose threads act, by its name in the table";
+
+pub const OBJECT: &str = "The label of the objects on which they act";
+
+pub const POLICY_ALONE: &str =
+    "Reads the policy alone, as if all labels made calls: this holds of no run";
+
+// An example of a small table.
+macro_rules! with_table {
+    ($first:literal $(, $then:literal)+) => {
+        concat!(
+            "Example, to be pasted into a shell: ",
+            $first,
+            "
+
+cat >table <<'.'
+confine-table 1
+label a
+label b
+cnode space a 0x1000 2
+tcb main a 0x2000 ready
+notification ring b 0x3000
+context share a 0x4000 0 10 10
+cap space.0 ring rw 1
+cap main.root space 62 0x0
+bind main share
+end
+.
+" $(, $then)+
+        )
+    };
+}
+
+// An example of that table, and of a policy to which it keeps.
+macro_rules! with_policy {
+    ($first:literal, $then:literal) => {
+        with_table!(
+            $first,
+            "\
+cat >policy <<'.'
+confine-policy 1
+edge a reset b
+edge a notify b
+edge a await b
+edge a space a
+edge a derive a
+edge a runs a
+end
+.
+",
+            $then
+        )
+    };
+}
+
+/// The short help: what is printed if there is no word on the command line.
+pub const BEGINNING: &str = "\
+confine decides, before a separated system boots, whether its capabilities keep to a policy.
+
+  confine close TABLE                 writes the smallest policy that accepts a table
+  confine check TABLE POLICY          accepts or denies, and prints who may change what
+  confine claims TABLE POLICY CLAIMS  reports whether claims on labels hold in every run
+  confine why TABLE POLICY A B        reports what label A may do to label B, and by which edges
+
+`confine --help` lists all commands, and `confine COMMAND --help` explains one, with an example.
+docs/TUTORIAL.md is the place to begin.
+";
+
+pub const EXAMPLE: &str = with_policy!(
+    "a thread `main` may signal a bell and poll it.",
+    "\
+cat >script <<'.'
+confine-script 1
+0 1 signal 0
+0 1 poll 0
+end
+.
+confine check table policy
+confine check table policy --cert >certificate
+confine verify table policy certificate
+confine run table policy script
+
+The table is accepted, its certificate is right, and the script is run. Each command ends
+with status 0:
+
+{\"caps\":2,\"cut\":{\"a\":[\"a\",\"b\"],\"b\":[\"a\",\"b\"]},\"full\":{\"a\":[\"a\",\"b\"],\"b\":[\"b\"]},\"verdict\":\"accept\"}
+{\"verdict\":\"accept\"}
+confine-log 1
+0 1 signal 0 = done
+0 1 poll 0 = done word 1
+end
+
+The status is 1 if a table is denied. It is 2 if a text has a fault, a file can't be read, the
+answer can't be written, memory is refused, the command line is wrong, or help is asked for.
+`confine COMMAND --help` describes the files.
+"
+);
+
+pub const EXAMPLE_CHECK: &str = with_table!(
+    "a thread `main` may signal a bell and poll it,
+and the policy forgets that it may poll.",
+    "\
+cat >policy <<'.'
+confine-policy 1
+edge a reset b
+edge a notify b
+edge a space a
+edge a derive a
+edge a runs a
+end
+.
+confine check table policy --explain
+
+It prints the rule that is broken and the place, and ends with status 1:
+
+{\"place\":[\"space.0\",\"await\",\"b\"],\"rule\":\"A1\",\"verdict\":\"deny\"}
+
+By rule A1 each capability keeps to the policy. With `--explain` standard error says, in one line,
+which doesn't, in which line it is, and what may be done:
+
+table:8: denied by A1: slot 0 of `space` lets `a` await what is labelled `b`, and the policy has no
+such edge: give the capability fewer rights, or add `edge a await b`; `confine close table policy`
+writes the line in its place
+
+The edge belongs after the edge `notify`:
+
+sed -i '/notify/a edge a await b' policy
+confine check table policy
+
+Now the table is accepted, with status 0:
+
+{\"caps\":2,\"cut\":{\"a\":[\"a\",\"b\"],\"b\":[\"a\",\"b\"]},\"full\":{\"a\":[\"a\",\"b\"],\"b\":[\"b\"]},\"verdict\":\"accept\"}
+
+Two slots are filled. Whatever the threads of a label call, they change objects of the labels in its
+`full` alone, but for objects of the labels in its `cut`, which may shrink: vanish, or lose
+capabilities or links.
+"
+);
+
+pub const EXAMPLE_VERIFY: &str = with_policy!(
+    "a certificate is written, verified and spoilt.",
+    "\
+confine check table policy --cert | tee certificate
+confine verify table policy certificate
+
+The certificate is that of the table. The command ends with status 0:
+
+confine-cert 1
+cap space.0 a reset,notify,await b
+space main.root a a
+runs main share a a
+end
+{\"verdict\":\"accept\"}
+
+Now its second line is removed:
+
+sed -i 2d certificate
+confine verify table policy certificate
+
+It prints the first line that is wrong, missing or too many, where the header isn't counted, and
+ends with status 1:
+
+{\"place\":[\"1\"],\"rule\":\"C1\",\"verdict\":\"deny\"}
+"
+);
+
+pub const EXAMPLE_RUN: &str = with_policy!(
+    "a thread `main` signals a bell, and polls it twice.",
+    "\
+cat >script <<'.'
+confine-script 1
+0 1 signal 0
+0 1 poll 0
+0 1 poll 0
+end
+.
+confine run table policy script
+
+It prints the log, and ends with status 0:
+
+confine-log 1
+0 1 signal 0 = done
+0 1 poll 0 = done word 1
+0 1 poll 0 = done word 0
+end
+
+`main` is object 1. In an address, 62 zero bits lead from its root to `space`, and the last two
+bits select one of the four slots of `space`. So address 0 is slot 0. It holds a capability for
+`ring` with the rights to read and write, and badge 1. The first poll takes the word that the signal
+left. The second finds none.
+
+Without the edge `await` no call is made:
+
+sed -i '/await/d' policy
+confine run table policy script
+
+It prints the broken rule and the place, and ends with status 1:
+
+{\"place\":[\"space.0\",\"await\",\"b\"],\"rule\":\"A1\",\"verdict\":\"deny\"}
+
+A table that ends after its second line has a fault in its third:
+
+head -n 2 table >short
+confine run short policy script
+
+It prints the number of the fault, and ends with status 2:
+
+{\"fault\":50,\"file\":\"table\",\"line\":3}
+"
+);
+
+pub const EXAMPLE_REPLAY: &str = with_policy!(
+    "a thread `main` signals a bell and polls it,
+and a log says so.",
+    "\
+cat >log <<'.'
+confine-log 1
+0 1 signal 0 = done
+0 1 poll 0 = done word 1
+end
+.
+confine replay table policy log
+
+The system makes each of these entries. The command ends with status 0:
+
+{\"entries\":2,\"state\":\"within\",\"verdict\":\"legal\"}
+
+Now the log says that the poll found a word that it can't have found:
+
+sed -i 's/word 1/word 2/' log
+confine replay table policy log
+
+It prints the first entry that the system can't have made, counted from 1, and ends with status 1:
+
+{\"entry\":2,\"verdict\":\"illegal\"}
+
+A legal log may end outside a policy, as here without the edge `await`:
+
+sed -i '/await/d' policy
+sed -i 's/word 2/word 1/' log
+confine replay table policy log
+
+It prints the rule that is broken at the log's end and the place, and ends with status 1:
+
+{\"entries\":2,\"place\":[\"space.0\",\"await\",\"b\"],\"rule\":\"A1\",\"state\":\"outside\",\"verdict\":\"legal\"}
+"
+);
+
+pub const EXAMPLE_CLOSE: &str = with_table!(
+    "a thread `main` may signal a bell and poll it.
+Which policy does that require?",
+    "\
+confine close table | tee policy
+
+It prints the smallest policy that accepts the table, and ends with status 0:
+
+confine-policy 1
+edge a reset b
+edge a notify b
+edge a await b
+edge a space a
+edge a derive a
+edge a runs a
+end
+
+A capability, a root slot or a binding of the table requires each edge, or a rule requires it
+because of other edges. Every policy that accepts the table has all of them. So to get rid of an
+edge, change the table: without the right to read, nobody awaits `b`.
+
+sed -i 's/ring rw/ring w/' table
+confine close table
+
+Now the policy has one edge less, with status 0:
+
+confine-policy 1
+edge a reset b
+edge a notify b
+edge a space a
+edge a derive a
+edge a runs a
+end
+
+If a policy is named too, `close` keeps its edges and adds those that are missing. `--missing`
+prints only what is missing:
+
+sed -i '/reset/d' policy
+confine close table policy --missing
+
+It prints the lines to be added, in their order, and ends with status 1:
+
+edge a reset b
+
+`--surplus` prints the edges of a policy that neither the table nor a rule requires:
+
+confine close table policy --surplus
+
+Nobody may read `ring` any more. So it prints a line that can be removed, and ends with status 1:
+
+edge a await b
+"
+);
+
+pub const EXAMPLE_CLAIMS: &str = with_policy!(
+    "a thread `main` may signal a bell and poll it.
+Its owner claims that `b` never changes what is labelled `a`.",
+    "\
+cat >claims <<'.'
+confine-claims 1
+none b a
+end
+.
+confine claims table policy claims
+
+The table is accepted, and the one claim holds, with status 0:
+
+{\"claims\":1,\"verdict\":\"hold\"}
+
+So no call of a thread of `b` ever changes an object of `a`, whatever else is called before. What
+may be claimed at all, `--all` tells:
+
+confine claims table policy --all
+
+It prints the strongest claims that hold, with status 0:
+
+confine-claims 1
+none b a
+end
+
+Now it is claimed that `a` changes nothing of `b`:
+
+sed -i '/none/i take a b' claims
+confine claims table policy claims --explain
+
+It prints the first claim that doesn't hold and what authority there is, and ends with status 1:
+
+{\"authority\":\"full\",\"claim\":1,\"verdict\":\"broken\"}
+
+With `--explain` standard error says by which edges:
+
+claim 1, `take a b`, is broken: `a` may change objects of `b`, by `edge a notify b`: leave the claim
+out, or take an edge out of the policy, and what asks for it out of the table
+"
+);
+
+pub const EXAMPLE_LIST: &str = with_table!(
+    "a thread `main` may signal a bell and poll it.
+Which number does a script use for that thread?",
+    "\
+confine list table
+
+It prints a line for each object, its number, kind, name and label, and ends with status 0:
+
+0 cnode space a
+1 tcb main a
+2 notification ring b
+3 context share a
+
+So a line of a script in which `main` signals on core 0 begins with `0 1 signal`.
+"
+);
+
+pub const EXAMPLE_WHY: &str = with_policy!(
+    "a thread `main` may signal a bell and poll it.
+What may label `a` do to what is labelled `b`?",
+    "\
+confine why table policy a b
+
+Threads of `a` may change objects of `b`, because they may notify. The command ends with status 0:
+
+full
+edge a notify b
+
+And the other way round:
+
+confine why table policy b a
+
+none
+
+No thread of `b` changes an object of `a` in any run: `b` has no thread. `take` means that threads
+of A can at most take something away: objects of B may vanish, or lose capabilities or links. If
+there are several reasons, `why` prints one with the fewest edges. It ends with status 0 whatever
+the answer is; to make a build fail, use `confine claims`. A system that `confine check` denies is
+denied here, with status 1 too.
+"
+);
+
+pub const EXAMPLE_DRAW: &str = with_policy!(
+    "a thread `main` may signal a bell and poll it.
+Which labels may change what is labelled otherwise?",
+    "\
+confine draw table policy
+
+It prints a graph, and ends with status 0:
+
+digraph authority {
+  \"a\"
+  \"b\"
+  \"a\" -> \"b\" [label=\"a notify b\"]
+}
+
+So threads of `a` may change objects of `b`, and the edge `a notify b` is the first of a reason for
+that, as `confine why` tells it. A dashed arrow is for threads that may take away, and no more.
+Between labels with no arrow nothing is changed in any run. A label has no arrow to itself. A system
+that `confine check` denies is denied here, with status 1 too. Graphviz makes a picture of it:
+`confine draw table policy | dot -Tsvg >authority.svg`.
+"
+);

@@ -1,0 +1,12 @@
+//! The command line of the program `confine`: its commands with their words and options, their help texts,
+//! and the request that they make. The program carries a request out; this crate opens no file and knows
+//! no engine.
+#![tactic(auto)]
+
+pub mod help;
+mod meaning;
+mod request;
+
+pub use request::{
+    CommandLine, Invocation, OfSystem, OfTable, OfThree, Request, SplitRun, read_request,
+};

@@ -1,0 +1,378 @@
+//! Requests, and how they are read from a command line: the commands, their words and options.
+ghost use Rattle.std.specs.Prelude.{◌≡◌, IfNone, IfOk, IfSome, None, codes, option_copied};
+ghost use Rattle.clap.specs.Matches.{first_value, found_of};
+ghost use Rattle.invocation.specs.{Meaning.{AreFound, IsAskedIn}, Requests.{IsWithinLimits, OnInTurn, names_of}};
+ghost use Rattle.invocation.specs.Requests.{file_name_of, file_of, label_of};
+
+use crate::help;
+use crate::meaning::{Verb, Words};
+use clap::error::ErrorKind;
+use clap::{Arg, ArgAction, ArgMatches, Command, Error};
+use commands::{Asked, Basis, File, OnAccept, OnClose};
+use std::alloc::{AllocError, Global};
+
+/// A command line that was read.
+#[derive(Clone, Copy)]
+pub enum CommandLine<'a> {
+    /// A command that waits for nothing.
+    InTurn(Invocation<'a>),
+    /// A run by workers, which wait for each other.
+    Split(SplitRun<'a>),
+}
+
+/// A run of a script by a worker for each core, with the names of its files.
+#[derive(Clone, Copy)]
+pub struct SplitRun<'a> {
+    pub table: &'a str,
+    pub policy: &'a str,
+    pub script: &'a str,
+    /// Whether `--explain` was given: findings are then also told in sentences, on standard error.
+    pub explains: bool,
+}
+
+impl<'a> SplitRun<'a> {
+    /// Returns the same run as a command that waits for nothing.
+    pub fn invocation(self) -> Invocation<'a>
+        ensures { result.request ≡ names_of self.entry }
+    {
+        Invocation {
+            request: Request::OfThree(OfThree::Run, self.table, self.policy, self.script),
+            explains: self.explains,
+        }
+    }
+}
+
+/// A request, and whether its findings are also told in sentences.
+#[derive(Clone, Copy)]
+pub struct Invocation<'a> {
+    pub request: Request<'a, &'a str>,
+    /// Whether `--explain` was given: findings are then also told in sentences, on standard error.
+    pub explains: bool,
+}
+
+/// What a command does, and with which files: by their names, or as opening them gave them.
+#[derive(Clone, Copy, Drop)]
+pub enum Request<'a, N> {
+    /// A command of a table alone.
+    OfTable(OfTable, N),
+    /// A command of a table and a policy.
+    OfSystem(OfSystem<'a>, N, N),
+    /// A command of a table, a policy and a third file.
+    OfThree(OfThree, N, N, N),
+}
+
+/// A command of a table alone.
+#[derive(Clone, Copy)]
+pub enum OfTable {
+    /// Writes the least policy for the table, or how another differs from it.
+    Start(OnClose),
+    /// Lists the objects.
+    List,
+}
+
+/// A command of a table and a policy.
+#[derive(Clone, Copy)]
+pub enum OfSystem<'a> {
+    /// Checks the table against the policy, by 1 to 16 workers.
+    Check {
+        workers: usize,
+        on_accept: OnAccept,
+    },
+    /// Closes the policy over the table.
+    Close(OnClose),
+    /// Reports what threads of the label `actor` may do to objects of the label `object`, and why.
+    Why {
+        basis: Basis,
+        actor: &'a str,
+        object: &'a str,
+    },
+    /// Draws who may change or take from whom.
+    Draw(Basis),
+    /// Writes the strongest claims that hold.
+    Strongest,
+}
+
+/// A command of a table, a policy and a third file.
+#[derive(Clone, Copy)]
+pub enum OfThree {
+    /// Checks the table against the policy, and a certificate against both.
+    Verify,
+    /// Checks the table against the policy, and runs a script if the table is accepted.
+    Run,
+    /// Reports whether a log is a run from the table, and whether it ends within the policy.
+    Replay,
+    /// Reports whether claims hold.
+    Claims,
+}
+
+impl<'a, N> Request<'a, N> {
+    /// Returns the file of this kind, if the command has it. Its third file counts as one of each other kind.
+    pub fn file(&self, file: File) -> Option<&N>
+        ensures { option_copied result ≡ file_of self.now file }
+    {
+        match (self, file) {
+            (
+                Request::OfTable(_, table)
+                | Request::OfSystem(_, table, _)
+                | Request::OfThree(_, table, _, _),
+                File::Table,
+            ) => Some(table),
+            (Request::OfSystem(_, _, policy) | Request::OfThree(_, _, policy, _), File::Policy) =>
+                Some(policy),
+            (Request::OfThree(_, _, _, third), _) => Some(third),
+            _ => None,
+        }
+    }
+
+    /// Returns the word for this label, or an empty word if the command asks about no label.
+    pub fn word_of(&self, asked: Asked) -> &'a str
+        ensures { result.now ≡ label_of self.now asked }
+    {
+        match (asked, self) {
+            (Asked::Actor, Request::OfSystem(OfSystem::Why { actor, .. }, _, _)) => actor,
+            (Asked::Object, Request::OfSystem(OfSystem::Why { object, .. }, _, _)) => object,
+            _ => "",
+        }
+    }
+}
+
+impl<'a> Request<'a, &'a str> {
+    /// Returns the name of the file of this kind, or an empty name if the command has no such file.
+    pub fn name_of(&self, file: File) -> &'a str
+        ensures { result.now ≡ file_name_of self.now file }
+    {
+        match self.file(file) {
+            Some(name) => name,
+            None => "",
+        }
+    }
+}
+
+/// Reads a command line, whose first word is the name of the program.
+///
+/// # Errors
+///
+/// A message for the user, if the words are no command, or ask for help or for the version.
+pub fn read_request<'a>(alloc: Global, words: &'a [String]) -> Result<CommandLine<'a>, Error>
+    ensures { IfOk result (λ line. OnInTurn line IsWithinLimits) }
+{
+    let mut command = command(alloc)?;
+    read_by(&mut command, words)
+}
+
+// Reads a command line as the program's command has it.
+fn read_by<'a>(command: &mut Command<'a>, words: &'a [String]) -> Result<CommandLine<'a>, Error>
+    ensures { IfOk result (λ line. OnInTurn line IsWithinLimits) }
+{
+    let matches = command.try_get_matches_from_mut(words)?;
+    let line = line_of(&matches);
+    let is_named = matches.subcommand().is_some();
+    drop(matches);
+    match line {
+        Some(line) => Ok(line),
+        None => {
+            let (kind, message) = if is_named {
+                (ErrorKind::InvalidValue, help::WRONG_WORKERS)
+            } else {
+                (ErrorKind::MissingSubcommand, "a command is missing")
+            };
+            Err(command.error(kind, message)?)
+        }
+    }
+}
+
+// The command line that the subcommand and its words make.
+fn line_of<'a>(matches: &ArgMatches<'a>) -> Option<CommandLine<'a>>
+    ensures meaning { IfSome result (λ line. IsAskedIn matches.now line) }
+    ensures limits { IfSome result (λ line. OnInTurn line IsWithinLimits) }
+{
+    let (name, found) = matches.subcommand()?;
+    words_of(Verb::from_name(name)?, found)?.line()
+}
+
+// The words of a command, each by its id.
+fn words_of<'a>(verb: Verb, found: &ArgMatches<'a>) -> Option<Words<'a>>
+    ensures command { IfSome result (λ words. words.verb ≡ verb) }
+    ensures found { IfSome result (λ words. AreFound (found_of found.now) words) }
+    ensures none { IfNone result (first_value (found_of found.now) (codes "table") ≡ None) }
+{
+    Some(Words {
+        verb,
+        table: found.get_str("table")?,
+        policy: found.get_str("policy"),
+        certificate: found.get_str("certificate"),
+        script: found.get_str("script"),
+        log: found.get_str("log"),
+        claims: found.get_str("claims"),
+        actor: found.get_str("actor"),
+        object: found.get_str("object"),
+        workers: found.get_str("workers"),
+        explain: found.get_flag("explain"),
+        cert: found.get_flag("cert"),
+        missing: found.get_flag("missing"),
+        surplus: found.get_flag("surplus"),
+        split: found.get_flag("split"),
+        all: found.get_flag("all"),
+        policy_alone: found.get_flag("policy-alone"),
+    })
+}
+
+fn command<'a>(alloc: Global) -> Result<Command<'a>, AllocError> {
+    let command = Command::new(alloc, "confine")
+        .bin_name("confine")?
+        .version(help::VERSION)
+        .about(help::ABOUT)
+        .after_help(help::EXAMPLE)
+        .subcommand_required(true);
+    let command = with(Ok(command), check_command(alloc));
+    let command = with(command, verify_command(alloc));
+    let command = with(command, run_command(alloc));
+    let command = with(command, replay_command(alloc));
+    let command = with(command, close_command(alloc));
+    let command = with(command, why_command(alloc));
+    let command = with(command, draw_command(alloc));
+    let command = with(command, claims_command(alloc));
+    with(command, list_command(alloc))
+}
+
+// A command with one more subcommand, if there is memory for both.
+fn with<'a>(
+    command: Result<Command<'a>, AllocError>,
+    more: Result<Command<'a>, AllocError>,
+) -> Result<Command<'a>, AllocError> {
+    match more {
+        Ok(more) => command?.subcommand(more),
+        Err(error) => {
+            drop(command);
+            Err(error)
+        }
+    }
+}
+
+// A command with one more argument, if there is memory for both.
+fn taking<'a>(
+    command: Result<Command<'a>, AllocError>,
+    argument: Result<Arg<'a>, AllocError>,
+) -> Result<Command<'a>, AllocError> {
+    match argument {
+        Ok(argument) => command?.arg(argument),
+        Err(error) => {
+            drop(command);
+            Err(error)
+        }
+    }
+}
+
+fn check_command<'a>(alloc: Global) -> Result<Command<'a>, AllocError> {
+    let command = on_system(alloc, "check", help::ABOUT_CHECK, help::EXAMPLE_CHECK);
+    let command = taking(command, Ok(workers(alloc)));
+    taking(command, Ok(flag(alloc, "cert", help::CERT)))
+}
+
+fn verify_command<'a>(alloc: Global) -> Result<Command<'a>, AllocError> {
+    on_system(alloc, "verify", help::ABOUT_VERIFY, help::EXAMPLE_VERIFY)?.arg(word(
+        alloc,
+        "certificate",
+        "CERT",
+        help::CERTIFICATE,
+    ))
+}
+
+fn run_command<'a>(alloc: Global) -> Result<Command<'a>, AllocError> {
+    let command = on_system(alloc, "run", help::ABOUT_RUN, help::EXAMPLE_RUN);
+    let command = taking(command, Ok(word(alloc, "script", "SCRIPT", help::SCRIPT)));
+    taking(command, Ok(flag(alloc, "split", help::SPLIT)))
+}
+
+fn replay_command<'a>(alloc: Global) -> Result<Command<'a>, AllocError> {
+    on_system(alloc, "replay", help::ABOUT_REPLAY, help::EXAMPLE_REPLAY)?.arg(word(
+        alloc,
+        "log",
+        "LOG",
+        help::LOG,
+    ))
+}
+
+fn close_command<'a>(alloc: Global) -> Result<Command<'a>, AllocError> {
+    let command = on_table(alloc, "close", help::ABOUT_CLOSE, help::EXAMPLE_CLOSE);
+    let policy = word(alloc, "policy", "POLICY", help::POLICY_TO_CLOSE).required(false);
+    let command = taking(command, Ok(policy));
+    let command = taking(command, Ok(flag(alloc, "missing", help::MISSING)));
+    let surplus = flag(alloc, "surplus", help::SURPLUS);
+    taking(command, surplus.conflicts_with("missing"))
+}
+
+fn why_command<'a>(alloc: Global) -> Result<Command<'a>, AllocError> {
+    let command = on_system(alloc, "why", help::ABOUT_WHY, help::EXAMPLE_WHY);
+    let command = taking(command, Ok(word(alloc, "actor", "A", help::ACTOR)));
+    let command = taking(command, Ok(word(alloc, "object", "B", help::OBJECT)));
+    taking(command, Ok(flag(alloc, "policy-alone", help::POLICY_ALONE)))
+}
+
+fn draw_command<'a>(alloc: Global) -> Result<Command<'a>, AllocError> {
+    let command = on_system(alloc, "draw", help::ABOUT_DRAW, help::EXAMPLE_DRAW);
+    taking(command, Ok(flag(alloc, "policy-alone", help::POLICY_ALONE)))
+}
+
+fn claims_command<'a>(alloc: Global) -> Result<Command<'a>, AllocError> {
+    let command = on_system(alloc, "claims", help::ABOUT_CLAIMS, help::EXAMPLE_CLAIMS);
+    let claims = word(alloc, "claims", "CLAIMS", help::CLAIMS).required(false);
+    let command = taking(command, claims.required_unless_present("all"));
+    let all = flag(alloc, "all", help::ALL);
+    taking(command, all.conflicts_with("claims"))
+}
+
+fn list_command<'a>(alloc: Global) -> Result<Command<'a>, AllocError> {
+    on_table(alloc, "list", help::ABOUT_LIST, help::EXAMPLE_LIST)
+}
+
+// A command whose first files are a table and a policy.
+fn on_system<'a>(
+    alloc: Global,
+    name: &'a str,
+    about: &'a str,
+    example: &'a str,
+) -> Result<Command<'a>, AllocError> {
+    on_table(alloc, name, about, example)?.arg(word(alloc, "policy", "POLICY", help::POLICY))
+}
+
+// A command whose first file is a table.
+fn on_table<'a>(
+    alloc: Global,
+    name: &'a str,
+    about: &'a str,
+    example: &'a str,
+) -> Result<Command<'a>, AllocError> {
+    Command::new(alloc, name)
+        .about(about)
+        .after_help(example)
+        .arg(flag(alloc, "explain", help::EXPLAIN))?
+        .arg(word(alloc, "table", "TABLE", help::TABLE))
+}
+
+// The option for the number of workers.
+fn workers<'a>(alloc: Global) -> Arg<'a> {
+    Arg::new(alloc, "workers")
+        .long("workers")
+        .value_name("N")
+        .help(help::WORKERS)
+        .allow_negative_numbers(true)
+        .default_value("1")
+}
+
+// An option without a value.
+fn flag<'a>(alloc: Global, id: &'a str, help: &'a str) -> Arg<'a> {
+    Arg::new(alloc, id)
+        .long(id)
+        .help(help)
+        .action(ArgAction::SetTrue)
+}
+
+// An argument that is a word, such as the name of a file.
+fn word<'a>(alloc: Global, id: &'a str, name: &'a str, help: &'a str) -> Arg<'a> {
+    Arg::new(alloc, id)
+        .value_name(name)
+        .help(help)
+        .required(true)
+        .action(ArgAction::Set)
+}

@@ -1,0 +1,81 @@
+//! The elements of a description, and where they stand.
+use xml::Element;
+
+/// An element, by its number in the document.
+#[derive(Clone, Copy)]
+pub(crate) struct Place<'a, 't> {
+    pub elements: &'a [Element<'t>],
+    pub number: usize,
+}
+
+impl<'a, 't> Place<'a, 't> {
+    /// Returns the element, if there is one.
+    pub(crate) fn element(self) -> Option<&'a Element<'t>> {
+        self.elements.get(self.number)
+    }
+
+    /// Returns the element's name, which is empty where there is none.
+    pub(crate) fn name(self) -> &'a [u8] {
+        match self.element() {
+            Some(element) => element.name,
+            None => b"",
+        }
+    }
+
+    /// Returns the value of an attribute.
+    pub(crate) fn value(self, name: &str) -> Option<&'a [u8]> {
+        for attribute in &self.element()?.attributes {
+            if attribute.name == name.as_bytes() {
+                return Some(&attribute.value);
+            }
+        }
+        None
+    }
+
+    /// Returns the element in which it stands, if it isn't the root.
+    pub(crate) fn outer(self) -> Option<Place<'a, 't>> {
+        let level = self.element()?.level;
+        let mut found = None;
+        for (number, element) in self.elements.iter().enumerate() {
+            if number < self.number && element.level < level {
+                found = Some(Place {
+                    elements: self.elements,
+                    number,
+                });
+            }
+        }
+        found
+    }
+
+    /// Returns the domain in which it stands.
+    pub(crate) fn domain(self) -> Option<Place<'a, 't>> {
+        let mut place = self;
+        for _ in 0..self.elements.len() {
+            place = place.outer()?;
+            if place.is_named("protection_domain") {
+                return Some(place);
+            }
+        }
+        None
+    }
+
+    /// Whether the element has this name.
+    pub(crate) fn is_named(self, name: &str) -> bool {
+        self.name() == name.as_bytes()
+    }
+
+    /// Returns the first element before it that has this name and the same value of an attribute.
+    pub(crate) fn twin(self, attribute: &str) -> Option<Place<'a, 't>> {
+        let value = self.value(attribute)?;
+        for number in 0..self.number {
+            let other = Place {
+                elements: self.elements,
+                number,
+            };
+            if other.name() == self.name() && other.value(attribute) == Some(value) {
+                return Some(other);
+            }
+        }
+        None
+    }
+}

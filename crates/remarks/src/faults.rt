@@ -1,0 +1,169 @@
+//! Which element of a description has a fault, and which condition it doesn't meet.
+use crate::elements::Place;
+use crate::flaws::Flaw;
+use crate::limits::limit_flaw;
+use crate::naming::{join_flaw, known_flaw, twice_flaw};
+use crate::rules::{Need, elements_in, rules_of};
+use crate::values::has_form;
+use forms::{Shown, text_of};
+use std::alloc::{AllocError, Global};
+use std::fmt;
+use words::Fault;
+use xml::{Element, read_document};
+
+/// Says which element of a description has a fault, and which condition it doesn't meet.
+///
+/// `text` is all of the file called `name`. Where memory was refused that is said, and no line.
+pub fn explain_fault(
+    alloc: Global,
+    name: &str,
+    text: &[u8],
+    fault: Fault,
+) -> Result<String, AllocError> {
+    if fault == Fault::MEMORY {
+        return format!(in alloc; "{name}: no memory");
+    }
+    let line = fault.line;
+    match read_document(alloc, text) {
+        Ok(elements) => {
+            let told = told_of(&elements, fault);
+            format!(in alloc; "{name}:{line}: {told}")
+        }
+        Err(other) if other == Fault::MEMORY => format!(in alloc; "{name}: no memory"),
+        Err(_) => {
+            let words = document_words(text, fault.number);
+            format!(in alloc; "{name}:{line}: {words}")
+        }
+    }
+}
+
+// An element, an attribute of it, and what is wrong with it.
+#[derive(Clone, Copy)]
+struct Told<'a, 't> {
+    place: Option<Place<'a, 't>>,
+    attribute: Option<&'a [u8]>,
+    flaw: Flaw<'a>,
+}
+
+impl fmt::Display for Told<'_, '_> {
+    fn fmt<W: fmt::Write>(&self, f: &mut fmt::Formatter<W>) -> fmt::Result {
+        let flaw = self.flaw;
+        let Some(place) = self.place else {
+            return write!(f, "{flaw}");
+        };
+        write!(
+            f,
+            "<{}",
+            Shown {
+                bytes: place.name()
+            }
+        )?;
+        if let Some(attribute) = self.attribute {
+            let value = value_of(place, attribute);
+            let (attribute, value) = (Shown { bytes: attribute }, Shown { bytes: value });
+            write!(f, " {attribute}='{value}'")?;
+        }
+        write!(f, ">: {flaw}")
+    }
+}
+
+fn value_of<'a>(place: Place<'a, '_>, name: &[u8]) -> &'a [u8] {
+    match std::str::from_utf8(name) {
+        Ok(name) => place.value(name).unwrap_or(b""),
+        Err(_) => b"",
+    }
+}
+
+// What is told of the first element of the line that doesn't meet a condition; else of its first element.
+fn told_of<'a, 't>(elements: &'a [Element<'t>], fault: Fault) -> Told<'a, 't> {
+    let mut first = None;
+    for (number, element) in elements.iter().enumerate() {
+        if element.line == fault.line {
+            let place = Place { elements, number };
+            if let Some(told) = told_at(place, fault.number) {
+                return told;
+            }
+            if first.is_none() {
+                first = Some(place);
+            }
+        }
+    }
+    Told {
+        place: first,
+        attribute: None,
+        flaw: Flaw::Other(fault.number),
+    }
+}
+
+// What is told of an element, if it doesn't meet a condition of this number.
+fn told_at<'a, 't>(place: Place<'a, 't>, number: u64) -> Option<Told<'a, 't>> {
+    let (attribute, flaw) = match number {
+        50 => form_flaw(place)?,
+        51 => known_flaw(place)?,
+        52 => twice_flaw(place)?,
+        54 => limit_flaw(place)?,
+        55 => join_flaw(place)?,
+        _ => return None,
+    };
+    Some(Told {
+        place: Some(place),
+        attribute,
+        flaw,
+    })
+}
+
+// The form of an element: where it stands, and its attributes.
+fn form_flaw<'a>(place: Place<'a, '_>) -> Option<(Option<&'a [u8]>, Flaw<'a>)> {
+    let element = place.element()?;
+    let outer = match place.outer() {
+        Some(outer) => outer.name(),
+        None => b"",
+    };
+    let inner = elements_in(outer);
+    if !is_among(inner, element.name) {
+        return Some((None, Flaw::Element(outer, inner)));
+    }
+    let rules = rules_of(element.name, outer == b"protection_domain".as_slice());
+    for attribute in &element.attributes {
+        match rules
+            .iter()
+            .find(|rule| rule.0.as_bytes() == attribute.name)
+        {
+            None => return Some((Some(attribute.name), Flaw::Attribute(attribute.name))),
+            Some(rule) if !has_form(rule.1, &attribute.value) => {
+                return Some((Some(attribute.name), Flaw::Form(rule.0, rule.1)));
+            }
+            Some(_) => {}
+        }
+    }
+    for rule in rules {
+        if rule.2 == Need::Required && place.value(rule.0).is_none() {
+            return Some((None, Flaw::Missing(rule.0)));
+        }
+    }
+    None
+}
+
+// Whether a name is one of those that are separated by commas.
+fn is_among(names: &str, name: &[u8]) -> bool {
+    names.split(", ").any(|one| one.as_bytes() == name)
+}
+
+// What is wrong with a text that isn't a document as it is read here.
+fn document_words(text: &[u8], number: u64) -> &'static str {
+    match number {
+        52 => "an attribute is given twice",
+        54 =>
+            "a limit of the text is passed: 1 MiB, 66 levels, 20,000 elements, 32 attributes, 4,096 bytes of a value",
+        _ if has_part(text, "<!DOCTYPE") => "this isn't read as XML: document types are refused",
+        _ if has_part(text, "<![CDATA[") => "this isn't read as XML: CDATA is refused",
+        _ => {
+            "this isn't read as XML: there is one root, with elements, attributes of printable ASCII, and comments alone"
+        }
+    }
+}
+
+// Whether a piece stands in a text.
+fn has_part(text: &[u8], part: &str) -> bool {
+    text_of(text).split_once(part).is_some()
+}

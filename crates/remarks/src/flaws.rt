@@ -1,0 +1,133 @@
+//! What is said of an element that has a fault.
+use crate::rules::Form;
+use forms::Shown;
+use std::fmt;
+
+/// What is wrong with an element.
+#[derive(Clone, Copy)]
+pub(crate) enum Flaw<'a> {
+    /// No element of this name stands there, but these: outside of all, or within one of this name.
+    Element(&'a [u8], &'static str),
+    /// The element has no such attribute.
+    Attribute(&'a [u8]),
+    /// A value hasn't this form.
+    Form(&'static str, Form),
+    /// An attribute is missing.
+    Missing(&'static str),
+    /// There is no region of this name.
+    NoRegion(&'a [u8]),
+    /// There is no domain of this name.
+    NoDomain(&'a [u8]),
+    /// A name is given to another element, in this line.
+    Name(u64),
+    /// An id is given twice in this domain.
+    Id(&'a [u8]),
+    /// An interrupt is another domain's, in this line.
+    Interrupt(u64),
+    /// A domain has another virtual machine, in this line.
+    SecondMachine(u64),
+    /// The size of a region isn't made of whole pages.
+    Pages,
+    /// An address doesn't begin a page, or the region goes beyond the last address.
+    Address,
+    /// A region has bytes of another one, in this line.
+    Overlap(u64),
+    /// A budget is more than its period.
+    Budget,
+    /// Calls are given by ends, and by domains too.
+    Mixed,
+    /// An end more than two.
+    ThirdEnd,
+    /// A channel lacks an end.
+    Ends,
+    /// Both ends of a channel may call.
+    BothCall,
+    /// An end calls a domain that hasn't a higher priority.
+    Priority,
+    /// A number is larger than this.
+    Large(&'static str, u64),
+    /// A domain more than 63.
+    Domains,
+    /// A limit of tables is passed.
+    Table,
+    /// None of these.
+    Other(u64),
+}
+
+impl fmt::Display for Flaw<'_> {
+    fn fmt<W: fmt::Write>(&self, f: &mut fmt::Formatter<W>) -> fmt::Result {
+        match *self {
+            Flaw::Element(outer, inner) => tell_element(f, outer, inner),
+            Flaw::Attribute(name) => write!(f, "there is no attribute {}", Shown { bytes: name }),
+            Flaw::Form(name, form) => write!(f, "{name} is to be {}", form_words(form)),
+            Flaw::Missing(name) => write!(f, "{name} is missing"),
+            Flaw::NoRegion(name) => write!(
+                f,
+                "there is no memory region {}",
+                Shown { bytes: name }
+            ),
+            Flaw::NoDomain(name) => write!(
+                f,
+                "there is no protection domain {}",
+                Shown { bytes: name }
+            ),
+            Flaw::Name(line) => write!(f, "line {line} has this name too"),
+            Flaw::Id(domain) => write!(f, "this id is given twice in {}", Shown { bytes: domain }),
+            Flaw::Interrupt(line) => write!(f, "line {line} has this interrupt too"),
+            Flaw::SecondMachine(line) => write!(
+                f,
+                "line {line} is a virtual machine of this domain too"
+            ),
+            Flaw::Overlap(line) => write!(f, "it has memory of the region in line {line}"),
+            Flaw::Large(name, most) => write!(f, "{name} is at most {most}"),
+            flaw => f.write_str(plain(flaw)),
+        }
+    }
+}
+
+// Which elements may stand there.
+fn tell_element<W: fmt::Write>(
+    f: &mut fmt::Formatter<W>,
+    outer: &[u8],
+    inner: &str,
+) -> fmt::Result {
+    let outer = Shown { bytes: outer };
+    match (outer.bytes, inner) {
+        (b"", _) => write!(f, "the root is to be {inner}"),
+        (_, "") => write!(f, "nothing stands within {outer}"),
+        _ => write!(f, "within {outer} stand {inner} alone"),
+    }
+}
+
+fn form_words(form: Form) -> &'static str {
+    match form {
+        Form::Text => "a text",
+        Form::Number => "a number below 2^64, decimal or hexadecimal after 0x",
+        Form::Flag => "true or false",
+        Form::PageSize => "0x1000 or 0x200000",
+        Form::Rights => "some of r, w, x, and not w without r",
+        Form::Trigger => "level or edge",
+    }
+}
+
+// A sentence without words of its own.
+fn plain(flaw: Flaw<'_>) -> &'static str {
+    match flaw {
+        Flaw::Pages => "its size is to be a multiple of the page size",
+        Flaw::Address => "its address is to be a multiple of the page size, and its end below 2^64",
+        Flaw::Budget => "its budget is more than its period",
+        Flaw::Mixed => "pp stands at a domain too, and means the opposite there",
+        Flaw::ThirdEnd => "a channel has two ends",
+        Flaw::Ends => "it has fewer than two ends",
+        Flaw::BothCall => "only one end may have pp",
+        Flaw::Priority => "pp may call only a domain of a higher priority",
+        Flaw::Domains => "there are more than 63 protection domains",
+        Flaw::Table =>
+            "its table passes a limit here: 256 labels, cores 0 to 15, times of 1 to 3600000000 microseconds, 4096 slots, or 2^48 bytes of memory",
+        Flaw::Other(50) => "it hasn't its form",
+        Flaw::Other(51) => "a name isn't known",
+        Flaw::Other(52) => "something is given twice",
+        Flaw::Other(54) => "a limit is passed",
+        _ => "it doesn't go together with what stands before",
+    }
+}

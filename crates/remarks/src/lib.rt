@@ -1,0 +1,14 @@
+//! Words on the description of a system: what its table doesn't show, and what is wrong with an element.
+#![tactic(auto)]
+
+mod elements;
+mod faults;
+mod flaws;
+mod limits;
+mod naming;
+mod notes;
+mod rules;
+mod values;
+
+pub use faults::explain_fault;
+pub use notes::{Matter, Note, explain_notes, notes_of};

@@ -1,0 +1,41 @@
+//! The limits that an element passes.
+use crate::elements::Place;
+use crate::flaws::Flaw;
+use crate::naming::Found;
+use crate::values::number_of;
+use microkit::{MAX_DOMAINS, MAX_ID, MAX_PRIORITY};
+
+/// Returns the limit that an element passes: one of its own, of the number of domains, or of its table.
+pub(crate) fn limit_flaw<'a>(place: Place<'a, '_>) -> Option<Found<'a>> {
+    if is_above(place.value("id"), MAX_ID) {
+        return Some((Some(b"id"), Flaw::Large("id", MAX_ID)));
+    }
+    if is_above(place.value("priority"), MAX_PRIORITY) {
+        return Some((Some(b"priority"), Flaw::Large("priority", MAX_PRIORITY)));
+    }
+    let is_domain = place.is_named("protection_domain");
+    if is_domain && domains_before(place) >= MAX_DOMAINS {
+        return Some((None, Flaw::Domains));
+    }
+    place.value("name")?;
+    Some((Some(b"name"), Flaw::Table))
+}
+
+fn is_above(value: Option<&[u8]>, most: u64) -> bool {
+    match value {
+        Some(value) => number_of(value).is_some_and(|number| number > most),
+        None => false,
+    }
+}
+
+fn domains_before(place: Place<'_, '_>) -> usize {
+    (0..place.number)
+        .filter(|number| {
+            let other = Place {
+                elements: place.elements,
+                number: *number,
+            };
+            other.is_named("protection_domain")
+        })
+        .count()
+}

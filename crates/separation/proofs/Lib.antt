@@ -1,0 +1,3 @@
+mod Items
+mod Levels
+mod Lines

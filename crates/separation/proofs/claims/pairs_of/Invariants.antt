@@ -1,0 +1,11 @@
+-- The pairs so far are those of the first labels.
+use Rattle.std.specs.List.{flat_map, range_with_len}
+use Rattle.std.proofs.Common.{◌≡◌}
+use Rattle.microkit.specs.{LabelView.bytes_of, View.description_of}
+use Rattle.separation.specs.Claims.{pairs_at}
+use Rattle.separation.proofs.claims.pairs_of.Given as goal
+
+abbrev pub invariant-loop-actor : goal.invariant-loop-actor
+invariant-loop-actor l =
+    l.pairs.items
+    ≡ flat_map (pairs_at (description_of l.description) l.children (bytes_of l.runners) l.subjects) (range_with_len 0 l.actor)

@@ -1,0 +1,10 @@
+-- Those found so far are those of the first domains.
+use Rattle.std.specs.List.{range_with_len}
+use Rattle.std.proofs.Common.{◌≡◌, map}
+use Rattle.microkit.specs.{LabelView.bytes_of, View.description_of}
+use Rattle.separation.specs.Lending.{runners_of}
+use Rattle.separation.proofs.lending.all_runners.Given as goal
+
+abbrev pub invariant-loop-domain : goal.invariant-loop-domain
+invariant-loop-domain l =
+    bytes_of l.found.items ≡ map (runners_of (description_of l.description) l.children) (range_with_len 0 l.domain)

@@ -1,0 +1,9 @@
+-- Those found so far may run on the domain's time by as many calls.
+use Rattle.std.proofs.Common.{◌≡◌}
+use Rattle.microkit.specs.View.{description_of}
+use Rattle.separation.specs.Lending.{runners_by}
+use Rattle.separation.proofs.lending.runners_of.Given as goal
+
+abbrev pub invariant-loop-calls : goal.invariant-loop-calls
+invariant-loop-calls l =
+    l.runners.items ≡ runners_by (description_of l.description) l.children l.domain l._calls

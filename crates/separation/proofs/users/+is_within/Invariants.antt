@@ -1,0 +1,5 @@
+-- each level up leaves one less
+use Rattle.separation.proofs.users.+is_within.Given as goal
+
+abbrev pub decreases-is_within : goal.decreases-is_within
+decreases-is_within l = l.levels

@@ -1,0 +1,68 @@
+-- The claims that a description makes: each label that has a thread leaves alone what it isn't joined to (confine's own).
+use Rattle.std.specs.{List.{flat_map, range_with_len}, Option.{option_map_or}}
+use Rattle.std.specs.Prelude.{[], ℕ, ◌&&◌, ◌++◌, ◌==◌, Bool, List, None, Option, Some, codes, false, filter, length, map, not, option_and_then, slice_get, unwrap_or}
+use Rattle.microkit.specs.{Description.{Description}, Labels.{subjects_of}}
+use Rattle.microkit.specs.declared.{description.User.{User}, labels.Subject.{Subject}}
+use Rattle.microkit.specs.declared.description.User.TheVariants as user
+use Rattle.microkit.specs.declared.labels.Subject.TheVariants as subject
+use Rattle.importing.specs.declared.pieces.Children.{Children}
+use Rattle.separation.specs.{Joined.{is_joined}, Lending.{all_runners}, declared.claims.Pair.{Pair}}
+
+-- what has a label, as a user, which has threads
+unfoldable pub user_of : Subject → Option User
+user_of (subject.Domain n) = Some (user.Domain n)
+user_of (subject.Machine n) = Some (user.Machine n)
+user_of (subject.Time n) = None
+user_of (subject.Region n) = None
+
+-- a user is kept apart from the label of this number
+unfoldable pub is_apart : Description → Children → List (List ℕ) → List Subject → User → ℕ → Bool
+is_apart d children runners subjects one object =
+    option_map_or (λ subject. not (is_joined d children runners one subject)) (slice_get subjects object) false
+
+abbrev pub pair_of : ℕ → ℕ → Pair
+pair_of actor object = record { actor = actor; object = object }
+
+-- the labels that the label of a user is kept apart from
+abbrev pub pairs_with : Description → Children → List (List ℕ) → List Subject → ℕ → User → List Pair
+pairs_with d children runners subjects actor one =
+    map (pair_of actor)
+    (filter (λ object. not (object == actor) && is_apart d children runners subjects one object)
+    (range_with_len 0 (length subjects)))
+
+abbrev pub pairs_if : Description → Children → List (List ℕ) → List Subject → ℕ → Option User → List Pair
+pairs_if d children runners subjects actor None = []
+pairs_if d children runners subjects actor (Some one) = pairs_with d children runners subjects actor one
+
+abbrev pub pairs_at : Description → Children → List (List ℕ) → List Subject → ℕ → List Pair
+pairs_at d children runners subjects actor =
+    pairs_if d children runners subjects actor (option_and_then user_of (slice_get subjects actor))
+
+-- all pairs of labels that are kept apart
+abbrev pub pairs_of : Description → Children → List (List ℕ) → List Subject → List Pair
+pairs_of d children runners subjects =
+    flat_map (pairs_at d children runners subjects) (range_with_len 0 (length subjects))
+
+-- the name of the label of this number
+abbrev pub name_at : List (List ℕ) → ℕ → List ℕ
+name_at names number = unwrap_or (slice_get names number) []
+
+-- the line of a claim, where these are the names of the labels
+abbrev pub claim_line : List (List ℕ) → Pair → List ℕ
+claim_line names pair =
+    codes "none " ++ (name_at names pair.actor ++ (codes " " ++ (name_at names pair.object ++ codes "\n")))
+
+abbrev pub lines_of : List (List ℕ) → List Pair → List ℕ
+lines_of names pairs = flat_map (claim_line names) pairs
+
+-- the text of these claims
+abbrev pub text_of : List (List ℕ) → List Pair → List ℕ
+text_of names pairs = codes "confine-claims 2\n" ++ (lines_of names pairs ++ codes "end\n")
+
+-- all pairs of labels that a description keeps apart
+abbrev pub all_pairs : Description → Children → List Pair
+all_pairs d children = pairs_of d children (all_runners d children) (subjects_of d)
+
+-- the text of the claims of a description, whose labels have these names
+abbrev pub claims_text : List (List ℕ) → Description → Children → List ℕ
+claims_text names d children = text_of names (all_pairs d children)

@@ -1,0 +1,4 @@
+pub mod Users
+pub mod Lending
+pub mod Joined
+pub mod Claims

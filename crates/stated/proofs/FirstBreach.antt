@@ -1,0 +1,96 @@
+-- The search for the first breach of a claim: which pairs it bounds, and which have more.
+use Rattle.std.specs.List.{Contains, list_any, slice_get}
+use Rattle.std.proofs.lemmas.List.{get_or_append_left, get_or_push, length_push}
+use Rattle.std.proofs.lemmas.Map.Views.{Contains-from_any}
+use Rattle.std.proofs.lemmas.Option.{get_or_from_slice_get, slice_get-get_or, slice_get_within}
+use Rattle.stated.specs.declared.rows.Row.{Row}
+use Rattle.stated.specs.Rows.{IsRow}
+use Rattle.std.proofs.Common.{[], ℕ, ◌&&◌, ◌++◌, ◌+◌, ◌∷◌, List, Some, ◌<◌, ◌==◌, ◌||◌, ◌↔◌, ◌∙◌, ◌≡◌, ◌≢◌, ◌⊎◌, Bool, ap, arith, cond, false, inl, inr, length, not, refl, subst, sym, true}
+use Rattle.std.proofs.lemmas.Bool.{and_from, and_parts, cases_order, eq-eqb, eqb-true, false≢true, or_cases, or_left, or_right}
+use Rattle.std.proofs.lemmas.Bool.Decides.{nat_tests}
+use Rattle.machine.specs.Layout.{Layout}
+use Rattle.verdict.specs.Extents.{GoesTo, MayChangeIn, MayShrinkIn, Reach}
+use Rattle.claims.specs.{declared.claim.Most.{Most, Most as most}, Holding.{ComesBefore, HasAtMost}}
+use Rattle.stated.specs.declared.{breaches.Breach.Breach, claim.Stated.{Stated, Stated as stated}}
+use Rattle.stated.specs.Breaches.{HoldsOf, IsFirstBreachBy}
+use Rattle.stated.specs.Holding.{AreTwo, Bounds, HoldsOnPairs, IsFirstBreach, MayAffect, most_of}
+
+-- a row has more than a claim leaves
+
+module _ (reach : Reach) (a l : ℕ) (changed shrunk : Bool) (changes : (changed ≡ true) ↔ MayChangeIn reach a l)
+    (shrinks : (shrunk ≡ true) ↔ MayShrinkIn reach a l)
+  where
+    pub affects : ((changed || shrunk) ≡ true → MayAffect reach a l) × (MayAffect reach a l → (changed || shrunk) ≡ true)
+    affects = (forth, back) where
+      forth : (changed || shrunk) ≡ true → MayAffect reach a l
+      forth is = elim (or_cases changed shrunk is) [ inl change ↦ inl (changes.0 change) | inr shrink ↦ inr (shrinks.0 shrink) ]
+
+      back : MayAffect reach a l → (changed || shrunk) ≡ true
+      back (inl change) = or_left changed shrunk (changes.1 change)
+      back (inr shrink) = or_right changed shrunk (shrinks.1 shrink)
+
+    pub nothing_excess : ((changed || shrunk) ≡ true → ¬ HasAtMost reach a l most.Nothing)
+        × ((changed || shrunk) ≢ true → HasAtMost reach a l most.Nothing)
+    nothing_excess = (
+      λ is least. elim (or_cases changed shrunk is) [ inl change ↦ least.0 (changes.0 change) | inr shrink ↦ least.1 (shrinks.0 shrink) ],
+      λ lacks. (
+        λ change. lacks (or_left changed shrunk (changes.1 change)),
+        λ shrink. lacks (or_right changed shrunk (shrinks.1 shrink)),
+      ),
+    )
+
+    pub take_excess : (changed ≡ true → ¬ HasAtMost reach a l most.Take) × (changed ≢ true → HasAtMost reach a l most.Take)
+    take_excess = (λ is least. least (changes.0 is), λ lacks change. lacks (changes.1 change))
+
+-- label by label
+
+module _ (t : Layout) (reach : Reach) (claim : Stated) where
+  -- a claim holds of the labels below a number
+  abbrev pub HoldsBelow : ℕ → Type 0
+  HoldsBelow n = (a : ℕ) → a < n → HoldsOf t reach claim a
+
+  pub first_of_all : (a : ℕ) (breach : Breach) → HoldsBelow a → IsFirstBreachBy t reach claim a breach → IsFirstBreach t reach claim breach
+  first_of_all a breach before is = record {
+    bounded = at (λ n. Bounds t claim n breach.object) is.bounded;
+    breaks = at (λ n. ¬ HasAtMost reach n breach.object (most_of claim)) is.breaks;
+    goes_to = at (λ n. GoesTo reach n breach.object breach.extent) is.goes_to;
+    first = λ x l bounded comes. earlier x l bounded comes;
+  } where
+    at : (P : ℕ → Type 0) → P a → P breach.actor
+    at P = subst P (sym is.by)
+
+    earlier : (x l : ℕ) → Bounds t claim x l → ComesBefore x l breach.actor breach.object → HasAtMost reach x l (most_of claim)
+    earlier x l bounded (inl below) = before x (subst (λ n. x < n) is.by below) l bounded
+    earlier x l bounded (inr (same, below)) =
+        let here = same ∙ is.by in
+        subst (λ n. HasAtMost reach n l (most_of claim)) (sym here) (is.first l (subst (λ n. Bounds t claim n l) here bounded) below)
+
+-- a label that a test finds among others is one of them
+pub among : (labels : List ℕ) (a : ℕ) → list_any (λ other. a == other) labels ≡ true → Contains labels a
+among labels a is = Contains-from_any {eq = ◌==◌} (λ x y same. eqb-true x y same) a labels is
+
+-- one row more
+module _ (reach : Reach) (rows : List Row) (row : Row) (n : ℕ) (count : length rows ≡ n) (is : IsRow reach n row)
+    (so_far : (a : ℕ) (other : Row) → slice_get rows a ≡ Some other → IsRow reach a other)
+  where
+    pub row_more : (a : ℕ) (other : Row) → slice_get (rows ++ row ∷ []) a ≡ Some other → IsRow reach a other
+    row_more a other at =
+        let within = slice_get_within (rows ++ row ∷ []) a other at in
+        let longer = length_push rows row in
+        let there = get_or_from_slice_get (rows ++ row ∷ []) a other other at in
+        elim (cases_order a n) [
+          | inl same ↦
+              let it : row ≡ other = sym (get_or_push rows row other a (count ∙ sym same)) ∙ there in
+              subst (λ r. IsRow reach a r) it (subst (λ k. IsRow reach k row) (sym same) is)
+          | inr (inl before) ↦
+              let lt : a < length rows = omega arith in
+              so_far a other (slice_get-get_or rows a other lt ∙ ap Some (sym (get_or_append_left rows (row ∷ []) other a lt) ∙ there))
+          | inr (inr after) ↦ absurd (omega (arith, within, longer))
+        ]
+
+-- a claim bounds labels of the table
+pub bounded_within : (t : Layout) (claim : Stated) (a l : ℕ) → Bounds t claim a l → a < length t.labels
+bounded_within t (stated.AtMost limit actor object) a l bounded = bounded.0.0
+bounded_within t (stated.Only object actors) a l bounded = bounded.0.0
+bounded_within t (stated.Apart from to) a l bounded = absurd bounded
+bounded_within t (stated.Without actor kind object) a l bounded = absurd bounded

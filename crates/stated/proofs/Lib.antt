@@ -1,0 +1,5 @@
+mod Joined
+mod Chains
+mod Kept
+mod Gathered
+mod FirstBreach

@@ -1,0 +1,54 @@
+-- Line by line.
+use Rattle.std.proofs.Common.{[], ◌++◌, ◌+◌, ◌∙◌, ◌∷◌, ◌≡◌, None, Option, Some, ap, arith, get_or, length, refl, subst, sym, take}
+use Rattle.std.proofs.lemmas.Grind.{common_steps}
+use Rattle.std.proofs.lemmas.List.{append-nil}
+use Rattle.verdict.specs.Extents.{reach_of}
+use Rattle.stated.specs.declared.{claim.Stated.Stated, deciding.Broken.Broken}
+use Rattle.stated.specs.declared.lines.TheConstants.StatedLines as StatedLines
+use Rattle.stated.specs.Holding.{AreBroken, AreBroken.{broke, ended, held, silent}}
+use Rattle.stated.proofs.{Gathered.one_line, Kept.fails_breaks}
+use Rattle.stated.proofs.deciding.broken_by.Goals.{in-Some+in-Some-failure_of+in_ok-push, in-Some+in_default-failure_of, in_default}
+use Rattle.stated.proofs.deciding.broken_by.Goals as goal
+
+pub loop-index-init : goal.loop-index-init
+loop-index-init c =
+    subst (λ xs. AreBroken c.args.bounds.now.system.table (reach_of c.args.bounds.now) StatedLines.FIRST (take 0 c.args.lines.now) xs)
+    (sym c.new-broken.ensures.items) ended
+
+pub loop-index-preserved : goal.loop-index-preserved
+loop-index-preserved c =
+    let t = c.args.bounds.now.system.table in
+    let reach = reach_of c.args.bounds.now in
+    let lines = c.args.lines.now in
+    let i = c.loop-index.index in
+    let entry = c.index-lines-index.result in
+    let all = c.loop-index.broken.items in
+    elim c.match-entry.branch [
+      | in-Some+in-Some-failure_of+in_ok-push w ↦
+          let it : Broken = record { line = StatedLines.FIRST + i; failure = w.in-Some-failure_of.failure } in
+          let grown : c.match-entry.broken.items ≡ all ++ it ∷ [] = grind (arith, common_steps) in
+          let is = sym c.index-lines-index.is ∙ w.in-Some.is in
+          let here : AreBroken t reach (StatedLines.FIRST + i) (get_or lines i entry ∷ []) (it ∷ []) =
+          subst (λ e. AreBroken t reach (StatedLines.FIRST + i) (e ∷ []) (it ∷ [])) (sym is)
+          (broke (record {
+            line_is = refl;
+            breaks = fails_breaks t reach _ _ w.in-Some-failure_of.ensures.some;
+            fails = w.in-Some-failure_of.ensures.some;
+          }) ended) in
+          subst (λ xs. AreBroken t reach StatedLines.FIRST (take (i + 1) lines) xs) (sym grown)
+          (one_line t reach StatedLines.FIRST i lines entry all (it ∷ []) (omega arith) c.loop-index.invariant here)
+      | in-Some+in_default-failure_of w ↦
+          let is = sym c.index-lines-index.is ∙ w.in-Some.is in
+          let here : AreBroken t reach (StatedLines.FIRST + i) (get_or lines i entry ∷ []) [] =
+          subst (λ e. AreBroken t reach (StatedLines.FIRST + i) (e ∷ []) []) (sym is) (held w.in_default-failure_of.ensures.none ended) in
+          subst (λ xs. AreBroken t reach StatedLines.FIRST (take (i + 1) lines) xs)
+          (append-nil all ∙ sym (ap (λ b. b.items) w.broken-is))
+          (one_line t reach StatedLines.FIRST i lines entry all [] (omega arith) c.loop-index.invariant here)
+      | in_default w ↦
+          let is = sym c.index-lines-index.is ∙ w.in_default.is in
+          let here : AreBroken t reach (StatedLines.FIRST + i) (get_or lines i entry ∷ []) [] =
+          subst (λ e. AreBroken t reach (StatedLines.FIRST + i) (e ∷ []) []) (sym is) (silent ended) in
+          subst (λ xs. AreBroken t reach StatedLines.FIRST (take (i + 1) lines) xs)
+          (append-nil all ∙ sym (ap (λ b. b.items) w.broken-is))
+          (one_line t reach StatedLines.FIRST i lines entry all [] (omega arith) c.loop-index.invariant here)
+    ]

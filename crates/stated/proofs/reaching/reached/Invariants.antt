@@ -1,0 +1,13 @@
+-- A chain leads to each label that was reached, and from the labels that are done only to such.
+use Rattle.std.proofs.Common.{◌≡◌}
+use Rattle.base.specs.Labels.{is_in}
+use Rattle.verdict.specs.Extents.{Reach}
+use Rattle.stated.{specs.Rows.AreRows, proofs.Chains.{AreReached, left}}
+use Rattle.stated.proofs.reaching.reached.Given as goal
+
+abbrev pub invariant-loop-actor : goal.invariant-loop-actor
+invariant-loop-actor l =
+    (reach : Reach) → AreRows reach l.rows → AreReached reach l.fn.from (is_in l.done) (is_in l.reached)
+
+abbrev pub decreases-loop-actor : goal.decreases-loop-actor
+decreases-loop-actor l = left (is_in l.done) 256

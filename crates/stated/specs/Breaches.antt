@@ -1,0 +1,30 @@
+-- The search for the first breach of a claim, label by label (confine's own).
+use Rattle.std.specs.Prelude.{ℕ, ◌<◌, ◌↔◌, ◌≡◌, ◌≢◌, ◌≤◌, length, true}
+use Rattle.base.specs.{declared.labels.Labels.Labels, Labels.is_in}
+use Rattle.base.specs.declared.label.TheConstants.Label as Label
+use Rattle.machine.specs.Layout.{Layout}
+use Rattle.verdict.specs.Extents.{GoesTo, Reach}
+use Rattle.claims.specs.{declared.claim.Most.Most, Holding.HasAtMost}
+use Rattle.stated.specs.{declared.{breaches.Breach.Breach, claim.Stated.Stated}, Holding.{Bounds, most_of}}
+
+-- these are the labels of the table
+pub record AreLabelsOf (t : Layout) (labels : Labels) : Type 0 where
+  pub few : length t.labels ≤ Label.COUNT
+  pub are : (label : ℕ) → (is_in labels label ≡ true) ↔ (label < length t.labels)
+
+-- these are the labels on which a label has more authority than this
+abbrev pub AreExcess : Reach → ℕ → Most → Labels → Type 0
+AreExcess reach a most labels =
+    (l : ℕ) → (is_in labels l ≡ true → ¬ HasAtMost reach a l most) × (is_in labels l ≢ true → HasAtMost reach a l most)
+
+-- the first breach of a claim by this label
+pub record IsFirstBreachBy (t : Layout) (reach : Reach) (claim : Stated) (a : ℕ) (breach : Breach) : Type 0 where
+  pub by : breach.actor ≡ a
+  pub bounded : Bounds t claim a breach.object
+  pub breaks : ¬ HasAtMost reach a breach.object (most_of claim)
+  pub goes_to : GoesTo reach a breach.object breach.extent
+  pub first : (l : ℕ) → Bounds t claim a l → l < breach.object → HasAtMost reach a l (most_of claim)
+
+-- the claim has none by this label
+abbrev pub HoldsOf : Layout → Reach → Stated → ℕ → Type 0
+HoldsOf t reach claim a = (l : ℕ) → Bounds t claim a l → HasAtMost reach a l (most_of claim)

@@ -1,0 +1,129 @@
+//! Claims of version 2, each of the labels of a table.
+ghost use Rattle.std.specs.{Cmp.Lexicographic.pointwise, Prelude.{[], ◌++◌, ◌==◌, ◌∷◌, ◌≡◌, OnErr, OnOk}};
+ghost use Rattle.stated.specs.Claims.{same_most, same_stated, same_who};
+
+use base::{Kind, Label};
+use claims::Most;
+use std::alloc::{AllocError, Global};
+use std::marker::Model;
+
+/// The labels that one end of a claim names.
+#[derive(Clone, Copy, PartialEq, Eq, Debug)]
+pub enum Who {
+    /// This label.
+    One(Label),
+    /// Each label but that of the other end.
+    Others,
+}
+
+/// Labels, in the order in which a claim names them.
+#[derive(Drop)]
+pub struct LabelList {
+    labels: Vec<Label>,
+}
+
+impl Model for LabelList {
+    ghost use Rattle.std.specs.Prelude.{ℕ, List};
+
+    ghost Value = { List ℕ };
+
+    ghost view = { λ list. list.labels.items };
+}
+
+impl LabelList {
+    /// Returns a list without labels.
+    pub fn new(alloc: Global) -> LabelList
+        ensures { result ≡ [] }
+    {
+        LabelList {
+            labels: Vec::new(alloc),
+        }
+    }
+
+    /// Returns the labels.
+    pub fn as_slice(&self) -> &[Label]
+        ensures { result.now ≡ self.now }
+    {
+        self.labels.as_slice()
+    }
+
+    /// Adds a label behind the others.
+    ///
+    /// # Errors
+    ///
+    /// [`AllocError`] where memory is refused. Then nothing has changed.
+    pub fn push(&mut self, label: Label) -> Result<(), AllocError>
+        ensures ok { OnOk result (self.new ≡ self.old ++ label ∷ []) }
+        ensures err { OnErr result (self.new ≡ self.old) }
+    {
+        self.labels.push(label)?;
+        Ok(())
+    }
+}
+
+/// A claim of version 2.
+#[derive(Drop)]
+pub enum Stated {
+    /// `none` and `take`: labels of the one end have no more authority on those of the other than this.
+    AtMost(Most, Who, Who),
+    /// `only`: objects of the label are changed by threads of its own and of these labels alone.
+    Only(Label, LabelList),
+    /// `apart`: no chain of changes leads from the first label to the second.
+    Apart(Label, Label),
+    /// `without`: the first label never has this kind of authority on the second.
+    Without(Label, Kind, Label),
+}
+
+/// Whether two claims leave as much.
+fn is_same_most(one: Most, other: Most) -> bool
+    ensures { result ≡ same_most one other }
+{
+    one == other
+}
+
+/// Whether two ends name the same labels.
+fn is_same_who(one: Who, other: Who) -> bool
+    ensures { result ≡ same_who one other }
+{
+    one == other
+}
+
+/// Whether two lists have the same labels in the same order.
+fn are_same_labels(one: &LabelList, other: &LabelList) -> bool
+    ensures { result ≡ pointwise ◌==◌ one.now other.now }
+{
+    one.as_slice() == other.as_slice()
+}
+
+impl Stated {
+    /// Returns whether this is the other claim, word by word.
+    pub fn is(&self, other: &Stated) -> bool
+        ensures { result ≡ same_stated self.now other.now }
+    {
+        match (self, other) {
+            (
+                Stated::AtMost(most, actor, object),
+                Stated::AtMost(other_most, other_actor, other_object),
+            ) => {
+                is_same_most(*most, *other_most)
+                    && is_same_who(*actor, *other_actor)
+                    && is_same_who(*object, *other_object)
+            }
+            (Stated::Only(object, actors), Stated::Only(other_object, other_actors)) => {
+                object.number() == other_object.number() && are_same_labels(actors, other_actors)
+            }
+            (Stated::Apart(from, to), Stated::Apart(other_from, other_to)) => {
+                from.number() == other_from.number() && to.number() == other_to.number()
+            }
+            (
+                Stated::Without(actor, kind, object),
+                Stated::Without(other_actor, other_kind, other_object),
+            ) => {
+                actor.number() == other_actor.number()
+                    && kind.number() == other_kind.number()
+                    && object.number() == other_object.number()
+            }
+            _ => false,
+        }
+    }
+}

@@ -1,0 +1,85 @@
+//! How far each label goes with each label, found once for all claims.
+ghost use Rattle.std.specs.Prelude.{ℕ, ◌||◌, ◌≡◌, IfOk, Some, slice_get, vec_len};
+ghost use Rattle.base.specs.declared.label.TheConstants.Label as Label;
+ghost use Rattle.base.specs.Labels.{is_in};
+ghost use Rattle.verdict.specs.Extents.{GoesTo, Reach, reach_of};
+
+use base::{Label, Labels};
+use std::alloc::{AllocError, Global};
+use verdict::{Bounds, Extent};
+
+/// How far a label goes with each label.
+#[derive(Clone, Copy)]
+pub(crate) struct Row {
+    pub changed: Labels,
+    pub shrunk: Labels,
+}
+
+impl Row {
+    ghost use Rattle.stated.specs.Rows.{IsRow};
+
+    /// Returns how far a label goes in a system.
+    fn of(bounds: &Bounds<'_>, actor: Label) -> Row
+        ensures { IsRow (reach_of bounds.now) actor result }
+    {
+        Row {
+            changed: bounds.changed_by(actor),
+            shrunk: bounds.shrunk_by(actor),
+        }
+    }
+
+    /// Returns the labels whose objects change or shrink.
+    pub fn affected(self) -> Labels
+        ensures { (l : ℕ) → is_in result l ≡ (is_in self.changed l || is_in self.shrunk l) }
+    {
+        self.changed.union(self.shrunk)
+    }
+
+    /// Returns how far it goes with this label.
+    pub fn on(self, object: Label) -> Extent
+        ensures { (reach : Reach) (a : ℕ) → IsRow reach a self → GoesTo reach a object result }
+    {
+        if self.changed.has(object) {
+            return Extent::Full;
+        }
+        if self.shrunk.has(object) {
+            return Extent::Take;
+        }
+        Extent::Nothing
+    }
+}
+
+/// How far each of the labels that there can be goes with each.
+#[derive(Drop)]
+pub(crate) struct Rows {
+    rows: Vec<Row>,
+    ghost counted: { vec_len rows ≡ Label.COUNT },
+}
+
+impl Rows {
+    ghost use Rattle.stated.specs.Rows.{AreRows};
+
+    /// Returns how far each label goes in a system.
+    ///
+    /// # Errors
+    ///
+    /// [`AllocError`] where memory is refused.
+    pub fn of(alloc: Global, bounds: &Bounds<'_>) -> Result<Rows, AllocError>
+        ensures { IfOk result (AreRows (reach_of bounds.now)) }
+    {
+        let mut rows = Vec::with_capacity(alloc, usize::from(Label::COUNT))?;
+        for number in 0..Label::COUNT {
+            if let Some(actor) = Label::new(number) {
+                rows.push(Row::of(bounds, actor))?;
+            }
+        }
+        Ok(Rows { rows })
+    }
+
+    /// Returns how far this label goes.
+    pub fn row(&self, actor: Label) -> Row
+        ensures { slice_get self.now.rows.items actor ≡ Some result }
+    {
+        self.rows[usize::from(actor.number())]
+    }
+}

@@ -1,0 +1,5 @@
+mod Pieces
+mod LetterSets
+mod Found
+mod Waiting
+mod Written

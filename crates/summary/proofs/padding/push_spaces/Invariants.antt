@@ -1,0 +1,7 @@
+use Rattle.std.proofs.Common.{◌++◌, ◌≡◌, string_bytes}
+use Rattle.std.specs.Prelude.{replicate}
+use Rattle.summary.proofs.padding.push_spaces.Given as goal
+
+-- the spaces so far are written
+abbrev pub invariant-loop-index : goal.invariant-loop-index
+invariant-loop-index l = string_bytes l.text ≡ string_bytes l.fn.text ++ replicate l.index 32

@@ -1,0 +1,35 @@
+-- The labels that have a thread in a table, and those that have a frame (confine's own).
+use Rattle.std.specs.{List.{filter, list_any, range_with_len}, Prelude.{ℕ, ◌&&◌, ◌==◌, Bool, List, false, length, not, true}}
+use Rattle.machine.specs.{declared.object.Object.{Object, Object as o}, Layout.Layout}
+
+abbrev pub is_thread : Object → Bool
+is_thread (o.Tcb _) = true
+is_thread _ = false
+
+abbrev pub is_frame : Object → Bool
+is_frame (o.Frame _) = true
+is_frame _ = false
+
+-- whether an object of the table that passes a test has a label
+abbrev pub has_object : (Object → Bool) → Layout → ℕ → Bool
+has_object passes t label = list_any (λ initial. passes initial.object && (label == initial.label)) t.objects
+
+-- whether a label has a thread
+abbrev pub has_thread : Layout → ℕ → Bool
+has_thread = has_object is_thread
+
+-- whether a label has a frame
+abbrev pub has_frame : Layout → ℕ → Bool
+has_frame = has_object is_frame
+
+-- the labels of the table
+abbrev pub labels_of : Layout → List ℕ
+labels_of t = range_with_len 0 (length t.labels)
+
+-- the labels with a thread, rising
+abbrev pub programs_of : Layout → List ℕ
+programs_of t = filter (has_thread t) (labels_of t)
+
+-- the labels without a thread, rising
+abbrev pub others_of : Layout → List ℕ
+others_of t = filter (λ label. not (has_thread t label)) (labels_of t)

@@ -1,0 +1,10 @@
+pub mod Labelled
+pub mod Letters
+pub mod Matrix
+pub mod Padding
+pub mod Regions
+pub mod Rows
+pub mod Sharing
+pub mod Sources
+pub mod Ways
+pub mod Whole

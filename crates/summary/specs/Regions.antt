@@ -1,0 +1,76 @@
+-- The text about labels without a thread (confine's own): those with the same users in one line, and below it who these are.
+use Rattle.std.specs.List.{filter, flat_map, list_all, list_any}
+use Rattle.std.specs.Prelude.{[], ℕ, ◌&&◌, ◌++◌, ◌∷◌, Bool, List, codes, false, if◌then◌else◌, map, nat_lt, not, true}
+use Rattle.base.specs.Labels.{is_in}
+use Rattle.machine.specs.Layout.{Layout}
+use Rattle.captext.specs.PolicyText.{label_name}
+use Rattle.summary.specs.Padding.{given}
+use Rattle.summary.specs.declared.rows.Row.{Row}
+
+-- two tests agree
+abbrev pub is_same : Bool → Bool → Bool
+is_same true b = b
+is_same false b = not b
+
+-- the labels with a thread that may change a label
+abbrev pub changers : List Row → ℕ → List ℕ
+changers rows l = map (λ row. row.label) (filter (λ row. is_in row.changes l) rows)
+
+-- the labels with a thread that read a label
+abbrev pub readers : List Row → ℕ → List ℕ
+readers rows l = map (λ row. row.label) (filter (λ row. is_in row.reads l) rows)
+
+-- two labels are changed and read by the same labels with a thread
+abbrev pub has_same_users : List Row → ℕ → ℕ → Bool
+has_same_users rows k l =
+    list_all (λ row. is_same (is_in row.changes k) (is_in row.changes l) && is_same (is_in row.reads k) (is_in row.reads l)) rows
+
+-- the labels with the same users as a label
+abbrev pub group_of : List Row → List ℕ → ℕ → List ℕ
+group_of rows others l = filter (λ k. has_same_users rows k l) others
+
+-- a label comes before another and has the same users
+abbrev pub is_leader : List Row → ℕ → ℕ → Bool
+is_leader rows l k = nat_lt k l && has_same_users rows k l
+
+-- no label before this one has the same users
+abbrev pub leads : List Row → List ℕ → ℕ → Bool
+leads rows others l = not (list_any (λ k. is_leader rows l k) others)
+
+-- a name after others
+abbrev pub more_name : Layout → ℕ → List ℕ
+more_name t l = codes ", " ++ label_name t l
+
+-- names with commas between them
+abbrev pub names_text : Layout → List ℕ → List ℕ
+names_text t [] = []
+names_text t (first ∷ labels) = label_name t first ++ flat_map (more_name t) labels
+
+-- whether there are no labels
+abbrev pub is_nil : List ℕ → Bool
+is_nil [] = true
+is_nil (first ∷ labels) = false
+
+-- who reads what nobody changes
+abbrev pub readers_text : Layout → List ℕ → List ℕ
+readers_text t readers =
+    if is_nil readers then codes "\n    changed and read by nobody\n" else (codes "\n    read by " ++ names_text t readers) ++ codes "\n"
+
+-- who reads what others change, if there are any
+abbrev pub also_text : Layout → List ℕ → List ℕ
+also_text t readers = if is_nil readers then [] else codes "; read by " ++ names_text t readers
+
+-- who changes and who reads
+abbrev pub users_text : Layout → List ℕ → List ℕ → List ℕ
+users_text t changers readers =
+    if is_nil changers then readers_text t readers
+    else (codes "\n    changed by " ++ names_text t changers) ++ (also_text t readers ++ codes "\n")
+
+-- the labels with the same users as this one, at the first of them
+abbrev pub group_text : Layout → List Row → List ℕ → ℕ → List ℕ
+group_text t rows others l =
+    given (leads rows others l) (names_text t (group_of rows others l) ++ users_text t (changers rows l) (readers rows l))
+
+-- all of them
+abbrev pub regions_text : Layout → List Row → List ℕ → List ℕ
+regions_text t rows others = flat_map (group_text t rows others) others

@@ -1,0 +1,33 @@
+-- By which reasons labels may change others: what is kept to find that out (confine's own).
+use Rattle.std.specs.Prelude.{ℕ, ◌<◌, ◌↔◌, ◌≡◌, List, length, true}
+use Rattle.base.specs.{declared.{edge.Edge.Edge, kind.Kind.{Kind, TheVariants.{Await, Receive, Send}}, labels.Labels.Labels}, Labels.is_in}
+use Rattle.base.specs.declared.label.TheConstants.Label as Label
+use Rattle.policy.specs.{Change.{ActorTest, MayHoldCaller}, Domain.EdgeTest, Policy.allows}
+use Rattle.summary.specs.Sources.{SourcesOf, row_at}
+
+-- the edges of a policy, and the labels whose threads make calls
+pub record WaysOf : Type 0 where
+  pub edges : List Edge
+  pub actors : Labels
+
+-- the row of each label has those whose threads replies of it may hold
+pub record IsCallers (test : EdgeTest) (acts : ActorTest) (rows : List Labels) : Type 0 where
+  pub count : length rows ≡ Label.COUNT
+  pub each : (reply : ℕ) → reply < Label.COUNT → (l : ℕ) → (is_in (row_at rows reply) l ≡ true) ↔ MayHoldCaller test acts reply l
+
+-- a reply of the set may hold threads of a label
+pub record IsHeldBy (test : EdgeTest) (acts : ActorTest) (replies : Labels) (l : ℕ) : Type 0 where
+  pub reply : ℕ
+  pub among : is_in replies reply ≡ true
+  pub called : MayHoldCaller test acts reply l
+
+-- what is kept is of these edges and these labels
+pub record IsWays (edges : List Edge) (actors : Labels) (sending receiving waiting : SourcesOf) (rows : List Labels) : Type 0 where
+  pub senders : sending ≡ record { edges = edges; kind = Send }
+  pub receivers : receiving ≡ record { edges = edges; kind = Receive }
+  pub waiters : waiting ≡ record { edges = edges; kind = Await }
+  pub callers : IsCallers (allows edges) (is_in actors) rows
+
+-- an edge of a kind from one label to another, beside one of another kind from the one
+abbrev pub IsBeside : EdgeTest → Kind → Kind → ℕ → ℕ → Type 0
+IsBeside test kind other a l = (test a kind l ≡ true) × ((end : ℕ) × (test a other end ≡ true))

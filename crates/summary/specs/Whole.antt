@@ -1,0 +1,23 @@
+-- The whole summary of an accepted system (confine's own).
+use Rattle.std.specs.Prelude.{[], ℕ, ◌++◌, ◌∷◌, ◌≡◌, List, codes}
+use Rattle.machine.specs.Layout.{Layout}
+use Rattle.verdict.specs.Extents.{ActingSystem}
+use Rattle.summary.specs.{Labelled.others_of, Matrix.{matrix_text, page_of}, Regions.regions_text, Rows.AreRows}
+use Rattle.summary.specs.declared.{rows.Row.Row, writing.TheConstants.HEAD}
+
+-- after an empty line the labels without a thread, if there are any
+abbrev pub others_text : Layout → List Row → List ℕ → List ℕ
+others_text t rows [] = []
+others_text t rows (first ∷ others) = codes "\n" ++ regions_text t rows (first ∷ others)
+
+-- the text of rows
+abbrev pub summary_text : Layout → List Row → List ℕ
+summary_text t [] = codes "no label has a thread\n"
+summary_text t (row ∷ rows) =
+    HEAD.now ++ (matrix_text t (page_of t (row ∷ rows)) (row ∷ rows) ++ others_text t (row ∷ rows) (others_of t))
+
+-- a text is the summary of a system
+pub record IsSummary (acting : ActingSystem) (text : List ℕ) : Type 0 where
+  pub rows : List Row
+  pub are : AreRows acting rows
+  pub is : text ≡ summary_text acting.system.table rows

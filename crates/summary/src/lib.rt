@@ -1,0 +1,18 @@
+//! The summary of an accepted system: a matrix of who may change whom, and the labels without a thread with those who change and read them.
+#![tactic(auto)]
+
+mod edges;
+mod labelled;
+mod laws;
+mod lines;
+mod matrix;
+mod padding;
+mod regions;
+mod rows;
+mod sharing;
+mod sources;
+mod ways;
+mod writing;
+
+pub use laws::each_change_has_a_letter;
+pub use writing::summary;

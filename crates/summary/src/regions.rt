@@ -1,0 +1,209 @@
+//! The labels without a thread, with those who change and read them.
+ghost use Rattle.std.specs.{List.{flat_map, list_any}, Prelude.{◌++◌, ◌≡◌, IfOk, OnOk, string_bytes}};
+ghost use Rattle.summary.specs.Regions.{also_text, changers, group_of, group_text, has_same_users, is_leader, is_nil, leads};
+ghost use Rattle.summary.specs.Regions.{more_name, names_text, readers, readers_text, regions_text, users_text};
+
+use crate::rows::Row;
+use base::Label;
+use captext::label_name;
+use std::alloc::{AllocError, Global};
+use table::Table;
+
+/// Writes the labels without a thread: those with the same users in one line, and who these are.
+#[tactic(auto, using(crate::proofs::Pieces::piece_more))]
+pub(crate) fn write_regions(
+    alloc: Global,
+    text: &mut String,
+    table: &Table,
+    rows: &[Row],
+    others: &[Label],
+) -> Result<(), AllocError>
+    ensures { OnOk result (string_bytes text.new ≡ string_bytes text.old ++ regions_text table.now rows.now others.now) }
+{
+    for label in others {
+        write_group(alloc, text, table, rows, others, *label)?;
+    }
+    Ok(())
+}
+
+// Writes the labels with the same users as this one, if it is the first of them.
+fn write_group(
+    alloc: Global,
+    text: &mut String,
+    table: &Table,
+    rows: &[Row],
+    others: &[Label],
+    label: Label,
+) -> Result<(), AllocError>
+    ensures { OnOk result (string_bytes text.new ≡ string_bytes text.old ++ group_text table.now rows.now others.now label) }
+{
+    if !leads(rows, others, label) {
+        return Ok(());
+    }
+    let group = group_of(alloc, rows, others, label)?;
+    write_names(text, table, &group)?;
+    let changers = changers(alloc, rows, label)?;
+    let readers = readers(alloc, rows, label)?;
+    write_users(text, table, &changers, &readers)
+}
+
+// Whether a label is the first of those with the same users.
+fn leads(rows: &[Row], others: &[Label], label: Label) -> bool
+    ensures { result ≡ leads rows.now others.now label }
+{
+    !is_led(rows, others, label)
+}
+
+// Whether a label before this one has the same users.
+fn is_led(rows: &[Row], others: &[Label], label: Label) -> bool
+    ensures { result ≡ list_any (λ k. is_leader rows.now label k) others.now }
+{
+    others.iter().any(|other| is_leader(rows, label, *other))
+}
+
+// Whether a label comes before another and has the same users.
+fn is_leader(rows: &[Row], label: Label, other: Label) -> bool
+    ensures { result ≡ is_leader rows.now label other }
+{
+    other.number() < label.number() && has_same_users(rows, other, label)
+}
+
+// Whether two labels are changed and read by the same labels with a thread.
+fn has_same_users(rows: &[Row], one: Label, other: Label) -> bool
+    ensures { result ≡ has_same_users rows.now one other }
+{
+    rows.iter().all(|row| {
+        row.changes.has(one) == row.changes.has(other) && row.reads.has(one) == row.reads.has(other)
+    })
+}
+
+// The labels with the same users as this one.
+#[tactic(auto, using(crate::proofs::Pieces::kept_more, crate::proofs::Pieces::kept_same))]
+fn group_of(
+    alloc: Global,
+    rows: &[Row],
+    others: &[Label],
+    label: Label,
+) -> Result<Vec<Label>, AllocError>
+    ensures { IfOk result (λ labels. labels.items ≡ group_of rows.now others.now label) }
+{
+    let mut group = Vec::new(alloc);
+    for other in others {
+        if has_same_users(rows, *other, label) {
+            group.push(*other)?;
+        }
+    }
+    Ok(group)
+}
+
+// The labels with a thread that may change a label.
+#[tactic(auto, using(crate::proofs::Pieces::item_passes, crate::proofs::Pieces::item_fails))]
+fn changers(alloc: Global, rows: &[Row], label: Label) -> Result<Vec<Label>, AllocError>
+    ensures { IfOk result (λ labels. labels.items ≡ changers rows.now label) }
+{
+    let mut found = Vec::new(alloc);
+    for row in rows {
+        if row.changes.has(label) {
+            found.push(row.label)?;
+        }
+    }
+    Ok(found)
+}
+
+// The labels with a thread that read a label.
+#[tactic(auto, using(crate::proofs::Pieces::item_passes, crate::proofs::Pieces::item_fails))]
+fn readers(alloc: Global, rows: &[Row], label: Label) -> Result<Vec<Label>, AllocError>
+    ensures { IfOk result (λ labels. labels.items ≡ readers rows.now label) }
+{
+    let mut found = Vec::new(alloc);
+    for row in rows {
+        if row.reads.has(label) {
+            found.push(row.label)?;
+        }
+    }
+    Ok(found)
+}
+
+fn write_users(
+    text: &mut String,
+    table: &Table,
+    changers: &[Label],
+    readers: &[Label],
+) -> Result<(), AllocError>
+    ensures { OnOk result (string_bytes text.new ≡ string_bytes text.old ++ users_text table.now changers.now readers.now) }
+{
+    if is_nil(changers) {
+        return write_readers(text, table, readers);
+    }
+    write_listed(text, table, "\n    changed by ", changers)?;
+    write_also(text, table, readers)?;
+    text.push_str("\n")
+}
+
+// Writes who reads what nobody changes.
+fn write_readers(text: &mut String, table: &Table, readers: &[Label]) -> Result<(), AllocError>
+    ensures { OnOk result (string_bytes text.new ≡ string_bytes text.old ++ readers_text table.now readers.now) }
+{
+    if is_nil(readers) {
+        return text.push_str("\n    changed and read by nobody\n");
+    }
+    write_listed(text, table, "\n    read by ", readers)?;
+    text.push_str("\n")
+}
+
+// Writes who reads what others change, if there are any.
+fn write_also(text: &mut String, table: &Table, readers: &[Label]) -> Result<(), AllocError>
+    ensures { OnOk result (string_bytes text.new ≡ string_bytes text.old ++ also_text table.now readers.now) }
+{
+    if is_nil(readers) {
+        return Ok(());
+    }
+    write_listed(text, table, "; read by ", readers)
+}
+
+// Writes a word and names.
+fn write_listed(
+    text: &mut String,
+    table: &Table,
+    word: &str,
+    labels: &[Label],
+) -> Result<(), AllocError>
+    ensures { OnOk result (string_bytes text.new ≡ string_bytes text.old ++ (word.now ++ names_text table.now labels.now)) }
+{
+    text.push_str(word)?;
+    write_names(text, table, labels)
+}
+
+// Whether there are no labels.
+fn is_nil(labels: &[Label]) -> bool
+    ensures { result ≡ is_nil labels.now }
+{
+    match labels.first() {
+        Some(_) => false,
+        None => true,
+    }
+}
+
+// Writes names with commas between them.
+fn write_names(text: &mut String, table: &Table, labels: &[Label]) -> Result<(), AllocError>
+    ensures { OnOk result (string_bytes text.new ≡ string_bytes text.old ++ names_text table.now labels.now) }
+{
+    match labels.first() {
+        Some(first) => {
+            text.push_str(label_name(table, *first))?;
+            write_more_names(text, table, &labels[1..])
+        }
+        None => Ok(()),
+    }
+}
+
+#[tactic(auto, using(crate::proofs::Pieces::piece_more))]
+fn write_more_names(text: &mut String, table: &Table, labels: &[Label]) -> Result<(), AllocError>
+    ensures { OnOk result (string_bytes text.new ≡ string_bytes text.old ++ flat_map (more_name table.now) labels.now) }
+{
+    for label in labels {
+        let name = label_name(table, *label);
+        write!(text, ", {name}")?;
+    }
+    Ok(())
+}

@@ -1,0 +1,187 @@
+//! In which ways threads of a label may change objects of others: a set of labels for each letter.
+ghost use Rattle.std.specs.Prelude.{ℕ, ◌↔◌, ◌≡◌, ◌⊎◌, IfOk, true};
+ghost use Rattle.base.specs.declared.kind.Kind.TheVariants as authority;
+ghost use Rattle.base.specs.Labels.{is_in};
+ghost use Rattle.policy.specs.{Change.MayHoldCaller, Policy.allows};
+ghost use Rattle.verdict.specs.Extents.{reach_by};
+ghost use Rattle.summary.specs.{Letters.{HasLetter, by_answer, by_call, by_other, by_signal}, Ways.{IsBeside, IsCallers, IsHeldBy}};
+
+use crate::edges::{beside, row};
+use crate::sources::{Sources, join, waiting};
+use base::{Kind, Label, Labels};
+use policy::Policy;
+use std::alloc::{AllocError, Global};
+use std::marker::Model;
+
+/// What says in which ways labels may change others: a policy, the labels whose threads make calls, and for
+/// each label those that have to do with it.
+#[derive(Drop)]
+pub(crate) struct Ways<'a> {
+    policy: &'a Policy,
+    actors: Labels,
+    senders: Sources<'a>,
+    receivers: Sources<'a>,
+    waiters: Sources<'a>,
+    callers: Vec<Labels>,
+}
+
+impl<'a> Model for Ways<'a> {
+    ghost use Rattle.summary.specs.Ways.{IsWays, WaysOf};
+
+    ghost Value = { WaysOf };
+
+    ghost view = { λ ways. record { edges = ways.policy.now; actors = ways.actors } };
+
+    ghost invariant = { λ ways. IsWays ways.policy.now ways.actors ways.senders ways.receivers ways.waiters ways.callers.items };
+}
+
+impl<'a> Ways<'a> {
+    /// Returns what says in which ways labels may change others.
+    pub(crate) fn new(
+        alloc: Global,
+        policy: &'a Policy,
+        actors: Labels,
+    ) -> Result<Ways<'a>, AllocError>
+        ensures { IfOk result (λ ways. ways ≡ record { edges = policy.now; actors = actors }) }
+    {
+        let senders = Sources::new(alloc, policy, Kind::Send)?;
+        let receivers = Sources::new(alloc, policy, Kind::Receive)?;
+        let waiters = Sources::new(alloc, policy, Kind::Await)?;
+        let callers = callers_of_replies(alloc, policy, actors)?;
+        Ok(Ways {
+            policy,
+            actors,
+            senders,
+            receivers,
+            waiters,
+            callers,
+        })
+    }
+
+    /// Returns the labels that the label may change by a call or a send.
+    pub(crate) fn calls(&self, actor: Label) -> Labels
+        ensures { (l : ℕ) → (is_in result l ≡ true) ↔ HasLetter by_call (reach_by self.now.edges self.now.actors) actor l }
+    {
+        if !self.actors.has(actor) {
+            return Labels::none();
+        }
+        let send = row(self.policy, actor, Kind::Send);
+        let call = row(self.policy, actor, Kind::Call);
+        let answerable = send.intersection(call);
+        let callees = waiting(&self.receivers, answerable, self.actors);
+        let reached = waiting(&self.receivers, send, self.actors);
+        let linked = self.policy.targets(callees, &[Kind::Reply]);
+        let met = send.union(reached);
+        met.union(linked)
+    }
+
+    /// Returns the labels that the label may change by an answer, or by taking a call or a message.
+    pub(crate) fn answers(&self, actor: Label) -> Labels
+        ensures { (l : ℕ) → (is_in result l ≡ true) ↔ HasLetter by_answer (reach_by self.now.edges self.now.actors) actor l }
+    {
+        if !self.actors.has(actor) {
+            return Labels::none();
+        }
+        let receive = row(self.policy, actor, Kind::Receive);
+        let reply = row(self.policy, actor, Kind::Reply);
+        let reached = waiting(&self.senders, receive, self.actors);
+        let returned = beside(self.policy, actor, Kind::Runs, Kind::Reply);
+        let answered = self.answered(reply);
+        let own = receive.union(reply);
+        let met = own.union(reached);
+        let given_back = met.union(returned);
+        given_back.union(answered)
+    }
+
+    /// Returns the labels that the label may change by a signal.
+    pub(crate) fn signals(&self, actor: Label) -> Labels
+        ensures { (l : ℕ) → (is_in result l ≡ true) ↔ HasLetter by_signal (reach_by self.now.edges self.now.actors) actor l }
+    {
+        if !self.actors.has(actor) {
+            return Labels::none();
+        }
+        let notify = row(self.policy, actor, Kind::Notify);
+        let woken = waiting(&self.waiters, notify, self.actors);
+        notify.union(woken)
+    }
+
+    /// Returns the labels that the label may change in another way.
+    pub(crate) fn others(&self, actor: Label) -> Labels
+        ensures { (l : ℕ) → (is_in result l ≡ true) ↔ HasLetter by_other (reach_by self.now.edges self.now.actors) actor l }
+    {
+        if !self.actors.has(actor) {
+            return Labels::none();
+        }
+        let control = row(self.policy, actor, Kind::Control);
+        let poll = row(self.policy, actor, Kind::Await);
+        let write = row(self.policy, actor, Kind::Write);
+        let grant = row(self.policy, actor, Kind::Grant);
+        let takers = waiting(&self.receivers, grant, self.actors);
+        let granted = self.policy.targets(takers, &[Kind::Control]);
+        let taken = control.union(poll);
+        let own = taken.union(write);
+        let contexts = own.union(contexts(self.policy, actor));
+        contexts.union(granted)
+    }
+
+    // The labels whose threads these replies may hold since they called.
+    fn answered(&self, replies: Labels) -> Labels
+        ensures { (l : ℕ) → (is_in result l ≡ true) ↔ IsHeldBy (allows self.now.edges) (is_in self.now.actors) replies l }
+    {
+        self.policy.edges_rise();
+        join(&self.callers, replies)
+    }
+}
+
+// The labels whose contexts the label may configure or bind, or lend by a call.
+fn contexts(policy: &Policy, actor: Label) -> Labels
+    ensures { (l : ℕ) → (is_in result l ≡ true)
+        ↔ ((IsBeside (allows policy.now) authority.Context authority.SchedControl actor l
+        ⊎ IsBeside (allows policy.now) authority.Context authority.Control actor l)
+        ⊎ IsBeside (allows policy.now) authority.Runs authority.Call actor l) }
+{
+    let configured = beside(policy, actor, Kind::Context, Kind::SchedControl);
+    let bound = beside(policy, actor, Kind::Context, Kind::Control);
+    let lent = beside(policy, actor, Kind::Runs, Kind::Call);
+    let used = configured.union(bound);
+    used.union(lent)
+}
+
+// For each label, the labels whose threads replies of it may hold since they called.
+fn callers_of_replies(
+    alloc: Global,
+    policy: &Policy,
+    actors: Labels,
+) -> Result<Vec<Labels>, AllocError>
+    ensures { IfOk result (λ rows. IsCallers (allows policy.now) (is_in actors) rows.items) }
+{
+    let namers = Sources::new(alloc, policy, Kind::Reply)?;
+    let callers = Sources::new(alloc, policy, Kind::Call)?;
+    let mut rows = Vec::with_capacity(alloc, Label::COUNT as usize)?;
+    for number in 0..Label::COUNT {
+        if let Some(reply) = Label::new(number) {
+            rows.push(callers_of(policy, actors, &namers, &callers, reply))?;
+        }
+    }
+    Ok(rows)
+}
+
+// The labels whose threads replies of this label may hold since they called.
+fn callers_of(
+    policy: &Policy,
+    actors: Labels,
+    namers: &Sources<'_>,
+    callers: &Sources<'_>,
+    reply: Label,
+) -> Labels
+    requires namers { namers.now ≡ record { edges = policy.now; kind = authority.Reply } }
+    requires callers { callers.now ≡ record { edges = policy.now; kind = authority.Call } }
+    ensures { (l : ℕ) → (is_in result l ≡ true) ↔ MayHoldCaller (allows policy.now) (is_in actors) reply l }
+{
+    let itself = Labels::only(reply);
+    let servers = waiting(namers, itself, actors);
+    let endpoints = policy.targets(servers, &[Kind::Receive]);
+    let calling = waiting(callers, endpoints, actors);
+    let held = row(policy, reply, Kind::Holds);
+    calling.intersection(held)
+}

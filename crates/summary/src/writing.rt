@@ -1,0 +1,64 @@
+//! The whole summary.
+ghost use Rattle.std.specs.Prelude.{◌++◌, ◌≡◌, IfErr, IfOk, OnOk, string_bytes};
+ghost use Rattle.base.specs.Refusals.{out_of_memory};
+ghost use Rattle.summary.specs.{Labelled.others_of, Whole.{IsSummary, others_text, summary_text}};
+
+use crate::labelled::others;
+use crate::lines::page_of;
+use crate::matrix::write_matrix;
+use crate::regions::write_regions;
+use crate::rows::{Row, rows_of};
+use base::Refusal;
+use std::alloc::{AllocError, Global};
+use table::Table;
+use verdict::Bounds;
+
+/// What the summary begins with.
+const HEAD: &str = "\
+who may change whom, in any run: C calls, A answers, S signals, F for another reason, t only takes away, \
+. never; m: memory that one writes and the other has
+";
+
+/// Returns the summary of an accepted system: a matrix of who may change whom in any run, and the labels
+/// without a thread with those who change and read them.
+///
+/// # Errors
+///
+/// 40 where memory is refused.
+pub fn summary(alloc: Global, bounds: &Bounds<'_>) -> Result<Vec<u8>, Refusal>
+    ensures text { IfOk result (λ text. IsSummary bounds.now text.items) }
+    ensures memory { IfErr result (λ refusal. refusal ≡ out_of_memory) }
+{
+    let rows = rows_of(alloc, bounds)?;
+    Ok(summary_of(alloc, bounds.table(), &rows)?.into_bytes())
+}
+
+fn summary_of(alloc: Global, table: &Table, rows: &[Row]) -> Result<String, AllocError>
+    ensures { IfOk result (λ text. string_bytes text ≡ summary_text table.now rows.now) }
+{
+    if rows.is_empty() {
+        return String::from_str(alloc, "no label has a thread\n");
+    }
+    let page = page_of(alloc, table, rows)?;
+    let mut text = String::from_str(alloc, HEAD)?;
+    write_matrix(alloc, &mut text, table, page, rows)?;
+    write_others(alloc, &mut text, table, rows)?;
+    Ok(text)
+}
+
+// Writes the labels without a thread, if there are any.
+fn write_others(
+    alloc: Global,
+    text: &mut String,
+    table: &Table,
+    rows: &[Row],
+) -> Result<(), AllocError>
+    ensures { OnOk result (string_bytes text.new ≡ string_bytes text.old ++ others_text table.now rows.now (others_of table.now)) }
+{
+    let others = others(alloc, table)?;
+    if others.is_empty() {
+        return Ok(());
+    }
+    text.push_str("\n")?;
+    write_regions(alloc, text, table, rows, &others)
+}
