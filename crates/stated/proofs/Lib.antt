@@ -3,3 +3,4 @@ mod Chains
 mod Kept
 mod Gathered
 mod FirstBreach
+pub mod OneList

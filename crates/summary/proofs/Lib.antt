@@ -1,4 +1,4 @@
-mod Pieces
+pub mod Pieces
 mod LetterSets
 mod Found
 mod Waiting

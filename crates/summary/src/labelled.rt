@@ -64,7 +64,11 @@ pub(crate) fn programs(alloc: Global, table: &Table) -> Result<Vec<Label>, Alloc
 }
 
 /// Returns the labels of the table without a thread in it, rising.
-pub(crate) fn others(alloc: Global, table: &Table) -> Result<Vec<Label>, AllocError>
+///
+/// # Errors
+///
+/// An error where memory is refused.
+pub fn others(alloc: Global, table: &Table) -> Result<Vec<Label>, AllocError>
     ensures { IfOk result (λ labels. labels.items ≡ others_of table.now) }
 {
     let _ = table.objects();

@@ -14,5 +14,8 @@ mod sources;
 mod ways;
 mod writing;
 
+pub use labelled::others;
 pub use laws::each_change_has_a_letter;
+pub use regions::write_names;
+pub use rows::{Row, rows_of};
 pub use writing::summary;

@@ -184,8 +184,12 @@ fn is_nil(labels: &[Label]) -> bool
     }
 }
 
-// Writes names with commas between them.
-fn write_names(text: &mut String, table: &Table, labels: &[Label]) -> Result<(), AllocError>
+/// Writes the names of labels with commas between them.
+///
+/// # Errors
+///
+/// An error where memory is refused.
+pub fn write_names(text: &mut String, table: &Table, labels: &[Label]) -> Result<(), AllocError>
     ensures { OnOk result (string_bytes text.new ≡ string_bytes text.old ++ names_text table.now labels.now) }
 {
     match labels.first() {

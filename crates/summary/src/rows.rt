@@ -2,7 +2,8 @@
 ghost use Rattle.std.specs.Prelude.{ℕ, ◌≡◌, IfOk};
 ghost use Rattle.base.specs.Labels.{is_in};
 ghost use Rattle.policy.specs.{Policy.allows};
-ghost use Rattle.summary.specs.{Rows.{AreRows, IsRow}, Sharing.{IsShared, reads_of}};
+ghost use Rattle.verdict.specs.Extents.{reach_by};
+ghost use Rattle.summary.specs.{Rows.{AreRowsOf, IsRowOf}, Sharing.{IsShared, reads_of}};
 
 use crate::edges::row;
 use crate::labelled::programs;
@@ -11,7 +12,7 @@ use crate::ways::Ways;
 use base::{Kind, Label, Labels};
 use policy::Policy;
 use std::alloc::{AllocError, Global};
-use verdict::Bounds;
+use table::Table;
 
 /// A label with a thread, its number in the matrix, and the labels that it has to do with.
 #[derive(Clone, Copy)]
@@ -36,18 +37,26 @@ pub struct Row {
     pub reads: Labels,
 }
 
-/// Returns the rows of a system.
-pub(crate) fn rows_of(alloc: Global, bounds: &Bounds<'_>) -> Result<Vec<Row>, AllocError>
-    ensures { IfOk result (λ rows. AreRows bounds.now rows.items) }
+/// Returns the rows of the labels with a thread in a table, where threads of the labels `actors` make calls.
+///
+/// # Errors
+///
+/// An error where memory is refused.
+pub fn rows_of(
+    alloc: Global,
+    table: &Table,
+    policy: &Policy,
+    actors: Labels,
+) -> Result<Vec<Row>, AllocError>
+    ensures { IfOk result (λ rows. AreRowsOf table.now (reach_by policy.now actors) rows.items) }
 {
-    let table = bounds.table();
-    let policy = bounds.policy();
-    let ways = Ways::new(alloc, policy, bounds.actors())?;
+    let ways = Ways::new(alloc, policy, actors)?;
     let sharers = sharers(alloc, table, policy)?;
     let programs = programs(alloc, table)?;
     let mut rows = Vec::new(alloc);
     for (index, label) in programs.iter().enumerate() {
-        rows.push(row_of(bounds, &ways, &sharers, index + 1, *label))?;
+        let number = index + 1;
+        rows.push(row_of(table, policy, actors, &ways, &sharers, number, *label))?;
     }
     Ok(rows)
 }
@@ -64,20 +73,20 @@ fn read_by(policy: &Policy, label: Label) -> Labels
 }
 
 fn row_of(
-    bounds: &Bounds<'_>,
+    table: &Table,
+    policy: &Policy,
+    actors: Labels,
     ways: &Ways<'_>,
     sharers: &[Labels],
     number: usize,
     label: Label,
 ) -> Row
-    requires ways { ways.now ≡ record { edges = bounds.now.system.policy; actors = bounds.now.actors } }
-    requires shared { IsShared bounds.now.system.table (allows bounds.now.system.policy) sharers.now }
+    requires ways { ways.now ≡ record { edges = policy.now; actors = actors } }
+    requires shared { IsShared table.now (allows policy.now) sharers.now }
     ensures label { result.label ≡ label }
     ensures number { result.number ≡ number }
-    ensures row { IsRow bounds.now result }
+    ensures row { IsRowOf table.now (reach_by policy.now actors) result }
 {
-    let table = bounds.table();
-    let policy = bounds.policy();
     Row {
         number,
         label,
@@ -85,8 +94,8 @@ fn row_of(
         answers: ways.answers(label),
         signals: ways.signals(label),
         others: ways.others(label),
-        changes: bounds.changed_by(label),
-        shrinks: bounds.shrunk_by(label),
+        changes: policy.change_labels(actors, label),
+        shrinks: policy.shrink_labels(actors, label),
         shares: shared_by(table, policy, sharers, label),
         reads: read_by(policy, label),
     }

@@ -29,8 +29,9 @@ pub fn summary(alloc: Global, bounds: &Bounds<'_>) -> Result<Vec<u8>, Refusal>
     ensures text { IfOk result (λ text. IsSummary bounds.now text.items) }
     ensures memory { IfErr result (λ refusal. refusal ≡ out_of_memory) }
 {
-    let rows = rows_of(alloc, bounds)?;
-    Ok(summary_of(alloc, bounds.table(), &rows)?.into_bytes())
+    let table = bounds.table();
+    let rows = rows_of(alloc, table, bounds.policy(), bounds.actors())?;
+    Ok(summary_of(alloc, table, &rows)?.into_bytes())
 }
 
 fn summary_of(alloc: Global, table: &Table, rows: &[Row]) -> Result<String, AllocError>

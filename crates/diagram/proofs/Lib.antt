@@ -1,0 +1,3 @@
+mod NothingLost
+pub mod OneFolded
+mod Rows

@@ -1,0 +1,62 @@
+-- Programs and what is drawn of them, by the rows of the summary.
+use Rattle.std.{specs.List.{flat_map, list_all}, proofs.Common.{ℕ, ◌&&◌, ◌++◌, ◌==◌, ◌||◌, ◌∙◌, ◌≡◌, Bool, List, ap, codes, map, not, refl, sym, true}}
+use Rattle.std.proofs.lemmas.List.{Elements.All-map, Folds.{flat_map-map, list_all-map}}
+use Rattle.std.proofs.lemmas.Simd.{map-map}
+use Rattle.machine.specs.Layout.{Layout}
+use Rattle.policy.specs.Domain.{EdgeTest}
+use Rattle.verdict.specs.Extents.{Reach}
+use Rattle.summary.specs.{Labelled.others_of, Rows.{AreRowsOf, IsRowOf}}
+use Rattle.summary.specs.declared.rows.Row.{Row}
+use Rattle.diagram.specs.Folded.{IsFoldedDrawing, arrow_text, arrows_text, box_text, folded_text, rows_text}
+use Rattle.diagram.specs.Programs.{ArePrograms, IsProgram, Program, program_of}
+use Rattle.diagram.specs.Regions.{is_inside, uses}
+use Rattle.diagram.specs.declared.drawing.TheConstants.{HEAD}
+
+program_is : (t : Layout) (reach : Reach) (row : Row) → IsRowOf t reach row → IsProgram reach (program_of reach.test row)
+program_is t reach row is = record {
+  calls = is.calls;
+  answers = is.answers;
+  signals = is.signals;
+  does_else = is.others;
+  changes = is.changes;
+  shrinks = is.shrinks;
+  writes = λ l. refl;
+  reads = is.reads;
+}
+
+pub programs_are : (t : Layout) (reach : Reach) (rows : List Row) → AreRowsOf t reach rows → ArePrograms t reach (map (program_of reach.test) rows)
+programs_are t reach rows are = record {
+  labels = map-map (λ (p : Program). p.label) (program_of reach.test) rows ∙ are.labels;
+  each = All-map (IsProgram reach) (program_of reach.test) rows (λ k d within. program_is t reach _ (are.each k d within));
+}
+
+pub text_is : (t : Layout) (test : EdgeTest) (rows : List Row) (others : List ℕ)
+    → rows_text t test rows others ≡ folded_text t (map (program_of test) rows) others
+text_is t test rows others =
+    let program = program_of test in
+    let programs = map program rows in
+    let boxes = flat_map-map (box_text t programs others) program rows in
+    let each : (λ (row : Row). arrows_text t programs others (program row))
+    ≡ (λ (row : Row). flat_map (λ other. arrow_text t others (program row) (program other)) rows) =
+    λ i row. flat_map-map (arrow_text t others (program row)) program rows i in
+    let arrows = flat_map-map (arrows_text t programs others) program rows ∙ ap (λ (from : Row → List ℕ). flat_map from rows) each in
+    sym (λ i. HEAD.now ++ (boxes i ++ (arrows i ++ codes "}\n")))
+
+-- what is written of the rows of a table, and of its labels without a thread, is its folded drawing
+pub drawing_is : (t : Layout) (reach : Reach) (rows shown : List Row) (others listed text : List ℕ) → AreRowsOf t reach rows → shown ≡ rows
+    → others ≡ others_of t → listed ≡ others → text ≡ rows_text t reach.test shown listed → IsFoldedDrawing t reach text
+drawing_is t reach rows shown others listed text are shown_is others_are listed_is told = record {
+  programs = map (program_of reach.test) rows;
+  are = programs_are t reach rows are;
+  is =
+      told ∙ ap (λ (some : List Row). rows_text t reach.test some listed) shown_is
+      ∙ ap (λ (some : List ℕ). rows_text t reach.test rows some) (listed_is ∙ others_are) ∙ text_is t reach.test rows (others_of t);
+}
+
+-- no other program uses a label, as no other row does
+pub apart_is : (test : EdgeTest) (rows : List Row) (row : Row) (l : ℕ) (answer : Bool) → uses (program_of test row) l ≡ true
+    → answer ≡ list_all (λ (other : Row). other.label == row.label || not (uses (program_of test other) l)) rows
+    → answer ≡ is_inside (map (program_of test) rows) (program_of test row) l
+apart_is test rows row l answer used is =
+    let apart : Program → Bool = λ p. p.label == row.label || not (uses p l) in
+    is ∙ sym (list_all-map apart (program_of test) rows) ∙ ap (λ b. b && list_all apart (map (program_of test) rows)) (sym used)
