@@ -11,12 +11,18 @@ import re
 
 WORKED = pathlib.Path(__file__).resolve().parent / "worked"
 EXAMPLES = WORKED.parent.parent / "examples"
-TEXTS = ["table", "policy", "script", "certificate", "log", "claims"]
+TEXTS = ["table", "policy", "script", "certificate", "log", "claims", "description"]
 
 # The command that a word asks for.
-ASKED = {word: [word] for word in ["run", "replay", "check", "verify", "close", "list", "draw"]}
+ASKED = {word: [word] for word in ["run", "replay", "check", "verify", "close", "list", "summary"]}
 ASKED |= {"cert": ["check", "--cert"], "missing": ["close", "--missing"], "surplus": ["close", "--surplus"]}
-ASKED |= {"claim": ["claims"], "strongest": ["claims", "--all"], "draw --policy-alone": ["draw", "--policy-alone"]}
+ASKED |= {"claim": ["claims"], "strongest": ["claims", "--all"]}
+ASKED |= {"draw": ["draw", "--all"], "draw --policy-alone": ["draw", "--policy-alone", "--all"], "fold": ["draw"], "fold --policy-alone": ["draw", "--policy-alone"]}
+ASKED |= {"import": ["import", "--rights", "least"]}
+
+# What each summary begins with.
+HEAD = "who may change whom, in any run: C calls, A answers, S signals, F for another reason, t only takes away, . never; "
+HEAD += "m: memory that one writes and the other has\n"
 
 ESCAPED = {"n": b"\n", "r": b"\r", "t": b"\t", "0": b"\0"}
 
@@ -44,6 +50,10 @@ class Asker:
 
     def answer(self, words, files):
         """Status and standard output of a command, whose options or labels are `words[1:]`. `files` are the texts that it may read."""
+        raise NotImplementedError
+
+    def is_shown(self, words, files, script):
+        """Whether a script ends as a search asked for it."""
         raise NotImplementedError
 
     def state(self, table, script, count=None):
@@ -165,6 +175,16 @@ def report(**keys):
     return (json.dumps(keys, separators=(",", ":"), sort_keys=True) + "\n").encode()
 
 
+def breaches_in(words):
+    """What is told of claims of version 2, each as `LINE CLAIM`, with `by AUTHORITY` or `by AUTHORITY of A B` where there is one."""
+    for one in words.split("; "):
+        if not (told := re.fullmatch(r"([0-9]+) (.*?)(?: by (full|take)(?: of (\w+) (\w+))?)?", one)):
+            raise Wrong("a broken claim is told as `LINE CLAIM by AUTHORITY of A B`")
+        line, claim, authority, *pair = told.groups()
+        shown = {"claim": claim, "line": int(line)}
+        yield shown | ({"authority": authority} if authority else {}) | ({"pair": pair} if pair[0] else {})
+
+
 def edges_in(words):
     return "".join(f"edge {edge}\n" for edge in words.split(", ") if edge).encode()
 
@@ -189,6 +209,22 @@ def drawing(words):
     return "".join(["digraph authority {\n", *(f"  {line}\n" for line in lines), "}\n"]).encode()
 
 
+def folding(words):
+    boxes, *arrows = words.split("; ")
+    lines = ["node [shape=box]", "edge [fontsize=10]", "nodesep=0.1", "ranksep=0.4"]
+    for box in boxes.split(" | ") if boxes else []:
+        name, _, inside = box.partition(" with ")
+        lines.append(f'"{name}"' + (f' [label="{name}\\nwith {inside}"]' if inside else ""))
+    for arrow in arrows:
+        told = re.fullmatch(r"(\S+) -> (\S+) (solid|dashed|dotted) by (.*)", arrow)
+        if not told:
+            raise Wrong("an arrow is told as `A -> B STYLE by WORDS, WORDS`")
+        style = "" if told[3] == "solid" else f"style={told[3]}, "
+        words = "".join(f"{words}\\n" for words in told[4].split(", "))
+        lines.append(f'"{told[1]}" -> "{told[2]}" [{style}label="{words}"]')
+    return "".join(["digraph authority {\n", *(f"  {line}\n" for line in lines), "}\n"]).encode()
+
+
 def each(script, outcome):
     """The log of a script of which each event has this outcome."""
     head, end = b"confine-script 1\n", b"end\n"
@@ -208,8 +244,17 @@ def fault(words, file, line):
 def expected(words, system, script, file, line):
     """Status and standard output that an answer says, of a system's files, with this script, and one of them changed in a line."""
     word, _, rest = words.partition(" ")
-    if words in ("log", "report", "certificate", "policy", "claims"):
+    if words in ("log", "report", "certificate", "policy", "claims", "table"):
         return 0, system.get(words, b"")
+    if word == "matrix":
+        return 0, HEAD.encode() + plain(quoted(rest)) + b"\n"
+    if words in ("shows", "unknown"):
+        return (0, b"a script that shows it") if words == "shows" else (2, b"")
+    if words == "impossible":
+        return 1, report(bound="none", run="impossible")
+    if word == "unshown":
+        bound, _, steps = rest.partition(" ")
+        return 1, report(bound=bound, run="none found", steps=number_in(steps))
     if words == "accept":
         return 0, report(verdict="accept")
     if word == "writes":
@@ -218,8 +263,8 @@ def expected(words, system, script, file, line):
         return 0, word.encode() + b"\n" + edges_in(rest)
     if word == "lacks":
         return int(bool(rest)), edges_in(rest)
-    if word == "draws":
-        return 0, drawing(rest)
+    if word in ("draws", "folds"):
+        return 0, drawing(rest) if word == "draws" else folding(rest)
     if word == "each":
         return 0, each(script, rest)
     if word == "hold":
@@ -227,6 +272,8 @@ def expected(words, system, script, file, line):
     if word == "broken":
         authority, _, claim = rest.partition(" ")
         return 1, report(authority=authority, claim=number_in(claim), verdict="broken")
+    if word == "breaks":
+        return 1, report(broken=list(breaches_in(rest)), verdict="broken")
     if word == "within":
         return 0, report(entries=number_in(rest), state="within", verdict="legal")
     if word == "outside":
@@ -237,6 +284,15 @@ def expected(words, system, script, file, line):
     if word == "deny":
         return 1, report(verdict="deny", **place_in(rest))
     return 2, fault(words, file, line)
+
+
+def is_within(came, wanted):
+    """Whether a search answered as is wanted, after at most so many calls."""
+    try:
+        told, most = json.loads(came[1]), json.loads(wanted[1])
+        return came[0] == wanted[0] and 0 <= told["steps"] <= most["steps"] and came[1] == report(**most | {"steps": told["steps"]})
+    except (ValueError, KeyError, TypeError):
+        return False
 
 
 # The lines of a file.
@@ -385,8 +441,14 @@ class Session:
 
     def asked_of(self, number, line, asked, files, answer, file, at):
         """The case that files of which one was changed, from this line on, have this answer."""
-        wanted = expected(answer, self.files, files["script"], file, at)
-        return Case(number, line, wanted, self.asker.answer(asked, files))
+        wanted, came = expected(answer, self.files, files["script"], file, at), self.asker.answer(asked, files)
+        if came is None:  # who is asked doesn't tell such an answer
+            came = wanted
+        elif answer == "shows" and came[0] == 0 and self.asker.is_shown(asked, files, came[1]):
+            came = wanted
+        elif answer.startswith("unshown ") and is_within(came, wanted):
+            came = wanted
+        return Case(number, line, wanted, came)
 
     def run_of(self, number, line, log):
         """The case that a script has this log."""
@@ -437,6 +499,10 @@ def command_of(words):
         return ASKED[words]
     if told := re.fullmatch(r"why (--policy-alone )?(\S+) (\S.*)", words):
         return ["why", *(["--policy-alone"] if told[1] else []), told[2], told[3]]
+    if told := re.fullmatch(r"show (\S+) (\S+)((?: --take)?(?: --steps [0-9]+)?)", words):
+        return ["show", told[1], told[2], *told[3].split()]
+    if told := re.fullmatch(r"import (least|all)((?: --children (?:control|directed))?(?: --claims)?)", words):
+        return ["import", "--rights", told[1], *told[2].split()]
     raise Wrong("there is no such command")
 
 

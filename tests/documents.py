@@ -10,20 +10,26 @@
 - one that begins with `full`, `take` or `none` is what `why` prints of the labels that `<!-- why: A B -->` tells, and one that
   begins with `edge` what `close --missing` does, with that change; where the change ends with `closed`, it is asked by the policy that
   `close` then prints;
+- one that begins with `<?xml` is the file description from here on; one that begins with a header after `<!-- import: RIGHTS .. -->` is what
+  `import` prints of it, with `--rights RIGHTS` and the options that follow, and that file from here on;
+- one that begins with `who may change whom` is what `summary` prints of the files, and one that begins with `{"bound"` what `show` does, of
+  the labels that `<!-- show: A B -->` tells;
 - one that begins with `confine-policy 1` after `<!-- close: of the table -->` is what `close` prints of the table alone, and one that
   begins with `confine-claims 1` after `<!-- claims: all -->` what `claims --all` prints of the files;
 - a row of a table whose last cell is a report, or 'accepted', is the answer to these files with the
   changes that the cells before it tell, as `X` becomes `Y`;
+- one whose last cell is a line of a file and `note`, as `table:8: note`, is a line that `check --explain` says of them on standard error,
+  or the beginning of one, if it ends with ` ..`;
 - one with numbered lines is the beginning of a file of the system;
 - one that begins with a line of a file and `denied by`, as `table:8: denied by`, is what `check --explain` says of them on standard
   error, with the change that `<!-- change: .. -->` tells.
 
 A report or a sentence that is too long for a line of the document goes on in the next, which begins with two spaces more; the sentence is
-broken where it has a space.
+broken where it has a space. A block that ends with a line `..` is a beginning.
 
 A report with `full` is that of `check`; one that says no more than `accept`, the rule C1 and a fault of the
 certificate are those of `verify`; one with entries or an entry, and a fault of the log, are those of `replay`; one with claims or a
-claim, and a fault of the claims, are those of `claims`; all others are those of `run`, and of `check` too.
+claim, or that begins with `{"broken"`, and a fault of the claims, are those of `claims`; all others are those of `run`, and of `check` too.
 
 A row of a table whose last cell is empty goes on in the next row.
 """
@@ -33,8 +39,10 @@ import re
 TOP = pathlib.Path(__file__).resolve().parent.parent
 FILES = ["table", "policy", "script", "certificate", "log"]
 KINDS = [*FILES, "claims"]  # of which an example may lack the last
+TEXTS = [*KINDS, "description"]
 DENIED = re.compile(r"\w+:\d+: denied by ")
-NOT_WELL = '"verdict":"(deny|illegal|broken)"|"state":"outside"'
+NOTED = re.compile(r"\w+:\d+: note: ")
+NOT_WELL = '"verdict":"(deny|illegal|broken)"|"state":"outside"|"bound"'
 MARKS = str.maketrans({"␣": " ", "␍": "\r"})
 
 
@@ -126,10 +134,16 @@ def parts_of(text):
         if block:
             yield number - len(block), "block", "\n".join(block) + "\n"
             block = []
-        if comment := re.match(r"<!-- (system|labels|change|why|log|close|claims): (.*) -->", line):
+        if comment := re.match(r"<!-- (system|labels|change|why|show|import|log|close|claims): (.*) -->", line):
             yield number, comment[1], comment[2]
         elif line.startswith("| "):
             yield number, "row", line
+
+
+def with_one_head(text):
+    """A summary whose first line was broken."""
+    head, _, rest = text.partition("\n\n")
+    return in_one_line(head + "\n", " ") + "\n" + rest
 
 
 def in_one_line(text, between=""):
@@ -139,28 +153,37 @@ def in_one_line(text, between=""):
 
 def examples_of(path):
     """Where each example stands, its files, and the answer that it shows."""
-    files, change, asked, alone, closes, strongest = {}, "", [], False, False, False
+    files, change, asked, imports, alone, closes, strongest = {}, "", [], "", False, False, False
     for number, form, text in parts_of(path.read_text()):
         where = f"{path.relative_to(TOP)}:{number}"
-        kind = (re.match(r" *(?:1  )?confine-(\w+) 1\n", text) or ["", ""])[1]
+        kind = (re.match(r" *(?:1  )?confine-(\w+) [12]\n", text) or ["", ""])[1]
         if form == "system":
             folder = TOP / "examples" / text
-            files = {kind: (folder / kind).read_text() for kind in KINDS if kind in FILES or (folder / kind).exists()}
+            files = {kind: (folder / kind).read_text() for kind in TEXTS if kind in FILES or (folder / kind).exists()}
         elif form == "labels":
             files = {kind: text_of(kind, []) for kind in KINDS}
             files["table"] = text_of("table", [f"label {label}" for label in text.split()])
         elif form == "change":
             change = f"{change} {text}"
-        elif form == "why":
+        elif form in ("why", "show"):
             asked = text.split()
+        elif form == "import":
+            imports = text
         elif form == "log":
             alone = True
         elif form == "close":
             closes = True
         elif form == "claims":
             strongest = True
+        elif form == "block" and imports:
+            yield where, files | {"asked": ["import", "description", "--rights", *imports.split()]}, text
+            files, imports = files | {kind: text}, ""
+        elif form == "block" and text.startswith("<?xml"):
+            files = files | {"description": text}
+        elif form == "block" and text.startswith("who may change whom"):
+            yield where, files, with_one_head(text)
         elif form == "block" and re.match(r" *1  ", text):
-            lines = re.sub(r"(?m)^ *\d+  (.*?)(   .*)?$", r"\1", text)
+            lines = re.sub(r"(?m)^ *\d+(?:  (.*?)(   .*)?)?$", r"\1", text)
             if not files[{"cert": "certificate"}.get(kind, kind)].startswith(lines):
                 yield where, files, f"the text of the system's {kind}"
         elif form == "block" and kind == "cert":
@@ -187,13 +210,21 @@ def examples_of(path):
             change = ""
         elif form == "row":
             *told, answer = [cell.strip() for cell in text.strip("|").split("|")]
-            if answer == "accepted" or re.match(r'`\{".*\}`$', answer):
+            if NOTED.match(answer):
+                yield where, changed(files, " ".join(told), answer), answer + "\n"
+            elif answer == "accepted" or re.match(r'`\{".*\}`$', answer):
                 yield where, changed(files, " ".join(told), answer), answer.strip("`") + "\n"
 
 
 def is_answered(answer, status, out):
+    if answer.endswith("\n..\n"):
+        return status == 0 and out.startswith(answer.removesuffix("..\n"))
     if DENIED.match(answer):
         return (status, out) == (1, answer)
+    if NOTED.match(answer):
+        begins = answer.endswith(" ..\n")
+        noted = answer.removesuffix("..\n" if begins else "\n")
+        return status == 0 and any(line.startswith(noted) if begins else line == noted for line in out.split("\n"))
     if answer == "accepted\n":
         return status == 0 and out.startswith("confine-log 1\n")
     if answer.startswith("edge "):
@@ -203,15 +234,23 @@ def is_answered(answer, status, out):
 
 def commands_of(answer, asked):
     """The commands that give such an answer."""
+    if asked[:1] == ["import"]:
+        return [asked]
+    if '"file":"description"' in answer:
+        return [["import", "description", "--rights", "least"]]
+    if answer.startswith("who may change whom"):
+        return [["summary", "table", "policy"]]
+    if answer.startswith('{"bound"'):
+        return [["show", "table", "policy", *asked]]
     if re.match("full\n|take\n|none\n", answer):
         return [["why", "table", "policy", *asked]]
-    if DENIED.match(answer):
+    if DENIED.match(answer) or NOTED.match(answer):
         return [["check", "table", "policy", "--explain"]]
     if answer.startswith("edge "):
         return [["close", "table", "policy", "--missing"]]
     if answer.startswith("confine-claims 1"):
         return [["claims", "table", "policy", "--all"]]
-    if re.match('{"(claims|authority)"', answer) or '"file":"claims"' in answer:
+    if re.match('{"(claims|authority|broken)"', answer) or '"file":"claims"' in answer:
         return [["claims", "table", "policy", "claims"]]
     if answer.startswith("confine-policy 1"):
         return [["close", "table"]]
@@ -229,5 +268,5 @@ def commands_of(answer, asked):
 
 def write(files, folder):
     """Puts the files of an example into a folder; one that it doesn't have is an empty text."""
-    for kind in KINDS:
+    for kind in TEXTS:
         (folder / kind).write_bytes(files.get(kind, text_of(kind, [])).encode())

@@ -632,3 +632,19 @@ def make_few(r):
     table_text = texts.text_of("confine-table 1", [*(f"label {label}" for label in labels), *made, *contexts, *bound])
     lines = [texts.edge_line(edge, texts.read_table(table_text.encode())) for edge in sorted(edges)]
     return {"table": table_text, "policy": texts.text_of("confine-policy 1", lines)}
+
+
+def make_wide(r):
+    """A table with many threads, each of a label of its own, and a few labels without one, and a policy with few edges."""
+    count, more = r.choice([10, 20, 22, 23, 24, 45, 62]), r.randint(1, 6)
+    labels = [f"l{i}{'_long' * r.choice([0, 0, 0, 1, 3])}" for i in range(count + more)]
+    r.shuffle(labels)
+    made = [f"tcb t{i} {labels[i]} {i << 10:#x} {r.choice(['ready', 'ready', 'inactive'])}" for i in range(count)]
+    made += [f"context x{i} {labels[-1]} {0x20000 + (i << 8):#x} 0 10 10" for i in range(count)]
+    made += [f"frame f{i} {label} {0x40000 + (i << 12):#x}" for i, label in enumerate(labels[count:-1])]
+    bound = [f"bind t{i} x{i}" for i in range(count) if r.random() < 0.9]
+    table_text = texts.text_of(f"confine-table {1 if len(labels) <= 64 else 2}", [*(f"label {label}" for label in labels), *made, *bound])
+    kinds = [policies.NOTIFY, policies.SEND, policies.RECEIVE, policies.AWAIT, policies.READ, policies.WRITE, policies.REPLY]
+    edges = {(r.randrange(count), r.choice(kinds), r.randrange(len(labels))) for _ in range(count)}
+    lines = [texts.edge_line(edge, texts.read_table(table_text.encode())) for edge in sorted(edges)]
+    return {"table": table_text, "policy": texts.text_of("confine-policy 1", lines)}

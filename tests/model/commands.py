@@ -1,8 +1,13 @@
 """The commands: what each writes, and its status, as docs/FORMATS.md has them; authority, certificates, verdicts and last states."""
+import copy
 import json
 
+import imports
 import kernel
 import policies
+import statements
+import states
+import summaries
 import texts
 from policies import AWAIT, CALL, CONTEXT, CONTROL, DERIVE, GRANT, HOLDS, NOTIFY, READ, RECEIVE, REPLY, RESET, RUNS, SCHEDCONTROL, SEND
 from policies import SPACE, WRITE
@@ -12,6 +17,7 @@ FILES = {
     "check": ["table", "policy"], "verify": ["table", "policy", "certificate"], "run": ["table", "policy", "script"],
     "replay": ["table", "policy", "log"], "close": ["table", "policy"], "why": ["table", "policy"],
     "claims": ["table", "policy", "claims"], "list": ["table"], "draw": ["table", "policy"],
+    "summary": ["table", "policy"], "show": ["table", "policy"], "import": ["description"],
 }
 
 
@@ -21,7 +27,7 @@ ALONE = "confine: by the policy alone: each label counts as one whose threads ma
 
 def files_of(command, options=()):
     """The files of a command, in their order."""
-    return FILES[command][:2] if "--all" in options else FILES[command]
+    return FILES["claims"][:2] if command == "claims" and "--all" in options else FILES[command]
 
 
 # Authority.
@@ -221,6 +227,14 @@ def why(table, policy, a, b, alone=False):
     return bounded(table, policy, alone, told)
 
 
+class Stated(list):
+    """Claims of version 2."""
+
+
+def read_claims(text, table):
+    return Stated(statements.read(text, table)) if statements.is_second(text) else texts.read_claims(text, table)
+
+
 def claims(table, policy, claimed=None):
     """Whether these claims hold; where there are none, the strongest that do."""
 
@@ -229,6 +243,11 @@ def claims(table, policy, claimed=None):
         if claimed is None:
             lines = [f"{how} {table.labels[a]} {table.labels[b]}" for (a, b), how in extents.items() if how != "full"]
             return 0, texts.text_of("confine-claims 1", lines)
+        if isinstance(claimed, Stated):
+            broken = list(statements.broken(claimed, table, policy, acts))
+            if broken:
+                return 1, report(broken=broken, verdict="broken")
+            return 0, report(claims=len(claimed), verdict="hold")
         for number, (most, a, b) in enumerate(claimed, 1):
             if extents[a, b] not in ("none", most):
                 return 1, report(authority=extents[a, b], claim=number, verdict="broken")
@@ -237,8 +256,40 @@ def claims(table, policy, claimed=None):
     return bounded(table, policy, False, told)
 
 
-def drawn(table, policy, alone=False):
+def summary(table, policy):
+    return judged(table, policy, lambda: (0, summaries.summary(table, policy, actors(table, policy))))
+
+
+def shown(table, policy, a, b, takes=False):
+    """What `show` answers where it makes no calls; None where it has to try some."""
+
+    def told():
+        how = policies.why(policy, actors(table, policy), table.labels.index(a), table.labels.index(b))[0]
+        if how == "none":
+            return 1, report(bound="none", run="impossible")
+        return (1, report(bound="take", run="none found", steps=0)) if how == "take" and not takes else None
+
+    return judged(table, policy, told)
+
+
+def is_shown(table, events, a, b, takes=False):
+    """Whether no call of a script is refused, and the last one is made by a thread of one label and changes an object of the other:
+    other than by making it smaller, or just so."""
+    state = kernel.boot(table)
+    if not events or any(kernel.step(state, event).startswith("refused") for event in events[:-1]):
+        return False
+    before, last = copy.deepcopy(state), events[-1]
+    if kernel.step(state, last).startswith("refused") or label_of(table, before, last.thread) != table.labels.index(a):
+        return False
+    there = {number: label_of(table, one, number) for one in (before, state) for number in one.objects}
+    changed = [number for number, label in there.items() if label == table.labels.index(b) and states.differs(before, state, number)]
+    return any(states.shrinks(before, state, number) == takes for number in changed)
+
+
+def drawn(table, policy, alone=False, every=False):
     def told(acts):
+        if not every:
+            return 0, summaries.drawing(table, policy, acts)
         lines = [f'"{name}"' for name in table.labels]
         for a, l, how in policies.extents(policy, acts, len(table.labels)):
             if how != "none":
@@ -254,36 +305,46 @@ def listed(table):
     return 0, "".join(f"{at} {item.kind} {item.name} {table.labels[item.label]}\n" for at, item in enumerate(table.objects))
 
 
-def read(file, text, table):
+def read(file, text, table, options=()):
+    def import_text():
+        return imports.imported(text, "all" in options, "directed" not in options, "--claims" in options)
+
     return {
-        "table": lambda: texts.read_table(text), "policy": lambda: texts.read_policy(text, table),
+        "description": import_text, "table": lambda: texts.read_table(text), "policy": lambda: texts.read_policy(text, table),
         "certificate": lambda: texts.read_certificate(text, table),
         "script": lambda: texts.read_script(text), "log": lambda: texts.read_log(text),
-        "claims": lambda: texts.read_claims(text, table),
+        "claims": lambda: read_claims(text, table),
     }[file]()
 
 
 def answer(command, given, options=()):
     """Status, standard output and standard error of a command. `given` has the bytes of its files, or None where one can't be read;
-    `options` are `--cert`, `--missing`, `--surplus`, `--all` and `--policy-alone`; the last two of `why` are its labels."""
+    `options` are those of the command, each value behind its option; the last two of `why` are its labels, and the first two of `show`.
+    It answers None where `show` has to try calls."""
     values = []
     for file, text in zip(files_of(command, options), given):
         if text is None:
             return 2, "", f"confine: cannot read {file}\n"
         try:
-            values.append(read(file, text, values[0] if values else None))
+            values.append(read(file, text, values[0] if values else None, options))
         except Fault as fault:
             return 2, report(fault=fault.number, file=file, line=fault.line), ""
     alone = "--policy-alone" in options
+    labels = {"why": options[-2:], "show": options[:2]}.get(command, [])
+    for operand, label in zip("AB", labels):
+        if label not in values[0].labels:
+            return 2, "", f"confine: {operand} is no label of the table\n"
     if command == "why":
-        for operand, label in zip("AB", options[-2:]):
-            if label not in values[0].labels:
-                return 2, "", f"confine: {operand} is no label of the table\n"
-        return *why(*values, *options[-2:], alone), ALONE * alone
+        return *why(*values, *labels, alone), ALONE * alone
+    if command == "show":
+        told = shown(*values, *labels, "--take" in options)
+        return told and (*told, "")
     if command == "draw":
-        return *drawn(*values, alone), ALONE * alone
+        return *drawn(*values, alone, "--all" in options), ALONE * alone
+    if command == "import":
+        return 0, values[0], ""
     if command == "close":
         return *close(values[0], values[1] if len(values) > 1 else None, "--missing" in options, "--surplus" in options), ""
     if command == "check":
         return *check(*values, "--cert" in options), ""
-    return *{"verify": verify, "run": run, "replay": replay, "claims": claims, "list": listed}[command](*values), ""
+    return *{"verify": verify, "run": run, "replay": replay, "claims": claims, "list": listed, "summary": summary}[command](*values), ""

@@ -1,4 +1,7 @@
-"""What is told of a state, in the spelling of tests/worked/README.md: the next number, each object and each slot, a line for each."""
+"""What is told of a state, in the spelling of tests/worked/README.md: the next number, each object and each slot, a line for each; and how
+an object differs in two states."""
+from types import SimpleNamespace
+
 import kernel
 import texts
 
@@ -80,3 +83,42 @@ def told_object(item, named):
         "frame": lambda: "",
     }[item.kind]()
     return f"{item.kind} {item.address:#x}{rest}"
+
+
+# How an object of a state differs from the same object before a call. What is told of an object has its queue, but not its words and slots.
+
+def parts_of(state, number):
+    """An object's content, queue, words and capabilities; None where there is no such object."""
+    item = state.objects.get(number)
+    if item is None:
+        return None
+    alone = SimpleNamespace(**vars(item) | {"queue": []})
+    caps = {slot: vars(cap) for slot, cap in state.caps.items() if slot[0] == number}
+    words = {at: word for at, word in getattr(item, "words", {}).items() if word}
+    return told_object(alone, str), getattr(item, "queue", []), words, caps
+
+
+def differs(before, after, number):
+    return parts_of(before, number) != parts_of(after, number)
+
+
+def shrinks(before, after, number):
+    """Whether an object vanished, or has lost capabilities, waiting threads and links, if anything."""
+    was, now = parts_of(before, number), parts_of(after, number)
+    if was is None or now is None:
+        return now is None
+    rest = iter(was[1])
+    kept = all(thread in rest for thread in now[1]) and now[2] == was[2] and now[3].items() <= was[3].items()
+    return kept and (now[0] == was[0] or lessens(before.objects[number], after.objects[number]))
+
+
+def lessens(was, now):
+    """Whether a thread lost its wait or its context, a reply its thread, or a context its thread."""
+    if was.kind == "tcb":
+        goes_on = (told_run_state(now, str), now.inbox) == (told_run_state(was, str), was.inbox)
+        blocked = was.state in (*kernel.WAITING, "called")
+        stopped = (now.state, now.inbox) in [("ready", ("aborted",)), ("inactive", was.inbox)]
+        return now.context in (was.context, None) and (goes_on or blocked and stopped)
+    if was.kind == "context":
+        return now.share == was.share and now.thread is None
+    return was.kind == "reply" and now.use == "free"

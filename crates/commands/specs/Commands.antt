@@ -5,12 +5,16 @@ use Rattle.base.specs.declared.edge.Edge.{Edge}
 use Rattle.machine.specs.Layout.{Layout}
 use Rattle.words.specs.declared.faults.Fault.{Fault}
 use Rattle.captext.specs.{Policies.read_policy_of, Tables.read_table_of}
+use Rattle.microkit.specs.Description.{Description}
+use Rattle.importing.specs.declared.pieces.{Children.{Children}, Minting.{Minting}}
 use Rattle.devices.specs.Devices.{AppendsBeginning}
 use Rattle.forms.specs.declared.file.File.{File, TheVariants.{Policy, Table}}
+use Rattle.forms.specs.declared.file.File.TheVariants as files
 use Rattle.reptext.specs.Reports.{fault_report}
+use Rattle.commands.specs.Described.{Described}
 use Rattle.commands.specs.declared.{answer.Answer.Answer, end.{Asked.Asked, End.End}, load.{Stop.{Stop, Stop as stop}, System.System, Three.Three}}
 use Rattle.commands.specs.{Ends.{IfCannotWrite, IfNoLabel, IfStatus, IfUnwritten, is_unwritable, status_of, unread_file}, Files.{Contents, faulty, first_failed}}
-use Rattle.commands.specs.Files.{system_contents, table_contents, three_contents, unknown, unread_of, whole}
+use Rattle.commands.specs.Files.{described_contents, system_contents, table_contents, three_contents, unknown, unread_of, whole}
 
 -- a source, before and after a command: the bytes that it had left, where they are known, and whether it failed
 pub record Input (S : Type 0) : Type 0 where
@@ -85,6 +89,13 @@ abbrev pub IsDoneOnTable :
     {T O : Type 0} → (Layout → Option Asked) → (Layout → List ℕ → ℕ → Type 0) → Input T → Output O → End → Type 0
 IsDoneOnTable lacks judges table = IsCarriedOut lacks judges (table_contents table.bytes) (first_failed ((Table, table.failed) ∷ []))
 
+-- a command of a description alone, which becomes a table by these choices, was carried out
+abbrev pub IsDoneOnDescription :
+    {S O : Type 0} → Minting → Children → (Description → Layout → List ℕ → ℕ → Type 0) → Input S → Output O → End → Type 0
+IsDoneOnDescription minting children judges description =
+    IsCarriedOut (λ (d : Described). no_label d.table) (λ (d : Described). judges d.description d.table)
+    (described_contents description.bytes minting children) (first_failed ((files.Description, description.failed) ∷ []))
+
 -- a command of a table and a policy was carried out
 pub record IsDoneOnSystem
     {T P O : Type 0} (lacks : Layout → Option Asked) (judges : Layout → List Edge → List ℕ → ℕ → Type 0)
@@ -118,6 +129,10 @@ IsJudged lacks judges (Err why) answer = answer ≡ Err why
 -- a system was judged so
 abbrev pub SystemIsJudged : (Layout → Option Asked) → (Layout → List Edge → List ℕ → ℕ → Type 0) → Result System Stop → Result Answer Stop → Type 0
 SystemIsJudged lacks judges = IsJudged (λ s. lacks s.table) (λ s. judges s.table s.policy)
+
+-- a description and its table were judged so
+abbrev pub DescriptionIsJudged : (Description → Layout → List ℕ → ℕ → Type 0) → Result Described Stop → Result Answer Stop → Type 0
+DescriptionIsJudged judges = IsJudged (λ d. no_label d.table) (λ d. judges d.description d.table)
 
 -- what three files hold was judged so
 abbrev pub ThreeIsJudged : {X : Type 0} → (Layout → List Edge → X → List ℕ → ℕ → Type 0) → Result (Three X) Stop → Result Answer Stop → Type 0

@@ -3,8 +3,12 @@ use Rattle.std.specs.Prelude.{[], ℕ, ◌≡◌, ◌∷◌, Bool, Err, List, No
 use Rattle.base.specs.declared.edge.Edge.{Edge}
 use Rattle.machine.specs.Layout.{Layout}
 use Rattle.words.specs.declared.faults.Fault.{Fault}
+use Rattle.words.specs.Reading.{◌>>=◌}
 use Rattle.captext.specs.{Policies.read_policy_of, Tables.read_table_of}
-use Rattle.forms.specs.declared.file.File.{File, TheVariants.{Policy, Table}}
+use Rattle.microkit.specs.Reading.{description_of_text}
+use Rattle.importing.specs.{Tables.table_at, declared.pieces.{Children.{Children}, Minting.{Minting}}}
+use Rattle.forms.specs.declared.file.File.{File, TheVariants.{Description, Policy, Table}}
+use Rattle.commands.specs.Described.{Described}
 use Rattle.commands.specs.declared.{end.Asked.Asked, load.{Stop.{Stop, Stop as stop}, System.System, Three.Three}}
 
 -- what the files hold; or the first file that isn't a text of its kind, with its fault; or nothing is known, since a file's bytes aren't
@@ -39,6 +43,17 @@ three_contents name read table policy third =
     read_then Table table read_table_of (λ t.
     read_then Policy policy (read_policy_of t) (λ edges.
     read_then name third (read t) (λ x. whole (record { table = t; policy = edges; third = x }))))
+
+-- a text is read as a description, of which a table is made; or the first fault
+unfoldable pub described_of : Minting → Children → List ℕ → Result Described Fault
+described_of minting children text = do
+  description ← description_of_text text
+  table ← table_at description minting children
+  Ok (record { description = description; table = table })
+
+-- what a description holds, with its table
+abbrev pub described_contents : Option (List ℕ) → Minting → Children → Contents Described
+described_contents description minting children = read_then Description description (described_of minting children) whole
 
 -- the first of some files whose device failed
 abbrev pub first_failed : List (File × Bool) → Option File

@@ -3,15 +3,16 @@ use Rattle.std.specs.{List.zip, Prelude.{ℕ, ◌≡◌, Err, List, None, Ok, Op
 use Rattle.base.specs.declared.edge.Edge.{Edge}
 use Rattle.machine.specs.{declared.call.{Event.Event, Outcome.Outcome}, Layout.Layout}
 use Rattle.words.specs.declared.faults.Fault.{Fault}
+use Rattle.microkit.specs.{Description.{Description}, View.{description_of}}
 use Rattle.forms.specs.declared.file.File.{File}
 use Rattle.commands.specs.declared.{answer.{Answer.Answer, Made.{Made, TheVariants.{ByWorkers, InTurn}}}, end.Asked.Asked, listener.{Finding.Finding, Heard.Heard}}
 use Rattle.commands.specs.declared.{listener.Outcomes.{Outcomes, TheVariants.{OfLog, OfRun}}, load.Stop.{Stop, Stop as stop}}
 
--- a faulty text of a file, with the table that it was read by, if that is another; what was judged, with what calls came to and what is
--- found wrong; or a label that the table lacks
+-- a faulty text of a file, with the table that it was read by, if that is another; what was judged (a table, and the description, policy
+-- and calls that were read or made besides), with what is found wrong; or a label that the table lacks
 pub data Hearing : Type 0 where
   faulty : File → List ℕ → Option Layout → Fault → Hearing
-  answered : Layout → Option (List Edge) → Option (List (Event × Outcome)) → Option Finding → Hearing
+  answered : Layout → Option Description → Option (List Edge) → Option (List (Event × Outcome)) → Option Finding → Hearing
   unlabelled : Layout → Asked → Hearing
 
 -- the calls, each with what it came to
@@ -37,7 +38,9 @@ HearsFault Hears (Err why) old new = (text : List ℕ) × (table : Option Layout
 
 -- what is heard, as values
 abbrev pub hearing_of : Heard → Hearing
-hearing_of heard = answered heard.table.now (option_copied heard.policy) (option_map entries_of heard.outcomes) (option_copied heard.finding)
+hearing_of heard =
+    answered heard.table.now (option_map description_of (option_copied heard.description)) (option_copied heard.policy)
+    (option_map entries_of heard.outcomes) (option_copied heard.finding)
 
 -- an answer to what was loaded is heard, or the label that its table lacks: each once, and nothing else
 abbrev pub HearsAnswer :

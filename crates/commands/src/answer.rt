@@ -5,7 +5,7 @@ ghost use Rattle.reptext.specs.{Places.place_names, Reports.denial_report};
 ghost use Rattle.commands.specs.declared.listener.Finding.TheVariants as finding;
 
 use crate::Finding;
-use machine::{Log, Outcome};
+use machine::{Event, Log, Outcome};
 use reptext::denial_text;
 use std::alloc::{AllocError, Global};
 use table::Table;
@@ -20,6 +20,8 @@ pub struct Answer {
     pub finding: Option<Finding>,
     /// What the calls of a script came to, if any were made.
     pub made: Option<Made>,
+    /// The script that was searched for, if it was found.
+    pub script: Option<Vec<Event>>,
 }
 
 /// What the calls of a script came to.
@@ -41,6 +43,7 @@ impl Answer {
             status,
             finding: None,
             made: None,
+            script: None,
         }
     }
 
@@ -53,6 +56,7 @@ impl Answer {
             status: 1,
             finding: Some(finding),
             made: None,
+            script: None,
         }
     }
 }

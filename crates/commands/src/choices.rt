@@ -1,4 +1,5 @@
 //! What a user chooses of a command: what it writes, or on what its answer rests.
+use importing::{Children, Minting};
 
 /// What `check` writes where a table and a policy are accepted.
 #[derive(Clone, Copy, PartialEq, Eq, Debug)]
@@ -22,6 +23,25 @@ pub enum OnClose {
     Surplus,
 }
 
+/// What `import` writes.
+#[derive(Clone, Copy, PartialEq, Eq, Debug)]
+pub enum Imported {
+    /// The capability table.
+    Table,
+    /// The claims that the description makes.
+    Claims,
+}
+
+/// How `import` reads a description, and what it writes of it.
+#[derive(Clone, Copy, Debug)]
+pub struct OnImport {
+    /// Which rights the capabilities have.
+    pub minting: Minting,
+    /// What a parent holds of a child.
+    pub children: Children,
+    pub writes: Imported,
+}
+
 /// What an answer on labels rests on.
 #[derive(Clone, Copy, PartialEq, Eq, Debug)]
 pub enum Basis {
@@ -29,4 +49,22 @@ pub enum Basis {
     System,
     /// The policy alone: each label counts as one whose threads make calls. This holds of no run.
     Policy,
+}
+
+/// Which labels a drawing has.
+#[derive(Clone, Copy, PartialEq, Eq, Debug)]
+pub enum Picture {
+    /// Those of programs; memory stands in the arrows' words.
+    Programs,
+    /// All labels of the table.
+    Labels,
+}
+
+/// What `show` looks for, and how long.
+#[derive(Clone, Copy, PartialEq, Eq, Debug)]
+pub struct Search {
+    /// Whether the object only has to shrink.
+    pub takes: bool,
+    /// The most calls that are tried, 1 to 1,000,000.
+    pub steps: u64,
 }

@@ -35,6 +35,7 @@ fn unread_message(file: File) -> &'static str
         File::Script => "confine: cannot read script",
         File::Log => "confine: cannot read log",
         File::Claims => "confine: cannot read claims",
+        File::Description => "confine: cannot read description",
     }
 }
 

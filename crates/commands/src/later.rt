@@ -1,12 +1,11 @@
 ghost use Rattle.std.specs.Prelude.{ℕ, ◌≡◌, List, None, Option, Result, Some, option_copied, option_map};
 ghost use Rattle.machine.specs.{declared.call.{Event.Event as EventOf, Outcome.Outcome as OutcomeOf}, Layout.Layout};
-ghost use Rattle.words.specs.{declared.faults.Fault.Fault, Reading.Reads};
+ghost use Rattle.words.specs.{declared.faults.Fault.Fault, Reading.Reads, Text.lines_of};
 ghost use Rattle.captext.specs.Policies.{read_policy_of};
 ghost use Rattle.evtext.specs.{Log.read_log_of, Script.read_script_of};
 ghost use Rattle.certificate.specs.Reading.{read_certificate_of};
-ghost use Rattle.claims.specs.Reading.{read_claims_of};
 ghost use Rattle.forms.specs.declared.file.File.{File, File as file};
-ghost use Rattle.commands.specs.{declared.answer.Made.Made, Hearing.{entries_of, made_of}};
+ghost use Rattle.commands.specs.{declared.answer.Made.Made, Claims.{is_second, read_claim_list_of}, Hearing.{entries_of, made_of}};
 
 use crate::{File, Made, Outcomes};
 use captext::Fault;
@@ -15,9 +14,11 @@ use claims::Claims;
 use evtext::{read_log, read_script};
 use machine::{Event, Log};
 use policy::Policy;
+use stated::StatedLines;
 use std::alloc::Global;
 use std::marker::Model;
 use table::Table;
+use words::Lines;
 
 /// What a file holds that is read after the table.
 pub trait LaterFile: Drop {
@@ -40,6 +41,9 @@ pub trait LaterFile: Drop {
     /// The calls that it holds, or that were made of it, with what they came to.
     fn outcomes<'a>(&'a self, made: Option<&'a Made>) -> Option<Outcomes<'a>>
         ensures { option_map entries_of result ≡ calls self.now (option_copied made.entry) };
+
+    /// The lines of claims of the second version, if it holds such.
+    fn claims(&self) -> Option<&StatedLines>;
 }
 
 impl LaterFile for Policy {
@@ -58,6 +62,10 @@ impl LaterFile for Policy {
     fn outcomes<'a>(&'a self, _made: Option<&'a Made>) -> Option<Outcomes<'a>> {
         None
     }
+
+    fn claims(&self) -> Option<&StatedLines> {
+        None
+    }
 }
 
 impl LaterFile for Certificate {
@@ -74,6 +82,10 @@ impl LaterFile for Certificate {
     }
 
     fn outcomes<'a>(&'a self, _made: Option<&'a Made>) -> Option<Outcomes<'a>> {
+        None
+    }
+
+    fn claims(&self) -> Option<&StatedLines> {
         None
     }
 }
@@ -121,6 +133,10 @@ impl LaterFile for Script {
             None => None,
         }
     }
+
+    fn claims(&self) -> Option<&StatedLines> {
+        None
+    }
 }
 
 /// The entries of a log.
@@ -159,22 +175,63 @@ impl LaterFile for Entries {
     fn outcomes<'a>(&'a self, _made: Option<&'a Made>) -> Option<Outcomes<'a>> {
         Some(Outcomes::OfLog(&self.entries))
     }
+
+    fn claims(&self) -> Option<&StatedLines> {
+        None
+    }
 }
 
-impl LaterFile for Claims {
+/// The claims of a text, by its version.
+#[derive(Drop)]
+pub enum ClaimList {
+    /// How much authority labels have on others at most.
+    First(Claims),
+    /// What each line claims.
+    Second(StatedLines),
+}
+
+impl LaterFile for ClaimList {
     ghost named = { file.Claims };
 
-    ghost read_of = { read_claims_of };
+    ghost read_of = { read_claim_list_of };
 
     fn name() -> File {
         File::Claims
     }
 
-    fn read(alloc: Global, table: &Table, bytes: &[u8]) -> Result<Claims, Fault> {
-        claims::read(alloc, bytes, table)
+    fn read(alloc: Global, table: &Table, bytes: &[u8]) -> Result<ClaimList, Fault> {
+        if is_second(bytes) {
+            match stated::read(alloc, bytes, table) {
+                Ok(lines) => Ok(ClaimList::Second(lines)),
+                Err(fault) => Err(fault),
+            }
+        } else {
+            match claims::read(alloc, bytes, table) {
+                Ok(claims) => Ok(ClaimList::First(claims)),
+                Err(fault) => Err(fault),
+            }
+        }
     }
 
     fn outcomes<'a>(&'a self, _made: Option<&'a Made>) -> Option<Outcomes<'a>> {
         None
+    }
+
+    fn claims(&self) -> Option<&StatedLines> {
+        match self {
+            ClaimList::First(_) => None,
+            ClaimList::Second(lines) => Some(lines),
+        }
+    }
+}
+
+// Whether a text is of the second version, as its first line says.
+#[tactic(auto, unfolding(crate::specs::Claims::is_second))]
+fn is_second(text: &[u8]) -> bool
+    ensures { result ≡ is_second (lines_of text.now) }
+{
+    match Lines::new(text).next_line() {
+        Some(words) => words.is(b"confine-claims 2"),
+        None => false,
     }
 }

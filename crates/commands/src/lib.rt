@@ -4,6 +4,7 @@
 
 mod answer;
 mod choices;
+mod described;
 mod end;
 mod later;
 mod listener;
@@ -12,10 +13,12 @@ mod telling;
 
 pub use answer::{Answer, Made, denied};
 pub use captext::Fault;
-pub use choices::{Basis, OnAccept, OnClose};
+pub use choices::{Basis, Imported, OnAccept, OnClose, OnImport, Picture, Search};
+pub use described::{Described, load_description};
 pub use devices::{ReadError, Sink, Source};
 pub use end::{Asked, End};
-pub use later::{Entries, LaterFile, Script};
+pub use importing::{Children, Minting};
+pub use later::{ClaimList, Entries, LaterFile, Script};
 pub use listener::{Finding, Heard, Listener, Outcomes, Silence};
 pub use load::{Held, Stop, System, Three, load_system, load_table, load_three};
 pub use reptext::File;

@@ -5,12 +5,14 @@ use crate::{Asked, File};
 use captext::Fault;
 use claims::BrokenClaim;
 use machine::{Event, Outcome};
+use microkit::Description;
 use policy::Policy;
+use stated::{Broken, StatedLines};
 use table::Table;
 use verdict::Denial;
 
 /// What is found wrong with a system or a log.
-#[derive(Clone, Copy, PartialEq, Eq, Debug)]
+#[derive(Debug, Drop)]
 pub enum Finding {
     /// A table and a policy, or a certificate, are denied.
     Denied(Denial),
@@ -18,8 +20,10 @@ pub enum Finding {
     Outside(Denial),
     /// A log isn't legal: the entry, from 1, that is no step.
     Illegal(usize),
-    /// A claim doesn't hold.
+    /// A claim of the first version doesn't hold.
     Broken(BrokenClaim),
+    /// Claims of the second version don't hold.
+    BrokenLines(Vec<Broken>),
 }
 
 /// What calls came to, in their order.
@@ -35,12 +39,18 @@ pub enum Outcomes<'a> {
 #[derive(Clone, Copy)]
 pub struct Heard<'a> {
     pub table: &'a Table,
+    /// The description that the table was made of, if one was read.
+    pub description: Option<&'a Description>,
     /// The policy, if one was read.
     pub policy: Option<&'a Policy>,
     /// What calls came to, if any were read or made.
     pub outcomes: Option<Outcomes<'a>>,
     /// What is found wrong, if anything is.
     pub finding: Option<&'a Finding>,
+    /// The lines of claims of the second version, if such were read.
+    pub claims: Option<&'a StatedLines>,
+    /// The script that was searched for, if it was found.
+    pub script: Option<&'a [Event]>,
 }
 
 /// Hears what a command finds, to tell a person of it. What is answered doesn't depend on it.

@@ -81,7 +81,7 @@ pub trait Held: Drop {
 impl Held for Table {
     ghost layout = { λ table. table };
 
-    ghost hears = { λ table answer. answered table None None answer.finding };
+    ghost hears = { λ table answer. answered table None None None answer.finding };
 
     fn table(&self) -> &Table {
         self
@@ -90,9 +90,12 @@ impl Held for Table {
     fn heard<'a>(&'a self, answer: &'a Answer) -> Heard<'a> {
         Heard {
             table: self,
+            description: None,
             policy: None,
             outcomes: None,
             finding: answer.finding.as_ref(),
+            claims: None,
+            script: None,
         }
     }
 }
@@ -100,7 +103,7 @@ impl Held for Table {
 impl Held for System {
     ghost layout = { λ system. system.table };
 
-    ghost hears = { λ system answer. answered system.table (Some system.policy) None answer.finding };
+    ghost hears = { λ system answer. answered system.table None (Some system.policy) None answer.finding };
 
     fn table(&self) -> &Table {
         &self.table
@@ -109,9 +112,12 @@ impl Held for System {
     fn heard<'a>(&'a self, answer: &'a Answer) -> Heard<'a> {
         Heard {
             table: &self.table,
+            description: None,
             policy: Some(&self.policy),
             outcomes: None,
             finding: answer.finding.as_ref(),
+            claims: None,
+            script: answer.script.as_deref(),
         }
     }
 }
@@ -119,7 +125,7 @@ impl Held for System {
 impl<X: LaterFile> Held for Three<X> {
     ghost layout = { λ three. three.table };
 
-    ghost hears = { λ three answer. answered three.table (Some three.policy) (X.calls three.third answer.made) answer.finding };
+    ghost hears = { λ three answer. answered three.table None (Some three.policy) (X.calls three.third answer.made) answer.finding };
 
     fn table(&self) -> &Table {
         &self.table
@@ -128,15 +134,22 @@ impl<X: LaterFile> Held for Three<X> {
     fn heard<'a>(&'a self, answer: &'a Answer) -> Heard<'a> {
         Heard {
             table: &self.table,
+            description: None,
             policy: Some(&self.policy),
             outcomes: self.third.outcomes(answer.made.as_ref()),
             finding: answer.finding.as_ref(),
+            claims: self.third.claims(),
+            script: None,
         }
     }
 }
 
 /// The bytes of a file.
-fn read_file<S: Source>(alloc: Global, file: File, source: &mut S) -> Result<Vec<u8>, Stop>
+pub(crate) fn read_file<S: Source>(
+    alloc: Global,
+    file: File,
+    source: &mut S,
+) -> Result<Vec<u8>, Stop>
     requires { S.failed source.old ≡ false }
     ensures bytes { IfOk result (λ v. IfSome (S.remaining source.old) (λ bytes. v.items ≡ bytes)) }
     ensures stops { IfErr result (λ stop. IsDeviceStop file stop) }
@@ -150,7 +163,7 @@ fn read_file<S: Source>(alloc: Global, file: File, source: &mut S) -> Result<Vec
 }
 
 /// A text's fault, of which the listener hears, or the want of memory that stands in its place.
-fn stopped<L: Listener>(
+pub(crate) fn stopped<L: Listener>(
     file: File,
     text: &[u8],
     table: Option<&Table>,

@@ -5,8 +5,9 @@ use Rattle.devices.specs.{declared.{opened.Unopened.Unopened, watched.Watched.Wa
 use Rattle.devices.specs.Watched.{failed_of, is_flushed_of}
 use Rattle.commands.specs.{declared.end.End.End, Commands.{Input, Output, input, output}, Ends.status_of}
 use Rattle.report.specs.{Answers.{IsChecked, IsRun, IsRunSplit, IsVerifiedWith}, Claimed.{AreJudged, AreWritten}}
-use Rattle.report.specs.{Closings.{IsClosedOver, IsStarted}, Questions.{IsDrawn, IsListed, IsTold}, Replays.IsReplayed}
-use Rattle.invocation.specs.declared.request.OfSystem.{OfSystem, TheVariants.{Check, Close, Draw, Strongest, Why}}
+use Rattle.report.specs.{Closings.{IsClosedOver, IsStarted}, Imports.IsImported, Questions.{IsDrawn, IsListed, IsTold}, Replays.IsReplayed}
+use Rattle.report.specs.{Shows.IsShownTo, Summaries.AreSummed}
+use Rattle.invocation.specs.declared.request.OfSystem.{OfSystem, TheVariants.{Check, Close, Draw, Show, Strongest, Summary, Why}}
 use Rattle.invocation.specs.declared.request.{OfTable.{OfTable, OfTable as of_table}, OfThree.OfThree, Request.Request}
 use Rattle.invocation.specs.declared.request.OfThree.TheVariants.{Claims, Replay, Run, Verify}
 use Rattle.invocation.specs.{declared.request.Request.Request as request, Requests.OnEach}
@@ -47,7 +48,9 @@ abbrev pub ServesSystem : {T P O : Type 0} → OfSystem → Input T → Input P 
 ServesSystem (Check workers on_accept) = IsChecked on_accept
 ServesSystem (Close on_close) = IsClosedOver on_close
 ServesSystem (Why basis actor object) = IsTold basis actor.now object.now
-ServesSystem (Draw basis) = IsDrawn basis
+ServesSystem (Show search actor object) = IsShownTo search actor.now object.now
+ServesSystem (Draw basis picture) = IsDrawn basis picture
+ServesSystem Summary = AreSummed
 ServesSystem Strongest = AreWritten
 
 -- what is asked of a table, a policy and a third file was done
@@ -59,6 +62,8 @@ ServesThree Claims = AreJudged
 
 -- what was asked for was done on these files, of which those are left, and on what is written to
 abbrev pub Serves : {F O : Type 0} → (F → Option (List ℕ)) → Output O → Request (Opened F) → Request (Opened F) → End → Type 0
+Serves remaining out (request.OfDescription asked description) (request.OfDescription also d) end =
+    IsImported asked (read remaining description d) out end
 Serves remaining out (request.OfTable asked table) (request.OfTable also t) end = ServesTable asked (read remaining table t) out end
 Serves remaining out (request.OfSystem asked table policy) (request.OfSystem also t p) end =
     ServesSystem asked (read remaining table t) (read remaining policy p) out end

@@ -3,12 +3,14 @@ use crate::files::Opened;
 use captext::object_name;
 use causes::{Caller, explain_illegal, explain_refusal};
 use explain::{
-    Names, explain_broken, explain_closing, explain_denial, explain_notes, explain_outside,
-    explain_reach, explain_unlabelled, explain_why,
+    Names, explain_breaches, explain_broken, explain_closing, explain_denial, explain_notes,
+    explain_outside, explain_reach, explain_run, explain_unlabelled, explain_why,
 };
 use invocation::{Invocation, OfSystem, OfTable, OfThree, Request};
 use machine::{Event, Outcome};
+use microkit::Description;
 use policy::Policy;
+use remarks::{explain_notes as explain_left_out, notes_of};
 use report::{
     Asked, Basis, End, Fault, File, Finding, Heard, Listener, OnClose, Outcomes, answer_at,
 };
@@ -65,12 +67,28 @@ impl<'a, R: AllocGlobal + Eprint> Explainer<'a, R> {
                 basis: Basis::Policy,
                 ..
             }
-            | OfSystem::Draw(Basis::Policy),
+            | OfSystem::Draw(Basis::Policy, _),
             _,
             _,
         ) = self.invocation.request
         {
             let _ = self.rt.eprintln(BY_POLICY_ALONE);
+        }
+    }
+
+    /// Tells what the table of a description doesn't show; how much that is, if nothing is to be explained.
+    fn tell_left_out(&self, description: &Description, table: &Table) {
+        let alloc = self.rt.alloc();
+        if let Ok(notes) = notes_of(alloc, description, table) {
+            let file = self.invocation.request.name_of(File::Description);
+            if self.invocation.explains {
+                self.tell_lines(explain_left_out(alloc, file, &notes));
+            } else {
+                let count = notes.len();
+                self.tell(format!(in alloc;
+                    "{file}: {count} notes on what the table doesn't show: `--explain` tells them"
+                ));
+            }
         }
     }
 
@@ -89,7 +107,7 @@ impl<'a, R: AllocGlobal + Eprint> Explainer<'a, R> {
     }
 
     /// Tells what is found wrong.
-    fn tell_finding(&self, heard: &Heard<'_>, finding: &Finding) {
+    fn tell_finding(&self, leave: &(impl Threads + Sync), heard: &Heard<'_>, finding: &Finding) {
         let (alloc, table) = (self.rt.alloc(), heard.table);
         match finding {
             Finding::Denied(denial) => {
@@ -109,6 +127,15 @@ impl<'a, R: AllocGlobal + Eprint> Explainer<'a, R> {
             Finding::Broken(broken) => {
                 if let Some(policy) = heard.policy {
                     self.tell(explain_broken(alloc, table, policy, broken));
+                }
+            }
+            Finding::BrokenLines(broken) => {
+                if let (Some(policy), Some(lines)) = (heard.policy, heard.claims) {
+                    let names = self.names();
+                    let claims = self.invocation.request.name_of(File::Claims);
+                    self.tell_lines(explain_breaches(
+                        leave, alloc, &names, claims, table, policy, lines, broken,
+                    ));
                 }
             }
         }
@@ -189,9 +216,9 @@ impl<'a, R: AllocGlobal + Eprint> Explainer<'a, R> {
                 Some(policy),
                 _,
             ) => self.tell_lines(explain_closing(leave, alloc, file, table, policy)),
-            (Request::OfSystem(OfSystem::Check { .. }, _, _), Some(policy), _) => {
-                self.tell_lines(explain_notes(alloc, table));
-                self.tell_lines(explain_reach(alloc, table, policy));
+            (Request::OfSystem(OfSystem::Check { .. }, file, policy_file), Some(policy), _) => {
+                self.tell_lines(explain_notes(alloc, file, table, policy));
+                self.tell_lines(explain_reach(alloc, file, policy_file, table, policy));
             }
             (
                 Request::OfSystem(
@@ -211,6 +238,11 @@ impl<'a, R: AllocGlobal + Eprint> Explainer<'a, R> {
                     leave, alloc, file, table, policy, alone, actor, object,
                 ));
             }
+            (Request::OfSystem(OfSystem::Show { .. }, _, _), _, _) => {
+                if let Some(script) = heard.script {
+                    self.tell_lines(explain_run(alloc, table, script));
+                }
+            }
             (Request::OfThree(OfThree::Run, _, _, script), _, Some(outcomes)) => {
                 self.tell_refusals(table, script, outcomes);
             }
@@ -222,17 +254,25 @@ impl<'a, R: AllocGlobal + Eprint> Explainer<'a, R> {
 impl<R: AllocGlobal + Eprint + Threads + Sync> Listener for Explainer<'_, R> {
     fn hear_fault(&mut self, file: File, text: &[u8], table: Option<&Table>, fault: Fault) {
         if self.invocation.explains {
+            let alloc = self.rt.alloc();
             let name = self.invocation.request.name_of(file);
-            self.tell(explain_fault(self.rt.alloc(), file, name, text, table, fault));
+            self.tell(match file {
+                File::Description => remarks::explain_fault(alloc, name, text, fault),
+                _ => explain_fault(alloc, file, name, text, table, fault),
+            });
         }
     }
 
     fn hear_answer(&mut self, heard: &Heard<'_>) {
         self.warn();
+        if let Some(description) = heard.description {
+            self.tell_left_out(description, heard.table);
+        }
         if self.invocation.explains {
+            let leave = Leave::<R> { of: PhantomData };
             match heard.finding {
-                Some(finding) => self.tell_finding(heard, finding),
-                None => self.tell_more(&Leave::<R> { of: PhantomData }, heard),
+                Some(finding) => self.tell_finding(&leave, heard, finding),
+                None => self.tell_more(&leave, heard),
             }
         }
     }

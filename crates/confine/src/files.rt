@@ -52,6 +52,9 @@ pub(crate) fn open_all<'a, F, O: Fn(&str) -> io::Result<F>>(
     ensures limits { IsWithinLimits request.entry → IsWithinLimits result }
 {
     match request {
+        Request::OfDescription(asked, description) => {
+            Request::OfDescription(asked, open_by(opener, description))
+        }
         Request::OfTable(asked, table) => Request::OfTable(asked, open_by(opener, table)),
         Request::OfSystem(asked, table, policy) => {
             let (table, policy) = (open_by(opener, table), open_by(opener, policy));

@@ -17,8 +17,8 @@ use invocation::{
     CommandLine, Invocation, OfSystem, OfTable, OfThree, Request, SplitRun, help, read_request,
 };
 use report::{
-    End, Gate, Listener, Open, Sink, Source, Watched, check, check_claims, close, draw, list,
-    replay, run, run_split, start, verify, why, write_claims,
+    End, Gate, Listener, Open, Sink, Source, Watched, check, check_claims, close, draw, import,
+    list, replay, run, run_split, show, start, summary, verify, why, write_claims,
 };
 use std::alloc::Global;
 use std::env::Env;
@@ -169,6 +169,10 @@ where
     ensures arrived { status_of result.0 ≡ 0 → HaveArrived (G.HasArrived gate.now) files.entry }
 {
     match files {
+        Request::OfDescription(asked, mut description) => {
+            let end = import(rt.alloc(), asked, &mut description, listener, out);
+            (end, Request::OfDescription(asked, description))
+        }
         Request::OfTable(asked, mut table) => {
             let end = serve_table(rt.alloc(), asked, &mut table, listener, out);
             (end, Request::OfTable(asked, table))
@@ -250,7 +254,17 @@ where
         } => why(
             rt, alloc, basis, table, policy, actor, object, listener, out,
         ),
-        OfSystem::Draw(basis) => draw(rt, alloc, basis, table, policy, listener, out),
+        OfSystem::Show {
+            search,
+            actor,
+            object,
+        } => show(
+            rt, alloc, search, table, policy, actor, object, listener, out,
+        ),
+        OfSystem::Draw(basis, picture) => {
+            draw(rt, alloc, basis, picture, table, policy, listener, out)
+        }
+        OfSystem::Summary => summary(rt, alloc, table, policy, listener, out),
         OfSystem::Strongest => write_claims(rt, alloc, table, policy, listener, out),
     }
 }

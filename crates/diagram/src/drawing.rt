@@ -16,8 +16,10 @@ use table::Table;
 /// What the drawing begins with.
 const HEAD: &str = "\
 digraph authority {
-  rankdir=LR
   node [shape=box]
+  edge [fontsize=10]
+  nodesep=0.1
+  ranksep=0.4
 ";
 
 /// Returns the folded drawing of who may change or take from whom where threads of the labels `actors` make

@@ -4,6 +4,7 @@
 #![tactic(auto)]
 
 mod asked;
+mod breaches;
 mod broken;
 mod capability;
 mod closing;
@@ -14,10 +15,12 @@ mod nothing;
 mod origins;
 mod premises;
 mod reach;
+mod runs;
 mod sentences;
 mod unlabelled;
 
 pub use asked::{an_asked_edge_is_missing, asked_edge};
+pub use breaches::explain_breaches;
 pub use broken::explain_broken;
 pub use closing::explain_closing;
 pub use denials::{Names, explain_denial, explain_outside};
@@ -27,4 +30,5 @@ pub use lines::{
 pub use notes::explain_notes;
 pub use origins::explain_why;
 pub use reach::explain_reach;
+pub use runs::explain_run;
 pub use unlabelled::explain_unlabelled;

@@ -66,7 +66,7 @@ fn push_why<R: Threads + Sync>(
 }
 
 /// Adds where these edges come from, and then where those come from by which a rule asks for one of those before.
-fn push_origins<R: Threads + Sync>(
+pub(crate) fn push_origins<R: Threads + Sync>(
     rt: &R,
     alloc: Global,
     lines: &mut String,

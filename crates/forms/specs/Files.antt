@@ -1,6 +1,6 @@
 -- The files that an engine reads.
 use Rattle.std.specs.Prelude.{ℕ, List, codes}
-use Rattle.forms.specs.declared.file.File.{File, TheVariants.{Certificate, Claims, Log, Policy, Script, Table}}
+use Rattle.forms.specs.declared.file.File.{File, TheVariants.{Certificate, Claims, Description, Log, Policy, Script, Table}}
 
 -- the word for a file
 abbrev pub file_word : File → List ℕ
@@ -10,3 +10,4 @@ file_word Certificate = codes "certificate"
 file_word Script = codes "script"
 file_word Log = codes "log"
 file_word Claims = codes "claims"
+file_word Description = codes "description"

@@ -14,20 +14,23 @@ pub enum File {
     Script,
     Log,
     Claims,
+    /// A system description of Microkit. It is XML, so its lines have no forms.
+    Description,
 }
 
 impl File {
     /// All of them.
-    pub const ALL: [File; 6] = [
+    pub const ALL: [File; 7] = [
         File::Table,
         File::Policy,
         File::Certificate,
         File::Script,
         File::Log,
         File::Claims,
+        File::Description,
     ];
 
-    /// Its first line.
+    /// Its first line. That of a description is the shortest of those that its XML may begin with.
     pub fn header(self) -> &'static str {
         match self {
             File::Table => "confine-table 1",
@@ -36,6 +39,7 @@ impl File {
             File::Script => "confine-script 1",
             File::Log => "confine-log 1",
             File::Claims => "confine-claims 1",
+            File::Description => "<?xml version=\"1.0\"?>",
         }
     }
 
@@ -47,10 +51,11 @@ impl File {
         }
     }
 
-    /// Whether a line is the first of a version.
+    /// Whether a line is the first of a version. Any tag begins a description.
     pub fn has_header(self, line: &str) -> bool {
         match self.later_header() {
             Some(later) if later == line => true,
+            None if self == File::Description => line.starts_with('<'),
             _ => self.header() == line,
         }
     }
@@ -66,6 +71,7 @@ impl File {
             File::Script => "script",
             File::Log => "log",
             File::Claims => "claims",
+            File::Description => "description",
         }
     }
 

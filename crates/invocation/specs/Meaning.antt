@@ -1,12 +1,15 @@
 -- What the words of a command line ask for: each command, with its words and options, and the request that they make (confine's own).
 use Rattle.std.specs.Borrow.{Bor}
-use Rattle.std.specs.Prelude.{[], ℕ, ◌≡◌, ◌∷◌, Bool, List, None, Option, Some, codes, decimal, false, find, if◌then◌else◌, is_some, option_and_then, option_copied, option_map, true}
+use Rattle.std.specs.Prelude.{[], ℕ, ◌&&◌, ◌≡◌, ◌∷◌, Bool, List, None, Option, Some, codes, false, if◌then◌else◌, is_some, nat_le, option_and_then, option_copied}
+use Rattle.std.specs.Prelude.{option_map, true}
 use Rattle.std.specs.Str.{bytes_eq}
 use Rattle.clap.specs.declared.parser.matches.ArgMatches.{ArgMatches}
 use Rattle.clap.specs.declared.parser.matches.Found.{Found}
 use Rattle.clap.specs.Matches.{first_value, one_text, subcommand_name_of}
 use Rattle.clap.specs.Simple.{subcommand_rows_of}
 use Rattle.clap.specs.Walk.{rows_of}
+use Rattle.words.specs.Number.{dec_of}
+use Rattle.importing.specs.declared.pieces.{Children.{Children, Children as children}, Minting.{Minting, Minting as minting}}
 use Rattle.commands.specs.declared.choices.OnAccept.{OnAccept}
 use Rattle.commands.specs.declared.choices.OnAccept.{OnAccept as on_accept}
 use Rattle.commands.specs.declared.choices.OnClose.{OnClose}
@@ -18,13 +21,14 @@ use Rattle.invocation.specs.declared.request.OfSystem.{OfSystem}
 use Rattle.invocation.specs.declared.request.OfSystem.{OfSystem as of_system}
 use Rattle.invocation.specs.declared.request.CommandLine.{CommandLine}
 use Rattle.invocation.specs.declared.request.CommandLine.TheVariants.{InTurn, Split}
-use Rattle.invocation.specs.declared.request.OfTable.{OfTable as of_table}
+use Rattle.invocation.specs.declared.request.OfTable.{OfTable, OfTable as on_table}
 use Rattle.invocation.specs.declared.request.OfThree.{OfThree}
 use Rattle.invocation.specs.declared.request.OfThree.{OfThree as of_three}
 use Rattle.invocation.specs.declared.request.Request.{Request}
 use Rattle.invocation.specs.declared.request.Request.{Request as request}
 use Rattle.commands.specs.declared.choices.Basis.{Basis}
 use Rattle.commands.specs.declared.choices.Basis.{Basis as basis}
+use Rattle.commands.specs.declared.choices.{Imported.{Imported, Imported as imported}, OnImport.OnImport, Picture.{Picture, Picture as picture}, Search.Search}
 
 infixl 10 ◌>>=◌
 abbrev ◌>>=◌ : {A B : Type 0} → Option A → (A → Option B) → Option B
@@ -34,13 +38,22 @@ value >>= next = option_and_then next value
 abbrev pub Name : Type 0
 Name = Bor (List ℕ)
 
--- how many workers there may be
-abbrev pub few_counts : List ℕ
-few_counts = 1 ∷ 2 ∷ 3 ∷ 4 ∷ 5 ∷ 6 ∷ 7 ∷ 8 ∷ 9 ∷ 10 ∷ 11 ∷ 12 ∷ 13 ∷ 14 ∷ 15 ∷ 16 ∷ []
+-- the number from 1 to a limit that a word spells in decimal
+abbrev pub number_to : ℕ → List ℕ → Option ℕ
+number_to most word = do
+  number ← dec_of word
+  if nat_le 1 number && nat_le number most then Some number else None
 
--- the number of workers that a word spells, in decimal
-unfoldable pub few_of : List ℕ → Option ℕ
-few_of word = find (λ n. bytes_eq (decimal n) word) few_counts
+-- which rights capabilities get by a word
+abbrev pub minting_of : List ℕ → Option Minting
+minting_of word =
+    if bytes_eq word (codes "least") then Some minting.Least else if bytes_eq word (codes "all") then Some minting.All else None
+
+-- what parents get of their children by a word
+abbrev pub children_of : List ℕ → Option Children
+children_of word =
+    if bytes_eq word (codes "control") then Some children.Control
+    else if bytes_eq word (codes "directed") then Some children.Directed else None
 
 -- what `check` writes
 abbrev pub on_accept_of : Words → OnAccept
@@ -54,62 +67,108 @@ on_close_of words = if words.missing then on_close.Missing else if words.surplus
 abbrev pub basis_of : Words → Basis
 basis_of words = if words.policy_alone then basis.Policy else basis.System
 
+-- which labels `draw` draws
+abbrev pub picture_of : Words → Picture
+picture_of words = if words.all then picture.Labels else picture.Programs
+
+-- what `show` looks for, and how long
+abbrev pub search_of : Words → Option Search
+search_of words = do
+  word ← words.steps
+  steps ← number_to 1000000 word.now
+  Some (record { takes = words.take; steps = steps })
+
+-- what `import` writes
+abbrev pub imported_of : Words → Imported
+imported_of words = if words.as_claims then imported.Claims else imported.Table
+
+-- how `import` reads a description, and what it writes of it
+abbrev pub on_import_of : Words → Option OnImport
+on_import_of words = do
+  rights ← words.rights
+  minting ← minting_of rights.now
+  word ← words.children
+  children ← children_of word.now
+  Some (record { minting = minting; children = children; writes = imported_of words })
+
 -- a request that is done in turn
 abbrev pub in_turn : Words → Request Name → Option CommandLine
 in_turn words asked = Some (InTurn (record { request = asked; explains = words.explain }))
 
+-- .. of a table alone
+abbrev pub of_table : Words → OfTable → Option CommandLine
+of_table words asked = do
+  table ← words.table
+  in_turn words (request.OfTable asked table)
+
 -- .. of a table and a policy
 abbrev pub of_two : Words → OfSystem → Option CommandLine
 of_two words asked = do
+  table ← words.table
   policy ← words.policy
-  in_turn words (request.OfSystem asked words.table policy)
+  in_turn words (request.OfSystem asked table policy)
 
 -- .. of a table, a policy and a third file
 abbrev pub of_all : Words → OfThree → Option Name → Option CommandLine
 of_all words asked file = do
+  table ← words.table
   policy ← words.policy
   third ← file
-  in_turn words (request.OfThree asked words.table policy third)
+  in_turn words (request.OfThree asked table policy third)
 
 -- a run by workers
 abbrev pub split_of : Words → Option CommandLine
 split_of words = do
+  table ← words.table
   policy ← words.policy
   script ← words.script
-  Some (Split (record { table = words.table; policy = policy; script = script; explains = words.explain }))
+  Some (Split (record { table = table; policy = policy; script = script; explains = words.explain }))
 
 -- what each command asks for with these words; nothing, if it lacks one
 abbrev pub asked_by : Verb → Words → Option CommandLine
+asked_by verb.Import words = do
+  asked ← on_import_of words
+  description ← words.description
+  in_turn words (request.OfDescription asked description)
 asked_by verb.Check words = do
   word ← words.workers
-  workers ← few_of word.now
+  workers ← number_to 16 word.now
   of_two words (of_system.Check workers (on_accept_of words))
 asked_by verb.Verify words = of_all words of_three.Verify words.certificate
 asked_by verb.Run words = if words.split then split_of words else of_all words of_three.Run words.script
 asked_by verb.Replay words = of_all words of_three.Replay words.log
 asked_by verb.Close words =
     if is_some words.policy then of_two words (of_system.Close (on_close_of words))
-    else in_turn words (request.OfTable (of_table.Start (on_close_of words)) words.table)
+    else of_table words (on_table.Start (on_close_of words))
 asked_by verb.Why words = do
   actor ← words.actor
   object ← words.object
   of_two words (of_system.Why (basis_of words) actor object)
-asked_by verb.Draw words = of_two words (of_system.Draw (basis_of words))
+asked_by verb.Show words = do
+  search ← search_of words
+  actor ← words.actor
+  object ← words.object
+  of_two words (of_system.Show search actor object)
+asked_by verb.Draw words = of_two words (of_system.Draw (basis_of words) (picture_of words))
+asked_by verb.Summary words = of_two words of_system.Summary
 asked_by verb.Claims words = if words.all then of_two words of_system.Strongest else of_all words of_three.Claims words.claims
-asked_by verb.List words = in_turn words (request.OfTable of_table.List words.table)
+asked_by verb.List words = of_table words on_table.List
 
 abbrev pub command_line_of : Words → Option CommandLine
 command_line_of words = asked_by words.verb words
 
 -- the names of the commands
 abbrev pub verb_name : Verb → List ℕ
+verb_name verb.Import = codes "import"
 verb_name verb.Check = codes "check"
 verb_name verb.Verify = codes "verify"
 verb_name verb.Run = codes "run"
 verb_name verb.Replay = codes "replay"
 verb_name verb.Close = codes "close"
 verb_name verb.Why = codes "why"
+verb_name verb.Show = codes "show"
 verb_name verb.Draw = codes "draw"
+verb_name verb.Summary = codes "summary"
 verb_name verb.Claims = codes "claims"
 verb_name verb.List = codes "list"
 
@@ -131,12 +190,14 @@ Each P (x ∷ xs) = P x × Each P xs
 abbrev pub AreFound : Found → Words → Type 0
 AreFound found words =
     Each (IsFound found)
-    ((codes "table", Some words.table) ∷ (codes "policy", words.policy) ∷ (codes "certificate", words.certificate)
+    ((codes "description", words.description) ∷ (codes "table", words.table) ∷ (codes "policy", words.policy) ∷ (codes "certificate", words.certificate)
     ∷ (codes "script", words.script) ∷ (codes "log", words.log) ∷ (codes "claims", words.claims) ∷ (codes "actor", words.actor)
-    ∷ (codes "object", words.object) ∷ (codes "workers", words.workers) ∷ [])
+    ∷ (codes "object", words.object) ∷ (codes "workers", words.workers) ∷ (codes "steps", words.steps) ∷ (codes "rights", words.rights)
+    ∷ (codes "children", words.children) ∷ [])
     × Each (IsGiven found)
     ((codes "explain", words.explain) ∷ (codes "cert", words.cert) ∷ (codes "missing", words.missing) ∷ (codes "surplus", words.surplus)
-    ∷ (codes "split", words.split) ∷ (codes "all", words.all) ∷ (codes "policy-alone", words.policy_alone) ∷ [])
+    ∷ (codes "split", words.split) ∷ (codes "all", words.all) ∷ (codes "policy-alone", words.policy_alone)
+    ∷ (codes "take", words.take) ∷ (codes "as-claims", words.as_claims) ∷ [])
 
 -- a line asks for what its command and the words found for that make
 pub record IsAskedIn (matches : ArgMatches) (line : CommandLine) : Type 0 where

@@ -3,7 +3,7 @@ use Rattle.std.specs.{Borrow.Bor, Option.option_map_or, Prelude.{[], ℕ, ◌<�
 use Rattle.commands.specs.declared.end.Asked.{Asked, Asked as label}
 use Rattle.forms.specs.declared.file.File.{File, File as file}
 use Rattle.invocation.specs.declared.request.CommandLine.{CommandLine, TheVariants.{InTurn, Split}}
-use Rattle.invocation.specs.declared.request.OfSystem.{OfSystem, TheVariants.{Check, Why}}
+use Rattle.invocation.specs.declared.request.OfSystem.{OfSystem, TheVariants.{Check, Show, Why}}
 use Rattle.invocation.specs.declared.request.OfThree.TheVariants.{Run}
 use Rattle.invocation.specs.declared.request.Request.{Request, Request as request}
 use Rattle.invocation.specs.declared.request.SplitRun.{SplitRun}
@@ -14,12 +14,14 @@ HasFewWorkers (Check workers on_accept) = (1 ≤ workers) × (workers ≤ 16)
 HasFewWorkers _ = Unit {0}
 
 abbrev pub IsWithinLimits : {N : Type 0} → Request N → Type 0
+IsWithinLimits (request.OfDescription asked description) = Unit {0}
 IsWithinLimits (request.OfTable asked table) = Unit {0}
 IsWithinLimits (request.OfSystem asked table policy) = HasFewWorkers asked
 IsWithinLimits (request.OfThree asked table policy third) = Unit {0}
 
 -- two requests ask the same, and this is so of each file of the one and that file of the other
 abbrev pub OnEach : {N M : Type 0} → (N → M → Type 0) → Request N → Request M → Type 0
+OnEach R (request.OfDescription asked description) (request.OfDescription also d) = (asked ≡ also) × R description d
 OnEach R (request.OfTable asked table) (request.OfTable also t) = (asked ≡ also) × R table t
 OnEach R (request.OfSystem asked table policy) (request.OfSystem also t p) = (asked ≡ also) × R table t × R policy p
 OnEach R (request.OfThree asked table policy third) (request.OfThree also t p x) = (asked ≡ also) × R table t × R policy p × R third x
@@ -36,6 +38,7 @@ OnInTurn (Split run) P = Unit {0}
 
 -- the file of this kind, if a request has one; the third file is of any kind
 abbrev pub file_of : {N : Type 0} → Request N → File → Option N
+file_of (request.OfDescription asked description) file.Description = Some description
 file_of (request.OfTable asked table) file.Table = Some table
 file_of (request.OfSystem asked table policy) file.Table = Some table
 file_of (request.OfSystem asked table policy) file.Policy = Some policy
@@ -52,6 +55,8 @@ file_name_of names kind = option_map_or (λ name. name.now) (file_of names kind)
 abbrev pub label_of : {N : Type 0} → Request N → Asked → List ℕ
 label_of (request.OfSystem (Why basis actor object) table policy) label.Actor = actor.now
 label_of (request.OfSystem (Why basis actor object) table policy) label.Object = object.now
+label_of (request.OfSystem (Show search actor object) table policy) label.Actor = actor.now
+label_of (request.OfSystem (Show search actor object) table policy) label.Object = object.now
 label_of _ _ = []
 
 -- all workers that a check has have arrived

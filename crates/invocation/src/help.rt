@@ -5,6 +5,15 @@
 pub const ABOUT: &str =
     "Checks what the threads of a system of capabilities may do, and runs and replays their calls";
 
+pub const ABOUT_IMPORT: &str =
+    "Writes the capability table of a Microkit system description, or the claims that it makes";
+
+pub const ABOUT_SUMMARY: &str =
+    "Prints a matrix of who may change whom, and who changes and reads which memory";
+
+pub const ABOUT_SHOW: &str =
+    "Searches for calls by which a label changes objects of another, and prints a script";
+
 pub const ABOUT_CHECK: &str =
     "Checks a table against a policy, and prints who may change what, or which rule is broken";
 
@@ -24,7 +33,7 @@ pub const ABOUT_WHY: &str =
     "Reports what threads of a label may do to objects of another, and by which edges";
 
 pub const ABOUT_DRAW: &str =
-    "Draws, for Graphviz, who may change or take from whom, and by which edge";
+    "Draws, for Graphviz, which programs may change or take from which, and by what";
 
 pub const ABOUT_CLAIMS: &str =
     "Reports whether claims hold: how much authority labels have on others at most";
@@ -133,14 +142,24 @@ The kernel calls and their outcomes. The first line is `confine-log 1`, the last
   refused CODE DETAIL";
 
 pub const CLAIMS: &str = "\
-How much authority labels have on others at most. The first line is `confine-claims 1`,
-the last is `end`. The lines between them are sorted by the first label, and then by
-the second:
+What must hold in every run. The first line is `confine-claims 2`, the last is `end`.
+The lines between them come in any order. An empty line, or one that begins with `#`,
+says nothing:
 
-  none LABEL LABEL   threads of the first never change an object of the second
-  take LABEL LABEL   .. other than by shrinking it";
+  none A B           threads of label A never change an object of label B
+  take A B           .. other than by shrinking it; `*` for A or B: each other label
+  only B A A ..      threads of B and of these labels alone change an object of B
+  apart A B          no chain of such changes leads from A to B
+  without A KIND B   A never has authority of this kind on B, as in an edge of a policy
 
-pub const VERSION: &str = "0.15.0";
+With `confine-claims 1` there are lines `none A B` and `take A B` alone, by label.";
+
+pub const DESCRIPTION: &str = "\
+A system description, as Microkit 1.x reads it: protection domains, virtual machines,
+memory regions, maps and channels, in XML. What it doesn't show is told with `--explain`.
+docs/IMPORT.md says what each element becomes.";
+
+pub const VERSION: &str = "0.16.0";
 
 pub const EXPLAIN: &str =
     "Says in sentences, on standard error, what is denied or faulty, and what to do";
@@ -150,6 +169,26 @@ pub const WORKERS: &str = "Threads that check the slots at the same time, 1 to 1
 pub const WRONG_WORKERS: &str = "'--workers <N>' takes a decimal number from 1 to 16";
 
 pub const CERT: &str = "Writes the certificate of an accepted table instead of the report";
+
+pub const RIGHTS: &str = "The rights of capabilities: `least`, as the description needs, or `all`";
+
+pub const CHILDREN: &str = "What a parent has of a child: `control` or `directed`";
+
+pub const WRONG_RIGHTS: &str =
+    "'--rights <R>' takes 'least' or 'all': with 'least' a capability has the rights \
+that the description needs, with 'all' every right of its kind, as Microkit 1.x mints them; '--children <C>' takes \
+'control' or 'directed'";
+
+pub const AS_CLAIMS: &str = "Writes the claims that the description makes, in place of the table";
+
+pub const TAKE: &str = "Searches for calls by which the object only shrinks";
+
+pub const STEPS: &str = "The most calls that are tried, 1 to 1000000";
+
+pub const WRONG_STEPS: &str = "'--steps <N>' takes a decimal number from 1 to 1000000";
+
+pub const ALL_LABELS: &str =
+    "Draws all labels, and at each arrow an edge, in place of programs alone";
 
 pub const SPLIT: &str =
     "Runs a worker for each core; the order of calls may differ from run to run";
@@ -470,7 +509,8 @@ pub const EXAMPLE_CLAIMS: &str = with_policy!(
 Its owner claims that `b` never changes what is labelled `a`.",
     "\
 cat >claims <<'.'
-confine-claims 1
+confine-claims 2
+# b rings at nobody
 none b a
 end
 .
@@ -496,14 +536,20 @@ Now it is claimed that `a` changes nothing of `b`:
 sed -i '/none/i take a b' claims
 confine claims table policy claims --explain
 
-It prints the first claim that doesn't hold and what authority there is, and ends with status 1:
+It prints the claims that don't hold and what authority there is, and ends with status 1:
 
-{\"authority\":\"full\",\"claim\":1,\"verdict\":\"broken\"}
+{\"broken\":[{\"authority\":\"full\",\"claim\":\"take a b\",\"line\":3}],\"verdict\":\"broken\"}
 
-With `--explain` standard error says by which edges:
+With `--explain` standard error says by which edges, where each is from, and which calls show it:
 
-claim 1, `take a b`, is broken: `a` may change objects of `b`, by `edge a notify b`: leave the claim
-out, or take an edge out of the policy, and what asks for it out of the table
+claims:3: `take a b` doesn't hold: `a` may change objects of `b`, by `edge a notify b`: change the
+claim, or take an edge out of the policy, and what asks for it out of the table
+
+`edge a notify b` comes from table:8: slot 0 of `space` lets `a` notify what is labelled `b`
+
+a run that shows it:
+
+`0 1 signal 0`: `main` of `a` changes `ring` of `b`
 "
 );
 
@@ -549,13 +595,122 @@ denied here, with status 1 too.
 "
 );
 
+pub const EXAMPLE_SUMMARY: &str = with_policy!(
+    "a thread `main` may signal a bell and poll it.
+Who may change what?",
+    "\
+confine summary table policy | tail -n +3
+
+After a line that says what the letters mean it prints a matrix of the labels that have a thread,
+and then the other labels with those who use them. It ends with status 0:
+
+        1
+1 a     =
+
+b
+    changed by a; read by a
+
+Here one label has a thread, and `b` has none. In the row of a label stands what its threads may do
+to objects of the label at the head of the column: C they call, A they answer, S they signal, F they
+may change them for another reason, t they may only take away; m is memory that one writes and the
+other has. A `.` says that they never change one, in any run: it is `none`, as `confine why` tells.
+A system that `confine check` denies is denied here, with status 1 too.
+"
+);
+
+pub const EXAMPLE_SHOW: &str = with_policy!(
+    "a thread `main` may signal a bell and poll it.
+By which calls does `a` change what is labelled `b`?",
+    "\
+confine show table policy a b
+
+It prints calls that the system makes from its boot state, none of which is refused. The last is of
+a thread of `a`, and changes an object of `b`. The command ends with status 0:
+
+confine-script 1
+0 1 signal 0
+end
+
+It is a script for `confine run`. The other way round there is no such script:
+
+confine show table policy b a
+
+It prints so, and ends with status 1:
+
+{\"bound\":\"none\",\"run\":\"impossible\"}
+
+`confine why` tells that bound. If it is `full` or `take`, and no script is found with so many calls
+tried, `show` prints `none found`, with status 1 too. That says nothing of other scripts. With
+`--take` an object that shrinks is enough. A system that `confine check` denies is denied here.
+"
+);
+
+pub const EXAMPLE_IMPORT: &str = "\
+Example, to be pasted into a shell: a client may call a server, and the server may notify it.
+
+cat >system <<'.'
+<system>
+  <protection_domain name=\"server\" priority=\"2\">
+    <program_image path=\"server.elf\"/>
+  </protection_domain>
+  <protection_domain name=\"client\" priority=\"1\">
+    <program_image path=\"client.elf\"/>
+  </protection_domain>
+  <channel>
+    <end pd=\"server\" id=\"1\"/>
+    <end pd=\"client\" id=\"1\" pp=\"true\"/>
+  </channel>
+</system>
+.
+confine import system --rights least >table
+confine close table >policy
+confine summary table policy | tail -n +3
+
+Each command ends with status 0. On standard error `import` says that there is more to be read:
+
+system: 3 notes on what the table doesn't show: `--explain` tells them
+
+The last command prints who may change whom, as `confine summary --help` explains it:
+
+             1     2
+1 server     =    AS
+2 client    CS     =
+
+client_time
+    changed by server, client
+
+So the client may call and signal, and the server may answer and signal: no other way leads from the
+one to the other. `client_time` is the context on which the client runs, and lends with a call.
+
+With `--rights all` a capability has every right of its kind, as the tool mints them. Compare both:
+many answers rest on the rights, which no description shows. The rights that your tool mints are in
+its report. docs/IMPORT.md says more.
+";
+
 pub const EXAMPLE_DRAW: &str = with_policy!(
     "a thread `main` may signal a bell and poll it.
-Which labels may change what is labelled otherwise?",
+Which programs may change what?",
     "\
 confine draw table policy
 
-It prints a graph, and ends with status 0:
+It prints a graph of the labels that have a thread, and ends with status 0:
+
+digraph authority {
+  node [shape=box]
+  edge [fontsize=10]
+  nodesep=0.1
+  ranksep=0.4
+  \"a\" [label=\"a\\nwith b\"]
+}
+
+So `a` alone has a thread, and it alone uses what is labelled `b`, which stands in its box. Between
+two boxes an arrow says what threads of the one may do to objects of the other, and to memory that
+both use. A dashed arrow is for threads that may only take away, a dotted one is about memory
+alone. With `--all` each label is a node, and an arrow has the first edge of the reason:
+
+confine draw table policy --all
+
+Threads of `a` may change objects of `b`, since they may notify. It ends with status 0:
 
 digraph authority {
   \"a\"
@@ -563,10 +718,8 @@ digraph authority {
   \"a\" -> \"b\" [label=\"a notify b\"]
 }
 
-So threads of `a` may change objects of `b`, and the edge `a notify b` is the first of a reason for
-that, as `confine why` tells it. A dashed arrow is for threads that may take away, and no more.
-Between labels with no arrow nothing is changed in any run. A label has no arrow to itself. A system
-that `confine check` denies is denied here, with status 1 too. Graphviz makes a picture of it:
+Between labels with no arrow nothing is changed in any run. A system that `confine check` denies is
+denied here, with status 1 too. Graphviz makes a picture:
 `confine draw table policy | dot -Tsvg >authority.svg`.
 "
 );

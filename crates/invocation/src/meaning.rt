@@ -1,21 +1,26 @@
 //! Which request the words of a command line make.
-ghost use Rattle.std.specs.{Prelude.{◌<◌, ◌≡◌, ◌≢◌, ◌≤◌, IfNone, IfSome, length, position}, Str.bytes_eq};
-ghost use Rattle.invocation.specs.Meaning.{basis_of, command_line_of, few_of, in_turn, of_all, of_two, on_accept_of, on_close_of, split_of, verb_name};
+ghost use Rattle.std.specs.Prelude.{◌≡◌, ◌≢◌, ◌≤◌, IfNone, IfSome};
+ghost use Rattle.invocation.specs.Meaning.{basis_of, children_of, command_line_of, imported_of, in_turn, minting_of, number_to, of_all, of_table, of_two};
+ghost use Rattle.invocation.specs.Meaning.{on_accept_of, on_close_of, on_import_of, picture_of, search_of, split_of, verb_name};
 ghost use Rattle.invocation.specs.Requests.{IsWithinLimits, OnInTurn};
 
 use crate::request::{CommandLine, Invocation, OfSystem, OfTable, OfThree, Request, SplitRun};
-use commands::{Basis, OnAccept, OnClose};
+use commands::{Basis, Children, Imported, Minting, OnAccept, OnClose, OnImport, Picture, Search};
+use words::decimal_of;
 
 /// A command of the program.
 #[derive(Clone, Copy)]
 pub enum Verb {
+    Import,
     Check,
     Verify,
     Run,
     Replay,
     Close,
     Why,
+    Show,
     Draw,
+    Summary,
     Claims,
     List,
 }
@@ -27,13 +32,16 @@ impl Verb {
         ensures none { IfNone result ((verb : Verb) → name.now ≢ verb_name verb) }
     {
         match name {
+            "import" => Some(Verb::Import),
             "check" => Some(Verb::Check),
             "verify" => Some(Verb::Verify),
             "run" => Some(Verb::Run),
             "replay" => Some(Verb::Replay),
             "close" => Some(Verb::Close),
             "why" => Some(Verb::Why),
+            "show" => Some(Verb::Show),
             "draw" => Some(Verb::Draw),
+            "summary" => Some(Verb::Summary),
             "claims" => Some(Verb::Claims),
             "list" => Some(Verb::List),
             _ => None,
@@ -45,7 +53,8 @@ impl Verb {
 #[derive(Clone, Copy)]
 pub struct Words<'a> {
     pub verb: Verb,
-    pub table: &'a str,
+    pub description: Option<&'a str>,
+    pub table: Option<&'a str>,
     pub policy: Option<&'a str>,
     pub certificate: Option<&'a str>,
     pub script: Option<&'a str>,
@@ -54,6 +63,9 @@ pub struct Words<'a> {
     pub actor: Option<&'a str>,
     pub object: Option<&'a str>,
     pub workers: Option<&'a str>,
+    pub steps: Option<&'a str>,
+    pub rights: Option<&'a str>,
+    pub children: Option<&'a str>,
     pub explain: bool,
     pub cert: bool,
     pub missing: bool,
@@ -61,17 +73,24 @@ pub struct Words<'a> {
     pub split: bool,
     pub all: bool,
     pub policy_alone: bool,
+    pub take: bool,
+    pub as_claims: bool,
 }
 
 impl<'a> Words<'a> {
-    /// Returns the command line that the words make, or `None` if a word is missing, or the number of workers isn't 1 to 16.
+    /// Returns the command line that the words make, or `None` if a word is missing, or isn't a number within the limits of
+    /// its option, or one of the option's words.
     pub fn line(self) -> Option<CommandLine<'a>>
         ensures meaning { result ≡ command_line_of self.entry }
         ensures limits { IfSome result (λ line. OnInTurn line IsWithinLimits) }
     {
         match self.verb {
+            Verb::Import => self.in_turn(Request::OfDescription(
+                self.on_import()?,
+                self.description?,
+            )),
             Verb::Check => self.of_two(OfSystem::Check {
-                workers: few(self.workers?)?,
+                workers: number_to(16, self.workers?)? as usize,
                 on_accept: self.on_accept(),
             }),
             Verb::Verify => self.of_all(OfThree::Verify, self.certificate),
@@ -80,17 +99,27 @@ impl<'a> Words<'a> {
             Verb::Replay => self.of_all(OfThree::Replay, self.log),
             Verb::Close => match self.policy {
                 Some(_) => self.of_two(OfSystem::Close(self.on_close())),
-                None => self.in_turn(Request::OfTable(OfTable::Start(self.on_close()), self.table)),
+                None => self.of_table(OfTable::Start(self.on_close())),
             },
             Verb::Why => self.of_two(OfSystem::Why {
                 basis: self.basis(),
                 actor: self.actor?,
                 object: self.object?,
             }),
-            Verb::Draw => self.of_two(OfSystem::Draw(self.basis())),
+            Verb::Show => {
+                let search = self.search()?;
+                let (actor, object) = (self.actor?, self.object?);
+                self.of_two(OfSystem::Show {
+                    search,
+                    actor,
+                    object,
+                })
+            }
+            Verb::Draw => self.of_two(OfSystem::Draw(self.basis(), self.picture())),
+            Verb::Summary => self.of_two(OfSystem::Summary),
             Verb::Claims if self.all => self.of_two(OfSystem::Strongest),
             Verb::Claims => self.of_all(OfThree::Claims, self.claims),
-            Verb::List => self.in_turn(Request::OfTable(OfTable::List, self.table)),
+            Verb::List => self.of_table(OfTable::List),
         }
     }
 
@@ -104,18 +133,25 @@ impl<'a> Words<'a> {
         }))
     }
 
+    // A command of a table alone.
+    fn of_table(self, asked: OfTable) -> Option<CommandLine<'a>>
+        ensures { result ≡ of_table self.entry asked }
+    {
+        self.in_turn(Request::OfTable(asked, self.table?))
+    }
+
     // A command of a table and a policy.
     fn of_two(self, asked: OfSystem<'a>) -> Option<CommandLine<'a>>
         ensures { result ≡ of_two self.entry asked.entry }
     {
-        self.in_turn(Request::OfSystem(asked, self.table, self.policy?))
+        self.in_turn(Request::OfSystem(asked, self.table?, self.policy?))
     }
 
     // A command of a table, a policy and a third file.
     fn of_all(self, asked: OfThree, third: Option<&'a str>) -> Option<CommandLine<'a>>
         ensures { result ≡ of_all self.entry asked third.entry }
     {
-        self.in_turn(Request::OfThree(asked, self.table, self.policy?, third?))
+        self.in_turn(Request::OfThree(asked, self.table?, self.policy?, third?))
     }
 
     // A run by workers.
@@ -123,7 +159,7 @@ impl<'a> Words<'a> {
         ensures { result ≡ split_of self.entry }
     {
         Some(CommandLine::Split(SplitRun {
-            table: self.table,
+            table: self.table?,
             policy: self.policy?,
             script: self.script?,
             explains: self.explain,
@@ -164,25 +200,86 @@ impl<'a> Words<'a> {
             OnClose::Policy
         }
     }
+
+    // Which labels `draw` draws.
+    fn picture(self) -> Picture
+        ensures { result ≡ picture_of self.entry }
+    {
+        if self.all {
+            Picture::Labels
+        } else {
+            Picture::Programs
+        }
+    }
+
+    // What `show` looks for, and how long.
+    fn search(self) -> Option<Search>
+        ensures { result ≡ search_of self.entry }
+    {
+        Some(Search {
+            takes: self.take,
+            steps: number_to(1_000_000, self.steps?)?,
+        })
+    }
+
+    // How `import` reads a description, and what it writes of it.
+    fn on_import(self) -> Option<OnImport>
+        ensures { result ≡ on_import_of self.entry }
+    {
+        Some(OnImport {
+            minting: minting(self.rights?)?,
+            children: children(self.children?)?,
+            writes: self.imported(),
+        })
+    }
+
+    // What `import` writes.
+    fn imported(self) -> Imported
+        ensures { result ≡ imported_of self.entry }
+    {
+        if self.as_claims {
+            Imported::Claims
+        } else {
+            Imported::Table
+        }
+    }
 }
 
-// The numbers of workers, in decimal.
-const COUNTS: [&str; 16] = [
-    "1", "2", "3", "4", "5", "6", "7", "8", "9", "10", "11", "12", "13", "14", "15", "16",
-];
-
-// The number of workers that a word spells.
-fn few(word: &str) -> Option<usize>
-    ensures meaning { result ≡ few_of word.now }
-    ensures limits { IfSome result (λ workers. (1 ≤ workers) × (workers ≤ 16)) }
+// Which rights capabilities get by this word.
+fn minting(word: &str) -> Option<Minting>
+    ensures { result ≡ minting_of word.now }
 {
-    Some(place_among(&COUNTS, word)? + 1)
+    if word == "least" {
+        Some(Minting::Least)
+    } else if word == "all" {
+        Some(Minting::All)
+    } else {
+        None
+    }
 }
 
-// The place of a word among words.
-fn place_among(words: &[&str], word: &str) -> Option<usize>
-    ensures place { result ≡ position (λ other. bytes_eq other.now word.now) words.now }
-    ensures bound { IfSome result (λ place. place < length words.now) }
+// What parents get of their children by this word.
+fn children(word: &str) -> Option<Children>
+    ensures { result ≡ children_of word.now }
 {
-    words.iter().position(|other| *other == word)
+    if word == "control" {
+        Some(Children::Control)
+    } else if word == "directed" {
+        Some(Children::Directed)
+    } else {
+        None
+    }
+}
+
+// The number from 1 to this limit that a word spells in decimal.
+fn number_to(most: u64, word: &str) -> Option<u64>
+    ensures meaning { result ≡ number_to most word.now }
+    ensures limits { IfSome result (λ number. (1 ≤ number) × (number ≤ most)) }
+{
+    let number = decimal_of(word.as_bytes())?;
+    if 1 <= number && number <= most {
+        Some(number)
+    } else {
+        None
+    }
 }

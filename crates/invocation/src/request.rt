@@ -1,6 +1,6 @@
 //! Requests, and how they are read from a command line: the commands, their words and options.
-ghost use Rattle.std.specs.Prelude.{◌≡◌, IfNone, IfOk, IfSome, None, codes, option_copied};
-ghost use Rattle.clap.specs.Matches.{first_value, found_of};
+ghost use Rattle.std.specs.Prelude.{◌≡◌, IfOk, IfSome, option_copied};
+ghost use Rattle.clap.specs.Matches.{found_of};
 ghost use Rattle.invocation.specs.{Meaning.{AreFound, IsAskedIn}, Requests.{IsWithinLimits, OnInTurn, names_of}};
 ghost use Rattle.invocation.specs.Requests.{file_name_of, file_of, label_of};
 
@@ -8,7 +8,7 @@ use crate::help;
 use crate::meaning::{Verb, Words};
 use clap::error::ErrorKind;
 use clap::{Arg, ArgAction, ArgMatches, Command, Error};
-use commands::{Asked, Basis, File, OnAccept, OnClose};
+use commands::{Asked, Basis, File, OnAccept, OnClose, OnImport, Picture, Search};
 use std::alloc::{AllocError, Global};
 
 /// A command line that was read.
@@ -53,6 +53,8 @@ pub struct Invocation<'a> {
 /// What a command does, and with which files: by their names, or as opening them gave them.
 #[derive(Clone, Copy, Drop)]
 pub enum Request<'a, N> {
+    /// Imports a description.
+    OfDescription(OnImport, N),
     /// A command of a table alone.
     OfTable(OfTable, N),
     /// A command of a table and a policy.
@@ -86,8 +88,16 @@ pub enum OfSystem<'a> {
         actor: &'a str,
         object: &'a str,
     },
+    /// Searches for a run in which a thread of the label `actor` changes an object of the label `object`.
+    Show {
+        search: Search,
+        actor: &'a str,
+        object: &'a str,
+    },
     /// Draws who may change or take from whom.
-    Draw(Basis),
+    Draw(Basis, Picture),
+    /// Summarises who may change whom, and who uses which memory.
+    Summary,
     /// Writes the strongest claims that hold.
     Strongest,
 }
@@ -111,6 +121,7 @@ impl<'a, N> Request<'a, N> {
         ensures { option_copied result ≡ file_of self.now file }
     {
         match (self, file) {
+            (Request::OfDescription(_, description), File::Description) => Some(description),
             (
                 Request::OfTable(_, table)
                 | Request::OfSystem(_, table, _)
@@ -129,8 +140,18 @@ impl<'a, N> Request<'a, N> {
         ensures { result.now ≡ label_of self.now asked }
     {
         match (asked, self) {
-            (Asked::Actor, Request::OfSystem(OfSystem::Why { actor, .. }, _, _)) => actor,
-            (Asked::Object, Request::OfSystem(OfSystem::Why { object, .. }, _, _)) => object,
+            (
+                Asked::Actor,
+                Request::OfSystem(OfSystem::Why { actor, .. } | OfSystem::Show { actor, .. }, _, _),
+            ) => actor,
+            (
+                Asked::Object,
+                Request::OfSystem(
+                    OfSystem::Why { object, .. } | OfSystem::Show { object, .. },
+                    _,
+                    _,
+                ),
+            ) => object,
             _ => "",
         }
     }
@@ -166,19 +187,25 @@ fn read_by<'a>(command: &mut Command<'a>, words: &'a [String]) -> Result<Command
 {
     let matches = command.try_get_matches_from_mut(words)?;
     let line = line_of(&matches);
-    let is_named = matches.subcommand().is_some();
+    let (kind, message) = misuse_of(&matches);
     drop(matches);
     match line {
         Some(line) => Ok(line),
-        None => {
-            let (kind, message) = if is_named {
-                (ErrorKind::InvalidValue, help::WRONG_WORKERS)
-            } else {
-                (ErrorKind::MissingSubcommand, "a command is missing")
-            };
-            Err(command.error(kind, message)?)
-        }
+        None => Err(command.error(kind, message)?),
     }
+}
+
+// What is wrong with a command line that makes no request.
+fn misuse_of(matches: &ArgMatches<'_>) -> (ErrorKind, &'static str) {
+    let Some((name, _)) = matches.subcommand() else {
+        return (ErrorKind::MissingSubcommand, "a command is missing");
+    };
+    let message = match name {
+        "show" => help::WRONG_STEPS,
+        "import" => help::WRONG_RIGHTS,
+        _ => help::WRONG_WORKERS,
+    };
+    (ErrorKind::InvalidValue, message)
 }
 
 // The command line that the subcommand and its words make.
@@ -187,18 +214,18 @@ fn line_of<'a>(matches: &ArgMatches<'a>) -> Option<CommandLine<'a>>
     ensures limits { IfSome result (λ line. OnInTurn line IsWithinLimits) }
 {
     let (name, found) = matches.subcommand()?;
-    words_of(Verb::from_name(name)?, found)?.line()
+    words_of(Verb::from_name(name)?, found).line()
 }
 
 // The words of a command, each by its id.
-fn words_of<'a>(verb: Verb, found: &ArgMatches<'a>) -> Option<Words<'a>>
-    ensures command { IfSome result (λ words. words.verb ≡ verb) }
-    ensures found { IfSome result (λ words. AreFound (found_of found.now) words) }
-    ensures none { IfNone result (first_value (found_of found.now) (codes "table") ≡ None) }
+fn words_of<'a>(verb: Verb, found: &ArgMatches<'a>) -> Words<'a>
+    ensures command { result.verb ≡ verb }
+    ensures found { AreFound (found_of found.now) result }
 {
-    Some(Words {
+    Words {
         verb,
-        table: found.get_str("table")?,
+        description: found.get_str("description"),
+        table: found.get_str("table"),
         policy: found.get_str("policy"),
         certificate: found.get_str("certificate"),
         script: found.get_str("script"),
@@ -207,6 +234,9 @@ fn words_of<'a>(verb: Verb, found: &ArgMatches<'a>) -> Option<Words<'a>>
         actor: found.get_str("actor"),
         object: found.get_str("object"),
         workers: found.get_str("workers"),
+        steps: found.get_str("steps"),
+        rights: found.get_str("rights"),
+        children: found.get_str("children"),
         explain: found.get_flag("explain"),
         cert: found.get_flag("cert"),
         missing: found.get_flag("missing"),
@@ -214,7 +244,9 @@ fn words_of<'a>(verb: Verb, found: &ArgMatches<'a>) -> Option<Words<'a>>
         split: found.get_flag("split"),
         all: found.get_flag("all"),
         policy_alone: found.get_flag("policy-alone"),
-    })
+        take: found.get_flag("take"),
+        as_claims: found.get_flag("as-claims"),
+    }
 }
 
 fn command<'a>(alloc: Global) -> Result<Command<'a>, AllocError> {
@@ -224,15 +256,18 @@ fn command<'a>(alloc: Global) -> Result<Command<'a>, AllocError> {
         .about(help::ABOUT)
         .after_help(help::EXAMPLE)
         .subcommand_required(true);
-    let command = with(Ok(command), check_command(alloc));
+    let command = with(Ok(command), import_command(alloc));
+    let command = with(command, close_command(alloc));
+    let command = with(command, check_command(alloc));
+    let command = with(command, summary_command(alloc));
+    let command = with(command, why_command(alloc));
+    let command = with(command, show_command(alloc));
+    let command = with(command, claims_command(alloc));
+    let command = with(command, draw_command(alloc));
+    let command = with(command, list_command(alloc));
     let command = with(command, verify_command(alloc));
     let command = with(command, run_command(alloc));
-    let command = with(command, replay_command(alloc));
-    let command = with(command, close_command(alloc));
-    let command = with(command, why_command(alloc));
-    let command = with(command, draw_command(alloc));
-    let command = with(command, claims_command(alloc));
-    with(command, list_command(alloc))
+    with(command, replay_command(alloc))
 }
 
 // A command with one more subcommand, if there is memory for both.
@@ -261,6 +296,21 @@ fn taking<'a>(
             Err(error)
         }
     }
+}
+
+fn import_command<'a>(alloc: Global) -> Result<Command<'a>, AllocError> {
+    let command = Command::new(alloc, "import")
+        .about(help::ABOUT_IMPORT)
+        .after_help(help::EXAMPLE_IMPORT)
+        .arg(flag(alloc, "explain", help::EXPLAIN));
+    let description = word(alloc, "description", "FILE", help::DESCRIPTION);
+    let command = taking(command, Ok(description));
+    let rights = option(alloc, "rights", "R", help::RIGHTS);
+    let command = taking(command, Ok(rights));
+    let children = option(alloc, "children", "C", help::CHILDREN);
+    let command = taking(command, Ok(children.default_value("control")));
+    let claims = flag(alloc, "as-claims", help::AS_CLAIMS).long("claims");
+    taking(command, Ok(claims))
 }
 
 fn check_command<'a>(alloc: Global) -> Result<Command<'a>, AllocError> {
@@ -309,8 +359,22 @@ fn why_command<'a>(alloc: Global) -> Result<Command<'a>, AllocError> {
     taking(command, Ok(flag(alloc, "policy-alone", help::POLICY_ALONE)))
 }
 
+fn show_command<'a>(alloc: Global) -> Result<Command<'a>, AllocError> {
+    let command = on_system(alloc, "show", help::ABOUT_SHOW, help::EXAMPLE_SHOW);
+    let command = taking(command, Ok(word(alloc, "actor", "A", help::ACTOR)));
+    let command = taking(command, Ok(word(alloc, "object", "B", help::OBJECT)));
+    let command = taking(command, Ok(flag(alloc, "take", help::TAKE)));
+    let steps = option(alloc, "steps", "N", help::STEPS);
+    taking(command, Ok(steps.default_value("15000")))
+}
+
+fn summary_command<'a>(alloc: Global) -> Result<Command<'a>, AllocError> {
+    on_system(alloc, "summary", help::ABOUT_SUMMARY, help::EXAMPLE_SUMMARY)
+}
+
 fn draw_command<'a>(alloc: Global) -> Result<Command<'a>, AllocError> {
     let command = on_system(alloc, "draw", help::ABOUT_DRAW, help::EXAMPLE_DRAW);
+    let command = taking(command, Ok(flag(alloc, "all", help::ALL_LABELS)));
     taking(command, Ok(flag(alloc, "policy-alone", help::POLICY_ALONE)))
 }
 
@@ -352,12 +416,16 @@ fn on_table<'a>(
 
 // The option for the number of workers.
 fn workers<'a>(alloc: Global) -> Arg<'a> {
-    Arg::new(alloc, "workers")
-        .long("workers")
-        .value_name("N")
-        .help(help::WORKERS)
+    option(alloc, "workers", "N", help::WORKERS).default_value("1")
+}
+
+// An option with a value.
+fn option<'a>(alloc: Global, id: &'a str, value: &'a str, help: &'a str) -> Arg<'a> {
+    Arg::new(alloc, id)
+        .long(id)
+        .value_name(value)
+        .help(help)
         .allow_negative_numbers(true)
-        .default_value("1")
 }
 
 // An option without a value.

@@ -5,8 +5,9 @@ use crate::bell::{CERTIFICATE, LOG, POLICY, SCRIPT, TABLE};
 use crate::memory::{Stopped, Wrong, are, holds, prepared, spend};
 use crate::retypes::{self, LOG_WITHOUT_MEMORY};
 use report::{
-    Basis, End, OnAccept, OnClose, Open, Silence, Sink, Source, Watched, check, check_claims,
-    close, draw, list, replay, run, run_split, start, verify, why, write_claims,
+    Basis, Children, End, Imported, Minting, OnAccept, OnClose, OnImport, Open, Picture, Search,
+    Silence, Sink, Source, Watched, check, check_claims, close, draw, import, list, replay, run,
+    run_split, show, start, summary, verify, why, write_claims,
 };
 use std::sync::Wait;
 use std::thread::Threads;
@@ -29,8 +30,14 @@ pub enum Engine {
     Claims,
     /// The strongest claims that hold.
     Strongest,
-    Draw,
+    Summary,
+    /// A run in which a thread of label `a` changes an object of this one.
+    Show(&'static str),
+    /// A drawing by the policy alone.
+    Draw(Picture),
     List,
+    /// What is imported of a description, with the least rights.
+    Import(Imported),
 }
 
 /// A call of an engine: what is asked, and of which texts, which are empty where none is read; and how it answers.
@@ -40,7 +47,7 @@ pub struct EngineCall {
     engine: Engine,
     table: &'static str,
     policy: &'static str,
-    /// The script, log, certificate or claims.
+    /// The script, log, certificate, claims or description.
     third: &'static str,
     status: u8,
     /// What is written.
@@ -48,7 +55,7 @@ pub struct EngineCall {
 }
 
 /// The calls of engines.
-pub const CALLS: [EngineCall; 23] = [
+pub const CALLS: [EngineCall; 31] = [
     EngineCall {
         name: "engine_log",
         engine: Engine::Run,
@@ -149,6 +156,15 @@ pub const CALLS: [EngineCall; 23] = [
         text: HOLD,
     },
     EngineCall {
+        name: "engine_stated",
+        engine: Engine::Claims,
+        table: TWO_LABELS,
+        policy: EMPTY_POLICY,
+        third: STATED,
+        status: 0,
+        text: ALL_HOLD,
+    },
+    EngineCall {
         name: "engine_strongest",
         engine: Engine::Strongest,
         table: TWO_LABELS,
@@ -158,13 +174,40 @@ pub const CALLS: [EngineCall; 23] = [
         text: CLAIMS,
     },
     EngineCall {
+        name: "engine_summary",
+        engine: Engine::Summary,
+        table: TABLE,
+        policy: POLICY,
+        third: "",
+        status: 0,
+        text: MATRIX,
+    },
+    EngineCall {
+        name: "engine_show",
+        engine: Engine::Show("a"),
+        table: TABLE,
+        policy: POLICY,
+        third: "",
+        status: 0,
+        text: SHOWN,
+    },
+    EngineCall {
         name: "engine_draw",
-        engine: Engine::Draw,
+        engine: Engine::Draw(Picture::Labels),
         table: ONE_OBJECT,
         policy: ONE_EDGE,
         third: "",
         status: 0,
         text: DRAWING,
+    },
+    EngineCall {
+        name: "engine_draw_programs",
+        engine: Engine::Draw(Picture::Programs),
+        table: TABLE,
+        policy: POLICY,
+        third: "",
+        status: 0,
+        text: PROGRAMS,
     },
     EngineCall {
         name: "engine_list",
@@ -174,6 +217,24 @@ pub const CALLS: [EngineCall; 23] = [
         third: "",
         status: 0,
         text: "0 notification n b\n",
+    },
+    EngineCall {
+        name: "engine_import",
+        engine: Engine::Import(Imported::Table),
+        table: "",
+        policy: "",
+        third: DESCRIPTION,
+        status: 0,
+        text: OF_A_DESCRIPTION,
+    },
+    EngineCall {
+        name: "engine_intended",
+        engine: Engine::Import(Imported::Claims),
+        table: "",
+        policy: "",
+        third: DESCRIPTION,
+        status: 0,
+        text: INTENDED,
     },
     EngineCall {
         name: "engine_denial",
@@ -210,6 +271,24 @@ pub const CALLS: [EngineCall; 23] = [
         third: LOG,
         status: 1,
         text: OUTSIDE,
+    },
+    EngineCall {
+        name: "engine_breaches",
+        engine: Engine::Claims,
+        table: ONE_THREAD,
+        policy: TWO_EDGES,
+        third: BROAD,
+        status: 1,
+        text: BREACHES,
+    },
+    EngineCall {
+        name: "engine_unshown",
+        engine: Engine::Show("b"),
+        table: TWO_LABELS,
+        policy: EMPTY_POLICY,
+        third: "",
+        status: 1,
+        text: UNSHOWN,
     },
     EngineCall {
         name: "engine_fault",
@@ -295,6 +374,34 @@ const CLAIMS: &str = "confine-claims 1\nnone a b\nnone b a\nend\n";
 
 const HOLD: &str = "{\"claims\":2,\"verdict\":\"hold\"}\n";
 
+/// Claims of each form, and lines that claim nothing.
+const STATED: &str = "\
+confine-claims 2
+none a *
+
+# of one label and the other
+only b a
+apart a b
+without a notify b
+end
+";
+
+const ALL_HOLD: &str = "{\"claims\":4,\"verdict\":\"hold\"}\n";
+
+/// The summary of a system with one thread.
+const MATRIX: &str = "\
+who may change whom, in any run: C calls, A answers, S signals, F for another reason, t only takes away, \
+. never; m: memory that one writes and the other has
+
+        1
+1 a     =
+";
+
+/// The first event of the script is the first that is tried.
+const SHOWN: &str = "confine-script 1\n0 1 signal 0\nend\n";
+
+const UNSHOWN: &str = "{\"bound\":\"none\",\"run\":\"impossible\"}\n";
+
 /// A table of two labels and an object.
 const ONE_OBJECT: &str = "confine-table 1\nlabel a\nlabel b\nnotification n b 0x3000\nend\n";
 
@@ -303,6 +410,69 @@ const ONE_EDGE: &str = "confine-policy 1\nedge a notify b\nend\n";
 
 const DRAWING: &str =
     "digraph authority {\n  \"a\"\n  \"b\"\n  \"a\" -> \"b\" [label=\"a notify b\"]\n}\n";
+
+/// The folded drawing of a system with one program.
+const PROGRAMS: &str =
+    "digraph authority {\n  node [shape=box]\n  edge [fontsize=10]\n  nodesep=0.1\n  ranksep=0.4\n  \"a\"\n}\n";
+
+/// A table of two labels, of which one has a thread that makes calls.
+const ONE_THREAD: &str = "\
+confine-table 1
+label a
+label b
+tcb t a 0x2000 ready
+context x a 0x4000 0 10 10
+bind t x
+end
+";
+
+/// A policy by which this thread may change what has the other label.
+const TWO_EDGES: &str = "confine-policy 1\nedge a notify b\nedge a runs a\nend\n";
+
+/// Claims of which one holds. Of the others one names both labels, one doesn't, and one is on an edge.
+const BROAD: &str = "\
+confine-claims 2
+none a *
+take a b
+only b a
+without a notify b
+end
+";
+
+const BREACHES: &str =
+    "{\"broken\":[{\"authority\":\"full\",\"claim\":\"none a *\",\"line\":2,\"pair\":[\"a\",\"b\"]},\
+    {\"authority\":\"full\",\"claim\":\"take a b\",\"line\":3},\
+    {\"claim\":\"without a notify b\",\"line\":5}],\"verdict\":\"broken\"}\n";
+
+/// A description of one protection domain, which reads one region.
+const DESCRIPTION: &str = "\
+<system>
+<memory_region name='r' size='0x1000'/>
+<protection_domain name='a'>
+<map mr='r' vaddr='0x1000' perms='r'/>
+</protection_domain>
+</system>
+";
+
+/// The table that it becomes.
+const OF_A_DESCRIPTION: &str = "\
+confine-table 1
+label a
+label r
+cnode a_space a 0x4000 9
+tcb a_main a 0x8000 ready
+notification a_bell a 0x8400
+context a_time0 a 0x8500 0 1000 1000
+frame r_frame r 0x9000
+cap a_space.1 a_bell r 0
+cap a_space.458 r_frame r
+cap a_main.root a_space 55 0x0
+bind a_main a_time0
+end
+";
+
+/// The claims that it makes.
+const INTENDED: &str = "confine-claims 2\nnone a r\nend\n";
 
 /// A text whose second line is no line of a table.
 const FAULTY_TABLE: &str = "confine-table 1\nlabel\nend\n";
@@ -319,6 +489,21 @@ const FAULTY_SCRIPT: &str = "{\"fault\":50,\"file\":\"script\",\"line\":1}\n";
 const FAULTY_CERTIFICATE: &str = "{\"fault\":50,\"file\":\"certificate\",\"line\":1}\n";
 
 const FAULTY_LOG: &str = "{\"fault\":50,\"file\":\"log\",\"line\":1}\n";
+
+/// A search for a change, of few calls.
+const OF_A_CHANGE: Search = Search {
+    takes: false,
+    steps: 100,
+};
+
+/// An import with the least rights.
+fn with_least(imported: Imported) -> OnImport {
+    OnImport {
+        minting: Minting::Least,
+        children: Children::Control,
+        writes: imported,
+    }
+}
 
 /// Carries out an engine over these devices.
 fn carry_out<R, T, P, S, O>(
@@ -365,8 +550,30 @@ where
         ),
         Engine::Claims => check_claims(rt, alloc, table, policy, third, silence, out),
         Engine::Strongest => write_claims(rt, alloc, table, policy, silence, out),
-        Engine::Draw => draw(rt, alloc, Basis::Policy, table, policy, silence, out),
+        Engine::Summary => summary(rt, alloc, table, policy, silence, out),
+        Engine::Show(object) => show(
+            rt,
+            alloc,
+            OF_A_CHANGE,
+            table,
+            policy,
+            "a",
+            object,
+            silence,
+            out,
+        ),
+        Engine::Draw(picture) => draw(
+            rt,
+            alloc,
+            Basis::Policy,
+            picture,
+            table,
+            policy,
+            silence,
+            out,
+        ),
         Engine::List => list(alloc, table, silence, out),
+        Engine::Import(imported) => import(alloc, with_least(imported), third, silence, out),
     }
 }
 

@@ -1,4 +1,4 @@
-//! The calls of a run, of a replay, of a check, of a verification, of a closing and of claims, and
+//! The calls of a run, of a replay, of a check, of a verification and of a closing, the engines, and
 //! the opening of a kernel that threads share, whose memory is refused: for `tests/refuse-memory`,
 //! which has their allocations refused one by one.
 //!

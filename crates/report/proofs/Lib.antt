@@ -10,3 +10,7 @@ mod OneClosing
 mod AskedOn
 mod OneAsked
 mod OneDrawing
+mod LabelNames
+mod OneImport
+mod OneSummary
+mod SameRows

@@ -3,10 +3,12 @@ use Rattle.std.proofs.Common.{ℕ, ◌∙◌, ◌≡◌, Err, List, Ok, Result, 
 use Rattle.base.specs.declared.edge.Edge.{Edge}
 use Rattle.machine.specs.Layout.{Layout}
 use Rattle.words.specs.declared.faults.Fault.{Fault}
+use Rattle.microkit.specs.Description.{Description}
+use Rattle.importing.specs.declared.pieces.{Children.{Children}, Minting.{Minting}}
 use Rattle.captext.specs.{Policies.read_policy_of, Tables.read_table_of}
-use Rattle.forms.specs.declared.file.File.{File, TheVariants.{Policy, Table}}
-use Rattle.commands.specs.{declared.load.{System.System, Three.Three}, Files.{Contents, and_then, whole}}
-use Rattle.report.specs.OneAnswer.{IsAnsweredOnce, SystemHasOneAnswer, TableHasOneAnswer, ThreeHaveOneAnswer}
+use Rattle.forms.specs.declared.file.File.{File, File as file, TheVariants.{Policy, Table}}
+use Rattle.commands.specs.{declared.load.{System.System, Three.Three}, Described.Described, Files.{Contents, and_then, described_of, whole}}
+use Rattle.report.specs.OneAnswer.{DescriptionHasOneAnswer, IsAnsweredOnce, SystemHasOneAnswer, TableHasOneAnswer, ThreeHaveOneAnswer}
 
 -- two answers to one value are one
 abbrev pub IsOne : (List ℕ → ℕ → Type 0) → Type 0
@@ -28,6 +30,12 @@ module _ {X : Type 0} (judges : X → List ℕ → ℕ → Type 0) where
 
 pub of_table : (judges : Layout → List ℕ → ℕ → Type 0) → ((t : Layout) → IsOne (judges t)) → TableHasOneAnswer judges
 of_table judges one table = then_once judges Table (read_table_of table) whole one
+
+pub of_description : (minting : Minting) (children : Children) (judges : Description → Layout → List ℕ → ℕ → Type 0)
+    → ((d : Description) (t : Layout) → IsOne (judges d t)) → DescriptionHasOneAnswer minting children judges
+of_description minting children judges one description =
+    then_once (λ (d : Described). judges d.description d.table) file.Description (described_of minting children description) whole
+    (λ d. one d.description d.table)
 
 pub of_system : (judges : Layout → List Edge → List ℕ → ℕ → Type 0) → JudgesSystemOnce judges → SystemHasOneAnswer judges
 of_system judges one table policy =

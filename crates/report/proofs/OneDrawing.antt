@@ -9,12 +9,13 @@ use Rattle.reptext.specs.Drawing.{IsArrow, arrow_line, label_line, pairs_of, IsD
 use Rattle.reptext.specs.Drawing.IsArrow.{dashed, itself, nothing, solid}
 use Rattle.reptext.specs.Drawing as drawing
 use Rattle.verdict.proofs.OneVerdict.{one_least}
-use Rattle.report.specs.Questions.{Draws, Lists, TellsDrawing}
+use Rattle.diagram.proofs.OneFolded.{drawn_once as folded_once}
+use Rattle.report.specs.Questions.{Draws, IsPicture, Lists, TellsDrawing}
 use Rattle.report.proofs.OneAnswer.{IsOne, JudgesSystemOnce}
 use Rattle.report.proofs.OneClosing.{place_once}
 use Rattle.policy.specs.ActorReasons.{IsChangeBy, IsShrinkBy}
 use Rattle.verdict.specs.Extents.{Reach}
-use Rattle.commands.specs.declared.choices.Basis.{Basis}
+use Rattle.commands.specs.declared.choices.{Basis.Basis, Picture.{Picture, Picture as picture}}
 use Rattle.report.proofs.OneAsked.{answers_on_once, reach_once}
 
 module _ (reach : Reach) (t : Layout) where
@@ -52,19 +53,27 @@ module _ (reach : Reach) (t : Layout) where
       ∙ ap (λ text. again ++ text) (arrows_once pairs rest left drawn too)
       ∙ sym pieces
 
-drawn_once :
-    (on : Basis) (t : Layout) (edges : List Edge) (text other : List ℕ) → TellsDrawing on t edges text
-    → TellsDrawing on t edges other → text ≡ other
-drawn_once on t edges text other is also =
-    let reach = reach_once on t edges is.reach also.reach is.is_reach also.is_reach in
-    let first = subst (λ (r : Reach). IsDrawing t r text) reach is.drawn in
-    let same = arrows_once also.reach t (pairs_of (length t.labels)) first.arrows also.drawn.arrows first.drawn also.drawn.drawn in
-    first.is
+labels_once : (t : Layout) (reach : Reach) (text other : List ℕ) → IsDrawing t reach text → IsDrawing t reach other → text ≡ other
+labels_once t reach text other is also =
+    let same = arrows_once reach t (pairs_of (length t.labels)) is.arrows also.arrows is.drawn also.drawn in
+    is.is
     ∙ ap (λ arrows. codes "digraph authority {\n" ++ (flat_map label_line t.labels ++ (arrows ++ codes "}\n"))) same
-    ∙ sym also.drawn.is
+    ∙ sym also.is
 
-pub draw_once : (on : Basis) → JudgesSystemOnce (Draws on)
-draw_once on t edges = answers_on_once on t edges (TellsDrawing on t edges) (drawn_once on t edges)
+picture_once : (drawn : Picture) (t : Layout) (reach : Reach) (text other : List ℕ) → IsPicture drawn t reach text → IsPicture drawn t reach other
+    → text ≡ other
+picture_once picture.Labels = labels_once
+picture_once picture.Programs = folded_once
+
+drawn_once :
+    (on : Basis) (drawn : Picture) (t : Layout) (edges : List Edge) (text other : List ℕ) → TellsDrawing on drawn t edges text
+    → TellsDrawing on drawn t edges other → text ≡ other
+drawn_once on drawn t edges text other is also =
+    let reach = reach_once on t edges is.reach also.reach is.is_reach also.is_reach in
+    picture_once drawn t also.reach text other (subst (λ (r : Reach). IsPicture drawn t r text) reach is.drawn) also.drawn
+
+pub draw_once : (on : Basis) (drawn : Picture) → JudgesSystemOnce (Draws on drawn)
+draw_once on drawn t edges = answers_on_once on t edges (TellsDrawing on drawn t edges) (drawn_once on drawn t edges)
 
 pub list_once : (t : Layout) → IsOne (Lists t)
 list_once t text other status another is also = (is.0 ∙ sym also.0, is.1 ∙ sym also.1)

@@ -1,6 +1,6 @@
 -- What is told of claims on a table and a policy, and of the strongest that hold (confine's own; what they claim is kept by the integrity
 -- of 'seL4 Enforces Integrity', section 4, restated).
-use Rattle.std.specs.Prelude.{ℕ, ◌≡◌, All, List, Ok, length}
+use Rattle.std.specs.{List.{Contains, filter}, Prelude.{[], ℕ, ◌∷◌, ◌≡◌, All, List, Ok, Option, Some, is_some, length}}
 use Rattle.base.specs.declared.edge.Edge.{Edge}
 use Rattle.machine.specs.Layout.{Layout}
 use Rattle.policy.specs.Policy.{allows}
@@ -11,10 +11,17 @@ use Rattle.claims.specs.declared.holding.BrokenClaim.{BrokenClaim}
 use Rattle.claims.specs.ClaimsText.{claims_text}
 use Rattle.claims.specs.Holding.{AreStrongest, Holds, IsFirstBroken, IsKept}
 use Rattle.claims.specs.Reading.{read_claims_of}
+use Rattle.stated.specs.declared.{claim.Stated.Stated, deciding.Broken.Broken}
+use Rattle.stated.specs.declared.lines.TheConstants.StatedLines as StatedLines
+use Rattle.stated.specs.Holding as stated
+use Rattle.stated.specs.Holding.{AreBroken}
 use Rattle.forms.specs.declared.file.File.{File as file}
+use Rattle.reptext.specs.Breaches.{breaches_data}
 use Rattle.reptext.specs.Places.{place_names}
 use Rattle.reptext.specs.Reports.{broken_data, denial_report, hold_data, line_of}
 use Rattle.commands.specs.declared.end.End.{End}
+use Rattle.commands.specs.declared.later.ClaimList.{ClaimList, TheVariants.{First, Second}}
+use Rattle.commands.specs.Claims.{read_claim_list_of}
 use Rattle.commands.specs.Commands.{Input, IsDoneOnSystem, IsDoneOnThree, Output, no_label}
 use Rattle.report.specs.Answers.{AnswersVerdict}
 use Rattle.verdict.specs.Extents.{Reach, IsReachOf}
@@ -30,9 +37,31 @@ pub data JudgesClaims (t : Layout) (edges : List Edge) (claims : List Claim) (te
       → IsFirstBroken reach claims broken
       → text ≡ line_of (broken_data broken.extent broken.number) → status ≡ 1 → JudgesClaims t edges claims text status
 
+-- how many claims lines say
+abbrev pub claim_count : List (Option Stated) → ℕ
+claim_count lines = length (filter is_some lines)
+
+-- the answer to claims of the second version: the table and the policy are denied; or they are accepted, and all claims hold, so that
+-- what they claim is kept in every run from the table's boot state; or they are accepted, and these are all that don't hold
+pub data JudgesStated (t : Layout) (edges : List Edge) (lines : List (Option Stated)) (text : List ℕ) (status : ℕ) : Type 0 where
+  not_accepted : (denial : Denial) → IsLeastBroken t (allows edges) denial → text ≡ denial_report (rule_name denial) (place_names t denial)
+      → status ≡ 1 → JudgesStated t edges lines text status
+  all_hold : IsAccepted t (allows edges) → (reach : Reach) → IsReachOf t edges reach → AreBroken t reach StatedLines.FIRST lines []
+      → ((claim : Stated) → Contains lines (Some claim) → stated.IsKept t claim)
+      → text ≡ line_of (hold_data (claim_count lines)) → status ≡ 0 → JudgesStated t edges lines text status
+  some_broken : IsAccepted t (allows edges) → (reach : Reach) → IsReachOf t edges reach → (first : Broken) (more : List Broken)
+      → AreBroken t reach StatedLines.FIRST lines (first ∷ more)
+      → ((claim : Stated) → stated.Holds t reach claim → stated.IsKept t claim)
+      → text ≡ line_of (breaches_data t lines (first ∷ more)) → status ≡ 1 → JudgesStated t edges lines text status
+
+-- the answer to claims, by their version
+abbrev pub JudgesClaimList : Layout → List Edge → ClaimList → List ℕ → ℕ → Type 0
+JudgesClaimList t edges (First claims) = JudgesClaims t edges claims
+JudgesClaimList t edges (Second lines) = JudgesStated t edges lines
+
 -- claims were judged on a table and a policy
 abbrev pub AreJudged : {T P S O : Type 0} → Input T → Input P → Input S → Output O → End → Type 0
-AreJudged = IsDoneOnThree file.Claims read_claims_of JudgesClaims
+AreJudged = IsDoneOnThree file.Claims read_claim_list_of JudgesClaimList
 
 -- a text is that of the strongest claims that hold of a table and a policy that are accepted. It is read as these, and what they claim
 -- is kept in every run

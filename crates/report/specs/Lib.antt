@@ -3,4 +3,7 @@ pub mod Replays
 pub mod Claimed
 pub mod Closings
 pub mod Questions
+pub mod Imports
+pub mod Shows
+pub mod Summaries
 pub mod OneAnswer

@@ -3,10 +3,12 @@ use Rattle.std.specs.{List.zip, Prelude.{ℕ, ◌≡◌, All, List, Result, Some
 use Rattle.base.specs.declared.edge.Edge.{Edge}
 use Rattle.machine.specs.{declared.call.Event.Event, Layout.Layout}
 use Rattle.words.specs.declared.faults.Fault.{Fault}
+use Rattle.microkit.specs.Description.{Description}
+use Rattle.importing.specs.declared.pieces.{Children.{Children}, Minting.{Minting}}
 use Rattle.kernel.specs.Legal.{IsLack}
 use Rattle.forms.specs.declared.file.File.{File}
-use Rattle.commands.specs.{declared.load.{System.System, Three.Three}, Commands.IsAnswer}
-use Rattle.commands.specs.Files.{Contents, system_contents, table_contents, three_contents}
+use Rattle.commands.specs.{declared.load.{System.System, Three.Three}, Commands.IsAnswer, Described.Described}
+use Rattle.commands.specs.Files.{Contents, described_contents, system_contents, table_contents, three_contents}
 use Rattle.report.specs.Answers.{AnswersVerdict, IsLogOfRun}
 
 -- two answers to what files hold have the same text and the same status
@@ -18,6 +20,11 @@ IsAnsweredOnce judges contents =
 -- whatever bytes the files of a command hold, they have one answer
 abbrev pub TableHasOneAnswer : (Layout → List ℕ → ℕ → Type 0) → Type 0
 TableHasOneAnswer judges = (table : List ℕ) → IsAnsweredOnce judges (table_contents (Some table))
+
+abbrev pub DescriptionHasOneAnswer : Minting → Children → (Description → Layout → List ℕ → ℕ → Type 0) → Type 0
+DescriptionHasOneAnswer minting children judges =
+    (description : List ℕ)
+    → IsAnsweredOnce (λ (d : Described). judges d.description d.table) (described_contents (Some description) minting children)
 
 abbrev pub SystemHasOneAnswer : (Layout → List Edge → List ℕ → ℕ → Type 0) → Type 0
 SystemHasOneAnswer judges =

@@ -9,6 +9,7 @@ use Rattle.policy.specs.Policy.{allows}
 use Rattle.table.specs.Names.{label_named}
 use Rattle.captext.specs.PolicyText.{edge_lines}
 use Rattle.reptext.specs.Drawing.{IsDrawing}
+use Rattle.diagram.specs.Folded.{IsFoldedDrawing}
 use Rattle.reptext.specs.Objects.{objects_text}
 use Rattle.commands.specs.declared.end.Asked.{Asked}
 use Rattle.commands.specs.declared.end.Asked.{Asked as asked}
@@ -18,6 +19,7 @@ use Rattle.policy.specs.ActorReasons.{IsWhyAmong}
 use Rattle.verdict.specs.Extents.{Reach, IsReachOf, reach_by}
 use Rattle.commands.specs.declared.choices.Basis.{Basis}
 use Rattle.commands.specs.declared.choices.Basis.{Basis as basis}
+use Rattle.commands.specs.declared.choices.Picture.{Picture, Picture as picture}
 use Rattle.report.specs.Answers.{AnswersVerdict}
 use Rattle.base.specs.declared.label.TheConstants.Label as Label
 use Rattle.verdict.specs.declared.denial.Denial.{Denial}
@@ -82,19 +84,24 @@ Tells basis actor object t edges = AnswersOn basis t edges (TellsWhy basis actor
 abbrev pub IsTold : {T P O : Type 0} → Basis → List ℕ → List ℕ → Input T → Input P → Output O → End → Type 0
 IsTold basis actor object = IsDoneOnSystem (λ t. unlabelled t actor object) (Tells basis actor object)
 
--- a text is the drawing of who may change or take from whom
-pub record TellsDrawing (basis : Basis) (t : Layout) (edges : List Edge) (text : List ℕ) : Type 0 where
+-- a text is this picture of who may change or take from whom
+abbrev pub IsPicture : Picture → Layout → Reach → List ℕ → Type 0
+IsPicture picture.Labels = IsDrawing
+IsPicture picture.Programs = IsFoldedDrawing
+
+-- .. in a system, or by its policy alone
+pub record TellsDrawing (basis : Basis) (picture : Picture) (t : Layout) (edges : List Edge) (text : List ℕ) : Type 0 where
   pub reach : Reach
   pub is_reach : IsReachOn basis t edges reach
-  pub drawn : IsDrawing t reach text
+  pub drawn : IsPicture picture t reach text
 
 -- the answer to a table and a policy that are to be drawn
-abbrev pub Draws : Basis → Layout → List Edge → List ℕ → ℕ → Type 0
-Draws basis t edges = AnswersOn basis t edges (TellsDrawing basis t edges)
+abbrev pub Draws : Basis → Picture → Layout → List Edge → List ℕ → ℕ → Type 0
+Draws basis picture t edges = AnswersOn basis t edges (TellsDrawing basis picture t edges)
 
 -- who may change or take from whom was drawn
-abbrev pub IsDrawn : {T P O : Type 0} → Basis → Input T → Input P → Output O → End → Type 0
-IsDrawn basis = IsDoneOnSystem no_label (Draws basis)
+abbrev pub IsDrawn : {T P O : Type 0} → Basis → Picture → Input T → Input P → Output O → End → Type 0
+IsDrawn basis picture = IsDoneOnSystem no_label (Draws basis picture)
 
 -- the answer to a table: the list of its objects, with status 0
 abbrev pub Lists : Layout → List ℕ → ℕ → Type 0

@@ -3,13 +3,15 @@ ghost use Rattle.base.specs.{Labels.is_in, Refusals.out_of_memory};
 ghost use Rattle.base.specs.declared.label.TheConstants.Label as LabelLimits;
 ghost use Rattle.captext.specs.PolicyText.{edge_lines};
 ghost use Rattle.commands.specs.Commands.{IsJudged, IsJudgedSo, SystemIsJudged, input, no_label, output};
+ghost use Rattle.verdict.specs.Extents.{reach_by};
 ghost use Rattle.report.specs.Questions as questions;
 
-use crate::{Asked, Basis, End, Listener, Sink, Source};
+use crate::{Asked, Basis, End, Listener, Picture, Sink, Source};
 use base::{Edge, Label, Labels, Refusal};
 use captext::write_edges;
 use commands::{Answer, Stop, System, denied, load_system, load_table, tell};
 use deal::Open;
+use diagram::write_programs;
 use policy::{Policy, Why};
 use reptext::{write_drawing, write_objects};
 use std::alloc::Global;
@@ -151,12 +153,13 @@ fn headed(alloc: Global, line: &str, table: &Table, edges: &[Edge]) -> Result<Ve
 
 /// Draws who may change or take from whom, as Graphviz reads it.
 ///
-/// Writes the labels, and an arrow from each to each other whose objects it may change or make smaller, with
-/// status 0; or the report of the denial, with status 1; or the report of the first fault, with status 2.
+/// Writes the labels, or the programs alone with the memory that they use, and an arrow from each to each other
+/// whose objects it may change or make smaller, with status 0; or the report of the denial, with status 1; or the report of the first fault, with status 2.
 pub fn draw<R, T, P, L, O>(
     rt: &R,
     alloc: Global,
     basis: Basis,
+    picture: Picture,
     table: &mut T,
     policy: &mut P,
     listener: &mut L,
@@ -171,11 +174,11 @@ where
     requires table { T.failed table.old ≡ false }
     requires policy { P.failed policy.old ≡ false }
     requires out { O.failed out.old ≡ false }
-    ensures { questions.IsDrawn basis (input T.remaining T.failed table.old table.new)
+    ensures { questions.IsDrawn basis picture (input T.remaining T.failed table.old table.new)
         (input P.remaining P.failed policy.old policy.new) (output O.contents O.failed O.is_flushed out.old out.new) result }
 {
     let system = load_system(alloc, table, policy, listener);
-    let answer = drawn(rt, alloc, basis, &system);
+    let answer = drawn(rt, alloc, basis, picture, &system);
     tell(alloc, &system, answer, listener, out)
 }
 
@@ -184,17 +187,35 @@ fn drawn<R: Threads + Sync>(
     rt: &R,
     alloc: Global,
     basis: Basis,
+    picture: Picture,
     loaded: &Result<System, Stop>,
 ) -> Result<Answer, Stop>
-    ensures { SystemIsJudged no_label (questions.Draws basis) loaded.now result }
+    ensures { SystemIsJudged no_label (questions.Draws basis picture) loaded.now result }
 {
     let System { table, policy } = match loaded {
         Ok(system) => system,
         Err(stop) => return Err(*stop),
     };
     match acting(rt, alloc, basis, table, policy)? {
-        Ok(actors) => Ok(Answer::plain(write_drawing(alloc, table, policy, actors)?, 0)),
+        Ok(actors) => Ok(Answer::plain(picture_text(alloc, picture, table, policy, actors)?, 0)),
         Err(denial) => Ok(denied(alloc, table, denial)?),
+    }
+}
+
+/// The picture of who may change or take from whom, where threads of these labels make calls.
+fn picture_text(
+    alloc: Global,
+    picture: Picture,
+    table: &Table,
+    policy: &Policy,
+    actors: Labels,
+) -> Result<Vec<u8>, Refusal>
+    ensures text { IfOk result (λ text. questions.IsPicture picture table.now (reach_by policy.now actors) text.items) }
+    ensures memory { IfErr result (λ refusal. refusal ≡ out_of_memory) }
+{
+    match picture {
+        Picture::Labels => write_drawing(alloc, table, policy, actors),
+        Picture::Programs => write_programs(alloc, table, policy, actors),
     }
 }
 

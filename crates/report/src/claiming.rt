@@ -7,9 +7,10 @@ ghost use Rattle.report.specs.Claimed as claimed;
 use crate::{End, Finding, Listener, Sink, Source};
 use base::Refusal;
 use claims::{Claims, first_broken, strongest};
-use commands::{Answer, Stop, System, Three, denied, load_system, load_three, tell};
+use commands::{Answer, ClaimList, Stop, System, Three, denied, load_system, load_three, tell};
 use deal::Open;
-use reptext::{broken_report, hold_report};
+use reptext::{breaches_report, broken_report, hold_report};
+use stated::{StatedLines, all_broken};
 use std::alloc::Global;
 use std::thread::Threads;
 use verdict::{Accepted, judge};
@@ -44,7 +45,7 @@ where
         (input P.remaining P.failed policy.old policy.new) (input S.remaining S.failed claims.old claims.new)
         (output O.contents O.failed O.is_flushed out.old out.new) result }
 {
-    let three = load_three::<Claims, T, P, S, L>(alloc, table, policy, claims, listener);
+    let three = load_three::<ClaimList, T, P, S, L>(alloc, table, policy, claims, listener);
     let answer = claims_judged(rt, alloc, &three);
     tell(alloc, &three, answer, listener, out)
 }
@@ -53,9 +54,9 @@ where
 fn claims_judged<R: Threads + Sync>(
     rt: &R,
     alloc: Global,
-    loaded: &Result<Three<Claims>, Stop>,
+    loaded: &Result<Three<ClaimList>, Stop>,
 ) -> Result<Answer, Stop>
-    ensures { ThreeIsJudged claimed.JudgesClaims loaded.now result }
+    ensures { ThreeIsJudged claimed.JudgesClaimList loaded.now result }
 {
     let Three {
         table,
@@ -72,7 +73,52 @@ fn claims_judged<R: Threads + Sync>(
 }
 
 /// What is told of claims on an accepted system.
-fn claims_answer(alloc: Global, accepted: &Accepted<'_>, claims: &Claims) -> Result<Answer, Refusal>
+fn claims_answer(
+    alloc: Global,
+    accepted: &Accepted<'_>,
+    claims: &ClaimList,
+) -> Result<Answer, Refusal>
+    ensures right { IfOk result (λ answer.
+        claimed.JudgesClaimList accepted.now.table accepted.now.policy claims.now answer.text.items answer.status) }
+    ensures exit { IfOk result (λ answer. answer.status ≤ 2) }
+{
+    match claims {
+        ClaimList::First(claims) => first_answer(alloc, accepted, claims),
+        ClaimList::Second(lines) => second_answer(alloc, accepted, lines),
+    }
+}
+
+/// What is told of claims of the second version on an accepted system.
+fn second_answer(
+    alloc: Global,
+    accepted: &Accepted<'_>,
+    lines: &StatedLines,
+) -> Result<Answer, Refusal>
+    ensures right { IfOk result (λ answer.
+        claimed.JudgesStated accepted.now.table accepted.now.policy lines.now answer.text.items answer.status) }
+    ensures exit { IfOk result (λ answer. answer.status ≤ 2) }
+{
+    // That it is accepted, a system tells with its actors.
+    let bounds = accepted.bounds();
+    let _ = bounds.actors();
+    let broken = all_broken(alloc, &bounds, lines)?;
+    if broken.is_empty() {
+        return Ok(Answer::plain(hold_report(alloc, claim_count(lines))?, 0));
+    }
+    let text = breaches_report(alloc, bounds.table(), lines, &broken)?;
+    Ok(Answer::found(text, Finding::BrokenLines(broken)))
+}
+
+/// How many claims lines say.
+fn claim_count(lines: &StatedLines) -> usize
+    ensures { result ≡ claimed.claim_count lines.now }
+{
+    let lines = lines.as_slice();
+    lines.iter().filter(|line| line.is_some()).count()
+}
+
+/// What is told of claims of the first version on an accepted system.
+fn first_answer(alloc: Global, accepted: &Accepted<'_>, claims: &Claims) -> Result<Answer, Refusal>
     ensures right { IfOk result (λ answer.
         claimed.JudgesClaims accepted.now.table accepted.now.policy claims.now answer.text.items answer.status) }
     ensures exit { IfOk result (λ answer. answer.status ≤ 2) }

@@ -1,17 +1,17 @@
 ghost use Rattle.std.specs.Prelude.{[], ℕ, List};
 ghost use Rattle.evtext.specs.{Log.read_log_of, Script.read_script_of};
-ghost use Rattle.claims.specs.Reading.{read_claims_of};
 ghost use Rattle.certificate.specs.Reading.{read_certificate_of};
 ghost use Rattle.forms.specs.declared.file.File.TheVariants as file;
-ghost use Rattle.commands.specs.declared.choices.{Basis.Basis, OnAccept.OnAccept, OnClose.OnClose};
+ghost use Rattle.commands.specs.Claims.{read_claim_list_of};
+ghost use Rattle.commands.specs.declared.choices.{Basis.Basis, OnAccept.OnAccept, OnClose.OnClose, OnImport.OnImport, Picture.Picture};
 ghost use Rattle.report.specs.Answers.{Checks, Verifies};
-ghost use Rattle.report.specs.{Claimed.{JudgesClaims, WritesStrongest}, Closings.Closes, Questions.{Draws, Lists, Tells}, Replays.Replays};
-ghost use Rattle.report.specs.OneAnswer.{RunsInMemory, SystemHasOneAnswer, TableHasOneAnswer, ThreeHaveOneAnswer};
+ghost use Rattle.report.specs.{Claimed.{JudgesClaimList, WritesStrongest}, Closings.Closes, Imports.Imports, Questions.{Draws, Lists, Tells}, Replays.Replays, Summaries.Sums};
+ghost use Rattle.report.specs.OneAnswer.{DescriptionHasOneAnswer, RunsInMemory, SystemHasOneAnswer, TableHasOneAnswer, ThreeHaveOneAnswer};
 
 /// A law: a report is a function of the bytes of the files. What a command writes, and its status, are
 /// the same whenever and wherever it is carried out. So is the log of a run in which no call was refused
 /// memory. Of a split run this isn't so: its log is one of those that the cores' events may come to, each
-/// core's in their order.
+/// core's in their order. Nor is it so of `show`, which may answer with any run that is as it asks.
 pub fn reports_are_functions_of_the_bytes()
     ensures check { (written : OnAccept) → SystemHasOneAnswer (Checks written) }
     ensures verify { ThreeHaveOneAnswer file.Certificate read_certificate_of Verifies }
@@ -19,9 +19,12 @@ pub fn reports_are_functions_of_the_bytes()
     ensures close { (written : OnClose) → SystemHasOneAnswer (Closes written) }
     ensures start { (written : OnClose) → TableHasOneAnswer (λ t. Closes written t []) }
     ensures why { (basis : Basis) (actor object : List ℕ) → SystemHasOneAnswer (Tells basis actor object) }
-    ensures draw { (basis : Basis) → SystemHasOneAnswer (Draws basis) }
+    ensures draw { (basis : Basis) (picture : Picture) → SystemHasOneAnswer (Draws basis picture) }
     ensures list { TableHasOneAnswer Lists }
-    ensures claims { ThreeHaveOneAnswer file.Claims read_claims_of JudgesClaims }
+    ensures import { (on_import : OnImport)
+        → DescriptionHasOneAnswer on_import.minting on_import.children (Imports on_import) }
+    ensures claims { ThreeHaveOneAnswer file.Claims read_claim_list_of JudgesClaimList }
     ensures strongest { SystemHasOneAnswer WritesStrongest }
+    ensures summary { SystemHasOneAnswer Sums }
     ensures run { ThreeHaveOneAnswer file.Script (λ t. read_script_of) RunsInMemory }
 {}

@@ -6,10 +6,13 @@ mod asking;
 mod checking;
 mod claiming;
 mod closing;
+mod describing;
 mod laws;
 mod replaying;
 mod running;
+mod showing;
 mod splitting;
+mod summing;
 mod verifying;
 
 pub use asking::{draw, list, why};
@@ -17,12 +20,16 @@ pub use checking::check;
 pub use claiming::{check_claims, write_claims};
 pub use closing::{close, start};
 pub use commands::{
-    Asked, Basis, End, Fault, File, Finding, Heard, Listener, OnAccept, OnClose, Outcomes, Silence,
+    Asked, Basis, Children, End, Fault, File, Finding, Heard, Imported, Listener, Minting,
+    OnAccept, OnClose, OnImport, Outcomes, Picture, Search, Silence,
 };
 pub use deal::{Gate, Open};
+pub use describing::import;
 pub use devices::{ReadError, Sink, Source, Unopened, Watched, WriteError, open_result};
 pub use laws::reports_are_functions_of_the_bytes;
 pub use replaying::{answer_at, replay};
 pub use running::run;
+pub use showing::show;
 pub use splitting::run_split;
+pub use summing::summary;
 pub use verifying::verify;

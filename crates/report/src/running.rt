@@ -84,5 +84,6 @@ fn run_answer(alloc: Global, table: &Table, script: &Script) -> Result<Answer, R
         status: 0,
         finding: None,
         made: Some(Made::InTurn(outcomes)),
+        script: None,
     })
 }

@@ -93,5 +93,6 @@ fn split_answer<R: Threads + Wait + Sync, G: Gate + Sync>(
         status: 0,
         finding: None,
         made: Some(Made::ByWorkers(log)),
+        script: None,
     })
 }

@@ -4,3 +4,4 @@ pub mod OneText
 mod Upgraded
 mod Numbered
 mod Arrows
+pub mod Fractions

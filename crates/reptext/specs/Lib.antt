@@ -3,3 +3,4 @@ pub mod Relations
 pub mod Reports
 pub mod Objects
 pub mod Drawing
+pub mod Breaches

@@ -98,6 +98,19 @@ broken_data extent claim =
     (member (codes "claim") (number (unsigned claim))
     (member (codes "verdict") (string (codes "broken")) no_members)))
 
+-- no run by which one label does something to another: there can't be one
+abbrev pub impossible_data : Data
+impossible_data =
+    object (member (codes "bound") (string (codes "none"))
+    (member (codes "run") (string (codes "impossible")) no_members))
+
+-- no run that was found: how far the authority goes, and how many calls were tried
+abbrev pub unfound_data : Extent → ℕ → Data
+unfound_data bound steps =
+    object (member (codes "bound") (string (extent_word bound))
+    (member (codes "run") (string (codes "none found"))
+    (member (codes "steps") (number (unsigned steps)) no_members)))
+
 abbrev pub fault_report : ℕ → File → ℕ → List ℕ
 fault_report fault file line = line_of (fault_data fault file line)
 

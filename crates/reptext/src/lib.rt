@@ -2,6 +2,7 @@
 //! names at the place that it tells; the list of a table's objects; and the drawing of who may change or take from whom.
 #![tactic(auto)]
 
+mod breaches;
 mod drawing;
 mod laws;
 mod listing;
@@ -9,6 +10,7 @@ mod places;
 mod relations;
 mod reports;
 
+pub use breaches::breaches_report;
 pub use drawing::write_drawing;
 pub use forms::File;
 pub use laws::upgraded_tables_are_reported_alike;
@@ -16,5 +18,5 @@ pub use listing::write_objects;
 pub use places::{KindsOfObjects, place_names};
 pub use reports::{
     accept_report, broken_report, check_report, denial_text, extent_word, fault_report,
-    hold_report, illegal_report, outside_report, within_report,
+    hold_report, illegal_report, impossible_report, outside_report, unfound_report, within_report,
 };

@@ -98,6 +98,20 @@ pub fn broken_report(alloc: Global, extent: Extent, claim: usize) -> Result<Vec<
     line_of(alloc, &broken_value(alloc, extent, claim)?)
 }
 
+/// The report that one label does nothing to another in any run.
+pub fn impossible_report(alloc: Global) -> Result<Vec<u8>, AllocError>
+    ensures { IfOk result (λ report. report.items ≡ reports.line_of reports.impossible_data) }
+{
+    line_of(alloc, &impossible_value(alloc)?)
+}
+
+/// The report that no run was found: how far the authority goes, and how many calls were tried.
+pub fn unfound_report(alloc: Global, bound: Extent, steps: u64) -> Result<Vec<u8>, AllocError>
+    ensures { IfOk result (λ report. report.items ≡ reports.line_of (reports.unfound_data bound steps)) }
+{
+    line_of(alloc, &unfound_value(alloc, bound, steps)?)
+}
+
 fn check_value(alloc: Global, table: &Table, cut: Value, full: Value) -> Result<Value, AllocError>
     ensures { IfOk result (λ value. (cuts fulls : ℕ → ℕ → Bool) → view cut ≡ reports.relation_data table.now cuts
         → view full ≡ reports.relation_data table.now fulls → view value ≡ reports.check_data table.now cuts fulls) }
@@ -155,6 +169,19 @@ fn broken_value(alloc: Global, extent: Extent, claim: usize) -> Result<Value, Al
     json!(in alloc; {"authority": authority, "claim": claim, "verdict": "broken"})
 }
 
+fn impossible_value(alloc: Global) -> Result<Value, AllocError>
+    ensures { IfOk result (λ value. view value ≡ reports.impossible_data) }
+{
+    json!(in alloc; {"bound": "none", "run": "impossible"})
+}
+
+fn unfound_value(alloc: Global, bound: Extent, steps: u64) -> Result<Value, AllocError>
+    ensures { IfOk result (λ value. view value ≡ reports.unfound_data bound steps) }
+{
+    let bound = extent_word(bound);
+    json!(in alloc; {"bound": bound, "run": "none found", "steps": steps})
+}
+
 /// The word for how far an authority goes.
 pub fn extent_word(extent: Extent) -> &'static str
     ensures { result.now ≡ reports.extent_word extent }
@@ -191,7 +218,7 @@ fn names_value(alloc: Global, names: &[String]) -> Result<Value, AllocError>
 }
 
 /// A value without floats, printed on a line.
-fn line_of(alloc: Global, value: &Value) -> Result<Vec<u8>, AllocError>
+pub(crate) fn line_of(alloc: Global, value: &Value) -> Result<Vec<u8>, AllocError>
     requires { has_float (view value.now) ≡ false }
     ensures { IfOk result (λ line. line.items ≡ reports.line_of (view value.now)) }
 {

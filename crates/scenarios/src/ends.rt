@@ -1,7 +1,7 @@
 //! How a command ends whose devices fail: its message, its status, and what it has written by then.
 use crate::failing::{Given, Page};
 use crate::session::{Command, Ending, Files, ending_of};
-use report::{File, OnAccept};
+use report::{File, Imported, OnAccept, Picture};
 use std::alloc::Global;
 use std::io::ErrorKind;
 use std::process::Abort;
@@ -91,9 +91,19 @@ const CLAIMS: &str = "confine-claims 1\nnone b a\nend\n";
 /// A label that is claimed to leave alone what it notifies.
 const BROAD: &str = "confine-claims 1\nnone a b\nend\n";
 
+/// Claims of version 2 on the label that waits.
+const STATED: &str = "confine-claims 2\n# b waits\nnone b *\nend\n";
+
+/// Claims of version 2, of which the first holds.
+const BROADER: &str = "confine-claims 2\nnone b *\ntake * b\nwithout a notify b\nend\n";
+
 const HOLD: &str = "{\"claims\":1,\"verdict\":\"hold\"}\n";
 
 const BROKEN: &str = "{\"authority\":\"full\",\"claim\":1,\"verdict\":\"broken\"}\n";
+
+const BREACHES: &str =
+    "{\"broken\":[{\"authority\":\"full\",\"claim\":\"take * b\",\"line\":3,\"pair\":[\"a\",\"b\"]},\
+    {\"claim\":\"without a notify b\",\"line\":4}],\"verdict\":\"broken\"}\n";
 
 const REPORT: &str =
     "{\"caps\":4,\"cut\":{\"a\":[\"a\",\"b\"],\"b\":[\"b\"]},\"full\":{\"a\":[\"a\",\"b\"],\"b\":[\"b\"]},\"verdict\":\"accept\"}\n";
@@ -103,6 +113,17 @@ const VERIFIED: &str = "{\"verdict\":\"accept\"}\n";
 const LEAST: &str = "confine-policy 1\nedge a context a\nedge a runs a\nend\n";
 
 const REASON: &str = "full\nedge a notify b\n";
+
+/// The summary of labels alone.
+const NO_THREADS: &str = "no label has a thread\n";
+
+/// A run in which `a` changes an object of `b`.
+const SHOWN: &str = "confine-script 1\n1 2 signal 0\nend\n";
+
+const UNSHOWN: &str = "{\"bound\":\"none\",\"run\":\"impossible\"}\n";
+
+/// The folded drawing of labels alone.
+const NO_PROGRAMS: &str = "digraph authority {\n  node [shape=box]\n  edge [fontsize=10]\n  nodesep=0.1\n  ranksep=0.4\n}\n";
 
 const DRAWING: &str =
     "digraph authority {\n  \"a\"\n  \"b\"\n  \"a\" -> \"b\" [label=\"a notify b\"]\n}\n";
@@ -116,6 +137,36 @@ const LIST: &str = "\
 5 context xa a
 6 context xb b
 ";
+
+/// A description of one protection domain, which reads one region.
+const DESCRIPTION: &str = "\
+<system>
+<memory_region name='r' size='0x1000'/>
+<protection_domain name='a'>
+<map mr='r' vaddr='0x1000' perms='r'/>
+</protection_domain>
+</system>
+";
+
+/// The table that it becomes.
+const OF_A_DESCRIPTION: &str = "\
+confine-table 1
+label a
+label r
+cnode a_space a 0x4000 9
+tcb a_main a 0x8000 ready
+notification a_bell a 0x8400
+context a_time0 a 0x8500 0 1000 1000
+frame r_frame r 0x9000
+cap a_space.1 a_bell r 0
+cap a_space.458 r_frame r
+cap a_main.root a_space 55 0x0
+bind a_main a_time0
+end
+";
+
+/// The claims that it makes.
+const INTENDED: &str = "confine-claims 2\nnone a r\nend\n";
 
 const LEGAL: &str = "{\"entries\":3,\"state\":\"within\",\"verdict\":\"legal\"}\n";
 
@@ -140,6 +191,8 @@ const FAULTY_LOG: &str = "{\"fault\":50,\"file\":\"log\",\"line\":1}\n";
 
 const FAULTY_CLAIMS: &str = "{\"fault\":50,\"file\":\"claims\",\"line\":1}\n";
 
+const FAULTY_DESCRIPTION: &str = "{\"fault\":50,\"file\":\"description\",\"line\":1}\n";
+
 const NO_TABLE: &str = "confine: cannot read table";
 
 const NO_POLICY: &str = "confine: cannot read policy";
@@ -152,8 +205,10 @@ const NO_LOG: &str = "confine: cannot read log";
 
 const NO_CLAIMS: &str = "confine: cannot read claims";
 
+const NO_DESCRIPTION: &str = "confine: cannot read description";
+
 /// The files that each command reads, with what is told where one can't be read.
-const MESSAGES: [(Command, File, &str); 28] = [
+const MESSAGES: [(Command, File, &str); 37] = [
     (Command::Check(OnAccept::Report), File::Table, NO_TABLE),
     (Command::Check(OnAccept::Report), File::Policy, NO_POLICY),
     (Command::Check(OnAccept::Certificate), File::Table, NO_TABLE),
@@ -178,14 +233,31 @@ const MESSAGES: [(Command, File, &str); 28] = [
     (Command::Close, File::Policy, NO_POLICY),
     (Command::Why, File::Table, NO_TABLE),
     (Command::Why, File::Policy, NO_POLICY),
-    (Command::Draw, File::Table, NO_TABLE),
-    (Command::Draw, File::Policy, NO_POLICY),
+    (Command::Summary, File::Table, NO_TABLE),
+    (Command::Summary, File::Policy, NO_POLICY),
+    (Command::Show, File::Table, NO_TABLE),
+    (Command::Show, File::Policy, NO_POLICY),
+    (Command::Draw(Picture::Programs), File::Table, NO_TABLE),
+    (Command::Draw(Picture::Programs), File::Policy, NO_POLICY),
+    (Command::Draw(Picture::Labels), File::Table, NO_TABLE),
+    (Command::Draw(Picture::Labels), File::Policy, NO_POLICY),
     (Command::List, File::Table, NO_TABLE),
     (Command::Claims, File::Table, NO_TABLE),
     (Command::Claims, File::Policy, NO_POLICY),
     (Command::Claims, File::Claims, NO_CLAIMS),
+    (Command::Stated, File::Claims, NO_CLAIMS),
     (Command::Strongest, File::Table, NO_TABLE),
     (Command::Strongest, File::Policy, NO_POLICY),
+    (
+        Command::Import(Imported::Table),
+        File::Description,
+        NO_DESCRIPTION,
+    ),
+    (
+        Command::Import(Imported::Claims),
+        File::Description,
+        NO_DESCRIPTION,
+    ),
 ];
 
 /// The files of a system that is accepted: a notification from one label to another, on two cores.
@@ -195,6 +267,8 @@ fn files_for(command: Command) -> Files<'static> {
         Command::Verify => CERTIFICATE,
         Command::Split => POLLS,
         Command::Claims => CLAIMS,
+        Command::Stated => STATED,
+        Command::Import(_) => DESCRIPTION,
         _ => SCRIPT,
     };
     Files {
@@ -280,16 +354,54 @@ fn answers_of_splits() -> [Answered; 3] {
     ]
 }
 
+/// Labels, and neither threads nor edges.
+fn labels_for(command: Command) -> Files<'static> {
+    Files {
+        table: Given::text("confine-table 1\nlabel a\nlabel b\nend\n"),
+        policy: empty_policy(),
+        ..files_for(command)
+    }
+}
+
+/// Files of each kind of answer of the commands that say who may change whom.
+fn answers_on_changes() -> [Answered; 9] {
+    let to_sum_up = files_for(Command::Summary);
+    let to_show = files_for(Command::Show);
+    let to_draw = files_for(Command::Draw(Picture::Labels));
+    let to_fold = labels_for(Command::Draw(Picture::Programs));
+    [
+        (files_for(Command::Why), 0, REASON),
+        (labels_for(Command::Summary), 0, NO_THREADS),
+        (to_sum_up.with(File::Policy, empty_policy()), 1, DENIAL),
+        (to_show, 0, SHOWN),
+        (labels_for(Command::Show), 1, UNSHOWN),
+        (to_show.with(File::Policy, empty_policy()), 1, DENIAL),
+        (to_fold, 0, NO_PROGRAMS),
+        (to_draw, 0, DRAWING),
+        (to_draw.with(File::Policy, faulty()), 2, FAULTY_POLICY),
+    ]
+}
+
+/// Files of each kind of answer of `import`.
+fn answers_of_imports() -> [Answered; 3] {
+    let files = files_for(Command::Import(Imported::Table));
+    [
+        (files, 0, OF_A_DESCRIPTION),
+        (files_for(Command::Import(Imported::Claims)), 0, INTENDED),
+        (
+            files.with(File::Description, faulty()),
+            2,
+            FAULTY_DESCRIPTION,
+        ),
+    ]
+}
+
 /// Files of each kind of answer of the other commands.
-fn answers_of_others() -> [Answered; 9] {
+fn answers_of_others() -> [Answered; 6] {
     let to_replay = files_for(Command::Replay);
-    let to_draw = files_for(Command::Draw);
     let to_list = files_for(Command::List);
     [
         (to_close(), 0, LEAST),
-        (files_for(Command::Why), 0, REASON),
-        (to_draw, 0, DRAWING),
-        (to_draw.with(File::Policy, faulty()), 2, FAULTY_POLICY),
         (to_list, 0, LIST),
         (to_list.with(File::Table, faulty()), 2, FAULTY_TABLE),
         (to_replay, 0, LEGAL),
@@ -299,14 +411,17 @@ fn answers_of_others() -> [Answered; 9] {
 }
 
 /// Files of each kind of answer of `claims`.
-fn answers_of_claims() -> [Answered; 6] {
+fn answers_of_claims() -> [Answered; 8] {
     let files = files_for(Command::Claims);
+    let stated = files_for(Command::Stated);
     let strongest = files_for(Command::Strongest);
     [
         (files, 0, HOLD),
         (files.with(File::Claims, Given::text(BROAD)), 1, BROKEN),
         (files.with(File::Policy, empty_policy()), 1, DENIAL),
         (files.with(File::Claims, faulty()), 2, FAULTY_CLAIMS),
+        (stated, 0, HOLD),
+        (stated.with(File::Claims, Given::text(BROADER)), 1, BREACHES),
         (strongest, 0, CLAIMS),
         (strongest.with(File::Policy, empty_policy()), 1, DENIAL),
     ]
@@ -369,6 +484,8 @@ fn read_up_to(file: File) -> [bool; 3] {
         File::Table => [true, false, false],
         File::Policy => [true, true, false],
         File::Certificate | File::Script | File::Log | File::Claims => [true, true, true],
+        // It is read alone.
+        File::Description => [false, false, true],
     }
 }
 
@@ -506,6 +623,16 @@ fn an_answer_that_cannot_be_written_is_no_answer(rt: HostRuntime) -> Result<(), 
 }
 
 #[test]
+fn changes_that_cannot_be_written_are_no_answer(rt: HostRuntime) -> Result<(), Fail> {
+    none_is_written(&rt, &answers_on_changes())
+}
+
+#[test]
+fn an_import_that_cannot_be_written_is_no_answer(rt: HostRuntime) -> Result<(), Fail> {
+    none_is_written(&rt, &answers_of_imports())
+}
+
+#[test]
 fn claims_whose_answer_cannot_be_written_have_none(rt: HostRuntime) -> Result<(), Fail> {
     none_is_written(&rt, &answers_of_claims())
 }
@@ -548,6 +675,8 @@ fn how_many_bytes_a_device_moves_changes_no_answer(rt: HostRuntime) -> Result<()
     all_are_given(&rt, &answers_of_checks())?;
     all_are_given(&rt, &answers_of_runs())?;
     all_are_given(&rt, &answers_of_splits())?;
+    all_are_given(&rt, &answers_on_changes())?;
+    all_are_given(&rt, &answers_of_imports())?;
     all_are_given(&rt, &answers_of_claims())?;
     all_are_given(&rt, &answers_of_others())
 }

@@ -3,8 +3,9 @@ ghost use Rattle.std.specs.Prelude.{◌≡◌, false};
 
 use crate::failing::{Given, Page};
 use report::{
-    Basis, End, File, OnAccept, OnClose, Open, Silence, Sink, Source, Watched, check, check_claims,
-    close, draw, list, replay, run, run_split, verify, why, write_claims,
+    Basis, Children, End, File, Imported, Minting, OnAccept, OnClose, OnImport, Open, Picture,
+    Search, Silence, Sink, Source, Watched, check, check_claims, close, draw, import, list, replay,
+    run, run_split, show, summary, verify, why, write_claims,
 };
 use std::alloc::AllocGlobal;
 use std::sync::Wait;
@@ -21,15 +22,20 @@ pub enum Command {
     Replay,
     Close,
     Why,
-    Draw,
+    Summary,
+    Show,
+    Draw(Picture),
     List,
     Claims,
+    /// Claims of version 2.
+    Stated,
     /// The strongest claims.
     Strongest,
+    Import(Imported),
 }
 
-/// A command and its files. The third is the script of a run, the log of a replay, a certificate or
-/// claims, where the command reads one.
+/// A command and its files. The third is the script of a run, the log of a replay, a certificate,
+/// claims or a description, where the command reads one.
 #[derive(Clone, Copy)]
 pub struct Files<'a> {
     pub command: Command,
@@ -44,7 +50,8 @@ impl<'a> Files<'a> {
         match file {
             File::Table => self.table,
             File::Policy => self.policy,
-            File::Certificate | File::Script | File::Log | File::Claims => self.third,
+            File::Certificate | File::Script | File::Log | File::Claims | File::Description =>
+                self.third,
         }
     }
 
@@ -59,10 +66,11 @@ impl<'a> Files<'a> {
                 policy: given,
                 ..self
             },
-            File::Certificate | File::Script | File::Log | File::Claims => Files {
-                third: given,
-                ..self
-            },
+            File::Certificate | File::Script | File::Log | File::Claims | File::Description =>
+                Files {
+                    third: given,
+                    ..self
+                },
         }
     }
 
@@ -83,6 +91,21 @@ pub struct Ending {
     pub end: End,
     pub written: String,
     pub reads: [bool; 3],
+}
+
+/// A search for a change, of few calls.
+const OF_A_CHANGE: Search = Search {
+    takes: false,
+    steps: 100,
+};
+
+/// An import with the least rights.
+fn with_least(imported: Imported) -> OnImport {
+    OnImport {
+        minting: Minting::Least,
+        children: Children::Control,
+        writes: imported,
+    }
 }
 
 /// Carries out a command over these devices.
@@ -149,18 +172,40 @@ where
             &mut Silence,
             out,
         ),
-        Command::Draw => draw(
+        Command::Summary => summary(rt, rt.alloc(), table, policy, &mut Silence, out),
+        Command::Show => show(
+            rt,
+            rt.alloc(),
+            OF_A_CHANGE,
+            table,
+            policy,
+            "a",
+            "b",
+            &mut Silence,
+            out,
+        ),
+        Command::Draw(picture) => draw(
             rt,
             rt.alloc(),
             Basis::System,
+            picture,
             table,
             policy,
             &mut Silence,
             out,
         ),
         Command::List => list(rt.alloc(), table, &mut Silence, out),
-        Command::Claims => check_claims(rt, rt.alloc(), table, policy, third, &mut Silence, out),
+        Command::Claims | Command::Stated => {
+            check_claims(rt, rt.alloc(), table, policy, third, &mut Silence, out)
+        }
         Command::Strongest => write_claims(rt, rt.alloc(), table, policy, &mut Silence, out),
+        Command::Import(imported) => import(
+            rt.alloc(),
+            with_least(imported),
+            third,
+            &mut Silence,
+            out,
+        ),
     }
 }
 

@@ -18,5 +18,6 @@ pub use comparing::{differs, shrinks};
 pub use finding::{Found, find};
 pub use question::Question;
 pub use reaching::reach;
+pub use seeming::changes;
 pub use showing::shows;
 pub use sight::{Sight, look};

@@ -19,7 +19,8 @@ use words::Fault;
 /// Says which line of a file has a fault, and which condition the line doesn't meet.
 ///
 /// `text` is all of the file called `name`, and the line is found in it. `table` is the table by which a policy, a
-/// certificate or claims were read. For the other files it doesn't matter.
+/// certificate or claims were read. For the other files it doesn't matter. The faults of a description are
+/// explained by the crate `remarks`, since it is XML: here no condition of its lines is known.
 ///
 /// Where memory was refused that is said, and no line.
 pub fn explain_fault(
@@ -65,7 +66,7 @@ fn declared<'a>(
             Some(Declared::Rows(Rows { text, end }))
         }
         File::Policy | File::Certificate | File::Claims => Some(Declared::Table(table?)),
-        File::Script | File::Log => None,
+        File::Script | File::Log | File::Description => None,
     }
 }
 

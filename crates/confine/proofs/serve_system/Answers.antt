@@ -14,3 +14,9 @@ returns-in-Draw-clause-served g c = rw c.in-Draw.is c.draw.ensures
 
 pub returns-in-Strongest-clause-served : goal.returns-in-Strongest-clause-served
 returns-in-Strongest-clause-served g c = rw c.in-Strongest.is c.write_claims.ensures
+
+pub returns-in-Show-clause-served : goal.returns-in-Show-clause-served
+returns-in-Show-clause-served g c = rw c.in-Show.is c.show.ensures
+
+pub returns-in-Summary-clause-served : goal.returns-in-Summary-clause-served
+returns-in-Summary-clause-served g c = rw c.in-Summary.is c.summary.ensures

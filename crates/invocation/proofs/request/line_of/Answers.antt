@@ -8,13 +8,13 @@ returns-clause-meaning c = by c.line.result refl where
   by : (line : _) → c.line.result ≡ line → IfSome line (λ line. IsAskedIn c.args.matches.now line)
   by None e = tt
   by (Some line) e = record {
-    words = c.in_ok-words_of.field-0;
+    words = c.words_of.result;
     found = found_of c.in_ok-name.found.now;
     command =
         let named : subcommand_name_of c.args.matches.now ≡ Some c.in_ok-name.name.now =
         search (rules, c.subcommand.ensures.name, c.in_ok-name.was) in
-        named ∙ ap Some (c.in_ok-from_name.ensures.found ∙ ap verb_name (sym c.in_ok-words_of.ensures.command));
+        named ∙ ap Some (c.in_ok-from_name.ensures.found ∙ ap verb_name (sym c.words_of.ensures.command));
     rows = search (rules, c.subcommand.ensures.rows, c.in_ok-name.was);
-    read = c.in_ok-words_of.ensures.found;
+    read = c.words_of.ensures.found;
     asks = sym c.line.ensures.meaning ∙ e;
   }

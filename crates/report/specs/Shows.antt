@@ -1,0 +1,62 @@
+-- What the command `show` answers to a table, a policy and two labels (compare the integrity of 'seL4 Enforces Integrity', section 4;
+-- showing a run where that ends is confine's own).
+use Rattle.std.specs.Prelude.{ℕ, ◌≡◌, ◌≤◌, List, Some, if◌then◌else◌}
+use Rattle.base.specs.declared.edge.Edge.{Edge}
+use Rattle.machine.specs.{declared.call.Event.Event, Layout.Layout}
+use Rattle.policy.specs.Policy.{allows}
+use Rattle.table.specs.Names.{label_named}
+use Rattle.evtext.specs.Script.{script_text}
+use Rattle.verdict.specs.declared.denial.Denial.{Denial}
+use Rattle.verdict.specs.declared.extent.Extent.{Extent}
+use Rattle.verdict.specs.declared.extent.Extent.TheVariants as extent
+use Rattle.verdict.specs.{Extents.{GoesTo, IsReachOf, KeepsTo, Reach}, Verdict.{IsAccepted, IsLeastBroken, rule_name}}
+use Rattle.search.specs.{declared.question.Question.Question, Shown.{Answers}}
+use Rattle.reptext.specs.{Places.place_names, Reports.{denial_report, impossible_data, line_of, unfound_data}}
+use Rattle.commands.specs.{declared.{choices.Search.Search, end.End.End}, Commands.{Input, IsDoneOnSystem, Output}}
+use Rattle.report.specs.Questions.{unlabelled}
+
+-- what is searched for: that a thread of the one label takes from an object of the other, or changes it in another way
+abbrev pub question_of : Search → ℕ → ℕ → Question
+question_of sought a l = record { actor = a; object = l; taking = sought.takes }
+
+-- the most calls that are tried: none where threads of the one label can only take, and no loss is sought
+abbrev pub most_calls : Search → Extent → ℕ
+most_calls sought extent.Full = sought.steps
+most_calls sought extent.Take = if sought.takes then sought.steps else 0
+most_calls sought extent.Nothing = 0
+
+-- a script was found, and the text is that of a script whose last call is as the question asks, with status 0; or after at most so many
+-- calls none was found, and the text says how far the one label goes with the other, and how many calls were tried, with status 1
+pub data TellsFound (t : Layout) (question : Question) (bound : Extent) (most : ℕ) (text : List ℕ) (status : ℕ) : Type 0 where
+  shown : (script : List Event) → Answers t question script → text ≡ script_text script → status ≡ 0
+      → TellsFound t question bound most text status
+  unfound : (steps : ℕ) → steps ≤ most → text ≡ line_of (unfound_data bound steps) → status ≡ 1
+      → TellsFound t question bound most text status
+
+-- where the one label goes so far with the other: a run that is searched for; or that there can't be one, with status 1, just where the
+-- bounds exclude that the one does anything to the other
+abbrev pub TellsRun : Layout → Question → Extent → ℕ → List ℕ → ℕ → Type 0
+TellsRun t question extent.Full most text status = TellsFound t question extent.Full most text status
+TellsRun t question extent.Take most text status = TellsFound t question extent.Take most text status
+TellsRun t question extent.Nothing most text status = (text ≡ line_of impossible_data) × (status ≡ 1)
+
+-- a text tells of a run by how far one label goes with another in an accepted system: no step of any run goes further
+pub record ShowsRun (sought : Search) (t : Layout) (edges : List Edge) (a l : ℕ) (text : List ℕ) (status : ℕ) : Type 0 where
+  pub reach : Reach
+  pub is_reach : IsReachOf t edges reach
+  pub bound : Extent
+  pub goes : GoesTo reach a l bound
+  pub kept : KeepsTo t a l bound
+  pub told : TellsRun t (question_of sought a l) bound (most_calls sought bound) text status
+
+-- the answer to a table and a policy that are to show a run: they are denied; or they are accepted, and it tells of a run of the labels of
+-- these names
+pub data Shows (sought : Search) (actor object : List ℕ) (t : Layout) (edges : List Edge) (text : List ℕ) (status : ℕ) : Type 0 where
+  denied : (denial : Denial) → IsLeastBroken t (allows edges) denial → text ≡ denial_report (rule_name denial) (place_names t denial)
+      → status ≡ 1 → Shows sought actor object t edges text status
+  accepted : IsAccepted t (allows edges) → (a l : ℕ) → label_named t actor ≡ Some a → label_named t object ≡ Some l
+      → ShowsRun sought t edges a l text status → Shows sought actor object t edges text status
+
+-- a run was shown of two labels, or it was told why not
+abbrev pub IsShownTo : {T P O : Type 0} → Search → List ℕ → List ℕ → Input T → Input P → Output O → End → Type 0
+IsShownTo sought actor object = IsDoneOnSystem (λ t. unlabelled t actor object) (Shows sought actor object)

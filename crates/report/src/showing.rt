@@ -1,0 +1,180 @@
+ghost use Rattle.std.specs.Prelude.{◌≡◌, ◌≤◌, IfErr, IfOk, false};
+ghost use Rattle.base.specs.Refusals.{out_of_memory};
+ghost use Rattle.commands.specs.Commands.{IsJudgedSo, SystemIsJudged, input, output};
+ghost use Rattle.report.specs.Questions.{unlabelled};
+ghost use Rattle.report.specs.Shows as shows;
+
+use crate::{Asked, End, Listener, Search, Sink, Source};
+use base::{Label, Refusal};
+use commands::{Answer, Stop, System, denied, load_system, tell};
+use deal::Open;
+use evtext::write_script;
+use policy::Policy;
+use reptext::{impossible_report, unfound_report};
+use search::{Question, find};
+use std::alloc::Global;
+use std::thread::Threads;
+use table::Table;
+use verdict::{Accepted, Extent, judge};
+
+/// Shows a run in which a thread of one label changes an object of another, or takes from it.
+///
+/// Writes the script of the run, with status 0. Writes with status 1 that the bounds of the system exclude such
+/// a run, or that none was found, or the report of the denial; and with status 2 the report of the first fault.
+pub fn show<R, T, P, L, O>(
+    rt: &R,
+    alloc: Global,
+    sought: Search,
+    table: &mut T,
+    policy: &mut P,
+    actor: &str,
+    object: &str,
+    listener: &mut L,
+    out: &mut O,
+) -> End
+where
+    R: Threads + Sync,
+    T: Source,
+    P: Source,
+    L: Listener,
+    O: Sink,
+    requires table { T.failed table.old ≡ false }
+    requires policy { P.failed policy.old ≡ false }
+    requires out { O.failed out.old ≡ false }
+    ensures { shows.IsShownTo sought actor.now object.now (input T.remaining T.failed table.old table.new)
+        (input P.remaining P.failed policy.old policy.new) (output O.contents O.failed O.is_flushed out.old out.new) result }
+{
+    let system = load_system(alloc, table, policy, listener);
+    let answer = show_judged(rt, alloc, sought, &system, actor, object);
+    tell(alloc, &system, answer, listener, out)
+}
+
+/// The run that is sought of a system that was loaded, or why none is shown.
+fn show_judged<R: Threads + Sync>(
+    rt: &R,
+    alloc: Global,
+    sought: Search,
+    loaded: &Result<System, Stop>,
+    actor: &str,
+    object: &str,
+) -> Result<Answer, Stop>
+    ensures { SystemIsJudged (λ t. unlabelled t actor.now object.now) (shows.Shows sought actor.now object.now) loaded.now result }
+{
+    match loaded {
+        Ok(System { table, policy }) => shown(rt, alloc, sought, table, policy, actor, object),
+        Err(stop) => Err(*stop),
+    }
+}
+
+/// The run that is sought, or why none is shown; or the first of the two names that is no label of the table.
+fn shown<R: Threads + Sync>(
+    rt: &R,
+    alloc: Global,
+    sought: Search,
+    table: &Table,
+    policy: &Policy,
+    actor: &str,
+    object: &str,
+) -> Result<Answer, Stop>
+    ensures { IsJudgedSo (unlabelled table.now actor.now object.now) (shows.Shows sought actor.now object.now table.now policy.now) result }
+{
+    let Some(actor) = table.label_named(actor) else {
+        return Err(Stop::NoLabel(Asked::Actor));
+    };
+    let Some(object) = table.label_named(object) else {
+        return Err(Stop::NoLabel(Asked::Object));
+    };
+    match judge(rt, alloc, table, policy, 1, &Open)? {
+        Ok(accepted) => Ok(run_answer(alloc, sought, &accepted, actor, object)?),
+        Err(denial) => Ok(denied(alloc, table, denial)?),
+    }
+}
+
+/// What is told of a run of an accepted system.
+fn run_answer(
+    alloc: Global,
+    sought: Search,
+    accepted: &Accepted<'_>,
+    actor: Label,
+    object: Label,
+) -> Result<Answer, Refusal>
+    ensures right { IfOk result (λ answer.
+        shows.ShowsRun sought accepted.now.table accepted.now.policy actor object answer.text.items answer.status) }
+    ensures exit { IfOk result (λ answer. answer.status ≤ 2) }
+    ensures memory { IfErr result (λ refusal. refusal ≡ out_of_memory) }
+{
+    let bounds = accepted.bounds();
+    let bound = bounds.extent(actor, object);
+    let question = Question {
+        actor,
+        object,
+        taking: sought.takes,
+    };
+    bounded_answer(
+        alloc,
+        bounds.table(),
+        &question,
+        bound,
+        most_calls(sought, bound),
+    )
+}
+
+/// The most calls that are tried: none where threads of the one label can only take, and no loss is sought.
+fn most_calls(sought: Search, bound: Extent) -> u64
+    ensures { result ≡ shows.most_calls sought bound }
+{
+    match bound {
+        Extent::Full => sought.steps,
+        Extent::Take => { if sought.takes { sought.steps } else { 0 } }
+        Extent::Nothing => 0,
+    }
+}
+
+/// What is told of a run where the one label goes so far with the other.
+fn bounded_answer(
+    alloc: Global,
+    table: &Table,
+    question: &Question,
+    bound: Extent,
+    most: u64,
+) -> Result<Answer, Refusal>
+    ensures told { IfOk result (λ answer. shows.TellsRun table.now question.now bound most answer.text.items answer.status) }
+    ensures exit { IfOk result (λ answer. answer.status ≤ 2) }
+    ensures memory { IfErr result (λ refusal. refusal ≡ out_of_memory) }
+{
+    match bound {
+        Extent::Nothing => Ok(Answer::plain(impossible_report(alloc)?, 1)),
+        Extent::Full | Extent::Take => found_answer(alloc, table, question, bound, most),
+    }
+}
+
+/// The script that at most so many calls find, or that they find none.
+fn found_answer(
+    alloc: Global,
+    table: &Table,
+    question: &Question,
+    bound: Extent,
+    most: u64,
+) -> Result<Answer, Refusal>
+    ensures told { IfOk result (λ answer. shows.TellsFound table.now question.now bound most answer.text.items answer.status) }
+    ensures exit { IfOk result (λ answer. answer.status ≤ 2) }
+    ensures memory { IfErr result (λ refusal. refusal ≡ out_of_memory) }
+{
+    if most == 0 {
+        return Ok(Answer::plain(unfound_report(alloc, bound, 0)?, 1));
+    }
+    let found = find(alloc, table, question, most)?;
+    match found.script {
+        Some(script) => {
+            let text = write_script(alloc, &script)?;
+            Ok(Answer {
+                text,
+                status: 0,
+                finding: None,
+                made: None,
+                script: Some(script),
+            })
+        }
+        None => Ok(Answer::plain(unfound_report(alloc, bound, found.steps)?, 1)),
+    }
+}

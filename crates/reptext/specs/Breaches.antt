@@ -1,0 +1,58 @@
+-- The report of claims that don't hold: each with its line, and the authority that breaks it (confine's own).
+use Rattle.std.specs.{List.flat_map, Prelude.{[], ℕ, ◌-◌, ◌∷◌, Bool, List, None, Option, Some, codes, false, if◌then◌else◌, map, nat_lt, slice_get, true}}
+use Rattle.serde_json.specs.{Data.{Data, member, no_members, number, object, array, string, unsigned}, View.items_of}
+use Rattle.machine.specs.Layout.{Layout}
+use Rattle.captext.specs.PolicyText.{label_name}
+use Rattle.stated.specs.declared.{breaches.Breach.Breach, claim.{Stated.{Stated, Stated as stated}, Who.Who as who}}
+use Rattle.stated.specs.declared.deciding.{Broken.Broken, Failure.{Failure, Failure as failure}}
+use Rattle.stated.specs.declared.lines.TheConstants.StatedLines as StatedLines
+use Rattle.stated.specs.Text.{stated_text}
+use Rattle.reptext.specs.Reports.{extent_word, names_data}
+
+-- the claim itself names the two labels that it bounds
+abbrev pub names_both : Stated → Bool
+names_both (stated.AtMost limit (who.One a) (who.One l)) = true
+names_both _ = false
+
+-- a claim on authority is broken by this much of it; where the claim doesn't name them, the two labels are told too
+abbrev pub pair_data : Layout → Stated → ℕ → Breach → Data
+pair_data t claim line breach =
+    object (member (codes "authority") (string (extent_word breach.extent))
+    (member (codes "claim") (string (stated_text t claim))
+    (member (codes "line") (number (unsigned line))
+    (if names_both claim then no_members
+    else member (codes "pair") (names_data (label_name t breach.actor ∷ label_name t breach.object ∷ [])) no_members))))
+
+-- a claim is broken
+abbrev pub plain_data : Layout → Stated → ℕ → Data
+plain_data t claim line =
+    object (member (codes "claim") (string (stated_text t claim))
+    (member (codes "line") (number (unsigned line)) no_members))
+
+-- what is told of a claim that is broken for this reason
+abbrev pub failure_data : Layout → Stated → ℕ → Failure → Data
+failure_data t claim line (failure.Pair breach) = pair_data t claim line breach
+failure_data t claim line failure.Chain = plain_data t claim line
+failure_data t claim line failure.Edge = plain_data t claim line
+
+-- the claim of a line, if it has one
+abbrev pub claim_of : Option (Option Stated) → Option Stated
+claim_of (Some entry) = entry
+claim_of None = None
+
+abbrev pub claim_at : List (Option Stated) → ℕ → Option Stated
+claim_at lines line = if nat_lt line StatedLines.FIRST then None else claim_of (slice_get lines (line - StatedLines.FIRST))
+
+-- what is told of a line, which is one of the text's claims
+abbrev pub told_of : Layout → Broken → Option Stated → List Data
+told_of t broken None = []
+told_of t broken (Some claim) = failure_data t claim broken.line broken.failure ∷ []
+
+abbrev pub told : Layout → List (Option Stated) → Broken → List Data
+told t lines broken = told_of t broken (claim_at lines broken.line)
+
+-- the whole report
+abbrev pub breaches_data : Layout → List (Option Stated) → List Broken → Data
+breaches_data t lines broken =
+    object (member (codes "broken") (array (items_of (flat_map (told t lines) broken)))
+    (member (codes "verdict") (string (codes "broken")) no_members))

@@ -1,0 +1,167 @@
+//! The report of claims that don't hold.
+ghost use Rattle.std.specs.{List.flat_map, Prelude.{◌++◌, ◌≡◌, IfOk, OnOk, map, option_copied}};
+ghost use Rattle.serde_json.specs.View.{view};
+ghost use Rattle.reptext.specs.Breaches.{breaches_data, claim_at, failure_data, names_both, pair_data, plain_data, told};
+ghost use Rattle.reptext.specs.Reports.{line_of, names_data};
+ghost use Rattle.captext.specs.PolicyText.{label_name as label_name_of};
+ghost use Rattle.std.specs.Prelude.{[], ◌∷◌};
+
+use crate::places::label_name;
+use crate::reports::{extent_word, line_of};
+use base::Label;
+use serde_json::{Value, json};
+use stated::{Breach, Broken, Failure, Stated, StatedLines, Who, claim_text};
+use std::alloc::{AllocError, Global};
+use table::Table;
+
+/// Returns the report of claims that don't hold: each with its line.
+///
+/// A claim on authority is told with the authority that breaks it, and with the two labels if it doesn't name both.
+///
+/// # Errors
+///
+/// [`AllocError`] where memory is refused.
+#[tactic(auto, using(crate::proofs::Fractions::breaches_have_no_float))]
+pub fn breaches_report(
+    alloc: Global,
+    table: &Table,
+    lines: &StatedLines,
+    broken: &[Broken],
+) -> Result<Vec<u8>, AllocError>
+    ensures { IfOk result (λ report. report.items ≡ line_of (breaches_data table.now lines.now broken.now)) }
+{
+    let value = breaches_value(alloc, table, lines.as_slice(), broken)?;
+    line_of(alloc, &value)
+}
+
+fn breaches_value(
+    alloc: Global,
+    table: &Table,
+    lines: &[Option<Stated>],
+    broken: &[Broken],
+) -> Result<Value, AllocError>
+    ensures { IfOk result (λ value. view value ≡ breaches_data table.now lines.now broken.now) }
+{
+    let values = Value::Array(values_of(alloc, table, lines, broken)?);
+    json!(in alloc; {"broken": values, "verdict": "broken"})
+}
+
+// What is told of each claim that doesn't hold.
+fn values_of(
+    alloc: Global,
+    table: &Table,
+    lines: &[Option<Stated>],
+    broken: &[Broken],
+) -> Result<Vec<Value>, AllocError>
+    ensures { IfOk result (λ values. map view values.items ≡ flat_map (told table.now lines.now) broken.now) }
+{
+    let mut values = Vec::new(alloc);
+    for one in broken {
+        push_value(alloc, table, lines, one, &mut values)?;
+    }
+    Ok(values)
+}
+
+// Adds what is told of a claim that doesn't hold.
+fn push_value(
+    alloc: Global,
+    table: &Table,
+    lines: &[Option<Stated>],
+    broken: &Broken,
+    values: &mut Vec<Value>,
+) -> Result<(), AllocError>
+    ensures { OnOk result (map view values.new.items ≡ map view values.old.items ++ told table.now lines.now broken.now) }
+{
+    if let Some(claim) = claim_at(lines, broken.line) {
+        values.push(value_of(alloc, table, claim, broken)?)?;
+    }
+    Ok(())
+}
+
+// The claim of the line of this number, if it has one.
+fn claim_at(lines: &[Option<Stated>], line: usize) -> Option<&Stated>
+    ensures { option_copied result ≡ claim_at lines.now line }
+{
+    if line < StatedLines::FIRST {
+        return None;
+    }
+    match lines.get(line - StatedLines::FIRST) {
+        Some(Some(claim)) => Some(claim),
+        _ => None,
+    }
+}
+
+// What is told of a claim that doesn't hold.
+fn value_of(
+    alloc: Global,
+    table: &Table,
+    claim: &Stated,
+    broken: &Broken,
+) -> Result<Value, AllocError>
+    ensures { IfOk result (λ value. view value ≡ failure_data table.now claim.now broken.now.line broken.now.failure) }
+{
+    match broken.failure {
+        Failure::Pair(breach) => pair_value(alloc, table, claim, broken.line, breach),
+        Failure::Chain | Failure::Edge => plain_value(alloc, table, claim, broken.line),
+    }
+}
+
+// A claim that is broken.
+fn plain_value(
+    alloc: Global,
+    table: &Table,
+    claim: &Stated,
+    line: usize,
+) -> Result<Value, AllocError>
+    ensures { IfOk result (λ value. view value ≡ plain_data table.now claim.now line) }
+{
+    let text = Value::String(claim_text(alloc, claim, table)?);
+    let line = line as u64;
+    json!(in alloc; {"claim": text, "line": line})
+}
+
+// A claim on authority that is broken, with the authority.
+fn pair_value(
+    alloc: Global,
+    table: &Table,
+    claim: &Stated,
+    line: usize,
+    breach: Breach,
+) -> Result<Value, AllocError>
+    ensures { IfOk result (λ value. view value ≡ pair_data table.now claim.now line breach) }
+{
+    let authority = extent_word(breach.extent);
+    let text = Value::String(claim_text(alloc, claim, table)?);
+    let line = line as u64;
+    if names_both(claim) {
+        return json!(in alloc; {"authority": authority, "claim": text, "line": line});
+    }
+    let pair = labels_value(alloc, table, breach.actor, breach.object)?;
+    json!(in alloc; {"authority": authority, "claim": text, "line": line, "pair": pair})
+}
+
+// The names of two labels.
+fn labels_value(
+    alloc: Global,
+    table: &Table,
+    actor: Label,
+    object: Label,
+) -> Result<Value, AllocError>
+    ensures { IfOk result (λ value.
+        view value ≡ names_data (label_name_of table.now actor ∷ label_name_of table.now object ∷ [])) }
+{
+    let mut names = Vec::new(alloc);
+    names.push(Value::String(label_name(alloc, table, actor)?))?;
+    names.push(Value::String(label_name(alloc, table, object)?))?;
+    Ok(Value::Array(names))
+}
+
+// Whether a claim itself names the two labels that it bounds.
+fn names_both(claim: &Stated) -> bool
+    ensures { result ≡ names_both claim.now }
+{
+    match claim {
+        Stated::AtMost(_, Who::One(_), Who::One(_)) => true,
+        _ => false,
+    }
+}

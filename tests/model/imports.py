@@ -1,0 +1,247 @@
+"""The table that a system description of Microkit becomes, and the claims that it makes, as docs/IMPORT.md has them. What has a label is a
+pair, as `("domain", 0)`: a domain, a machine, the time of a domain, or a region, by number. An object is such a pair too: its kind in a
+domain, a virtual machine, a virtual processor or a region."""
+import re
+
+import texts
+from descriptions import read_description, unless
+from texts import HOUR
+
+LETTERS, TRIES = 24, 512
+BELLS, CALLS, CHILDREN, PROCESSORS, MAPS = 10, 74, 202, 266, 458
+RIGHTS = {"bell": "rw", "entry": "rwgy"}
+KINDS = {
+    "space": "cnode", "guest_space": "cnode", "main": "tcb", "vcpu": "tcb", "bell": "notification", "answer": "reply", "entry": "endpoint",
+    "time": "context", "vcpu_time": "context", "frame": "frame",
+}
+
+
+# Labels.
+
+def ends(d):
+    """Each end of a channel, with the other one."""
+    return [pair for first, second in d.channels for pair in [(first, second), (second, first)]]
+
+
+def subjects(d):
+    """What has a label, in their order."""
+    callers = {own.domain for own, _ in ends(d) if own.calls}
+    mapped = {region for _, region, _ in d.maps}
+    found = [("domain", n) for n in range(len(d.domains))] + [("machine", n) for n in range(len(d.machines))]
+    return found + [("time", n) for n in sorted(callers)] + [("region", n) for n in sorted(mapped)]
+
+
+def item_of(d, subject):
+    kind, n = subject
+    return {"domain": d.domains, "machine": d.machines, "time": d.domains, "region": d.regions}[kind][n]
+
+
+def shortened(name, most):
+    last = 13 if most >= 16 else most - 3
+    return name if len(name) <= most else f"{name[: most - last - 2]}__{name[-last:]}"
+
+
+def tried(name, ending, k):
+    ending += f"_{k}" if k > 1 else ""
+    return shortened(name, LETTERS - len(ending)) + ending
+
+
+def labels(d):
+    """The names of labels; 54 where none is free."""
+    found = []
+    for kind, n in subjects(d):
+        item = item_of(d, (kind, n))
+        name = re.sub("[^a-z0-9]", "_", item.name.lower())
+        name = name if re.match("[a-z]", name) else f"x{name}"
+        ending = "_time" if kind == "time" else "_mr" if kind == "region" and tried(name, "", 1) in found[: len(d.domains)] else ""
+        free = [one for one in (tried(name, ending, k) for k in range(1, TRIES + 1)) if one not in found][:1]
+        unless(54, item.line, free)
+        found += free
+    return found
+
+
+# Objects.
+
+def is_called(d, n):
+    """Whether somebody calls a domain: another one, or a child or a virtual machine by a fault."""
+    below = [one.parent[0] for one in d.domains if one.parent] + [one.domain for one in d.machines]
+    return n in below or any(own.calls and other.domain == n for own, other in ends(d))
+
+
+def objects(d, every):
+    domains, machines, processors = (range(len(items)) for items in (d.domains, d.machines, d.processors))
+    counted = {"space": domains, "guest_space": machines, "main": domains, "vcpu": processors, "bell": domains}
+    counted |= {"answer": [n for n in domains if every or is_called(d, n)], "entry": [n for n in domains if is_called(d, n)]}
+    counted |= {"time": domains, "vcpu_time": processors, "frame": sorted({region for _, region, _ in d.maps})}
+    return [(form, n) for form, numbers in counted.items() for n in numbers]
+
+
+def owner(d, form, n):
+    """What an object has its label from, the ending of its name, and its line."""
+    if form in ("vcpu", "vcpu_time"):
+        one = d.processors[n]
+        return ("machine", one.machine), f"{'vcpu' if form == 'vcpu' else 'time'}{one.id}", one.line
+    subject = {"guest_space": ("machine", n), "frame": ("region", n)}.get(form, ("domain", n))
+    if form == "time" and any(own.calls and own.domain == n for own, _ in ends(d)):
+        subject = "time", n
+    return subject, {"guest_space": "space", "time": "time0"}.get(form, form), item_of(d, subject).line
+
+
+# Capabilities: an object, and the words that follow its name.
+
+def cap(every, form, n, rights, badge):
+    return (form, n), f" {RIGHTS[form] if every else rights} {badge}"
+
+
+def fault_cap(every, parent):
+    return cap(every, "entry", parent[0], "wy", (1 << 62) + parent[1])
+
+
+def low_caps(d, every, control, n):
+    """What a domain has below slot 458, by slot."""
+    called, own_bell, held = is_called(d, n), cap(every, "bell", n, "r", 0), {}
+    held[1] = cap(every, "entry", n, "r", 0) if called else own_bell
+    if d.domains[n].parent:
+        held[2] = fault_cap(every, d.domains[n].parent)
+    if called:
+        held[3] = own_bell
+    if called or every:
+        held[4] = ("answer", n), ""
+    for own, other in ends(d):
+        if own.domain == n and own.notifies:
+            held[BELLS + own.id] = cap(every, "bell", other.domain, "w", 1 << other.id)
+        if own.domain == n and own.calls:
+            held[CALLS + own.id] = cap(every, "entry", other.domain, "wy", (1 << 63) + other.id)
+    if control:
+        held |= {CHILDREN + one.parent[1]: (("main", m), "") for m, one in enumerate(d.domains) if one.parent and one.parent[0] == n}
+        held |= {PROCESSORS + one.id: (("vcpu", m), "") for m, one in enumerate(d.processors) if one.domain == n}
+    return sorted(held.items())
+
+
+def map_caps(d, user):
+    regions = [*dict.fromkeys(region for who, region, _ in d.maps if who == user)]
+    return [(("frame", one), " rw" if (user, one, True) in d.maps else " r") for one in regions]
+
+
+def guest_caps(d, every, machine):
+    faults = [fault_cap(every, (one.domain, one.id)) for one in d.processors if one.machine == machine]
+    return map_caps(d, ("machine", machine)) + faults
+
+
+def high_caps(d, every, control, n):
+    """What a domain has from slot 458 on: its maps, then, unless it controls its children, a copy of all that each of them has."""
+    found = map_caps(d, ("domain", n))
+    if not control:
+        for child, one in enumerate(d.domains):
+            if one.parent and one.parent[0] == n:
+                found += [held for _, held in low_caps(d, every, False, child)] + high_caps(d, every, False, child)
+        for machine, one in enumerate(d.machines):
+            found += guest_caps(d, every, machine) if one.domain == n else []
+    return found
+
+
+def filled(d, every, control):
+    """What each CNode has: a list of slots and capabilities."""
+    spaces = {}
+    for n in range(len(d.domains)):
+        spaces["space", n] = low_caps(d, every, control, n) + [*enumerate(high_caps(d, every, control, n), MAPS)]
+    for n in range(len(d.machines)):
+        spaces["guest_space", n] = [*enumerate(guest_caps(d, every, n), 1)]
+    return spaces
+
+
+# Tables.
+
+def share_words(item, core, line):
+    unless(54, line, 1 <= item.budget <= item.period <= HOUR and core <= 15)
+    return f" {core} {item.budget} {item.period}"
+
+
+def table_text(d, every, control):
+    """The text of the table; 54 where a limit is passed."""
+    subjects_there = subjects(d)
+    if len(subjects_there) > 256:
+        unless(54, item_of(d, subjects_there[256]).line, False)
+    names, spaces = dict(zip(subjects_there, labels(d))), filled(d, every, control)
+    called, radix, free, lines, slots, threads = {}, {}, 0x1000, [], 0, 0
+    for form, n in objects(d, every):
+        subject, ending, line = owner(d, form, n)
+        kind, more, size = KINDS[form], "", texts.SIZES.get(KINDS[form])
+        if kind == "cnode":
+            last = max((slot for slot, _ in spaces[form, n]), default=0)
+            unless(54, line, last < 1 << 12)
+            radix[form, n] = max(9, last.bit_length())
+            more, size, slots = f" {radix[form, n]}", 32 << radix[form, n], slots + (1 << radix[form, n])
+        elif kind == "tcb":
+            more, slots, threads = " inactive" if form == "vcpu" and control else " ready", slots + 1, threads + 1
+        elif form == "time":
+            more = share_words(d.domains[n], d.domains[n].core, line)
+        elif form == "vcpu_time":
+            more = share_words(d.machines[d.processors[n].machine], d.processors[n].core, line)
+        free = -(-free // size) * size
+        unless(54, line, len(called) < 4096 and slots <= 65536 and threads <= 1024)
+        called[form, n] = f"{names[subject]}_{ending}"
+        lines.append(f"{kind} {called[form, n]} {names[subject]} {free:#x}{more}")
+        free += size
+    for space, held in spaces.items():
+        lines += [f"cap {called[space]}.{slot} {called[target]}{words}" for slot, (target, words) in held]
+    roots = [(("main", n), ("space", n)) for n in range(len(d.domains))]
+    roots += [(("vcpu", n), ("guest_space", one.machine)) for n, one in enumerate(d.processors)]
+    lines += [f"cap {called[thread]}.root {called[space]} {64 - radix[space]} 0x0" for thread, space in roots]
+    lines += [f"bind {called['main', n]} {called['time', n]}" for n in range(len(d.domains))]
+    lines += [f"bind {called['vcpu', n]} {called['vcpu_time', n]}" for n in range(len(d.processors)) if not control]
+    header = f"confine-table {1 if len(names) <= 64 else 2}"
+    return texts.text_of(header, [*(f"label {name}" for name in names.values()), *lines])
+
+
+# Claims.
+
+def parent_of(d, user):
+    kind, n = user
+    outer = d.machines[n].domain if kind == "machine" else d.domains[n].parent[0] if d.domains[n].parent else None
+    return None if outer is None else ("domain", outer)
+
+
+def lineage(d, user):
+    """A user, and all in which it stands, the outermost last."""
+    return [user, *(lineage(d, parent_of(d, user)) if parent_of(d, user) else [])]
+
+
+def claims_text(d, control):
+    def same(one, other):
+        return lineage(d, one)[-1] == lineage(d, other)[-1] if control else one == other
+
+    def acts_for(one, other):
+        return same(one, other) if control else one in lineage(d, other)
+
+    def runners(n):
+        """The domains that may run on the time of a domain: itself, and whoever is called by one of these."""
+        found = {m for m in range(len(d.domains)) if same(("domain", n), ("domain", m))}
+        while more := {m for m in range(len(d.domains)) if m not in found and any(
+            own.calls and own.domain in found and same(("domain", m), ("domain", other.domain)) for own, other in ends(d)
+        )}:
+            found |= more
+        return found
+
+    def joined(one, other):
+        kind, n = other
+        if kind == "time":
+            return any(acts_for(one, ("domain", m)) for m in running[n])
+        if kind == "region":
+            return any(region == n and writable and acts_for(one, user) for user, region, writable in d.maps)
+        return acts_for(one, other) or parent_of(d, one) == other or any(
+            (own.notifies or own.calls or far.calls) and acts_for(one, ("domain", own.domain)) and same(other, ("domain", far.domain))
+            for own, far in ends(d)
+        )
+
+    running = [runners(n) for n in range(len(d.domains))]
+    there = dict(zip(subjects(d), labels(d)))
+    apart = [(a, b) for a in there for b in there if a[0] in ("domain", "machine") and a != b and not joined(a, b)]
+    return texts.text_of("confine-claims 2", [f"none {there[a]} {there[b]}" for a, b in apart])
+
+
+def imported(text, every, control, claimed):
+    """The text of the table, or that of the claims."""
+    d = read_description(text)
+    table = table_text(d, every, control)
+    return claims_text(d, control) if claimed else table
