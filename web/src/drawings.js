@@ -1,7 +1,7 @@
 "use strict";
 
-// The two drawings, in the manner of docs/pictures: who may change or take from whom, from the graph that `draw` writes; and the objects
-// of a small table.
+// The drawings, in the manner of docs/pictures: who may change or take from whom, from the graph that `draw` writes, of programs or of all
+// labels; and the objects of a small table.
 
 const SVG = "http://www.w3.org/2000/svg";
 
@@ -32,16 +32,24 @@ const tint = (number) => `tint-${number % 6}`;
 // ---- Who may change or take from whom: the labels in a circle, or more of them in a table. Solid arrows are full authority, dashed ones
 // that to take. `ask` is called with two labels, once an arrow or a cell between them is chosen.
 
-const MOST_LABELS = 16; // more stand in a table
+const MOST_LABELS = 16, MOST_ARROWS = 4; // labels, and arrows for each of them; more stand in a table
 const WIDEST = 900; // a circle; where long names need a wider one, there is a table
 const MOST_IN_TABLE = 64;
 
 function drawLabels(graph, ask) {
-  return graph.labels.length > MOST_LABELS || sizes(graph.labels).width > WIDEST ? labelTable(graph, ask) : labelPicture(graph, ask);
+  return (graph.isFolded && programPicture(graph, ask)) || labelDrawing(graph, ask);
 }
 
-const inSentence = ({ from, to, held }) => (held === "full" ? `${from} may change ${to}` : `${from} may take from ${to}`);
-const withReason = (one) => (one.edge ? `${inSentence(one)}, by ${one.edge}` : inSentence(one));
+function labelDrawing(graph, ask) {
+  const { labels, arrows } = graph;
+  const isLarge = labels.length > MOST_LABELS || arrows.length > MOST_ARROWS * labels.length || sizes(labels).width > WIDEST;
+  return isLarge ? labelTable(graph, ask) : labelPicture(graph, ask);
+}
+
+const HELD = { full: "may change", take: "may take from", memory: "shares memory with" };
+const inSentence = ({ from, to, held }) => `${from} ${HELD[held]} ${to}`;
+const reasonIn = ({ edge, words }) => edge ?? words?.join(", ");
+const withReason = (one) => (reasonIn(one) ? `${inSentence(one)}: ${reasonIn(one)}` : inSentence(one));
 
 // How wide a label's box is, half of the circle, and the picture.
 function sizes(labels) {
@@ -72,11 +80,13 @@ function placeOf(at, count, [x, y], across) {
   return [x + across * Math.cos(turn), y + (y - 30) * Math.sin(turn)];
 }
 
+const STROKES = { full: "", take: "dash", memory: "dots" };
+
 // An arrow that can be chosen by mouse and keys; its line is thin, so that what is chosen is broader.
 function asButton(one, way, ask) {
-  const whole = drawn("g", { class: "way", tabindex: 0, role: "button", "aria-label": `${inSentence(one)}: why?` });
+  const whole = drawn("g", { class: "way", tabindex: 0, role: "button", "aria-label": `${withReason(one)}. Why?` });
   whole.append(drawn("title", {}, withReason(one)), drawn("path", { d: way, class: "broad" }));
-  whole.append(arrow(way, one.held === "take" ? "dash" : ""));
+  whole.append(arrow(way, STROKES[one.held]));
   whole.addEventListener("click", () => ask(one.from, one.to));
   whole.addEventListener("keydown", (event) => {
     if (event.ctrlKey || event.metaKey || (event.key !== "Enter" && event.key !== " ")) return;
@@ -145,11 +155,14 @@ function putApart(ends, whole) {
   }
 }
 
+// What a cell says: in a folded graph, by what.
+const inCell = ({ held, words }) => words?.filter((word) => held !== "memory" && !word.includes(" ")).join(", ") || held;
+
 function labelTable({ labels, arrows }, ask) {
   const held = new Map(arrows.map((one) => [`${one.from} ${one.to}`, one]));
   const cell = (one) => {
     if (!one) return element("td");
-    const button = element("button", { title: withReason(one) }, one.held);
+    const button = element("button", { title: withReason(one) }, inCell(one));
     button.addEventListener("click", () => ask(one.from, one.to));
     return element("td", { class: one.held }, button);
   };
@@ -158,6 +171,353 @@ function labelTable({ labels, arrows }, ask) {
     element("tr", {}, element("th", { scope: "row" }, one), ...labels.map((other) => cell(held.get(`${one} ${other}`)))),
   );
   return element("div", { class: "wide", tabindex: "0" }, element("table", {}, head, ...rows));
+}
+
+// ---- Programs, as boxes in columns: each is as far from the left as it takes arrows to come there. So an arrow leads to the next column,
+// or to another program of its own. Between two programs are a line for each way, and the words of both in the middle.
+
+const MOST_PROGRAMS = 24;
+const WIDE = 1330, HIGH = 640; // what a screen of 1,400 pixels has room for
+const LEAST_GAP = 96, MOST_GAP = 230; // between two columns
+const WORDS_HIGH = 13, LETTER = 5.9; // of the words at arrows
+const APART = 22; // between two boxes of a column
+const END = 15; // between the ends of two lines at a box
+
+// Draws programs, unless there are too many of them, or of the words between them, for a screen.
+function programPicture(graph, ask) {
+  if (graph.labels.length > MOST_PROGRAMS) return null;
+  const parts = partsOf(graph).map((labels) => placedPart(graph, labels));
+  const rows = [];
+  for (const part of parts) {
+    const row = rows.at(-1);
+    if (row && row.width + part.width <= WIDE) {
+      row.parts.push(part);
+      row.width += part.width;
+    } else {
+      rows.push({ parts: [part], width: part.width });
+    }
+  }
+  let top = 8;
+  const drawnParts = [];
+  for (const row of rows) {
+    let left = 0;
+    for (const part of row.parts) {
+      const moved = drawn("g", { transform: `translate(${left} ${top})` }, ...drawnPart(part, ask));
+      drawnParts.push(moved);
+      left += part.width;
+    }
+    top += Math.max(...row.parts.map(({ height }) => height)) + 8;
+  }
+  if (top > HIGH) return null;
+  return picture("Which programs may change or take from which", Math.max(...rows.map(({ width }) => width)), top, ...drawnParts);
+}
+
+// The programs that arrows join, the largest part first.
+function partsOf({ labels, arrows }) {
+  const parts = new Map(labels.map((label) => [label, [label]]));
+  for (const { from, to } of arrows) {
+    const [one, other] = [parts.get(from), parts.get(to)];
+    if (one === other) continue;
+    one.push(...other);
+    for (const label of other) parts.set(label, one);
+  }
+  const inOrder = [...new Set(parts.values())].map((part) => labels.filter((label) => part.includes(label)));
+  return inOrder.sort((one, other) => other.length - one.length);
+}
+
+// Programs in columns, with the place of each box, and the lines between them. Of all programs that can stand alone at the left, it is the
+// one with which fewest lines cross.
+function placedPart(graph, labels) {
+  const arrows = graph.arrows.filter(({ from }) => labels.includes(from));
+  const near = new Map(labels.map((label) => [label, new Set()]));
+  for (const { from, to } of arrows) {
+    near.get(from).add(to);
+    near.get(to).add(from);
+  }
+  const boxes = new Map(labels.map((label) => [label, boxOf(label, graph.within.get(label))]));
+  const tries = labels.map((first) => columnsFrom(first, near)).map((columns) => ({ columns, cost: costOf(columns, near, boxes) }));
+  const { columns } = tries.reduce((best, one) => (one.cost < best.cost ? one : best));
+  const wides = columns.map((column) => Math.max(...column.map((label) => boxes.get(label).wide)));
+  const gap = Math.max(LEAST_GAP, Math.min(MOST_GAP, (WIDE - 20 - sum(wides)) / Math.max(1, columns.length - 1)));
+  const pairs = pairsOf(columns, arrows, gap);
+  for (const box of boxes.values()) {
+    const ends = pairs.flatMap(endsOf).filter(({ label }) => label === box.label);
+    const most = Math.max(...[1, -1].map((side) => ends.filter((end) => end.side === side).length));
+    box.high = Math.max(box.high, 10 + END * most); // room for the ends of its lines
+  }
+  const height = placeBoxes(columns, near, boxes, pairs);
+  let left = 10;
+  columns.forEach((column, at) => {
+    for (const label of column) Object.assign(boxes.get(label), { column: at, middle: left + wides[at] / 2 });
+    left += wides[at] + gap;
+  });
+  const isWider = pairs.some(({ gapAt }) => gapAt === columns.length - 1); // lines beside the last column
+  placeLines(pairs, boxes, columns, wides, gap, height);
+  return { boxes, pairs, labels, width: left - gap + (isWider ? gap : 0) + 10, height };
+}
+
+const sum = (numbers) => numbers.reduce((one, other) => one + other, 0);
+
+// A program's box: its name, and beneath the labels that it alone uses.
+function boxOf(label, within) {
+  const lines = within ? wrapped(within, 24).slice(0, 4) : [];
+  const wide = Math.max(84, 8 * label.length + 20, ...lines.map((line) => LETTER * line.length + 18));
+  return { label, lines, wide, high: 30 + WORDS_HIGH * lines.length };
+}
+
+// A text in lines of so many letters.
+function wrapped(text, most) {
+  const lines = [""];
+  for (const word of text.split(" ")) {
+    const longer = lines.at(-1) === "" ? word : `${lines.at(-1)} ${word}`;
+    if (lines.at(-1) === "" || longer.length <= most) lines[lines.length - 1] = longer;
+    else lines.push(word);
+  }
+  return lines;
+}
+
+// The programs by how many arrows lead to each from the first; in a column they are in the order of those beside it.
+function columnsFrom(first, near) {
+  const columns = [[first]];
+  const seen = new Set([first]);
+  while (columns.at(-1).length > 0) {
+    const next = new Set(columns.at(-1).flatMap((label) => [...near.get(label)]).filter((label) => !seen.has(label)));
+    next.forEach((label) => seen.add(label));
+    columns.push([...next]);
+  }
+  columns.pop();
+  for (let round = 0; round < 8; round++) {
+    const order = round % 2 === 0 ? [...columns.keys()] : [...columns.keys()].reverse();
+    const placeOf = new Map(columns.flatMap((column) => column.map((label, at) => [label, (at + 0.5) / column.length])));
+    for (const at of order) {
+      const mean = new Map(columns[at].map((label) => [label, meanOf([...near.get(label)].map((other) => placeOf.get(other)))]));
+      columns[at].sort((one, other) => mean.get(one) - mean.get(other));
+      columns[at].forEach((label, place) => placeOf.set(label, (place + 0.5) / columns[at].length));
+    }
+  }
+  return columns;
+}
+
+const meanOf = (numbers) => (numbers.length === 0 ? 0.5 : sum(numbers) / numbers.length);
+
+// What is against these columns: lines that cross, lines in one column, more width or height than a screen has.
+function costOf(columns, near, boxes) {
+  let cost = 0;
+  columns.forEach((column, at) => {
+    const next = columns[at + 1] ?? [];
+    const ends = column.flatMap((label, from) => next.flatMap((other, to) => (near.get(label).has(other) ? [[from, to]] : [])));
+    for (const one of ends) for (const other of ends) cost += one[0] < other[0] && one[1] > other[1] ? 3 : 0;
+    column.forEach((label, from) => column.slice(from + 1).forEach((other, by) => {
+      if (near.get(label).has(other)) cost += 4 + 2 * by;
+    }));
+  });
+  const wide = sum(columns.map((column) => Math.max(...column.map((label) => boxes.get(label).wide)))) + LEAST_GAP * (columns.length - 1);
+  const high = Math.max(...columns.map((column) => sum(column.map((label) => boxes.get(label).high + APART))));
+  return cost + Math.max(0, wide - WIDE) / 10 + Math.max(0, high - 480) / 20 + (columns.length < 3 ? 2 : 0);
+}
+
+// The pairs of programs with arrows, from left to right: the arrows of both ways, the gap between columns in which the words stand, and
+// these words. What both ways have in common is said once.
+function pairsOf(columns, arrows, gap) {
+  const columnOf = new Map(columns.flatMap((column, at) => column.map((label) => [label, at])));
+  const order = columns.flat();
+  const pairs = [];
+  order.forEach((left, at) => {
+    for (const right of order.slice(at + 1)) {
+      const there = arrows.find(({ from, to }) => from === left && to === right);
+      const back = arrows.find(({ from, to }) => from === right && to === left);
+      if (!there && !back) continue;
+      const [one, other] = [columnOf.get(left), columnOf.get(right)];
+      const most = Math.max(10, Math.floor((gap - 44) / LETTER));
+      const ways = [there, back].filter(Boolean).map((arrow) => ({ arrow, sign: arrow === there ? "\u2192" : "\u2190" }));
+      const isSame = there && back && there.held === back.held && `${there.words}` === `${back.words}`;
+      if (one === other) [ways[0].sign, ways.at(-1).sign] = [there ? "\u2193" : "\u2191", back ? "\u2191" : "\u2193"];
+      if (isSame) ways[0].sign = one === other ? "\u2195" : "\u2194";
+      ways.forEach((way, at) => {
+        way.lines = isSame && at > 0 ? [] : wayLines(way, most);
+      });
+      const high = WORDS_HIGH * sum(ways.map(({ lines }) => lines.length)) + 4;
+      pairs.push({ left, right, ways, gapAt: one, isBeside: one === other, high });
+    }
+  });
+  return pairs;
+}
+
+// The words of an arrow in lines: by what, and then what happens to memory.
+function wayLines({ arrow, sign }, most) {
+  const reasons = arrow.words.filter((words) => !words.includes(" "));
+  const memory = arrow.words.filter((words) => words.includes(" "));
+  const groups = [...(reasons.length > 0 ? [reasons.join(", ")] : []), ...memory];
+  return groups.flatMap((group, at) => wrapped(at === 0 ? `${sign} ${group}` : group, most));
+}
+
+// Places the boxes from top to bottom, each as near as there is room to the middle of those with which it is joined. Gives the height, in
+// which the words of each gap have room, too.
+function placeBoxes(columns, near, boxes, pairs) {
+  const needs = columns.map((column, at) => {
+    const words = sum(pairs.filter(({ gapAt }) => gapAt === at).map(({ high }) => high + 4));
+    return Math.max(sum(column.map((label) => boxes.get(label).high + APART)), words);
+  });
+  const height = Math.max(...needs) + 8;
+  for (const column of columns) {
+    column.forEach((label, at) => {
+      boxes.get(label).y = (height * (at + 0.5)) / column.length;
+    });
+  }
+  for (let round = 0; round < 24; round++) {
+    for (const column of columns) {
+      for (const label of column) {
+        const wanted = meanOf([height / 2, ...[...near.get(label)].map((other) => boxes.get(other).y)]);
+        boxes.get(label).y += (wanted - boxes.get(label).y) / 2;
+      }
+      keepApart(column.map((label) => boxes.get(label)), APART, height);
+    }
+  }
+  return height;
+}
+
+// Moves things that stand beneath each other, with a middle `y` and a height, until there is so much between them, within a height. The
+// middle of all stays, if there is room.
+function keepApart(things, between, height) {
+  const middle = meanOf(things.map(({ y }) => y));
+  for (let round = 0; round < 30; round++) {
+    things.slice(1).forEach((next, at) => {
+      const lacks = (things[at].high + next.high) / 2 + between - (next.y - things[at].y);
+      if (lacks <= 0) return;
+      things[at].y -= lacks / 2;
+      next.y += lacks / 2;
+    });
+  }
+  const moved = meanOf(things.map(({ y }) => y)) - middle;
+  for (const thing of things) thing.y -= moved;
+  let end = 0;
+  for (const thing of things) {
+    thing.y = Math.max(thing.y, end + thing.high / 2);
+    end = thing.y + thing.high / 2 + between;
+  }
+  end = height;
+  for (const thing of things.toReversed()) {
+    thing.y = Math.min(thing.y, end - thing.high / 2);
+    end = thing.y - thing.high / 2 - between;
+  }
+}
+
+// Where the lines of a pair leave their boxes: at the right side of the one, and at the left of the other, unless that is in the same
+// column.
+const endsOf = (pair) => [
+  { pair, label: pair.left, side: 1 },
+  { pair, label: pair.right, side: pair.isBeside ? 1 : -1 },
+];
+
+// Gives each pair the place of its words, and each way its line. Lines leave a box beneath each other.
+function placeLines(pairs, boxes, columns, wides, gap, height) {
+  for (const gapAt of columns.keys()) {
+    const here = pairs.filter((pair) => pair.gapAt === gapAt);
+    for (const pair of here) pair.y = (boxes.get(pair.left).y + boxes.get(pair.right).y) / 2;
+    here.sort((one, other) => one.y - other.y);
+    keepApart(here, 4, height);
+    const from = boxes.get(columns[gapAt][0]).middle + wides[gapAt] / 2;
+    for (const pair of here) pair.x = from + gap / 2;
+  }
+  const ends = pairs.flatMap(endsOf);
+  for (const [label, box] of boxes) {
+    for (const side of [1, -1]) {
+      const here = ends.filter((end) => end.label === label && end.side === side).sort((one, other) => one.pair.y - other.pair.y);
+      here.forEach((end, at) => {
+        end.point = [box.middle + (side * box.wide) / 2, box.y + END * (at - (here.length - 1) / 2)];
+      });
+    }
+  }
+  pairs.forEach((pair, at) => {
+    const [start, end] = [ends[2 * at].point, ends[2 * at + 1].point];
+    pair.ways.forEach((way) => {
+      const aside = pair.ways.length === 1 ? 0 : way.arrow.from === pair.left ? -3 : 3;
+      const line = pair.isBeside ? lineBeside(start, end, pair, aside) : lineBetween(start, end, pair, aside);
+      way.line = way.arrow.from === pair.left ? line : line.toReversed();
+    });
+  });
+}
+
+// The points of a line, for two curves: through the place of its words to the next column, or round to another box of the same column.
+function lineBetween([x1, y1], [x2, y2], { x, y }, aside) {
+  const [start, middle, end] = [y1 + aside, y + aside, y2 + aside];
+  const bend = Math.max(20, (x2 - x1) / 4);
+  return [[x1, start], [x1 + bend, start], [x - bend, middle], [x, middle], [x + bend, middle], [x2 - bend, end], [x2, end]];
+}
+
+function lineBeside([x1, y1], [x2, y2], { x, y }, aside) {
+  const far = Math.max(x1, x2) + (x - Math.max(x1, x2)) * 0.7 + aside;
+  return [[x1, y1 + aside], [far, y1 + aside], [far, y1 + aside], [far, y], [far, y2 + aside], [far, y2 + aside], [x2, y2 + aside]];
+}
+
+// The lines, then the words over them, which can be chosen by mouse as their line can, and then the boxes.
+function drawnPart({ boxes, pairs }, ask) {
+  const lines = [], words = [];
+  for (const pair of pairs) {
+    let y = pair.y - pair.high / 2 + WORDS_HIGH - 1;
+    for (const { arrow, line, lines: told } of pair.ways) {
+      const [first, ...rest] = line.map((point) => point.map((part) => Math.round(part)).join(" "));
+      lines.push(asButton(arrow, `M${first} C${rest.slice(0, 3)} ${rest.slice(3)}`, ask));
+      if (told.length === 0) continue;
+      const wide = LETTER * Math.max(...told.map((one) => one.length)) + 6;
+      const said = drawn("g", { class: "said" }, drawn("title", {}, withReason(arrow)));
+      said.append(boxAt(pair.x - wide / 2, y - 10, wide, WORDS_HIGH * told.length, "paper", 3));
+      said.append(...told.map((one, at) => textAt(pair.x, y + WORDS_HIGH * at, one, "words", "middle")));
+      said.addEventListener("click", () => ask(arrow.from, arrow.to));
+      words.push(said);
+      y += WORDS_HIGH * told.length;
+    }
+  }
+  const drawnBoxes = [...boxes.values()].flatMap(({ label, lines, wide, high, middle, y }) => {
+    const top = y - (30 + WORDS_HIGH * lines.length) / 2;
+    return [
+      boxAt(middle - wide / 2, y - high / 2, wide, high, "label tint-0", 8),
+      textAt(middle, top + 19, label, "name bold", "middle"),
+      ...lines.map((line, at) => textAt(middle, top + 33 + WORDS_HIGH * at, line, "small", "middle")),
+    ];
+  });
+  return [...lines, ...words, ...drawnBoxes];
+}
+
+// ---- The matrix that `summary` writes: a cell for each two programs. Arrow keys lead from cell to cell. `before` is the matrix that was
+// there, of which other cells are outlined.
+
+function matrix(summary, before, ask) {
+  const was = (one, other) => before?.rows[before.labels.indexOf(one)]?.[before.labels.indexOf(other)];
+  const cell = (one, at, down) => {
+    const other = summary.labels[at], said = summary.rows[down][at];
+    if (said === "=") return element("td", { class: "self" });
+    const old = was(one, other);
+    const isChanged = old !== undefined && old !== said;
+    const kind = /[CASF]/.test(said) ? "full" : said.includes("t") ? "take" : said.includes("m") ? "memory" : "none";
+    const words = `${one} on ${other}: ${cellInWords(said)}${isChanged ? `; before: ${cellInWords(old)}` : ""}`;
+    const button = element("button", { title: words, "aria-label": words, tabindex: -1, "data-at": `${down} ${at}` }, said);
+    button.addEventListener("click", () => ask(one, other));
+    return element("td", { class: isChanged ? `${kind} changed` : kind }, button);
+  };
+  const corner = element("td", { class: "corner small" }, "who \u2193 whom \u2192");
+  const heads = summary.labels.map((label) => element("th", { scope: "col" }, element("span", {}, label)));
+  const rows = summary.labels.map((one, down) => {
+    return element("tr", {}, element("th", { scope: "row" }, one), ...summary.labels.map((_, at) => cell(one, at, down)));
+  });
+  const whole = element("table", { class: "matrix" }, element("tr", {}, corner, ...heads), ...rows);
+  whole.querySelector("button")?.setAttribute("tabindex", 0);
+  whole.addEventListener("keydown", (event) => stepInMatrix(whole, event));
+  return whole;
+}
+
+// Goes to the next cell in the way of an arrow key, over the label's own.
+function stepInMatrix(whole, event) {
+  const step = { ArrowRight: [0, 1], ArrowLeft: [0, -1], ArrowDown: [1, 0], ArrowUp: [-1, 0] }[event.key];
+  if (!step || !event.target.dataset.at) return;
+  event.preventDefault();
+  const place = event.target.dataset.at.split(" ").map(Number);
+  const to = (times) => whole.querySelector(`[data-at="${place.map((number, axis) => number + times * step[axis]).join(" ")}"]`);
+  const next = to(1) ?? to(2);
+  if (!next) return;
+  event.target.tabIndex = -1;
+  next.tabIndex = 0;
+  next.focus();
 }
 
 // ---- The objects of a table: threads and their contexts at the left, CNodes with their filled slots, and all others at the right;

@@ -2,66 +2,123 @@
 
 // The page: what is chosen, asked and shown.
 
-// The commands, a button for each: the texts that it reads, an option, what is asked, which text its answer may become, and which text it
-// helps to write. The texts beside table and policy are those that are named here.
-const COMMANDS = [
-  { name: "check", reads: ["table", "policy"], asks: "does the table keep to the policy?" },
-  { name: "check", option: "--cert", reads: ["table", "policy"], asks: "what does each line give?", gives: "certificate" },
-  { name: "close", option: "--missing", reads: ["table", "policy"], asks: "which edges does the policy lack?" },
-  { name: "close", reads: ["table", "policy"], asks: "the least policy for this table", gives: "policy" },
-  { name: "why", reads: ["table", "policy"], pair: true, asks: "may A change B, and by which edges?" },
-  { name: "draw", reads: ["table", "policy"], asks: "who may change whom, as a graph?" },
-  { name: "claims", reads: ["table", "policy", "claims"], asks: "does each claim hold?" },
-  { name: "claims", option: "--all", reads: ["table", "policy"], asks: "the strongest claims that hold", gives: "claims" },
-  { name: "list", reads: ["table"], asks: "the objects' numbers, for a script", helps: "script" },
-  { name: "run", reads: ["table", "policy", "script"], asks: "what comes of the script's calls?", gives: "log" },
-  { name: "replay", reads: ["table", "policy", "log"], asks: "is this log one of the system?" },
-  { name: "verify", reads: ["table", "policy", "certificate"], asks: "is this the table's certificate?" },
-];
-const commandOf = (name, option) => COMMANDS.find((command) => command.name === name && command.option === option);
-const WHY = commandOf("why"), DRAW = commandOf("draw"), CLAIMS = commandOf("claims"), STRONGEST = commandOf("claims", "--all");
-const FILES = [...new Set(COMMANDS.flatMap((command) => command.reads))];
-const OTHERS = FILES.filter((name) => name !== "table" && name !== "policy");
+const SYSTEM = ["table", "policy"];
 
-const FIRST = "ring"; // the example that the page opens with
+// The commands, a button for each, in groups: the texts that it reads, an option, what is asked, which text its answer may become, and what
+// else is to be seen with it. The texts beside description, table and policy are those that are named here.
+const GROUPS = [
+  { title: "The system", commands: [
+    { name: "import", reads: ["description"], asks: "table, policy and summary of a description", shows: "summary" },
+    { name: "check", reads: SYSTEM, asks: "does the table keep to the policy?" },
+    { name: "close", reads: SYSTEM, asks: "the least policy for this table", gives: "policy" },
+    { name: "close", option: "--missing", reads: SYSTEM, asks: "which edges does the policy lack?" },
+    { name: "close", option: "--surplus", reads: SYSTEM, asks: "which edges does nothing need?" },
+    { name: "list", reads: ["table"], asks: "the objects' numbers, for a script", shows: "script" },
+  ] },
+  { title: "Who can touch whom", commands: [
+    { name: "summary", reads: SYSTEM, asks: "all programs at once", shows: "summary" },
+    { name: "why", reads: SYSTEM, pair: true, asks: "by which edges?" },
+    { name: "show", reads: SYSTEM, pair: true, asks: "by which calls does A change B?", gives: "script" },
+    { name: "show", option: "--take", reads: SYSTEM, pair: true, asks: "by which calls does A take from B?", gives: "script" },
+    { name: "draw", reads: SYSTEM, asks: "the programs, as a graph" },
+    { name: "draw", option: "--all", reads: SYSTEM, asks: "all labels, as a graph" },
+  ] },
+  { title: "What has to hold", commands: [
+    { name: "claims", reads: [...SYSTEM, "claims"], asks: "does each claim hold?" },
+    { name: "claims", option: "--all", reads: SYSTEM, asks: "the strongest claims that hold", gives: "claims" },
+    { name: "import", option: "--claims", reads: ["description"], asks: "the claims that the description makes", gives: "claims" },
+  ] },
+  { title: "Runs and certificates", commands: [
+    { name: "run", reads: [...SYSTEM, "script"], asks: "what comes of the script's calls?", gives: "log" },
+    { name: "replay", reads: [...SYSTEM, "log"], asks: "is this log one of the system?" },
+    { name: "check", option: "--cert", reads: SYSTEM, asks: "what does each line give?", gives: "certificate" },
+    { name: "verify", reads: [...SYSTEM, "certificate"], asks: "is this the table's certificate?" },
+  ] },
+];
+const COMMANDS = GROUPS.flatMap(({ commands }) => commands);
+const commandOf = (name, option) => COMMANDS.find((command) => command.name === name && command.option === option);
+const IMPORT = commandOf("import"), CHECK = commandOf("check"), SUMMARY = commandOf("summary"), WHY = commandOf("why");
+const CLAIMS = commandOf("claims");
+const DRAW = commandOf("draw"), DRAW_ALL = commandOf("draw", "--all");
+const STRONGEST = commandOf("claims", "--all"), DESIGN = commandOf("import", "--claims");
+const FILES = [...new Set(COMMANDS.flatMap((command) => command.reads))];
+// What the page begins with, and the texts that are there in each view. All others stand in the third place, behind the summary.
+const VIEWS = { description: ["description"], system: SYSTEM };
+const THIRD = ["summary", ...FILES.filter((name) => !Object.values(VIEWS).flat().includes(name))];
+// How a description is read: the options, and what they are in plain words. The first is chosen.
+const READINGS = {
+  rights: { title: "Rights of capabilities", ways: {
+    least: "only what the description needs", all: "every right of its kind, as the tool mints them" } },
+  children: { title: "A parent has of its child", ways: {
+    control: "control of its thread", directed: "a copy of its capabilities" } },
+};
+
+const FIRST = "echo_server"; // the example that the page opens with
 const MOST_SHOWN = 2000; // lines of an answer
 const MOST_MISSING = 200; // edges that are offered
 const MOST_BROKEN = 200; // claims that are marked as broken
-const PAUSE = 300; // milliseconds without a key, before the list of objects is made anew
+const MOST_NOTES = 300; // notes on a description
+const PAUSE = 300; // milliseconds without a key, before what follows from a text is asked
 
 const texts = Object.fromEntries(FILES.map((name) => [name, new Text(name)]));
 const find = (id) => document.getElementById(id);
 const decoded = (bytes) => new TextDecoder().decode(bytes);
 const allTexts = () => Object.fromEntries(FILES.map((name) => [name, texts[name].text]));
 
-let shown = "script"; // the text in the third place
-let last = COMMANDS[0]; // the command that was asked last
+const margin = new Margin(texts.description);
+
+let viewed = "system"; // the view
+let shown = "summary"; // what is in the third place
+let last = CHECK; // the command that was asked last
 let asked = 0; // how often one was: what belongs to an earlier one is dropped
+let pictured = DRAW; // which drawing is shown
+let imported = null; // table and policy, as they followed from the description
+let summed = null; // the summary that is shown
 
 // ---- Texts, and the example that is chosen.
 
 function layOut() {
-  const heads = ["table", "policy"].map((name) => element("div", { class: "head" }, name, space(), opener(() => name)));
-  const tabs = OTHERS.map((name) => {
-    const tab = element("button", { role: "tab", id: `tab-${name}`, "aria-controls": `box-${name}` }, name);
-    tab.addEventListener("click", () => show(name));
+  const place = (name, ...parts) => element("div", { class: "place-of", id: `place-${name}` }, ...parts);
+  const alone = (name) => place(name, element("div", { class: "head" }, name, space(), opener(() => name)), texts[name].box);
+  offerReadings();
+  texts.description.area.placeholder = "Paste the system description of a Microkit system here: a file often called NAME.system.";
+  texts.description.box.append(margin.box, element("p", { id: "kept-by-hand", class: "small", hidden: "" }), find("readings"));
+  const list = element("div", { role: "tablist", "aria-label": "What is beside it" });
+  list.append(...tabsOf(THIRD, (name) => `box-${name}`, show));
+  const third = place("third", element("div", { class: "head" }, list, space(), opener(() => shown)));
+  third.append(find("box-summary"), ...THIRD.slice(1).map((name) => texts[name].box));
+  find("texts").append(alone("description"), ...SYSTEM.map(alone), third);
+  find("views").append(...tabsOf(Object.keys(VIEWS), () => "texts", view));
+  find("tab-system").textContent = "table and policy";
+  texts.script.box.append(element("div", { id: "objects-listed", tabindex: 0, "aria-label": "The objects by number" }));
+  const strongest = element("button", { id: "strongest" }, "Strongest claims");
+  strongest.addEventListener("click", () => takeClaims(STRONGEST));
+  const design = element("button", { id: "design" }, "Claims of the description");
+  design.addEventListener("click", () => takeClaims(DESIGN));
+  texts.claims.box.append(element("div", { class: "start small" }, find("claim-words"), strongest, design));
+  show(shown);
+}
+
+// Tabs, of which the arrow keys choose the next and the one before; each shows what it stands for.
+function tabsOf(names, controls, open) {
+  return names.map((name) => {
+    const tab = element("button", { role: "tab", id: `tab-${name}`, "aria-controls": controls(name) }, name);
+    tab.addEventListener("click", () => open(name));
     tab.addEventListener("keydown", ({ key }) => {
       const step = { ArrowRight: 1, ArrowLeft: -1 }[key];
-      if (step) show(OTHERS.at((OTHERS.indexOf(name) + step) % OTHERS.length), true);
+      if (step) open(names.at((names.indexOf(name) + step) % names.length), true);
     });
     return tab;
   });
-  const list = element("div", { role: "tablist", "aria-label": "Third text" }, ...tabs);
-  const third = element("div", {}, element("div", { class: "head" }, list, space(), opener(() => shown)));
-  third.append(...OTHERS.map((name) => texts[name].box));
-  find("texts").append(element("div", {}, heads[0], texts.table.box), element("div", {}, heads[1], texts.policy.box), third);
-  texts.script.box.append(element("div", { id: "objects-listed", tabindex: 0, "aria-label": "The objects by number" }));
-  const start = element("button", { id: "strongest" }, "Strongest claims");
-  start.addEventListener("click", takeStrongest);
-  const none = element("code", {}, "none A B"), take = element("code", {}, "take A B");
-  const how = element("span", {}, none, ": threads of A never change objects of B. ", take, ": they may only take from them.");
-  texts.claims.box.append(element("div", { class: "start small" }, how, start));
-  show(shown);
+}
+
+// Chooses one of some tabs.
+function selectTab(names, chosen, isFocused) {
+  for (const name of names) {
+    find(`tab-${name}`).setAttribute("aria-selected", name === chosen);
+    find(`tab-${name}`).tabIndex = name === chosen ? 0 : -1;
+  }
+  if (isFocused) find(`tab-${chosen}`).focus();
 }
 
 const space = () => element("span", { class: "space" });
@@ -77,30 +134,64 @@ function opener(which) {
   return element("label", { class: "opener" }, "Open a file", input);
 }
 
-// Shows one of the texts in the third place.
-function show(name, isFocused = false) {
-  if (!OTHERS.includes(name)) return;
-  shown = name;
-  for (const other of OTHERS) {
-    const isShown = other === name;
-    texts[other].box.hidden = !isShown;
-    find(`tab-${other}`).setAttribute("aria-selected", isShown);
-    find(`tab-${other}`).tabIndex = isShown ? 0 : -1;
-    if (isShown && isFocused) find(`tab-${other}`).focus();
-  }
+// Shows what one begins with: a description, with its drawing beneath, or table and policy, with the commands beneath.
+function view(name, isFocused = false) {
+  viewed = name;
+  find("texts").dataset.view = name;
+  for (const [other, files] of Object.entries(VIEWS)) for (const file of files) find(`place-${file}`).hidden = other !== name;
+  selectTab(Object.keys(VIEWS), name, isFocused);
+  if (name === "description") find("asked").before(find("pictures"));
+  else find("answer").after(find("pictures"));
+  tellOfHand();
 }
 
+// Shows the summary or one of the texts in the third place.
+function show(name, isFocused = false) {
+  if (!THIRD.includes(name)) return;
+  shown = name;
+  for (const other of THIRD) find(`box-${other}`).hidden = other !== name;
+  document.querySelector("#place-third .opener").hidden = name === "summary";
+  selectTab(THIRD, name, isFocused);
+}
+
+// Brings a text into sight, and goes to one of its lines.
+function go(name, line) {
+  const there = Object.keys(VIEWS).find((view) => VIEWS[view].includes(name));
+  if (there && there !== viewed) view(there);
+  show(name);
+  texts[name].go(line);
+}
+
+// Takes other texts, with how a description is read.
 function put(given) {
+  for (const option of Object.keys(READINGS)) choose(option, given[option]);
   for (const name of FILES) texts[name].text = given[name] ?? "";
+  imported = null;
+  summed = null;
 }
 
 // What follows from another table at once: the labels that may be chosen, no claim is marked any more, and, after a pause, the list.
-let pause = 0;
+const pauses = {};
 function takeTable() {
   offerLabels();
   texts.claims.unmark();
-  clearTimeout(pause);
-  pause = setTimeout(() => listObjects(asked, allTexts()), PAUSE);
+  later("list", () => listObjects(asked, allTexts()));
+}
+
+// What follows from another description, after a pause: table, policy and summary.
+function takeDescription() {
+  find("design").hidden = texts.description.text === "";
+  if (texts.description.text !== "") later("import", () => ask(IMPORT));
+}
+
+// What follows from other claims, after a pause, if they were asked about before: which hold.
+function takeClaimed() {
+  if (last === CLAIMS && texts.claims.text !== "") later("claims", () => ask(CLAIMS));
+}
+
+function later(what, act) {
+  clearTimeout(pauses[what]);
+  pauses[what] = setTimeout(act, PAUSE);
 }
 
 // The texts of an example; a line feed that isn't theirs stands before each.
@@ -109,14 +200,22 @@ function example(name) {
   return Object.fromEntries(parts.map((part) => [part.dataset.file, part.textContent.slice(1)]));
 }
 
-function choose() {
+function chooseExample() {
   const name = find("example").value;
   if (!name) return;
   put(example(name));
   find("about").textContent = document.querySelector(`.about[data-system="${name}"]`).textContent.trim();
   find("link").hidden = true;
   history.replaceState(null, "", location.pathname + location.search);
-  ask(COMMANDS[0]);
+  begin();
+}
+
+// Asks what is asked first of other texts.
+function begin(wanted) {
+  const isDescribed = texts.description.text !== "" && wanted !== "system";
+  view(isDescribed ? "description" : "system");
+  show("summary");
+  return ask(isDescribed ? IMPORT : CHECK);
 }
 
 function offerExamples() {
@@ -124,7 +223,7 @@ function offerExamples() {
   find("example").append(...names.map((name) => element("option", { value: name }, name)));
   find("example").append(element("option", { value: "", hidden: "" }, "your own"));
   find("example").value = FIRST;
-  find("example").addEventListener("change", choose);
+  find("example").addEventListener("change", chooseExample);
 }
 
 // The labels that `why` may be asked about.
@@ -141,18 +240,23 @@ function offerLabels() {
 // ---- Commands.
 
 function offerCommands() {
-  for (const command of COMMANDS) {
-    const title = [command.name, command.option, command.pair && "A on B"].filter(Boolean).join(" ");
-    const button = element("button", {}, element("code", {}, title), element("span", {}, command.asks));
-    button.addEventListener("click", () => ask(command));
-    command.button = button;
-    const whole = element("div", { class: "command" }, button);
-    if (command.pair) {
-      const labels = ["A", "B"].map((which) => element("select", { id: `label-${which}`, "aria-label": `label ${which}` }));
-      whole.append(element("div", { class: "pair" }, labels[0], "on", labels[1]));
+  for (const { title, commands } of GROUPS) {
+    const group = element("div", { class: "group" }, element("h2", {}, title));
+    for (const command of commands) {
+      const words = [command.name, command.option, command.pair && "A B"].filter(Boolean).join(" ");
+      command.button = element("button", { "data-command": words }, element("code", {}, words), element("span", {}, command.asks));
+      command.button.addEventListener("click", () => ask(command));
+      if (command === WHY) group.append(offerPair());
+      group.append(command.button);
     }
-    find("commands").append(whole);
+    find("commands").append(group);
   }
+}
+
+// The labels A and B, to be chosen.
+function offerPair() {
+  const choices = ["A", "B"].map((which) => element("select", { id: `label-${which}`, "aria-label": `label ${which}` }));
+  return element("div", { class: "pair" }, "A:", choices[0], "B:", choices[1]);
 }
 
 // The words of the command line. `close` takes a table alone, too.
@@ -160,6 +264,7 @@ function wordsFor(command, given) {
   const words = [command.name, ...command.reads];
   if (command.name === "close" && given.policy === "") words.pop();
   if (command.pair) words.push(find("label-A").value, find("label-B").value);
+  if (command.name === "import") for (const option of Object.keys(READINGS)) words.push(`--${option}`, chosen(option));
   if (command.option) words.push(command.option);
   if (find("explain").checked) words.push("--explain");
   return words;
@@ -168,27 +273,33 @@ function wordsFor(command, given) {
 // What is told where there is no answer, as in a browser that can't run the program.
 const failed = (error) => ({ status: null, output: new Uint8Array(), error: new TextEncoder().encode(`${error}\n`) });
 
-// Asks a command, in place of what is still being asked. Where no claims are written yet, it is asked which hold at all. Gives the answer,
-// unless it was stopped.
+// Asks a command, in place of what is still being asked. Where no claims are written yet, it is asked which hold at all. Behind `import`
+// the policy and the summary are asked, too. Gives the answer, unless it was stopped.
 async function ask(command) {
   last = command;
   if (command === CLAIMS && texts.claims.text === "") command = STRONGEST;
   if (program.waiting.size > 0) program.stop();
-  clearTimeout(pause); // the list is asked for behind this command
+  for (const pause of Object.values(pauses)) clearTimeout(pause);
   const turn = ++asked;
   document.body.dataset.asked = turn;
   for (const { button } of COMMANDS) button.removeAttribute("aria-current");
   command.button.setAttribute("aria-current", "true");
-  for (const name of [...command.reads, command.helps]) show(name);
-  const given = allTexts();
+  for (const name of [...command.reads, command.shows]) show(name);
+  let given = allTexts();
   const words = wordsFor(command, given);
+  const lines = [words];
   const clock = startClock();
   const began = performance.now();
-  const answer = await program.answer(words, given).catch(failed);
+  let answer = await program.answer(words, given).catch(failed);
+  if (turn === asked && command === IMPORT && answer) {
+    showNotes(given, answer);
+    if (answer.status === 0) [command, answer] = [SUMMARY, await followImport(turn, answer, lines)];
+    given = allTexts();
+  }
   const took = performance.now() - began;
   clock.stop();
   if (turn !== asked) return null;
-  find("line").textContent = `confine ${words.join(" ")}`;
+  find("line").textContent = lines.map((words) => `confine ${words.join(" ")}`).join("\n");
   if (!answer) {
     showStopped();
     return null;
@@ -196,30 +307,14 @@ async function ask(command) {
   const output = decoded(answer.output);
   const report = reportOf(output);
   showAnswer(command, given, answer, output, report, took);
+  if (command.pair) showReason(given, words, answer, output);
   await offerMissing(turn, given, answer, report);
   await markClaims(turn, given, command === CLAIMS ? report : null);
+  if (command !== IMPORT) await showSystem(turn, given, command, output, report);
   await listObjects(turn, allTexts());
-  await draw(turn, given, command, command.name === "check" ? report : null, output);
   if (turn !== asked) return null;
   document.body.dataset.answered = turn;
   return answer;
-}
-
-// Tells how long a command takes that takes long, with the way to stop it.
-function startClock() {
-  const began = performance.now();
-  const tick = () => {
-    const seconds = (performance.now() - began) / 1000;
-    find("running").hidden = seconds < 0.3;
-    find("clock").textContent = `${seconds.toFixed(1)} s`;
-  };
-  const timer = setInterval(tick, 100);
-  return {
-    stop() {
-      clearInterval(timer);
-      find("running").hidden = true;
-    },
-  };
 }
 
 // ---- The answer.
@@ -237,20 +332,32 @@ function showAnswer(command, given, answer, output, report, took) {
   find("words").className = look;
   find("status").textContent = answer.status === null ? "" : `status ${answer.status}, ${Math.ceil(took)} ms`;
   const sentences = decoded(answer.error).split("\n").filter((line) => line !== "").slice(0, MOST_MISSING);
-  find("sentences").replaceChildren(...sentences.map((line) => element("p", {}, line)));
+  find("sentences").replaceChildren(...sentences.map((line) => element("p", {}, ...withPlaces(line))));
   const lines = output.split("\n");
   const isLong = lines.length > MOST_SHOWN;
+  find("output").classList.toggle("unwrapped", command === SUMMARY);
   find("output").textContent = isLong ? `${lines.slice(0, MOST_SHOWN).join("\n")}\n.. ${lines.length - 1} lines in all` : output;
-  for (const name of FILES) texts[name].unmark();
+  for (const name of FILES.filter((name) => name !== "description")) texts[name].unmark();
   const named = namedLine(report, given);
   if (named && texts[named.file]) {
     show(named.file);
     texts[named.file].markLine(named.line);
     const button = element("button", { id: "go" }, `Go to line ${named.line} of the ${named.file}`);
-    button.addEventListener("click", () => texts[named.file].go(named.line));
+    button.addEventListener("click", () => go(named.file, named.line));
     find("sentences").append(element("p", {}, button));
   }
   offerKeeping(command, answer, output);
+}
+
+// A sentence, in which each line of a text that it names can be chosen.
+function withPlaces(sentence) {
+  return sentence.split(/\b((?:table|policy|claims|script|log|certificate|description):\d+)\b/).map((part, at) => {
+    if (at % 2 === 0) return part;
+    const [file, line] = part.split(":");
+    const button = element("button", { class: "place", title: `Go to line ${line} of the ${file}` }, part);
+    button.addEventListener("click", () => go(file, Number(line)));
+    return button;
+  });
 }
 
 // Lets an answer become one of the texts.
@@ -286,8 +393,8 @@ async function offerMissing(turn, given, answer, report) {
     return element("li", {}, button, element("code", {}, edge), reason);
   };
   const count = edges.length === 1 ? "1 edge" : `${edges.length} edges`;
-  const words = `Of the least policy that the table keeps to, yours lacks ${count}. Each is to be read before it is put in: what isn't meant
-    has to go from the table. `;
+  const words = `Your policy lacks ${count} of the least policy for this table. Read each edge before you put it in. If you don't mean an
+    edge, change the table instead. `;
   const all = element("button", { id: "all", ...(edges.length === 1 && { hidden: "" }) }, `Put all ${edges.length} in`);
   all.addEventListener("click", putAllIn);
   find("missing").replaceChildren(element("p", {}, words, all), element("ul", {}, ...ordered.slice(0, MOST_MISSING).map(offer)));
@@ -311,59 +418,6 @@ async function replacePolicy(text, line) {
   if (line && texts.policy.marked === 0) texts.policy.markLine(line);
 }
 
-// ---- Claims.
-
-// Marks each claim as one that holds or is broken. The program names the first that is broken, so those above it hold; then it is asked
-// for those below it alone, until none of them is broken.
-async function markClaims(turn, given, report) {
-  find("claimed").hidden = true;
-  if (report?.verdict !== "hold" && report?.verdict !== "broken") return;
-  const lines = given.claims.split("\n");
-  const broken = [];
-  const clock = startClock();
-  let told = 0; // how many claims are marked
-  do {
-    const below = [lines[0], ...lines.slice(1 + told)].join("\n");
-    const answer = await program.answer(["claims", "table", "policy", "claims", "--explain"], { ...given, claims: below });
-    report = answer && reportOf(decoded(answer.output));
-    told += report?.claim ?? report?.claims ?? 0;
-    if (report?.claim) broken.push({ line: told + 1, reason: reasonOf(decoded(answer.error)) });
-  } while (turn === asked && report?.claim && broken.length < MOST_BROKEN);
-  clock.stop();
-  if (turn !== asked || !report || CLAIMS.reads.some((name) => texts[name].text !== given[name])) return; // stopped, or of older texts
-  const signs = new Map(Array.from({ length: told }, (_, at) => [at + 2, "good"]));
-  for (const { line } of broken) signs.set(line, "bad");
-  texts.claims.sign(signs);
-  showClaims(lines, told - broken.length, broken);
-}
-
-function showClaims(lines, count, broken) {
-  const holding = count === 1 ? "1 claim holds" : `${count} claims hold`;
-  const others = broken.length === 1 ? "1 is broken" : `${broken.length} are broken`;
-  const how = `Each claim is marked beside its line: ${SIGNS.good} holds, ${SIGNS.bad} is broken. The program names the first claim that is
-    broken, so those above it hold. The page then asks it for the claims below that one, until all are marked${
-      broken.length === MOST_BROKEN ? `, or ${MOST_BROKEN} are broken` : ""}.`;
-  const offer = ({ line, reason }) => {
-    const button = element("button", {}, `Go to line ${line}`);
-    button.addEventListener("click", () => {
-      show("claims");
-      texts.claims.go(line);
-    });
-    return element("li", {}, button, element("code", { class: "bad" }, lines[line - 1]), element("span", { class: "small" }, reason));
-  };
-  const words = element("p", {}, element("b", {}, `${holding}, ${others}. `), element("span", { class: "small" }, how));
-  find("claimed").replaceChildren(words, element("ul", {}, ...broken.map(offer)));
-  find("claimed").hidden = false;
-}
-
-// Begins the claims with the strongest that hold, and marks them. A denial or a fault is shown in their place.
-async function takeStrongest() {
-  const answer = await ask(STRONGEST);
-  if (answer?.status !== 0) return;
-  texts.claims.text = decoded(answer.output);
-  await ask(CLAIMS);
-}
-
 // ---- The objects beside the script, by the numbers that it has to name.
 
 async function listObjects(turn, given) {
@@ -375,73 +429,14 @@ async function listObjects(turn, given) {
   find("objects-listed").replaceChildren(element("p", { class: "small" }, title), element("pre", {}, rows));
 }
 
-// ---- Drawings.
-
-// Draws what belongs to the texts, once a command has given an output, and the report if it is `check`.
-async function draw(turn, given, command, report, output) {
-  if (!report) {
-    const answer = await program.answer(["check", "table", "policy"], given).catch(failed);
-    if (turn !== asked || !answer) return;
-    report = reportOf(decoded(answer.output));
-  }
-  const isKept = report?.verdict === "accept";
-  const [graph, text] = command === DRAW && isKept ? [graphOf(output), output] : isKept ? await graphFor(given) : [null, ""];
-  if (turn !== asked) return;
-  showGraph(graph, text, report);
-  const isTable = report && report.file !== "table";
-  const objects = isTable ? drawObjects(given.table) : null;
-  frame("objects", objects, isTable ? "The table has too many objects to be drawn." : "The table has a fault.");
-  find("signs").hidden = !objects;
-}
-
-// The graph of an accepted system, and its text. With many labels `draw` takes long, since it has a reason for each arrow: then the graph
-// is that of the strongest claims, without reasons and without a text.
-async function graphFor(given) {
-  const labels = labelsOf(given.table);
-  if (labels.length > MOST_IN_TABLE) return [{ labels, arrows: [] }, ""];
-  const isSmall = labels.length <= MOST_LABELS;
-  const words = isSmall ? ["draw", "table", "policy"] : ["claims", "table", "policy", "--all"];
-  const answer = await program.answer(words, given).catch(failed);
-  if (answer?.status !== 0) return [null, ""];
-  const text = decoded(answer.output);
-  return isSmall ? [graphOf(text), text] : [graphOfClaims(labels, text), ""];
-}
-
-// The graph is of an accepted system, so it is shown where the table keeps to the policy.
-function showGraph(graph, text, report) {
-  const isDrawn = graph && graph.labels.length <= MOST_IN_TABLE;
-  const why = report?.fault ? `The ${report.file} has a fault.` :
-    graph ? `More than ${MOST_IN_TABLE} labels aren't drawn here.` :
-    "It is drawn of an accepted system.";
-  frame("labels", isDrawn ? drawLabels(graph, askWhy) : null, why);
-  find("kept").hidden = !isDrawn;
-  find("graph").hidden = !graph || text === "";
-  find("graph").querySelector("pre").textContent = text;
-}
-
-// Asks `why` of two labels that were chosen in the drawing.
-async function askWhy(one, other) {
-  [find("label-A").value, find("label-B").value] = [one, other];
-  await ask(WHY);
-  find("answer").scrollIntoView({ block: "nearest" });
-}
-
-// Copies the graph's text, and selects it, so that it can be copied where the page may not.
-function copyGraph() {
-  const text = find("graph").querySelector("pre");
-  getSelection().selectAllChildren(text);
-  navigator.clipboard?.writeText(text.textContent).catch(() => {});
-}
-
-// Puts a drawing into its frame, or says why there is none.
-function frame(id, drawing, why) {
-  find(id).querySelector(".drawing").replaceChildren(drawing ?? element("p", { class: "small" }, why));
-}
-
 // ---- A link that holds the texts, in the part behind #.
 
 async function share() {
-  const bytes = await packed(new TextEncoder().encode(JSON.stringify(allTexts())), "deflate-raw");
+  tellOfHand();
+  const isKept = find("kept-by-hand").hidden;
+  const readings = Object.fromEntries(Object.keys(READINGS).map((option) => [option, chosen(option)]));
+  const whole = { ...allTexts(), ...readings, view: isKept ? viewed : "system" };
+  const bytes = await packed(new TextEncoder().encode(JSON.stringify(whole)), "deflate-raw");
   let letters = "";
   for (const byte of bytes) letters += String.fromCharCode(byte);
   location.hash = btoa(letters).replaceAll("+", "-").replaceAll("/", "_").replaceAll("=", "");
@@ -457,10 +452,11 @@ async function readLink() {
   try {
     const letters = location.hash.slice(1).replaceAll("-", "+").replaceAll("_", "/");
     if (letters === "") return false;
-    put(JSON.parse(decoded(await unpacked(bytesOf(letters), "deflate-raw"))));
+    const given = JSON.parse(decoded(await unpacked(bytesOf(letters), "deflate-raw")));
+    put(given);
     find("example").value = "";
     find("about").textContent = "the texts of the link";
-    await ask(COMMANDS[0]);
+    await begin(given.view);
     return true;
   } catch {
     return false;
@@ -474,6 +470,10 @@ offerCommands();
 layOut();
 texts.table.changed = takeTable;
 texts.policy.changed = () => texts.claims.unmark();
+texts.description.changed = takeDescription;
+texts.claims.changed = takeClaimed;
+find("pictured-programs").addEventListener("click", () => drawOf(DRAW));
+find("pictured-labels").addEventListener("click", () => drawOf(DRAW_ALL));
 find("explain").addEventListener("change", () => ask(last));
 find("stop").addEventListener("click", () => program.stop());
 find("share").addEventListener("click", share);
@@ -484,4 +484,4 @@ addEventListener("keydown", (event) => {
 });
 // For the console: confine(["check", "table", "policy"], { table: "..", policy: ".." })
 globalThis.confine = (words, files) => program.answer(words, files);
-readLink().then((isRead) => isRead || choose());
+readLink().then((isRead) => isRead || chooseExample());

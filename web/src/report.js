@@ -28,8 +28,15 @@ function inWords(command, answer, report) {
     return report.state === "within" ? ["legal, and within the policy", "good"] : [`legal, but outside by ${report.rule}`, "bad"];
   }
   if (report?.verdict === "hold") return ["each claim holds", "good"];
+  if (report?.broken) return [report.broken.length === 1 ? "1 claim is broken" : `${report.broken.length} claims are broken`, "bad"];
   if (report?.verdict === "broken") return [`claim ${report.claim} is broken`, "bad"];
+  if (report?.run === "impossible") return ["no run does it", ""];
+  if (report?.run && report.steps === 0) return ["no run does it: they may only take", ""];
+  if (report?.run) return [`none found in ${report.steps} calls`, "faulty"];
   if (command.option === "--missing") return answer.status === 0 ? ["nothing is missing", "good"] : ["edges are missing", "bad"];
+  if (command.option === "--surplus") return answer.status === 0 ? ["nothing is surplus", "good"] : ["edges are surplus", ""];
+  if (command.name === "show") return ["a run that does it", ""];
+  if (command.name === "summary") return ["accepted", "good"];
   if (command.name === "run") return ["accepted, and run", "good"];
   return ["", ""];
 }
@@ -39,6 +46,7 @@ function namedLine(report, texts) {
   if (!report) return null;
   if (report.fault) return { file: report.file, line: report.line };
   if (report.entry) return { file: "log", line: report.entry + 1 };
+  if (report.broken) return { file: "claims", line: report.broken[0].line };
   if (report.claim) return { file: "claims", line: report.claim + 1 };
   const [one, two, three, four] = report.place ?? [];
   const find = (file, ...beginnings) => {
@@ -73,19 +81,24 @@ function namedLine(report, texts) {
   }
 }
 
-// The graph that `draw` writes: its labels, and an arrow for each authority of one on another, `full` or `take`, with the edge that is
-// written beside it; or null.
+// The graph that `draw` writes: its labels, and an arrow for each authority of one on another, `full` or `take`; or null. With `--all` an
+// arrow has an edge. Without it the labels are programs, and the graph is folded: a program has the words that stand in its box, and an
+// arrow those that stand beside it. Then an arrow can be about memory alone, too.
 function graphOf(text) {
   const lines = text.split("\n");
   if (lines[0] !== "digraph authority {") return null;
-  const labels = [], arrows = [];
+  const isFolded = lines.includes("  node [shape=box]");
+  const labels = [], arrows = [], within = new Map();
   for (const line of lines) {
-    const [, label] = /^  "([^"]*)"$/.exec(line) ?? [];
-    const [, from, to, dashed, edge] = /^  "([^"]*)" -> "([^"]*)" \[(style=dashed, )?label="([^"]*)"\]$/.exec(line) ?? [];
+    const [, label, inside] = /^  "([^"]*)"(?: \[label="([^"]*)"\])?$/.exec(line) ?? [];
+    const [, from, to, style, told] = /^  "([^"]*)" -> "([^"]*)" \[(?:style=(\w+), )?label="([^"]*)"\]$/.exec(line) ?? [];
     if (label) labels.push(label);
-    if (from) arrows.push({ from, to, held: dashed ? "take" : "full", edge });
+    if (inside) within.set(label, inside.split("\\n").slice(1).join(" "));
+    if (!from) continue;
+    const held = { dashed: "take", dotted: "memory" }[style] ?? "full";
+    arrows.push(isFolded ? { from, to, held, words: told.split("\\n").filter(Boolean) } : { from, to, held, edge: told });
   }
-  return { labels, arrows };
+  return { labels, arrows, within, isFolded };
 }
 
 // The same graph, of the strongest claims on these labels, which say nothing of a pair with full authority.
@@ -96,7 +109,69 @@ function graphOfClaims(labels, text) {
 }
 
 // Why a claim is broken, of the sentence that the program says of it: what stands before the way out.
-const reasonOf = (sentence) => /is broken: (.*?)(?:: [^:]*)?$/.exec(sentence.trimEnd())?.[1] ?? "";
+const reasonOf = (sentence) => /(?:is broken|doesn't hold): (.*?)(?:: [^:]*)?$/.exec(sentence.trimEnd())?.[1] ?? "";
+
+// The lines of claims that claim something: all but the header, the last, empty lines and comments.
+function claimLines(text) {
+  const lines = text.split("\n");
+  const end = lines.indexOf("end");
+  return lines.map((_, at) => at + 1).filter((line) => line > 1 && line <= end && !/^(#.*)?$/.test(lines[line - 1]));
+}
+
+const isSecond = (claims) => claims.startsWith("confine-claims 2\n");
+
+// Claims with one more, and the number of its line. Those of version 1 rise by the labels' numbers.
+function withClaim(table, claims, claim) {
+  if (claims === "") return { text: `confine-claims 2\n${claim}\nend\n`, line: 2 };
+  const labels = labelsOf(table);
+  const rank = (line) => line.split(" ").slice(1).reduce((sum, label) => sum * labels.length + labels.indexOf(label), 0);
+  const lines = claims.split("\n");
+  if (lines.includes(claim)) return { text: claims, line: lines.indexOf(claim) + 1 };
+  let at = lines.findIndex((line, at) => line === "end" || (at > 0 && !isSecond(claims) && rank(line) > rank(claim)));
+  if (at < 0) at = lines.length - (lines.at(-1) === "" ? 1 : 0);
+  return { text: lines.toSpliced(at, 0, claim).join("\n"), line: at + 1 };
+}
+
+// What the program says of the lines of a text, on standard error: each with its line, or 0 where it is of the whole text.
+function notesOf(file, error) {
+  const notes = [];
+  for (const line of error.split("\n").filter(Boolean)) {
+    const [, number, note, words] = new RegExp(`^${file}:(?:(\\d+):)? (note: )?(.*)$`).exec(line) ?? [];
+    if (words) notes.push({ line: Number(number ?? 0), words, isBad: number !== undefined && !note });
+  }
+  return notes;
+}
+
+// The matrix that `summary` writes: what its signs mean, a row of cells for each program, and who uses the other labels; or null.
+function summaryOf(text) {
+  if (text === "no label has a thread\n") return { signs: "", labels: [], rows: [], others: [] };
+  if (!text.startsWith("who may change whom")) return null;
+  const [head, ...lines] = text.trimEnd().split("\n");
+  const rows = new Map(), others = [];
+  for (const line of lines) {
+    const [, label, cells] = /^ *\d+ ([a-z]\w*) +(.*)$/.exec(line) ?? [];
+    if (label) rows.set(label, [...(rows.get(label) ?? []), ...cells.split(/ +/)]);
+    else if (line.startsWith("    ") && /[a-z]/.test(line)) others.at(-1).users = line.trim();
+    else if (/^[a-z]/.test(line)) others.push({ labels: line.split(", "), users: "" });
+  }
+  for (const other of others) {
+    const [, changed, read] = /^(?:changed by ([^;]*))?(?:; )?(?:read by (.*))?$/.exec(other.users) ?? [];
+    [other.changed, other.read] = [changed, read].map((names) => names?.split(", ") ?? []);
+  }
+  return { signs: head.slice(head.indexOf(": ") + 2), labels: [...rows.keys()], rows: [...rows.values()], others };
+}
+
+const LETTERS = { C: "calls", A: "answers", S: "signals", F: "changes for another reason", t: "only takes away", m: "shares memory" };
+// What a cell says, in words.
+const cellInWords = (cell) => [...cell].map((letter) => LETTERS[letter]).filter(Boolean).join(", ") || "never";
+
+// The labels of memory that both use, and that one of them may change.
+function memoryOf({ others }, table, one, other) {
+  const framed = new Set(wordsOf(table, "frame").map((words) => words[2]));
+  const uses = ({ changed, read }, label) => changed.includes(label) || read.includes(label);
+  const isShared = (it) => uses(it, one) && uses(it, other) && (it.changed.includes(one) || it.changed.includes(other));
+  return others.filter(isShared).flatMap(({ labels }) => labels).filter((label) => framed.has(label));
+}
 
 // The list of a table's objects, in columns.
 function inColumns(list) {

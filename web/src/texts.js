@@ -1,11 +1,12 @@
 "use strict";
 
 // The texts: a box for each, with line numbers, of which those in sight alone are drawn, a mark on a line, and signs beside lines.
-// Browsers edit a text of many lines slowly, so a long one is kept beside its box, which shows its beginning.
+// Browsers edit a text of many lines slowly, so a long one is kept beside its box, which shows its beginning. Beside a text a margin can
+// stand, with what is said of its lines.
 
 const LINE = 20; // the height of a line, as in page.css
 const MOST_LINES = 5000; // of a text that can be edited
-const SIGNS = { good: "\u2713", bad: "\u2717" };
+const SIGNS = { good: "\u2713", bad: "\u2717", note: "\u2022" };
 
 class Text {
   constructor(name) {
@@ -21,7 +22,7 @@ class Text {
       "aria-label": name,
     });
     this.marked = 0; // the line, or 0
-    this.signs = new Map(); // of a line's number: good or bad
+    this.signs = new Map(); // of a line's number: good, bad or note
     this.count = 1; // of lines
     this.whole = null; // a long text
     this.note = element("p", { class: "note small", hidden: "" });
@@ -106,6 +107,47 @@ class Text {
     this.area.focus();
     this.area.setSelectionRange(at, at);
     this.markLine(line);
+  }
+}
+
+// What is said of the lines of a text, beside it. Each note stands at the height of its line, or behind the note before, and scrolls with
+// the text; on a narrow screen the notes are a list.
+class Margin {
+  constructor(text) {
+    this.text = text;
+    this.list = element("ul");
+    this.box = element("div", { class: "margin", tabindex: 0, "aria-label": `Notes on the ${text.area.id}` }, this.list);
+    this.lines = []; // the lines of the notes
+    text.area.addEventListener("scroll", () => {
+      this.box.scrollTop = text.area.scrollTop;
+    });
+    new ResizeObserver(() => this.place()).observe(this.box);
+  }
+
+  // Takes other notes, each with its line, or 0 where it is of the whole text, its words, and whether it says what is wrong.
+  put(notes) {
+    this.lines = notes.map(({ line }) => line);
+    const item = ({ line, words, isBad }) => {
+      const made = element("li", { class: isBad ? "bad" : "" }, words);
+      if (line === 0) return made;
+      const button = element("button", { class: "place", "aria-label": `Go to line ${line}` }, line);
+      button.addEventListener("click", () => this.text.go(line));
+      made.prepend(button, " ");
+      return made;
+    };
+    this.list.replaceChildren(...notes.map(item));
+    this.place();
+  }
+
+  place() {
+    let end = 0;
+    [...this.list.children].forEach((item, at) => {
+      const top = Math.max(end, 6 + LINE * (Math.max(this.lines[at], 1) - 1));
+      item.style.top = `${top}px`;
+      end = top + item.offsetHeight + 6;
+    });
+    this.list.style.height = `${Math.max(end, this.text.area.scrollHeight)}px`;
+    this.box.scrollTop = this.text.area.scrollTop;
   }
 }
 

@@ -1,0 +1,171 @@
+"use strict";
+
+// What belongs to the system that is asked about, whatever is asked: its summary, the drawings, and the reason of two labels in them.
+
+// Shows what belongs to the texts, once a command has given an output: the summary and the drawings.
+async function showSystem(turn, given, command, output, report) {
+  let judged = command === CHECK ? report : null;
+  if (!judged) {
+    const answer = await program.answer(["check", "table", "policy"], given).catch(failed);
+    if (turn !== asked || !answer) return;
+    judged = reportOf(decoded(answer.output));
+  }
+  await summarize(turn, given, judged, command === SUMMARY ? output : null);
+  await tellClaims(turn, given, judged);
+  await draw(turn, given, judged, command, output);
+}
+
+// Shows the summary of an accepted system. Cells that say otherwise than the summary before are outlined.
+async function summarize(turn, given, judged, output) {
+  if (judged?.verdict !== "accept") return showSummary(given, null, judged);
+  if (output === null) {
+    const answer = await program.answer(["summary", "table", "policy"], given).catch(failed);
+    if (turn !== asked || answer?.status !== 0) return;
+    output = decoded(answer.output);
+  }
+  if (turn === asked) showSummary(given, summaryOf(output), judged);
+}
+
+function showSummary(given, summary, judged) {
+  find("box-summary").classList.remove("old");
+  find("stale").hidden = true;
+  if (!summary || summary.labels.length === 0) {
+    summed = null;
+    const why = summary ? "No label has a thread." :
+      judged?.fault ? `The ${judged.file} has a fault.` :
+      "The table doesn't keep to the policy, so nothing is said of it.";
+    find("reason").hidden = true;
+    find("matrix").replaceChildren(element("p", { class: "small" }, why));
+    find("others").replaceChildren();
+    find("changed").hidden = true;
+    return;
+  }
+  const isSame = summed && JSON.stringify(summed) === JSON.stringify(summary);
+  if (isSame) return;
+  find("reason").hidden = true;
+  const whole = matrix(summary, summed, (one, other) => askWhy(find("others"), one, other));
+  summed = summary;
+  find("matrix").replaceChildren(whole, element("p", { class: "small" }, `${summary.signs}. Choose a cell to ask why.`));
+  const count = whole.querySelectorAll(".changed").length;
+  find("changed").hidden = count === 0;
+  find("changed").textContent = count === 1 ? "1 cell differs from the answer before." : `${count} cells differ from the answer before.`;
+  const rows = summary.others.map(({ labels, users }) => element("li", {}, element("code", {}, labels.join(", ")), ` ${users}`));
+  find("others").hidden = rows.length === 0;
+  find("others").replaceChildren(element("b", {}, "Memory and other labels without a thread"), element("ul", {}, ...rows));
+}
+
+// Draws what belongs to the texts.
+async function draw(turn, given, report, command, output) {
+  const isKept = report?.verdict === "accept";
+  if (command === DRAW || command === DRAW_ALL) pictured = command;
+  find("pictured-programs").setAttribute("aria-pressed", pictured === DRAW);
+  find("pictured-labels").setAttribute("aria-pressed", pictured === DRAW_ALL);
+  const [graph, text] = command === pictured && isKept ? [graphOf(output), output] : isKept ? await graphFor(given) : [null, ""];
+  if (turn !== asked) return;
+  showGraph(graph, text, report);
+  const isTable = report && report.file !== "table";
+  const objects = isTable ? drawObjects(given.table) : null;
+  frame("objects", objects, isTable ? "The table has too many objects to be drawn." : "The table has a fault.");
+  find("objects").hidden = isTable && !objects;
+  find("signs").hidden = !objects;
+}
+
+// The graph of an accepted system, and its text. With many labels `draw --all` takes long, since it has a reason for each arrow: then the
+// graph is that of the strongest claims, without reasons and without a text.
+async function graphFor(given) {
+  const labels = labelsOf(given.table);
+  if (pictured === DRAW_ALL && labels.length > MOST_IN_TABLE) return [{ labels, arrows: [] }, ""];
+  const isDrawn = pictured === DRAW || labels.length <= MOST_LABELS;
+  const words = isDrawn ? ["draw", "table", "policy", ...(pictured === DRAW ? [] : ["--all"])] : ["claims", "table", "policy", "--all"];
+  const answer = await program.answer(words, given).catch(failed);
+  if (answer?.status !== 0) return [null, ""];
+  const text = decoded(answer.output);
+  return isDrawn ? [graphOf(text), text] : [graphOfClaims(labels, text), ""];
+}
+
+// The graph is of an accepted system, so it is shown where the table keeps to the policy.
+function showGraph(graph, text, report) {
+  const isDrawn = graph && graph.labels.length > 0 && graph.labels.length <= MOST_IN_TABLE;
+  const why = report?.fault ? `The ${report.file} has a fault.` :
+    graph?.labels.length === 0 ? "No label has a thread." :
+    graph ? `More than ${MOST_IN_TABLE} labels aren't drawn here.` :
+    "The table doesn't keep to the policy, so nothing is drawn of it.";
+  frame("labels", isDrawn ? drawLabels(graph, (one, other) => askWhy(find("kept"), one, other)) : null, why);
+  find("kept").hidden = !isDrawn;
+  find("graph").hidden = !graph || text === "";
+  find("graph").querySelector("pre").textContent = text;
+}
+
+// Asks `why` of two labels that were chosen in the matrix or in the drawing; the reason is shown before something else.
+async function askWhy(place, one, other) {
+  place.before(find("reason"));
+  await askOf(WHY, one, other);
+  for (const button of document.querySelectorAll(".matrix [aria-current]")) button.removeAttribute("aria-current");
+  const [down, at] = [one, other].map((label) => summed?.labels.indexOf(label));
+  document.querySelector(`.matrix [data-at="${down} ${at}"]`)?.setAttribute("aria-current", "true");
+}
+
+// Chooses which labels are drawn.
+function drawOf(command) {
+  pictured = command;
+  ask(last === DRAW || last === DRAW_ALL ? command : last);
+}
+
+// Copies the graph's text, and selects it, so that it can be copied where the page may not.
+function copyGraph() {
+  const text = find("graph").querySelector("pre");
+  getSelection().selectAllChildren(text);
+  navigator.clipboard?.writeText(text.textContent).catch(() => {});
+}
+
+// Puts a drawing into its frame, or says why there is none.
+function frame(id, drawing, why) {
+  find(id).querySelector(".drawing").replaceChildren(drawing ?? element("p", { class: "small" }, why));
+}
+
+// Shows what threads of A may do to objects of B beneath the matrix or the drawing, where the two were chosen: the edges of a reason with
+// their lines in the policy, where each is from, and the memory of both.
+function showReason(given, words, answer, output) {
+  const [one, other] = words.slice(3, 5);
+  if (words[0] !== "why" || answer.status !== 0) return;
+  const [held, ...edges] = output.trimEnd().split("\n");
+  const policy = given.policy.split("\n");
+  const offer = (edge) => {
+    const line = policy.indexOf(edge) + 1;
+    const button = element("button", { class: "place", title: `Go to line ${line} of the policy` }, `policy:${line}`);
+    button.addEventListener("click", () => go("policy", line));
+    return element("li", {}, element("code", {}, edge), " ", ...(line > 0 ? [button] : []));
+  };
+  const isMore = { full: "may change objects of", take: "may only take from objects of", none: "never changes objects of" };
+  const names = [one, other].map((label) => element("code", {}, label));
+  const title = element("p", {}, names[0], ` ${isMore[held]} `, names[1], edges.length > 0 ? ", by:" : ".");
+  const sentences = decoded(answer.error).split("\n").filter(Boolean).map((line) => element("p", { class: "small" }, ...withPlaces(line)));
+  const shared = summed ? memoryOf(summed, given.table, one, other) : [];
+  const memory = shared.length > 0 ? [element("p", {}, "Memory of both: ", element("code", {}, shared.join(", ")), ".")] : [];
+  find("reason").replaceChildren(title, element("ul", {}, ...edges.map(offer)), ...sentences, ...memory, offerNext(one, other, held));
+  find("reason").hidden = false;
+}
+
+// What can be asked of two labels next: calls that do it, or that it must stay so.
+function offerNext(one, other, held) {
+  const next = element("p", { class: "next" });
+  if (held !== "none") {
+    const calls = element("button", {}, "Show calls that do it");
+    calls.addEventListener("click", () => askOf(commandOf("show", held === "take" ? "--take" : undefined), one, other));
+    next.append(calls);
+  }
+  if (held !== "full") {
+    const claim = `${held} ${one} ${other}`;
+    const button = element("button", {}, "Claim ", element("code", {}, claim));
+    button.addEventListener("click", () => putClaim(claim));
+    next.append(button);
+  }
+  return next;
+}
+
+// Asks a command of two labels, and brings the answer into sight.
+async function askOf(command, one, other) {
+  [find("label-A").value, find("label-B").value] = [one, other];
+  const answer = await ask(command);
+  if (answer && command !== WHY) find("answer").scrollIntoView({ block: "nearest" });
+}
