@@ -123,7 +123,8 @@ const SHOWN: &str = "confine-script 1\n1 2 signal 0\nend\n";
 const UNSHOWN: &str = "{\"bound\":\"none\",\"run\":\"impossible\"}\n";
 
 /// The folded drawing of labels alone.
-const NO_PROGRAMS: &str = "digraph authority {\n  node [shape=box]\n  edge [fontsize=10]\n  nodesep=0.1\n  ranksep=0.4\n}\n";
+const NO_PROGRAMS: &str =
+    "digraph authority {\n  node [shape=box]\n  edge [fontsize=10]\n  nodesep=0.1\n  ranksep=0.4\n}\n";
 
 const DRAWING: &str =
     "digraph authority {\n  \"a\"\n  \"b\"\n  \"a\" -> \"b\" [label=\"a notify b\"]\n}\n";
