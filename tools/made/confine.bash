@@ -11,7 +11,7 @@ _confine() {
   fi
   for ((i = 1; i < COMP_CWORD; i++)); do
     case ${COMP_WORDS[i]} in
-      --workers)
+      --rights | --children | --workers | --steps)
         i=$((i + 1))
         if [ "${COMP_WORDS[i]-}" = = ]; then i=$((i + 1)); fi
         ;;
@@ -22,12 +22,44 @@ _confine() {
   case ${given[0]-} in
     '')
       options='-h --help -V --version'
-      offered='check verify run replay close why draw claims list help'
+      offered='import close check summary why show claims draw list verify run replay help'
       ;;
-    help) [ ${#given[@]} != 1 ] || offered='check verify run replay close why draw claims list help' ;;
+    help) [ ${#given[@]} != 1 ] || offered='import close check summary why show claims draw list verify run replay help' ;;
+    import)
+      options='--explain --rights --children --claims -h --help'
+      kinds=(file)
+      ;;
+    close)
+      options='--explain --missing --surplus -h --help'
+      kinds=(file file)
+      ;;
     check)
       options='--explain --workers --cert -h --help'
       kinds=(file file)
+      ;;
+    summary)
+      options='--explain -h --help'
+      kinds=(file file)
+      ;;
+    why)
+      options='--explain --policy-alone -h --help'
+      kinds=(file file label label)
+      ;;
+    show)
+      options='--explain --take --steps -h --help'
+      kinds=(file file label label)
+      ;;
+    claims)
+      options='--explain --all -h --help'
+      kinds=(file file file)
+      ;;
+    draw)
+      options='--explain --all --policy-alone -h --help'
+      kinds=(file file)
+      ;;
+    list)
+      options='--explain -h --help'
+      kinds=(file)
       ;;
     verify)
       options='--explain -h --help'
@@ -41,29 +73,12 @@ _confine() {
       options='--explain -h --help'
       kinds=(file file file)
       ;;
-    close)
-      options='--explain --missing --surplus -h --help'
-      kinds=(file file)
-      ;;
-    why)
-      options='--explain --policy-alone -h --help'
-      kinds=(file file label label)
-      ;;
-    draw)
-      options='--explain --policy-alone -h --help'
-      kinds=(file file)
-      ;;
-    claims)
-      options='--explain --all -h --help'
-      kinds=(file file file)
-      ;;
-    list)
-      options='--explain -h --help'
-      kinds=(file)
-      ;;
   esac
   case $last in
+    --rights) values='' ;;
+    --children) values='' ;;
     --workers) values='' ;;
+    --steps) values='' ;;
     *) last='' ;;
   esac
   local kind=''
