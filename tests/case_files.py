@@ -10,8 +10,12 @@ import pathlib
 import re
 
 WORKED = pathlib.Path(__file__).resolve().parent / "worked"
-EXAMPLES = WORKED.parent.parent / "examples"
+TOP = WORKED.parent.parent
+EXAMPLES = TOP / "examples"
 TEXTS = ["table", "policy", "script", "certificate", "log", "claims", "description"]
+# The texts of systems that stand with the stored runs of crates' programs.
+STORED = {("four_threads", file): f"confine/data/{file}" for file in ["table", "policy", "script"]}
+STORED |= {("four_threads", "log"): "confine/stdout", ("nine_kinds", "table"): "states/data/table"}
 
 # The command that a word asks for.
 ASKED = {word: [word] for word in ["run", "replay", "check", "verify", "close", "list", "summary"]}
@@ -298,15 +302,21 @@ def is_within(came, wanted):
 # The lines of a file.
 
 
+def path_of(name, file):
+    """Where a text of a system is: in its folder, or with the stored run of a crate's program."""
+    if (name, file) in STORED:
+        return TOP / "crates" / STORED[name, file]
+    folder = EXAMPLES / name
+    return (folder if folder.is_dir() else WORKED / "systems" / name) / file
+
+
 @functools.cache
 def system_of(name):
     """The texts of a system: an example, or one of tests/worked/systems. It may lack what the program says of it."""
-    folder = EXAMPLES / name
-    if not folder.is_dir():
-        folder = WORKED / "systems" / name
-    if not all((folder / file).is_file() for file in TEXTS[:3]):
+    paths = {file: path_of(name, file) for file in [*TEXTS, "report"]}
+    if not all(paths[file].is_file() for file in TEXTS[:3]):
         raise Wrong("a file can't be read")
-    return {file: (folder / file).read_bytes() if (folder / file).is_file() else b"" for file in [*TEXTS, "report"]}
+    return {file: path.read_bytes() if path.is_file() else b"" for file, path in paths.items()}
 
 
 @functools.cache

@@ -74,6 +74,23 @@ def make_description(r):
     return r.choice(["\n", "\n", "\n", "\r\n"]).join([*head, "<system>", *lines, "</system>", ""])
 
 
+def make_shared(r, count, ways):
+    """A description of many regions, which domains and a virtual machine map in so many ways, some by two maps."""
+    names = [f"{r.choice(PARTS)}{i}" for i in range(count)]
+    users, lines = {n: [] for n in range(8)}, [f"<memory_region name='{name}' size='0x1000'/>" for name in names]
+    taken = [*range(1, ways + 1), *(r.randint(1, ways) for _ in range(count - ways))]
+    r.shuffle(taken)
+    for name, way in zip(names, taken):  # in base 3: a digit for each user, 0 for none, 1 for r, 2 for rw
+        for user in users:
+            perms = {0: [], 1: ["r"], 2: r.choice([["rw"], ["r", "rw"], ["rwx", "r"]])}[way // 3**user % 3]
+            users[user] += [f"<map mr='{name}' vaddr='0x2000000' perms='{one}'/>" for one in perms]
+    for user, maps in users.items():
+        inner = ["<virtual_machine name='guest'>", "<vcpu id='1'/>", *maps, "</virtual_machine>"] if user == 0 else maps
+        lines += [f"<protection_domain name='d{user}' priority='{user}'>", *inner, "</protection_domain>"]
+    lines += ["<channel><end pd='d1' id='1' pp='true'/><end pd='d2' id='2'/></channel>"]
+    return "\n".join(["<system>", *lines, "</system>", ""])
+
+
 def damaged_description(r, text):
     """A description that was damaged once or twice."""
     for _ in range(r.choice([1, 1, 2])):

@@ -15,11 +15,13 @@
 - one that begins with `who may change whom` is what `summary` prints of the files, and one that begins with `{"bound"` what `show` does, of
   the labels that `<!-- show: A B -->` tells;
 - one that begins with `confine-policy 1` after `<!-- close: of the table -->` is what `close` prints of the table alone, and one that
-  begins with `confine-claims 1` after `<!-- claims: all -->` what `claims --all` prints of the files;
+  begins with `confine-claims 2` after `<!-- claims: all -->` what `claims --all` prints of the files;
 - a row of a table whose last cell is a report, or 'accepted', is the answer to these files with the
   changes that the cells before it tell, as `X` becomes `Y`;
 - one whose last cell is a line of a file and `note`, as `table:8: note`, is a line that `check --explain` says of them on standard error,
   or the beginning of one, if it ends with ` ..`;
+- a block after `<!-- short: STATUS WORDS -->` is what the command of these words prints with `--format short` of the files, with the change that
+  `<!-- change: .. -->` tells;
 - one with numbered lines is the beginning of a file of the system;
 - one that begins with a line of a file and `denied by`, as `table:8: denied by`, is what `check --explain` says of them on standard
   error, with the change that `<!-- change: .. -->` tells.
@@ -134,7 +136,7 @@ def parts_of(text):
         if block:
             yield number - len(block), "block", "\n".join(block) + "\n"
             block = []
-        if comment := re.match(r"<!-- (system|labels|change|why|show|import|log|close|claims): (.*) -->", line):
+        if comment := re.match(r"<!-- (system|labels|change|why|show|import|log|close|claims|short): (.*) -->", line):
             yield number, comment[1], comment[2]
         elif line.startswith("| "):
             yield number, "row", line
@@ -153,7 +155,7 @@ def in_one_line(text, between=""):
 
 def examples_of(path):
     """Where each example stands, its files, and the answer that it shows."""
-    files, change, asked, imports, alone, closes, strongest = {}, "", [], "", False, False, False
+    files, change, asked, imports, short, alone, closes, strongest = {}, "", [], "", [], False, False, False
     for number, form, text in parts_of(path.read_text()):
         where = f"{path.relative_to(TOP)}:{number}"
         kind = (re.match(r" *(?:1  )?confine-(\w+) [12]\n", text) or ["", ""])[1]
@@ -169,12 +171,17 @@ def examples_of(path):
             asked = text.split()
         elif form == "import":
             imports = text
+        elif form == "short":
+            short = [*text.split(), "--format", "short"]
         elif form == "log":
             alone = True
         elif form == "close":
             closes = True
         elif form == "claims":
             strongest = True
+        elif form == "block" and short:
+            yield where, changed(files, change, text) | {"asked": short[1:]}, f"status {short[0]}\n" + text.replace("\n  ", " ")
+            change, short = "", []
         elif form == "block" and imports:
             yield where, files | {"asked": ["import", "description", "--rights", *imports.split()]}, text
             files, imports = files | {kind: text}, ""
@@ -219,6 +226,8 @@ def examples_of(path):
 def is_answered(answer, status, out):
     if answer.endswith("\n..\n"):
         return status == 0 and out.startswith(answer.removesuffix("..\n"))
+    if answer.startswith("status "):
+        return answer == f"status {status}\n{out}"
     if DENIED.match(answer):
         return (status, out) == (1, answer)
     if NOTED.match(answer):
@@ -234,7 +243,7 @@ def is_answered(answer, status, out):
 
 def commands_of(answer, asked):
     """The commands that give such an answer."""
-    if asked[:1] == ["import"]:
+    if asked[:1] == ["import"] or "--format" in asked:
         return [asked]
     if '"file":"description"' in answer:
         return [["import", "description", "--rights", "least"]]
@@ -248,7 +257,7 @@ def commands_of(answer, asked):
         return [["check", "table", "policy", "--explain"]]
     if answer.startswith("edge "):
         return [["close", "table", "policy", "--missing"]]
-    if answer.startswith("confine-claims 1"):
+    if answer.startswith("confine-claims 2"):
         return [["claims", "table", "policy", "--all"]]
     if re.match('{"(claims|authority|broken)"', answer) or '"file":"claims"' in answer:
         return [["claims", "table", "policy", "claims"]]

@@ -22,7 +22,7 @@ FILES = {
 
 
 # What a call by the policy alone says on standard error.
-ALONE = "confine: by the policy alone: each label counts as one whose threads make calls, so that this holds of no run\n"
+ALONE = "confine: this is by the policy alone: each label counts as one whose threads make calls, so the answer says nothing about runs\n"
 
 
 def files_of(command, options=()):
@@ -241,8 +241,7 @@ def claims(table, policy, claimed=None):
     def told(acts):
         extents = {(a, b): how for a, b, how in policies.extents(policy, acts, len(table.labels))}
         if claimed is None:
-            lines = [f"{how} {table.labels[a]} {table.labels[b]}" for (a, b), how in extents.items() if how != "full"]
-            return 0, texts.text_of("confine-claims 1", lines)
+            return 0, texts.text_of(statements.HEADER, statements.strongest(table, policy, acts))
         if isinstance(claimed, Stated):
             broken = list(statements.broken(claimed, table, policy, acts))
             if broken:

@@ -31,6 +31,22 @@ def subjects(d):
     return found + [("time", n) for n in sorted(callers)] + [("region", n) for n in sorted(mapped)]
 
 
+def leaders(d):
+    """Whose label each subject has: its own, or, where there would be more than 256 labels, that of the first region with the same users
+    and rights."""
+    found = subjects(d)
+    if len(found) <= 256:
+        return {one: one for one in found}
+    rights, first = {}, {}
+    for user, region, writable in d.maps:
+        rights.setdefault(region, {}).setdefault(user, False)
+        rights[region][user] |= writable
+    for kind, n in found:
+        if kind == "region":
+            first.setdefault(frozenset(rights[n].items()), n)
+    return {one: ("region", first[frozenset(rights[one[1]].items())]) if one[0] == "region" else one for one in found}
+
+
 def item_of(d, subject):
     kind, n = subject
     return {"domain": d.domains, "machine": d.machines, "time": d.domains, "region": d.regions}[kind][n]
@@ -48,15 +64,16 @@ def tried(name, ending, k):
 
 def labels(d):
     """The names of labels; 54 where none is free."""
-    found = []
+    found, taken = [], set()
     for kind, n in subjects(d):
         item = item_of(d, (kind, n))
         name = re.sub("[^a-z0-9]", "_", item.name.lower())
         name = name if re.match("[a-z]", name) else f"x{name}"
         ending = "_time" if kind == "time" else "_mr" if kind == "region" and tried(name, "", 1) in found[: len(d.domains)] else ""
-        free = [one for one in (tried(name, ending, k) for k in range(1, TRIES + 1)) if one not in found][:1]
+        free = next((one for one in (tried(name, ending, k) for k in range(1, TRIES + 1)) if one not in taken), None)
         unless(54, item.line, free)
-        found += free
+        found.append(free)
+        taken.add(free)
     return found
 
 
@@ -120,7 +137,8 @@ def low_caps(d, every, control, n):
 
 def map_caps(d, user):
     regions = [*dict.fromkeys(region for who, region, _ in d.maps if who == user)]
-    return [(("frame", one), " rw" if (user, one, True) in d.maps else " r") for one in regions]
+    written = {region for who, region, writable in d.maps if who == user and writable}
+    return [(("frame", one), " rw" if one in written else " r") for one in regions]
 
 
 def guest_caps(d, every, machine):
@@ -159,10 +177,12 @@ def share_words(item, core, line):
 
 def table_text(d, every, control):
     """The text of the table; 54 where a limit is passed."""
-    subjects_there = subjects(d)
-    if len(subjects_there) > 256:
-        unless(54, item_of(d, subjects_there[256]).line, False)
-    names, spaces = dict(zip(subjects_there, labels(d))), filled(d, every, control)
+    leads = leaders(d)
+    own = [one for one in leads if leads[one] == one]
+    for there, most in [([*leads], 4096), (own, 256)]:
+        if len(there) > most:
+            unless(54, item_of(d, there[most]).line, False)
+    names, spaces = dict(zip(leads, labels(d))), filled(d, every, control)
     called, radix, free, lines, slots, threads = {}, {}, 0x1000, [], 0, 0
     for form, n in objects(d, every):
         subject, ending, line = owner(d, form, n)
@@ -181,7 +201,7 @@ def table_text(d, every, control):
         free = -(-free // size) * size
         unless(54, line, len(called) < 4096 and slots <= 65536 and threads <= 1024)
         called[form, n] = f"{names[subject]}_{ending}"
-        lines.append(f"{kind} {called[form, n]} {names[subject]} {free:#x}{more}")
+        lines.append(f"{kind} {called[form, n]} {names[leads[subject]]} {free:#x}{more}")
         free += size
     for space, held in spaces.items():
         lines += [f"cap {called[space]}.{slot} {called[target]}{words}" for slot, (target, words) in held]
@@ -190,8 +210,8 @@ def table_text(d, every, control):
     lines += [f"cap {called[thread]}.root {called[space]} {64 - radix[space]} 0x0" for thread, space in roots]
     lines += [f"bind {called['main', n]} {called['time', n]}" for n in range(len(d.domains))]
     lines += [f"bind {called['vcpu', n]} {called['vcpu_time', n]}" for n in range(len(d.processors)) if not control]
-    header = f"confine-table {1 if len(names) <= 64 else 2}"
-    return texts.text_of(header, [*(f"label {name}" for name in names.values()), *lines])
+    header = f"confine-table {1 if len(own) <= 64 else 2}"
+    return texts.text_of(header, [*(f"label {names[one]}" for one in own), *lines])
 
 
 # Claims.
@@ -228,14 +248,18 @@ def claims_text(d, control):
         if kind == "time":
             return any(acts_for(one, ("domain", m)) for m in running[n])
         if kind == "region":
-            return any(region == n and writable and acts_for(one, user) for user, region, writable in d.maps)
+            return any(acts_for(one, user) for user in writers.get(n, []))
         return acts_for(one, other) or parent_of(d, one) == other or any(
             (own.notifies or own.calls or far.calls) and acts_for(one, ("domain", own.domain)) and same(other, ("domain", far.domain))
             for own, far in ends(d)
         )
 
-    running = [runners(n) for n in range(len(d.domains))]
-    there = dict(zip(subjects(d), labels(d)))
+    running, writers = [runners(n) for n in range(len(d.domains))], {}
+    for user, region, writable in d.maps:
+        if writable:
+            writers.setdefault(region, []).append(user)
+    leads = leaders(d)
+    there = {one: name for one, name in zip(leads, labels(d)) if leads[one] == one}
     apart = [(a, b) for a in there for b in there if a[0] in ("domain", "machine") and a != b and not joined(a, b)]
     return texts.text_of("confine-claims 2", [f"none {there[a]} {there[b]}" for a, b in apart])
 

@@ -1,4 +1,4 @@
-"""Claims of version 2: their text, as docs/FORMATS.md has it, and which of them don't hold."""
+"""Claims of version 2: their text, as docs/FORMATS.md has it, which of them don't hold, and the strongest that do."""
 import policies
 import texts
 from texts import Fault, ask, kind, name
@@ -101,3 +101,16 @@ def broken(claims, table, policy, acts):
             names_both = claim[0] != "only" and None not in claim
             pair = {} if names_both else {"pair": [table.labels[a], table.labels[b]]}
             yield told | {"authority": how} | pair
+
+
+def strongest(table, policy, acts):
+    """The lines of the strongest claims: on pairs of labels with a thread, and for each other label who may change or shrink its objects."""
+    names = table.labels
+    extents = {(a, b): how for a, b, how in policies.extents(policy, acts, len(names))}
+    programs = {item.label for item in table.objects if item.kind == "tcb"}
+    lines = [f"{how} {names[a]} {names[b]}" for (a, b), how in extents.items() if {a, b} <= programs and how != "full"]
+    for b in range(len(names)):
+        if b not in programs:
+            users = [names[a] for a in range(len(names)) if a != b and extents[a, b] != "none"]
+            lines.append(" ".join(["only", names[b], *users]) if users else f"none * {names[b]}")
+    return lines

@@ -11,7 +11,7 @@ _confine() {
   fi
   for ((i = 1; i < COMP_CWORD; i++)); do
     case ${COMP_WORDS[i]} in
-      --rights | --children | --workers | --steps)
+      --format | --rights | --children | --workers | --steps)
         i=$((i + 1))
         if [ "${COMP_WORDS[i]-}" = = ]; then i=$((i + 1)); fi
         ;;
@@ -26,55 +26,56 @@ _confine() {
       ;;
     help) [ ${#given[@]} != 1 ] || offered='import close check summary why show claims draw list verify run replay help' ;;
     import)
-      options='--explain --rights --children --claims -h --help'
+      options='--explain --quiet --format --rights --children --claims -h --help'
       kinds=(file)
       ;;
     close)
-      options='--explain --missing --surplus -h --help'
+      options='--explain --quiet --format --missing --surplus -h --help'
       kinds=(file file)
       ;;
     check)
-      options='--explain --workers --cert -h --help'
+      options='--explain --quiet --format --workers --cert -h --help'
       kinds=(file file)
       ;;
     summary)
-      options='--explain -h --help'
+      options='--explain --quiet --format -h --help'
       kinds=(file file)
       ;;
     why)
-      options='--explain --policy-alone -h --help'
+      options='--explain --quiet --format --policy-alone -h --help'
       kinds=(file file label label)
       ;;
     show)
-      options='--explain --take --steps -h --help'
+      options='--explain --quiet --format --take --steps -h --help'
       kinds=(file file label label)
       ;;
     claims)
-      options='--explain --all -h --help'
+      options='--explain --quiet --format --all -h --help'
       kinds=(file file file)
       ;;
     draw)
-      options='--explain --all --policy-alone -h --help'
+      options='--explain --quiet --format --all --policy-alone -h --help'
       kinds=(file file)
       ;;
     list)
-      options='--explain -h --help'
+      options='--explain --quiet --format -h --help'
       kinds=(file)
       ;;
     verify)
-      options='--explain -h --help'
+      options='--explain --quiet --format -h --help'
       kinds=(file file file)
       ;;
     run)
-      options='--explain --split -h --help'
+      options='--explain --quiet --format --split -h --help'
       kinds=(file file file)
       ;;
     replay)
-      options='--explain -h --help'
+      options='--explain --quiet --format -h --help'
       kinds=(file file file)
       ;;
   esac
   case $last in
+    --format) values='' ;;
     --rights) values='' ;;
     --children) values='' ;;
     --workers) values='' ;;

@@ -30,6 +30,7 @@ async function followImport(turn, answer, lines) {
   const policy = decoded(closed.output);
   lines.push(["close", "table", ">policy"]);
   imported = { table, policy };
+  leaveExample(table);
   for (const name of SYSTEM) if (texts[name].text !== imported[name]) texts[name].text = imported[name];
   for (const pause of Object.values(pauses)) clearTimeout(pause);
   tellOfHand();

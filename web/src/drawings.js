@@ -166,7 +166,7 @@ function labelTable({ labels, arrows }, ask) {
     button.addEventListener("click", () => ask(one.from, one.to));
     return element("td", { class: one.held }, button);
   };
-  const head = element("tr", {}, element("td"), ...labels.map((label) => element("th", { scope: "col" }, label)));
+  const head = element("tr", {}, element("td"), ...labels.map((label) => element("th", { scope: "col" }, element("span", {}, label))));
   const rows = labels.map((one) =>
     element("tr", {}, element("th", { scope: "row" }, one), ...labels.map((other) => cell(held.get(`${one} ${other}`)))),
   );
@@ -178,7 +178,7 @@ function labelTable({ labels, arrows }, ask) {
 
 const MOST_PROGRAMS = 24;
 const WIDE = 1330, HIGH = 640; // what a screen of 1,400 pixels has room for
-const LEAST_GAP = 96, MOST_GAP = 230; // between two columns
+const LEAST_GAP = 96, MOST_GAP = 300; // between two columns
 const WORDS_HIGH = 13, LETTER = 5.9; // of the words at arrows
 const APART = 22; // between two boxes of a column
 const END = 15; // between the ends of two lines at a box

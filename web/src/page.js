@@ -73,6 +73,7 @@ let last = CHECK; // the command that was asked last
 let asked = 0; // how often one was: what belongs to an earlier one is dropped
 let pictured = DRAW; // which drawing is shown
 let imported = null; // table and policy, as they followed from the description
+let chosenExample = null; // the texts of the example that was chosen, until there is another system
 let summed = null; // the summary that is shown
 
 // ---- Texts, and the example that is chosen.
@@ -203,11 +204,28 @@ function example(name) {
 function chooseExample() {
   const name = find("example").value;
   if (!name) return;
-  put(example(name));
+  chosenExample = example(name);
+  put(chosenExample);
   find("about").textContent = document.querySelector(`.about[data-system="${name}"]`).textContent.trim();
   find("link").hidden = true;
   history.replaceState(null, "", location.pathname + location.search);
   begin();
+}
+
+// Says that the texts aren't those of an example.
+function takeOwn(words) {
+  chosenExample = null;
+  find("example").value = "";
+  find("about").textContent = words;
+}
+
+// Empties what is still the example's, such as its claims, once the table is of another system: it lacks most labels of the example.
+function leaveExample(table) {
+  if (!chosenExample) return;
+  const labels = new Set(labelsOf(table)), before = labelsOf(chosenExample.table);
+  if (before.filter((label) => labels.has(label)).length * 2 > before.length) return;
+  for (const name of THIRD.slice(1)) if (texts[name].text === (chosenExample[name] ?? "")) texts[name].text = "";
+  takeOwn("");
 }
 
 // Asks what is asked first of other texts.
@@ -454,8 +472,7 @@ async function readLink() {
     if (letters === "") return false;
     const given = JSON.parse(decoded(await unpacked(bytesOf(letters), "deflate-raw")));
     put(given);
-    find("example").value = "";
-    find("about").textContent = "the texts of the link";
+    takeOwn("the texts of the link");
     await begin(given.view);
     return true;
   } catch {

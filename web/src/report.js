@@ -101,15 +101,23 @@ function graphOf(text) {
   return { labels, arrows, within, isFolded };
 }
 
-// The same graph, of the strongest claims on these labels, which say nothing of a pair with full authority.
-function graphOfClaims(labels, text) {
-  const most = new Map(text.split("\n").map((line) => [line.slice(5), line.slice(0, 4)]));
-  const arrows = labels.flatMap((from) => labels.map((to) => ({ from, to, held: most.get(`${from} ${to}`) ?? "full" })));
-  return { labels, arrows: arrows.filter(({ from, to, held }) => from !== to && held !== "none") };
+// The claims that none of these labels has authority on another.
+function claimsOfNone(labels) {
+  const lines = labels.flatMap((from) => labels.filter((to) => to !== from).map((to) => `none ${from} ${to}\n`));
+  return `confine-claims 2\n${lines.join("")}end\n`;
+}
+
+// The same graph, of the report on these claims: those that don't hold name the pairs, and how far the authority goes.
+function graphOfBroken(labels, report) {
+  const arrows = (report.broken ?? []).map(({ claim, authority }) => {
+    const [, from, to] = claim.split(" ");
+    return { from, to, held: authority };
+  });
+  return { labels, arrows };
 }
 
 // Why a claim is broken, of the sentence that the program says of it: what stands before the way out.
-const reasonOf = (sentence) => /(?:is broken|doesn't hold): (.*?)(?:: [^:]*)?$/.exec(sentence.trimEnd())?.[1] ?? "";
+const reasonOf = (sentence) => /(?:is broken|doesn't hold): (.*?)\.(?: [A-Z].*)?$/.exec(sentence.trimEnd())?.[1] ?? "";
 
 // The lines of claims that claim something: all but the header, the last, empty lines and comments.
 function claimLines(text) {

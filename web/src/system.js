@@ -71,16 +71,24 @@ async function draw(turn, given, report, command, output) {
 }
 
 // The graph of an accepted system, and its text. With many labels `draw --all` takes long, since it has a reason for each arrow: then the
-// graph is that of the strongest claims, without reasons and without a text.
+// graph is that of the claims that don't hold, of `none` for each pair, without reasons and without a text.
 async function graphFor(given) {
   const labels = labelsOf(given.table);
   if (pictured === DRAW_ALL && labels.length > MOST_IN_TABLE) return [{ labels, arrows: [] }, ""];
-  const isDrawn = pictured === DRAW || labels.length <= MOST_LABELS;
-  const words = isDrawn ? ["draw", "table", "policy", ...(pictured === DRAW ? [] : ["--all"])] : ["claims", "table", "policy", "--all"];
+  if (pictured === DRAW_ALL && labels.length > MOST_LABELS) return [await tableOf(labels, given), ""];
+  const words = ["draw", "table", "policy", ...(pictured === DRAW ? [] : ["--all"])];
   const answer = await program.answer(words, given).catch(failed);
   if (answer?.status !== 0) return [null, ""];
   const text = decoded(answer.output);
-  return isDrawn ? [graphOf(text), text] : [graphOfClaims(labels, text), ""];
+  return [graphOf(text), text];
+}
+
+async function tableOf(labels, given) {
+  const claims = claimsOfNone(labels);
+  const answer = await program.answer(["claims", "table", "policy", "claims"], { ...given, claims }).catch(failed);
+  if (answer?.status !== 0 && answer?.status !== 1) return null;
+  const report = JSON.parse(decoded(answer.output));
+  return report.verdict === "deny" ? null : graphOfBroken(labels, report);
 }
 
 // The graph is of an accepted system, so it is shown where the table keeps to the policy.

@@ -1,4 +1,4 @@
-//! The sentences on the entries of a log: on calls that are refused, and on an entry that is no step.
+//! The sentences on the entries of a log: on calls that are refused, and on an entry that is not a step.
 use crate::refused::Refused;
 use base::{ObjId, Refusal};
 use evtext::entry_line;
@@ -54,7 +54,7 @@ pub fn explain_refusal(
     format!(in alloc; "{name}:{line}: `{call}` is refused {code} {detail}: {why}")
 }
 
-/// Returns a sentence that says what the kernel answers to an entry that is no step.
+/// Returns a sentence that says what the kernel answers to an entry that is not a step of the system.
 ///
 /// The entry is that of the number `entry`, from 1, in the log `name`, whose outcome is `told`
 /// there; `came` is what the kernel answers.
@@ -78,7 +78,8 @@ pub fn explain_illegal(
     let (call, answer) = parts_of(&answered);
     let (_, claim) = parts_of(&logged);
     let mut sentence = format!(in alloc;
-        "{name}:{line}: entry {entry} is no step of the system: `{call}` comes to `{answer}` there, and not to `{claim}`"
+        "{name}:{line}: entry {entry} is not a step of the system: the kernel answers `{answer}` to `{call}` there, \
+         not `{claim}`"
     )?;
     if let Outcome::Refused(refusal) = came {
         let why = Refused {

@@ -53,11 +53,11 @@ impl fmt::Display for Refused<'_> {
             Some(Cause::NoSuchThread) => write!(f, "{}", Threadless(caller)),
             Some(Cause::NotRunnable) => write!(
                 f,
-                "{caller} isn't ready to call, or runs on no context that is configured"
+                "{caller} isn't ready to call, or doesn't run on a configured context"
             ),
             Some(Cause::WrongCore) => {
                 let core = self.event.core;
-                write!(f, "{caller} runs on a context of another core than {core}")
+                write!(f, "{caller} runs on a context of a core other than {core}")
             }
             Some(Cause::InvalidCapability) => {
                 let wants = Wants(wants_of(call));
@@ -84,9 +84,9 @@ impl fmt::Display for Refused<'_> {
                 }
             ),
             None if self.refusal == Refusal::OUT_OF_MEMORY => {
-                f.write_str("memory of the program's own was refused, and nothing has changed")
+                f.write_str("confine itself got no memory; nothing has changed")
             }
-            None => f.write_str("no call is refused so"),
+            None => f.write_str("no call is refused this way"),
         }
     }
 }
@@ -99,8 +99,8 @@ impl fmt::Display for Threadless<'_> {
     fn fmt<W: fmt::Write>(&self, f: &mut fmt::Formatter<W>) -> fmt::Result {
         let caller = self.0;
         match caller.kind {
-            Some(ObjectKind::Tcb) => write!(f, "{caller} has vanished"),
-            Some(_) => write!(f, "{caller} is no thread"),
+            Some(ObjectKind::Tcb) => write!(f, "{caller} no longer exists"),
+            Some(_) => write!(f, "{caller} isn't a thread"),
             None => write!(f, "there is no {caller}"),
         }
     }
@@ -124,14 +124,17 @@ impl fmt::Display for Lost<'_> {
                     let root = from.root;
                     write!(
                         f,
-                        "{caller} has no root, or finds no CNode's capability at address {root}"
+                        "{caller} has no root, or finds no capability for a CNode at address {root}"
                     )
                 }
-                None => write!(f, "{caller} has no root, where it would find capabilities"),
+                None => write!(f, "{caller} has no root in which to find capabilities"),
             },
             LookupFailure::MissingCapability => match *self.call {
                 Call::Retype { to, .. } => {
-                    write!(f, "{caller} finds no CNode's capability at address {to}")
+                    write!(
+                        f,
+                        "{caller} finds no capability for a CNode at address {to}"
+                    )
                 }
                 _ => match source_of(self.call) {
                     Some(from) => write!(f, "the slot {from} is empty"),
@@ -140,13 +143,10 @@ impl fmt::Display for Lost<'_> {
             },
             LookupFailure::DepthMismatch => write!(
                 f,
-                "{looked} doesn't end at a slot: a CNode takes more bits than are left there, or some are left"
+                "{looked} doesn't end at a slot: a CNode takes more bits than are left, or some bits are left over"
             ),
             LookupFailure::GuardMismatch => {
-                write!(
-                    f,
-                    "{looked} has other bits than the guard of a CNode on the way"
-                )
+                write!(f, "{looked} doesn't match the guard of a CNode on the way")
             }
         }
     }
@@ -172,7 +172,7 @@ impl fmt::Display for Unmet<'_> {
     fn fmt<W: fmt::Write>(&self, f: &mut fmt::Formatter<W>) -> fmt::Result {
         match self.cause {
             Cause::InvalidArgument => f.write_str(
-                "untyped memory is made with 4 bits at least, and a CNode with 1",
+                "new untyped memory needs at least 4 bits, and a new CNode at least 1",
             ),
             Cause::IllegalOperation => write!(f, "{}", Illegal { of: *self }),
             Cause::RangeError => write!(f, "{}", OutOfRange(self.call)),
@@ -189,9 +189,7 @@ impl fmt::Display for Unmet<'_> {
                 ),
                 _ => f.write_str("untyped memory has no room"),
             },
-            _ => f.write_str(
-                "there would be more objects, slots, threads or object numbers than there may be",
-            ),
+            _ => f.write_str("there would be too many objects, slots, threads or object numbers"),
         }
     }
 }
@@ -213,7 +211,7 @@ impl fmt::Display for Illegal<'_> {
                 ..
             } => write!(
                 f,
-                "the capability in the slot {from} is no endpoint's and no notification's, or has a badge already"
+                "the capability in the slot {from} isn't for an endpoint or a notification, or already has a badge"
             ),
             Call::Mint {
                 from,
@@ -221,15 +219,16 @@ impl fmt::Display for Illegal<'_> {
                 ..
             } => write!(
                 f,
-                "the capability in the slot {from} is no CNode's, or {size} bits and the radix are more than 64"
+                "the capability in the slot {from} isn't for a CNode, or {size} bits plus the radix are more than 64"
             ),
             Call::Copy { from, .. } => write!(
                 f,
-                "the capability in the slot {from} is untyped memory's, which is moved, and never copied"
+                "the capability in the slot {from} is for untyped memory, and can be moved but not copied"
             ),
             Call::Bind { context, thread } => write!(
                 f,
-                "the context at address {context} runs a thread already, or the thread at address {thread} runs on a context"
+                "the context at address {context} already runs a thread, or the thread at address {thread} \
+                 already runs on a context"
             ),
             _ => f.write_str("the operation isn't allowed"),
         }
@@ -249,20 +248,20 @@ impl fmt::Display for OutOfRange<'_> {
                 } else {
                     to.depth
                 };
-                write!(f, "a depth is 1 to 64, and not {depth}")
+                write!(f, "a depth is 1 to 64, not {depth}")
             }
             Call::Delete { slot } | Call::Revoke { slot } => {
                 let depth = slot.depth;
-                write!(f, "a depth is 1 to 64, and not {depth}")
+                write!(f, "a depth is 1 to 64, not {depth}")
             }
             Call::Read { index, .. } | Call::Write { index, .. } => {
-                write!(f, "a frame has the words 0 to 511, and no word {index}")
+                write!(f, "a frame has the words 0 to 511, but no word {index}")
             }
             Call::Configure { .. } => {
                 let most = MAX_PERIOD;
                 write!(
                     f,
-                    "a budget is 1 at least and its period at most, and a period {most} at most"
+                    "a budget is at least 1 and at most its period, and a period is at most {most}"
                 )
             }
             Call::Retype {
@@ -277,17 +276,14 @@ impl fmt::Display for OutOfRange<'_> {
                 if bits > most_bits {
                     write!(
                         f,
-                        "of kind {kind} BITS is {most_bits} at most, and not {bits}"
+                        "for kind {kind}, BITS is at most {most_bits}, not {bits}"
                     )
                 } else if count == 0 || count > most_made {
-                    write!(
-                        f,
-                        "1 to {most_made} objects are made at once, and not {count}"
-                    )
+                    write!(f, "1 to {most_made} objects are made at once, not {count}")
                 } else {
                     write!(
                         f,
-                        "the CNode at address {to} has no {count} slots from slot {offset} on"
+                        "the CNode at address {to} doesn't have {count} slots from slot {offset} on"
                     )
                 }
             }
@@ -318,13 +314,13 @@ impl fmt::Display for Filled<'_> {
     fn fmt<W: fmt::Write>(&self, f: &mut fmt::Formatter<W>) -> fmt::Result {
         match *self.0 {
             Call::Copy { to, .. } | Call::Mint { to, .. } | Call::Move { to, .. } => {
-                write!(f, "the slot {to} is filled already")
+                write!(f, "the slot {to} is already filled")
             }
             Call::Retype { to, offset, .. } => write!(
                 f,
-                "a slot of the CNode at address {to} that is to be filled, from slot {offset} on, is filled already"
+                "one of the slots to fill in the CNode at address {to}, from slot {offset} on, is already filled"
             ),
-            _ => f.write_str("the slot is filled already"),
+            _ => f.write_str("the slot is already filled"),
         }
     }
 }

@@ -1,15 +1,15 @@
 -- Claims that hold, by how far an authority goes, and that what they claim is kept.
 use Rattle.std.specs.Prelude.{IfNone}
-use Rattle.std.proofs.Common.{ℕ, ◌≡◌, All, List, None, Option, Some, false, subst, true}
+use Rattle.std.proofs.Common.{ℕ, ◌≡◌, All, List, None, Option, Some, false, true}
 use Rattle.std.proofs.lemmas.List.Elements.{All-weaker}
 use Rattle.machine.specs.Layout.{Layout}
 use Rattle.verdict.specs.declared.extent.Extent.{Extent}
 use Rattle.verdict.specs.declared.extent.Extent.{Extent as extent}
-use Rattle.verdict.specs.Extents.{GoesTo, Reach, MayChangeIn, ActingSystem, IsActingSystem, reach_of}
+use Rattle.verdict.specs.Extents.{GoesTo, Reach, ActingSystem, IsActingSystem, reach_of}
 use Rattle.claims.specs.declared.claim.Claim.{Claim}
 use Rattle.claims.specs.declared.claim.Most.{Most}
 use Rattle.claims.specs.declared.claim.Most.{Most as most}
-use Rattle.claims.specs.Holding.{HasAtMost, Holds, IsExact, IsKept, KeepsAtMost, extent_of, is_within, most_of}
+use Rattle.claims.specs.Holding.{HasAtMost, Holds, IsKept, KeepsAtMost, is_within}
 use Rattle.verdict.proofs.Extents.{apart, takes}
 
 module _ (reach : Reach) (a l : ℕ) where
@@ -29,25 +29,6 @@ module _ (reach : Reach) (a l : ℕ) where
   outside_breaks most.Take extent.Take goes is = cc
   outside_breaks most.Take extent.Full goes is = λ holds. holds goes
 
-  exact_within : (m : Most) → GoesTo reach a l (extent_of m) → HasAtMost reach a l m
-  exact_within most.Nothing goes = goes
-  exact_within most.Take goes = goes.0
-
-  -- what is claimed of an authority that goes so far is exact; where nothing is, it is full
-  pub claimed_exact : (m : Most) (e : Extent) → most_of e ≡ Some m → GoesTo reach a l e → GoesTo reach a l (extent_of m)
-  claimed_exact m extent.Full is goes = cc
-  claimed_exact m extent.Take is goes = let same : most.Take ≡ m = cc in subst (λ n. GoesTo reach a l (extent_of n)) same goes
-  claimed_exact m extent.Nothing is goes = let same : most.Nothing ≡ m = cc in subst (λ n. GoesTo reach a l (extent_of n)) same goes
-
-  pub unclaimed_full : (e : Extent) → most_of e ≡ None → GoesTo reach a l e → MayChangeIn reach a l
-  unclaimed_full extent.Full is goes = goes
-  unclaimed_full extent.Take is goes = cc
-  unclaimed_full extent.Nothing is goes = cc
-
--- an exact claim holds
-pub exact_holds : (reach : Reach) (claim : Claim) → IsExact reach claim → Holds reach claim
-exact_holds reach claim exact = exact_within reach claim.actor claim.object claim.most exact
-
 -- of an accepted system
 module _ (acting : ActingSystem) (is : IsActingSystem acting) where
   abbrev t : Layout
@@ -63,9 +44,6 @@ module _ (acting : ActingSystem) (is : IsActingSystem acting) where
 
   pub all_kept : (claims : List Claim) → All (Holds reach) claims → All (IsKept t) claims
   all_kept claims = All-weaker (Holds reach) (IsKept t) (λ claim holds. most_kept claim.actor claim.object claim.most holds) claims
-
-  pub exact_kept : (claims : List Claim) → All (IsExact reach) claims → All (IsKept t) claims
-  exact_kept claims exact = all_kept claims (All-weaker (IsExact reach) (Holds reach) (exact_holds reach) claims exact)
 
 -- what follows where there is no value
 pub if_none : {X : Type 0} (o : Option X) (P Q : Type 0) → (P → Q) → IfNone o P → IfNone o Q

@@ -1,5 +1,4 @@
 mod Order
 mod ClaimsLaws
 mod HoldingLaws
-mod PairByPair
 pub mod OneList

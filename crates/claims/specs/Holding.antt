@@ -1,7 +1,7 @@
--- When claims hold: how far a label goes with another at most, what is then kept in every run from a table's boot state,
--- the first claim that doesn't hold, and the strongest claims that do (the authority and what is kept are those of 'seL4 Enforces
--- Integrity', section 4, restated; claims are confine's own).
-use Rattle.std.specs.Prelude.{ℕ, ◌+◌, ◌<◌, ◌↔◌, ◌≡◌, ◌≢◌, ◌⊎◌, All, Any, Bool, List, None, Option, Some, false, length, slice_get, true}
+-- When claims hold: how far a label goes with another at most, what is then kept in every run from a table's boot state, and the first
+-- claim that doesn't hold (the authority and what is kept are those of 'seL4 Enforces Integrity', section 4, restated; claims are
+-- confine's own).
+use Rattle.std.specs.Prelude.{ℕ, ◌+◌, ◌<◌, ◌↔◌, ◌≡◌, ◌⊎◌, Bool, List, Some, false, slice_get, true}
 use Rattle.base.specs.Labels.{is_in}
 use Rattle.machine.specs.Layout.{Layout}
 use Rattle.integrity.specs.Apart.{NeverChanges, OnlyTakes}
@@ -13,7 +13,6 @@ use Rattle.claims.specs.declared.claim.Most.{Most}
 use Rattle.claims.specs.declared.claim.Most.{Most as most}
 use Rattle.claims.specs.declared.extents.Extents.{Extents}
 use Rattle.claims.specs.declared.holding.BrokenClaim.{BrokenClaim}
-use Rattle.claims.specs.Claims.{AreClaimsOf}
 
 -- a label has no more authority on another than this
 abbrev pub HasAtMost : Reach → ℕ → ℕ → Most → Type 0
@@ -43,17 +42,6 @@ pub record IsFirstBroken (reach : Reach) (claims : List Claim) (broken : BrokenC
   pub breaks : ¬ Holds reach broken.claim
   pub goes_to : GoesTo reach broken.claim.actor broken.claim.object broken.extent
 
--- how far the authority goes of which no more than this is claimed
-abbrev pub extent_of : Most → Extent
-extent_of most.Nothing = extent.Nothing
-extent_of most.Take = extent.Take
-
--- what is claimed of an authority that goes so far, if anything
-abbrev pub most_of : Extent → Option Most
-most_of extent.Full = None
-most_of extent.Take = Some most.Take
-most_of extent.Nothing = Some most.Nothing
-
 -- an authority that goes so far is no more than this
 abbrev pub is_within : Most → Extent → Bool
 is_within most.Nothing extent.Nothing = true
@@ -61,30 +49,9 @@ is_within most.Take extent.Nothing = true
 is_within most.Take extent.Take = true
 is_within m other = false
 
--- a claim says how far the authority goes, and not only that it goes no further
-abbrev pub IsExact : Reach → Claim → Type 0
-IsExact reach claim = GoesTo reach claim.actor claim.object (extent_of claim.most)
-
--- a claim on this pair is among these
-abbrev pub IsClaimed : ℕ → ℕ → List Claim → Type 0
-IsClaimed a l claims = Any (λ claim. (claim.actor ≡ a) × (claim.object ≡ l)) claims
-
--- the strongest claims that hold: exact ones, on all pairs of two labels of the table but those where the authority is full
-pub record AreStrongest (t : Layout) (reach : Reach) (claims : List Claim) : Type 0 where
-  pub are : AreClaimsOf t claims
-  pub exact : All (IsExact reach) claims
-  pub complete : (a l : ℕ) → a < length t.labels → l < length t.labels → a ≢ l → ¬ MayChangeIn reach a l → IsClaimed a l claims
-
 -- a pair comes before another: by label, then label
 abbrev pub ComesBefore : ℕ → ℕ → ℕ → ℕ → Type 0
 ComesBefore x y a l = (x < a) ⊎ ((x ≡ a) × (y < l))
-
--- the strongest claims on the pairs that come before this one
-pub record AreStrongestBefore (t : Layout) (reach : Reach) (a l : ℕ) (claims : List Claim) : Type 0 where
-  pub are : AreClaimsOf t claims
-  pub exact : All (IsExact reach) claims
-  pub before : All (λ claim. ComesBefore claim.actor claim.object a l) claims
-  pub complete : (x y : ℕ) → ComesBefore x y a l → y < length t.labels → x ≢ y → ¬ MayChangeIn reach x y → IsClaimed x y claims
 
 -- these are the labels that a label may change, and those that it may make smaller
 pub record AreExtents (reach : Reach) (extents : Extents) : Type 0 where

@@ -1,3 +1,4 @@
+//! What a command writes, with its exit status, and what a listener hears besides.
 ghost use Rattle.std.specs.Prelude.{◌≡◌, IfOk, None, Some};
 ghost use Rattle.machine.specs.Layout.{Layout};
 ghost use Rattle.verdict.specs.Verdict.{rule_name};
@@ -34,7 +35,7 @@ pub enum Made {
 }
 
 impl Answer {
-    /// A text and a status alone.
+    /// Returns an answer of a text and a status alone.
     pub fn plain(text: Vec<u8>, status: u8) -> Answer
         ensures { (result.text ≡ text) × (result.status ≡ status) × (result.finding ≡ None) × (result.made ≡ None) }
     {
@@ -47,7 +48,7 @@ impl Answer {
         }
     }
 
-    /// The text that tells what is found wrong, with status 1.
+    /// Returns the answer to a finding: the text that says what is wrong, with status 1.
     pub fn found(text: Vec<u8>, finding: Finding) -> Answer
         ensures { (result.text ≡ text) × (result.status ≡ 1) × (result.finding ≡ Some finding) × (result.made ≡ None) }
     {
@@ -61,9 +62,14 @@ impl Answer {
     }
 }
 
-/// The answer to a denial.
+/// Returns the answer to a denial: its report, with status 1.
+///
+/// # Errors
+///
+/// [`AllocError`] where memory is refused.
 pub fn denied(alloc: Global, table: &Table, denial: Denial) -> Result<Answer, AllocError>
-    ensures text { IfOk result (λ answer. answer.text.items ≡ denial_report (rule_name denial) (place_names table.now denial)) }
+    ensures text { IfOk result (λ answer. answer.text.items
+        ≡ denial_report (rule_name denial) (place_names table.now denial)) }
     ensures status { IfOk result (λ answer. answer.status ≡ 1) }
     ensures finding { IfOk result (λ answer. answer.finding ≡ Some (finding.Denied denial)) }
 {

@@ -1,3 +1,4 @@
+//! A system description, and how it is loaded with the table that it becomes.
 ghost use Rattle.std.specs.Prelude.{◌≡◌, ◌∷◌, [], IfErr, None, Some, false};
 ghost use Rattle.words.specs.Reading.{Reads};
 ghost use Rattle.forms.specs.declared.file.File.TheVariants as file;

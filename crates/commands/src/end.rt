@@ -1,3 +1,4 @@
+//! How a command ends: its exit status, and the line for standard error.
 ghost use Rattle.std.specs.{Option.option_copied, Prelude.◌≡◌};
 ghost use Rattle.commands.specs.Ends.{message_of, status_of, unlabelled_message, unread_message};
 
@@ -55,7 +56,7 @@ pub enum End {
 }
 
 impl End {
-    /// The exit status.
+    /// Returns the exit status.
     pub fn status(self) -> u8
         ensures { result ≡ status_of self }
     {
@@ -65,7 +66,7 @@ impl End {
         }
     }
 
-    /// The line for standard error, if there is one.
+    /// Returns the line for standard error, if there is one.
     pub fn message(self) -> Option<&'static str>
         ensures { option_copied result ≡ message_of self }
     {

@@ -1,3 +1,4 @@
+//! The files that are read after the table: a policy, a certificate, a script, a log and claims.
 ghost use Rattle.std.specs.Prelude.{ℕ, ◌≡◌, List, None, Option, Result, Some, option_copied, option_map};
 ghost use Rattle.machine.specs.{declared.call.{Event.Event as EventOf, Outcome.Outcome as OutcomeOf}, Layout.Layout};
 ghost use Rattle.words.specs.{declared.faults.Fault.Fault, Reading.Reads, Text.lines_of};
@@ -5,7 +6,8 @@ ghost use Rattle.captext.specs.Policies.{read_policy_of};
 ghost use Rattle.evtext.specs.{Log.read_log_of, Script.read_script_of};
 ghost use Rattle.certificate.specs.Reading.{read_certificate_of};
 ghost use Rattle.forms.specs.declared.file.File.{File, File as file};
-ghost use Rattle.commands.specs.{declared.answer.Made.Made, Claims.{is_second, read_claim_list_of}, Hearing.{entries_of, made_of}};
+ghost use Rattle.commands.specs.{declared.answer.Made.Made, Claims.{is_second, read_claim_list_of}};
+ghost use Rattle.commands.specs.Hearing.{entries_of, made_of};
 
 use crate::{File, Made, Outcomes};
 use captext::Fault;

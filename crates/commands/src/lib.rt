@@ -1,5 +1,5 @@
-//! What each command of the program `confine` is made of: its files are loaded, what they hold is judged, and the answer is told, which
-//! a listener hears and the output gets.
+//! What each command of the program `confine` is made of: its files are loaded, what they hold is
+//! judged, and the answer is told, which a listener hears and the output gets.
 #![tactic(auto)]
 
 mod answer;

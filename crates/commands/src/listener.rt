@@ -1,3 +1,4 @@
+//! Who hears what a command finds, to say it to a person.
 ghost use Rattle.std.specs.Prelude.{Option, option_copied};
 ghost use Rattle.commands.specs.Hearing.{Hearing, faulty, hearing_of, unlabelled};
 
@@ -55,7 +56,8 @@ pub struct Heard<'a> {
 
 /// Hears what a command finds, to tell a person of it. What is answered doesn't depend on it.
 pub trait Listener {
-    // What it hears, and what it is before and after that. No caller knows it but by these calls: so a promise of it is a call.
+    // What it hears, and what it is before and after that. No caller knows it but by these calls:
+    // so a promise of it is a call.
     ghost Hears: { Self → Hearing → Self → Type 0 } = { λ before hearing after. Unit {0} };
 
     /// The text of a file has this fault; `table` is what it was read by, if the table is another file.

@@ -1,10 +1,13 @@
-ghost use Rattle.std.specs.Prelude.{◌≡◌, ◌≢◌, ◌⊎◌, ◌∷◌, [], Err, IfErr, IfOk, IfSome, None, Ok, Some, false, option_copied};
+//! How the files of a command are loaded one after another, and why a command has no answer.
+ghost use Rattle.std.specs.Prelude.{◌≡◌, ◌≢◌, ◌⊎◌, ◌∷◌, [], Err, IfErr, IfOk, IfSome, None, Ok, Some, false};
+ghost use Rattle.std.specs.Prelude.{option_copied};
 ghost use Rattle.machine.specs.Layout.{Layout};
 ghost use Rattle.words.specs.Fault.{no_memory};
 ghost use Rattle.captext.specs.Tables.{read_table_of};
 ghost use Rattle.forms.specs.declared.file.File.TheVariants as file;
 ghost use Rattle.commands.specs.Commands.{HasPolicy, HasTable, input};
-ghost use Rattle.commands.specs.Files.{Gives, IsDeviceStop, IsStopOf, LoadsAs, first_failed, is_unread, lacking_of, system_contents, table_contents, three_contents, unread_of};
+ghost use Rattle.commands.specs.Files.{Gives, IsDeviceStop, IsStopOf, LoadsAs, first_failed, is_unread, lacking_of};
+ghost use Rattle.commands.specs.Files.{system_contents, table_contents, three_contents, unread_of};
 ghost use Rattle.commands.specs.Hearing.{Hearing, HearsFault, HearsStop, answered, hearing_of};
 ghost use Rattle.commands.specs.declared.{answer.Answer.Answer, load.Stop.Stop};
 
@@ -125,7 +128,8 @@ impl Held for System {
 impl<X: LaterFile> Held for Three<X> {
     ghost layout = { λ three. three.table };
 
-    ghost hears = { λ three answer. answered three.table None (Some three.policy) (X.calls three.third answer.made) answer.finding };
+    ghost hears = { λ three answer. answered three.table None
+        (Some three.policy) (X.calls three.third answer.made) answer.finding };
 
     fn table(&self) -> &Table {
         &self.table
@@ -183,6 +187,12 @@ pub(crate) fn stopped<L: Listener>(
 }
 
 /// Loads a table; its bytes are let go.
+///
+/// # Errors
+///
+/// [`Stop::CannotRead`] where the file can't be read, and [`Stop::NoMemory`] where memory is
+/// refused. [`Stop::Faulty`] with the first fault of the text, 50 to 56, as [`read_table`] says.
+/// The listener hears the fault with the text.
 pub fn load_table<T: Source, L: Listener>(
     alloc: Global,
     table: &mut T,
@@ -223,6 +233,11 @@ fn load_later<X: LaterFile, S: Source, L: Listener>(
 }
 
 /// Loads a table and a policy one after another, up to the first that stops it.
+///
+/// # Errors
+///
+/// Those of [`load_table`], and then the same for the policy, whose first fault is 50 or 51, as
+/// [`read_policy`](captext::read_policy) says. The policy is read only if the table has no fault.
 pub fn load_system<T: Source, P: Source, L: Listener>(
     alloc: Global,
     table: &mut T,
@@ -233,7 +248,8 @@ pub fn load_system<T: Source, P: Source, L: Listener>(
     requires policy { P.failed policy.old ≡ false }
     ensures loaded { Gives (system_contents (T.remaining table.old) (P.remaining policy.old)) result }
     ensures policy_waits { (policy.new ≡ policy.old) ⊎ HasTable (input T.remaining T.failed table.old table.new) }
-    ensures unread { unread_of result ≡ first_failed ((file.Table, T.failed table.new) ∷ (file.Policy, P.failed policy.new) ∷ []) }
+    ensures unread { unread_of result ≡ first_failed
+        ((file.Table, T.failed table.new) ∷ (file.Policy, P.failed policy.new) ∷ []) }
     ensures labels { lacking_of result ≡ None }
     ensures heard { HearsFault L.Hears result listener.old listener.new }
 {
@@ -248,6 +264,11 @@ pub fn load_system<T: Source, P: Source, L: Listener>(
 }
 
 /// Loads a table, a policy and a third file one after another, up to the first that stops it.
+///
+/// # Errors
+///
+/// Those of [`load_system`], and then the same for the third file, with the first fault of its
+/// text. The third file is read only if the table and the policy have no fault.
 pub fn load_three<X: LaterFile, T: Source, P: Source, S: Source, L: Listener>(
     alloc: Global,
     table: &mut T,
@@ -258,11 +279,14 @@ pub fn load_three<X: LaterFile, T: Source, P: Source, S: Source, L: Listener>(
     requires table { T.failed table.old ≡ false }
     requires policy { P.failed policy.old ≡ false }
     requires third { S.failed third.old ≡ false }
-    ensures loaded { Gives (three_contents X.named X.read_of (T.remaining table.old) (P.remaining policy.old) (S.remaining third.old)) result }
+    ensures loaded { Gives (three_contents X.named X.read_of (T.remaining table.old)
+        (P.remaining policy.old) (S.remaining third.old)) result }
     ensures policy_waits { (policy.new ≡ policy.old) ⊎ HasTable (input T.remaining T.failed table.old table.new) }
     ensures third_waits { (third.new ≡ third.old)
-        ⊎ HasPolicy (input T.remaining T.failed table.old table.new) (input P.remaining P.failed policy.old policy.new) }
-    ensures unread { unread_of result ≡ first_failed ((file.Table, T.failed table.new) ∷ (file.Policy, P.failed policy.new) ∷ (X.named, S.failed third.new) ∷ []) }
+        ⊎ HasPolicy (input T.remaining T.failed table.old table.new)
+        (input P.remaining P.failed policy.old policy.new) }
+    ensures unread { unread_of result ≡ first_failed ((file.Table, T.failed table.new)
+        ∷ (file.Policy, P.failed policy.new) ∷ (X.named, S.failed third.new) ∷ []) }
     ensures labels { lacking_of result ≡ None }
     ensures heard { HearsFault L.Hears result listener.old listener.new }
 {

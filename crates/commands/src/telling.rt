@@ -1,11 +1,14 @@
+//! How the listener hears of an answer, and how the answer is written.
 ghost use Rattle.std.specs.Prelude.{◌≡◌, Err, None, Some, false};
-ghost use Rattle.commands.specs.{Commands.{IsTold, IsWritten, output}, Ends.{IfNoLabel, unread_file}, Hearing.HearsAnswer, declared.load.Stop.{Stop as stop}};
+ghost use Rattle.commands.specs.{Commands.{IsTold, IsWritten, output}, Ends.{IfNoLabel, unread_file}};
+ghost use Rattle.commands.specs.{Hearing.HearsAnswer, declared.load.Stop.{Stop as stop}};
 
 use crate::{Answer, End, Fault, File, Held, Listener, Sink, Stop};
 use reptext::fault_report;
 use std::alloc::Global;
 
-/// Has the listener hear of the answer to what was loaded, and writes the answer; or the report of the fault for which there is none.
+/// Has the listener hear of the answer to what was loaded, and writes the answer. If there is no
+/// answer because of a fault, writes the report of the fault.
 pub fn tell<X: Held, L: Listener, O: Sink>(
     alloc: Global,
     loaded: &Result<X, Stop>,
@@ -64,7 +67,8 @@ fn write_fault<O: Sink>(alloc: Global, file: File, fault: Fault, out: &mut O) ->
 /// Writes a text, which ends with this status.
 fn write_text<O: Sink>(text: &[u8], status: u8, out: &mut O) -> End
     requires { O.failed out.old ≡ false }
-    ensures written { IsWritten (Some (text.now, status)) (output O.contents O.failed O.is_flushed out.old out.new) result }
+    ensures written { IsWritten (Some (text.now, status))
+        (output O.contents O.failed O.is_flushed out.old out.new) result }
     ensures unlabelled { IfNoLabel result (λ asked. ⊥) }
     ensures unread { unread_file result ≡ None }
 {

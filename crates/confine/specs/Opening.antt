@@ -1,5 +1,5 @@
 -- What is done with files that were opened by the names that a request gives (confine's own).
-use Rattle.std.specs.{declared.io.Error.Error, Borrow.Bor, Prelude.{ℕ, ◌≡◌, List, Option, Result, false}}
+use Rattle.std.specs.{declared.io.Error.Error, Borrow.Bor, Prelude.{ℕ, ◌≡◌, List, Option, Result, Some, false}}
 use Rattle.either.specs.declared.Either.{Either}
 use Rattle.devices.specs.{declared.{opened.Unopened.Unopened, watched.Watched.Watched}, Opened.{bytes_left, opened}, Watched.device_of}
 use Rattle.devices.specs.Watched.{failed_of, is_flushed_of}

@@ -1,10 +1,12 @@
 //! What `--explain` prints on standard error: the sentences on what a command finds.
 use crate::files::Opened;
+use base::Refusal;
 use captext::object_name;
 use causes::{Caller, explain_illegal, explain_refusal};
 use explain::{
-    Names, explain_breaches, explain_broken, explain_closing, explain_denial, explain_notes,
-    explain_outside, explain_reach, explain_run, explain_unlabelled, explain_why,
+    Names, breach_lines, explain_breaches, explain_broken, explain_closing, explain_denial,
+    explain_escape, explain_notes, explain_outside, explain_reach, explain_run, explain_unlabelled,
+    explain_why,
 };
 use invocation::{Invocation, OfSystem, OfTable, OfThree, Request};
 use machine::{Event, Outcome};
@@ -21,11 +23,12 @@ use std::io::ErrorKind;
 use std::marker::PhantomData;
 use std::thread::Threads;
 use table::Table;
+use verdict::Denial;
 
 /// What an answer by a policy alone is worth.
 const BY_POLICY_ALONE: &str =
-    "confine: by the policy alone: each label counts as one whose threads make calls, \
-so that this holds of no run";
+    "confine: this is by the policy alone: each label counts as one whose threads make calls, \
+so the answer says nothing about runs";
 
 /// Tells a person on standard error what a command finds, if that was asked for. That standard error can't
 /// be written to, or that memory is refused to a sentence, changes nothing.
@@ -36,13 +39,14 @@ pub struct Explainer<'a, R> {
 }
 
 impl<'a, R: AllocGlobal + Eprint> Explainer<'a, R> {
+    /// Returns what explains this invocation, with the runtime to do so.
     pub fn new(rt: &'a R, invocation: Invocation<'a>) -> Explainer<'a, R> {
         Explainer { rt, invocation }
     }
 
     /// Tells which file couldn't be read, if one couldn't, and why.
     pub fn hear_end<F>(&self, end: End, files: &Request<'_, Opened<F>>) {
-        if let (true, End::CannotRead(file)) = (self.invocation.explains, end) {
+        if let (true, End::CannotRead(file)) = (self.invocation.manner.explains, end) {
             let name = self.invocation.request.name_of(file);
             let alloc = self.rt.alloc();
             let why = match files.file(file) {
@@ -52,9 +56,9 @@ impl<'a, R: AllocGlobal + Eprint> Explainer<'a, R> {
             self.tell(match why {
                 Some(kind) => {
                     let why = Unread(kind);
-                    format!(in alloc; "`{name}` is to be the {file}, and can't be read: {why}")
+                    format!(in alloc; "can't read the {file} `{name}`: {why}")
                 }
-                None => format!(in alloc; "`{name}` is to be the {file}, and can't be read"),
+                None => format!(in alloc; "can't read the {file} `{name}`"),
             });
         }
     }
@@ -79,14 +83,18 @@ impl<'a, R: AllocGlobal + Eprint> Explainer<'a, R> {
     /// Tells what the table of a description doesn't show; how much that is, if nothing is to be explained.
     fn tell_left_out(&self, description: &Description, table: &Table) {
         let alloc = self.rt.alloc();
+        let manner = self.invocation.manner;
+        if manner.is_quiet {
+            return;
+        }
         if let Ok(notes) = notes_of(alloc, description, table) {
             let file = self.invocation.request.name_of(File::Description);
-            if self.invocation.explains {
+            if manner.explains {
                 self.tell_lines(explain_left_out(alloc, file, &notes));
             } else {
                 let count = notes.len();
                 self.tell(format!(in alloc;
-                    "{file}: {count} notes on what the table doesn't show: `--explain` tells them"
+                    "{file}: {count} notes on what the table doesn't show. `--explain` prints them."
                 ));
             }
         }
@@ -108,36 +116,74 @@ impl<'a, R: AllocGlobal + Eprint> Explainer<'a, R> {
 
     /// Tells what is found wrong.
     fn tell_finding(&self, leave: &(impl Threads + Sync), heard: &Heard<'_>, finding: &Finding) {
-        let (alloc, table) = (self.rt.alloc(), heard.table);
-        match finding {
-            Finding::Denied(denial) => {
-                if let Some(policy) = heard.policy {
-                    self.tell(explain_denial(alloc, &self.names(), table, policy, denial));
-                }
+        match (finding, heard.policy, heard.claims) {
+            (Finding::BrokenLines(broken), Some(policy), Some(lines)) => {
+                let (alloc, table) = (self.rt.alloc(), heard.table);
+                let names = self.names();
+                let claims = self.invocation.request.name_of(File::Claims);
+                self.tell_lines(explain_breaches(
+                    leave, alloc, &names, claims, table, policy, lines, broken,
+                ));
             }
-            Finding::Outside(denial) => {
+            _ => self.tell(self.sentence_on(heard, finding)),
+        }
+        if let (Finding::Denied(denial), Some(policy)) = (finding, heard.policy) {
+            self.tell_escape(heard.table, policy, denial);
+        }
+    }
+
+    /// Returns the sentence on what is found wrong, without a line feed. For claims of version 2 it returns a line for
+    /// each claim that doesn't hold.
+    pub fn sentence_on(&self, heard: &Heard<'_>, finding: &Finding) -> Result<String, Refusal> {
+        let (alloc, table) = (self.rt.alloc(), heard.table);
+        match (finding, heard.policy, heard.claims) {
+            (Finding::Denied(denial), Some(policy), _) => {
+                explain_denial(alloc, &self.names(), table, policy, denial)
+            }
+            (Finding::Outside(denial), _, _) => {
                 let log = self.invocation.request.name_of(File::Log);
                 let entries = match heard.outcomes {
                     Some(Outcomes::OfLog(log)) => log.len(),
                     _ => 0,
                 };
-                self.tell(explain_outside(alloc, log, entries, table, denial));
+                Ok(explain_outside(alloc, log, entries, table, denial)?)
             }
-            Finding::Illegal(entry) => self.tell(self.illegal_told(heard, *entry)),
-            Finding::Broken(broken) => {
-                if let Some(policy) = heard.policy {
-                    self.tell(explain_broken(alloc, table, policy, broken));
-                }
+            (Finding::Illegal(entry), _, _) => Ok(self.illegal_told(heard, *entry)?),
+            (Finding::Broken(broken), Some(policy), _) => {
+                explain_broken(alloc, table, policy, broken)
             }
-            Finding::BrokenLines(broken) => {
-                if let (Some(policy), Some(lines)) = (heard.policy, heard.claims) {
-                    let names = self.names();
-                    let claims = self.invocation.request.name_of(File::Claims);
-                    self.tell_lines(explain_breaches(
-                        leave, alloc, &names, claims, table, policy, lines, broken,
-                    ));
-                }
+            (Finding::BrokenLines(broken), Some(policy), Some(lines)) => {
+                let claims = self.invocation.request.name_of(File::Claims);
+                breach_lines(alloc, &self.names(), claims, table, policy, lines, broken)
             }
+            // Who finds one of the others has read a policy, and claims.
+            _ => Ok(String::new(alloc)),
+        }
+    }
+
+    /// Returns the sentence on a fault of a file's text, without a line feed.
+    pub fn fault_told(
+        &self,
+        file: File,
+        text: &[u8],
+        table: Option<&Table>,
+        fault: Fault,
+    ) -> Result<String, AllocError> {
+        let alloc = self.rt.alloc();
+        let name = self.invocation.request.name_of(file);
+        match file {
+            File::Description => remarks::explain_fault(alloc, name, text, fault),
+            _ => explain_fault(alloc, file, name, text, table, fault),
+        }
+    }
+
+    /// Tells a run that leaves the policy, if `check` denies it by a rule of closed policies.
+    fn tell_escape(&self, table: &Table, policy: &Policy, denial: &Denial) {
+        if let (Denial::Policy(_), Request::OfSystem(OfSystem::Check { .. }, _, _)) = (
+            denial,
+            self.invocation.request,
+        ) {
+            self.tell_lines(explain_escape(self.rt.alloc(), table, policy));
         }
     }
 
@@ -151,8 +197,8 @@ impl<'a, R: AllocGlobal + Eprint> Explainer<'a, R> {
         }
     }
 
-    /// The sentence on an entry of a log that is no step, and what the kernel answers there, unless that would take more memory
-    /// than there is.
+    /// The sentence on an entry of a log that is no step, and what the kernel answers there, unless
+    /// that would take more memory than there is.
     fn illegal_told(&self, heard: &Heard<'_>, entry: usize) -> Result<String, AllocError> {
         let (alloc, table) = (self.rt.alloc(), heard.table);
         let name = self.invocation.request.name_of(File::Log);
@@ -165,10 +211,11 @@ impl<'a, R: AllocGlobal + Eprint> Explainer<'a, R> {
                 return explain_illegal(alloc, caller, name, entry, event, told, &came);
             }
         }
-        format!(in alloc; "{name}: entry {entry} is no step of the system")
+        format!(in alloc; "{name}: entry {entry} is not a step of the system")
     }
 
-    /// Tells why calls are refused: those of a script by its lines, and those that workers made by the lines of the log.
+    /// Tells why calls are refused: those of a script by its lines, and those that workers made by
+    /// the lines of the log.
     fn tell_refusals(&self, table: &Table, script: &str, outcomes: Outcomes<'_>) {
         match outcomes {
             Outcomes::OfRun(events, outcomes) => {
@@ -217,7 +264,9 @@ impl<'a, R: AllocGlobal + Eprint> Explainer<'a, R> {
                 _,
             ) => self.tell_lines(explain_closing(leave, alloc, file, table, policy)),
             (Request::OfSystem(OfSystem::Check { .. }, file, policy_file), Some(policy), _) => {
-                self.tell_lines(explain_notes(alloc, file, table, policy));
+                if !self.invocation.manner.is_quiet {
+                    self.tell_lines(explain_notes(alloc, file, table, policy));
+                }
                 self.tell_lines(explain_reach(alloc, file, policy_file, table, policy));
             }
             (
@@ -253,13 +302,8 @@ impl<'a, R: AllocGlobal + Eprint> Explainer<'a, R> {
 
 impl<R: AllocGlobal + Eprint + Threads + Sync> Listener for Explainer<'_, R> {
     fn hear_fault(&mut self, file: File, text: &[u8], table: Option<&Table>, fault: Fault) {
-        if self.invocation.explains {
-            let alloc = self.rt.alloc();
-            let name = self.invocation.request.name_of(file);
-            self.tell(match file {
-                File::Description => remarks::explain_fault(alloc, name, text, fault),
-                _ => explain_fault(alloc, file, name, text, table, fault),
-            });
+        if self.invocation.manner.explains {
+            self.tell(self.fault_told(file, text, table, fault));
         }
     }
 
@@ -268,7 +312,7 @@ impl<R: AllocGlobal + Eprint + Threads + Sync> Listener for Explainer<'_, R> {
         if let Some(description) = heard.description {
             self.tell_left_out(description, heard.table);
         }
-        if self.invocation.explains {
+        if self.invocation.manner.explains {
             let leave = Leave::<R> { of: PhantomData };
             match heard.finding {
                 Some(finding) => self.tell_finding(&leave, heard, finding),
@@ -278,15 +322,15 @@ impl<R: AllocGlobal + Eprint + Threads + Sync> Listener for Explainer<'_, R> {
     }
 
     fn hear_unlabelled(&mut self, table: &Table, asked: Asked) {
-        if self.invocation.explains {
+        if self.invocation.manner.explains {
             let word = self.invocation.request.word_of(asked);
             self.tell(explain_unlabelled(self.rt.alloc(), table, word));
         }
     }
 }
 
-/// A handle that may start threads because the runtime may. It holds nothing, so that threads can share it whatever the runtime
-/// is: a method of a [`Listener`] can't ask that they can share that.
+/// A handle that may start threads because the runtime may. It holds nothing, so that threads can
+/// share it whatever the runtime is: a method of a [`Listener`] can't ask that they can share that.
 #[derive(Clone, Copy)]
 struct Leave<R> {
     of: PhantomData<R>,
@@ -304,9 +348,9 @@ impl fmt::Display for Unread {
             ErrorKind::NotFound => "there is no such file",
             ErrorKind::PermissionDenied => "permission is denied",
             ErrorKind::IsADirectory => "it is a folder",
-            ErrorKind::NotADirectory => "what stands before a `/` is no folder",
+            ErrorKind::NotADirectory => "the part before a `/` isn't a folder",
             ErrorKind::FileTooLarge => "it has more than 1 GiB",
-            ErrorKind::InvalidFilename => "a file can't have so long a name",
+            ErrorKind::InvalidFilename => "the name is too long for a file",
             kind => return write!(f, "{kind}"),
         };
         f.write_str(words)

@@ -12,7 +12,8 @@ use report::{Unopened, Watched, open_result};
 use std::fs::{self, Files};
 use std::io;
 
-/// How many bytes of a file are read at most, 1 GiB. No text within the limits is longer, but for certificates that aren't right.
+/// How many bytes of a file are read at most, 1 GiB. No text within the limits is longer, but for
+/// certificates that aren't right.
 pub const MOST_BYTES: u64 = 1 << 30;
 
 /// Opens a file, of which at most [`MOST_BYTES`] are read.

@@ -4,22 +4,27 @@
 ghost use Rattle.std.specs.{Fn.FnReturnsAt, Prelude.{◌≡◌, ◌≤◌, IfOk, IsErr, OnErr, false}};
 ghost use Rattle.devices.specs.Watched.{failed_of};
 ghost use Rattle.commands.specs.{Commands.{input, output}, Ends.status_of};
-ghost use Rattle.confine.specs.Opening.{AreSound, IsServed, RunsSplit, Serves, ServesSystem, ServesTable, ServesThree, written};
-ghost use Rattle.invocation.specs.Requests.{HasFewWorkers, HaveArrived, IsWithinLimits, OnInTurn, SystemHasArrived, names_of};
+ghost use Rattle.confine.specs.Opening.{AreSound, IsServed, RunsSplit, Serves, ServesSystem};
+ghost use Rattle.confine.specs.Opening.{ServesTable, ServesThree, written};
+ghost use Rattle.invocation.specs.Requests.{HasFewWorkers, HaveArrived, IsWithinLimits, OnInTurn, SystemHasArrived};
+ghost use Rattle.invocation.specs.Requests.{names_of};
 
 mod explaining;
 mod files;
+mod short;
 
 use clap::error::ErrorKind;
 use explaining::Explainer;
 use files::{Opened, open_all, open_by};
 use invocation::{
-    CommandLine, Invocation, OfSystem, OfTable, OfThree, Request, SplitRun, help, read_request,
+    CommandLine, Format, Invocation, OfSystem, OfTable, OfThree, Request, SplitRun, help,
+    read_request,
 };
 use report::{
     End, Gate, Listener, Open, Sink, Source, Watched, check, check_claims, close, draw, import,
     list, replay, run, run_split, show, start, summary, verify, why, write_claims,
 };
+use short::Shortener;
 use std::alloc::Global;
 use std::env::Env;
 use std::io::{Read, Write};
@@ -33,8 +38,14 @@ fn main(rt: HostRuntime) -> ExitCode {
     let words = words(&rt);
     let mut out = Watched::new(io::writer(&rt));
     let status = match asked(rt.alloc(), &words) {
-        Ok(CommandLine::InTurn(invocation)) => answer(&rt, invocation, &opener, &Open, &mut out).0,
-        Ok(CommandLine::Split(run)) => answer_split(&rt, run, &opener, &mut out).0,
+        Ok(CommandLine::InTurn(invocation)) => match invocation.manner.format {
+            Format::Json => answer(&rt, invocation, &opener, &Open, &mut out).0,
+            Format::Short => answer_short(&rt, invocation, &opener, &Open, &mut out).0,
+        },
+        Ok(CommandLine::Split(run)) => match run.manner.format {
+            Format::Json => answer_split(&rt, run, &opener, &mut out).0,
+            Format::Short => answer_split_short(&rt, run, &opener, &mut out).0,
+        },
         Err(unasked) => refuse(&rt, unasked),
     };
     ExitCode::from(status)
@@ -79,8 +90,9 @@ fn asked<'a>(alloc: Global, words: &'a io::Result<Vec<String>>) -> Result<Comman
     }
 }
 
-/// Does what is asked for, on files that `opener` opens by their names, and writes the answer to `out`;
-/// gives the exit status, and the files back. Where a system is accepted, all workers that were asked for arrived at the gate.
+/// Does what is asked for, on files that `opener` opens by their names, and writes the answer to
+/// `out`; gives the exit status, and the files back. Where a system is accepted, all workers that
+/// were asked for arrived at the gate.
 fn answer<'a, R, F, O, G, W>(
     rt: &R,
     invocation: Invocation<'a>,
@@ -97,7 +109,8 @@ where
     requires opener { O.IsAlwaysCallable opener.now }
     requires limits { IsWithinLimits invocation.request }
     requires out { failed_of out.old ≡ false }
-    ensures served { IsServed (FnReturnsAt O.Fn opener.now) (Serves F.remaining (written W.contents out.old out.new)) invocation.entry.request result.1 result.0 }
+    ensures served { IsServed (FnReturnsAt O.Fn opener.now)
+        (Serves F.remaining (written W.contents out.old out.new)) invocation.entry.request result.1 result.0 }
     ensures exit { result.0 ≤ 2 }
     ensures arrived { result.0 ≡ 0 → HaveArrived (G.HasArrived gate.now) invocation.entry.request }
 {
@@ -109,8 +122,38 @@ where
     (status, files)
 }
 
-/// Runs a script by a worker for each core, as [`answer`] does what is asked for. What it promises holds if it returns, since
-/// workers wait for each other's calls; so it is apart from all else, which always returns.
+/// Does what is asked for, as [`answer`] does, and writes to `out` a line for each finding in place of a report.
+fn answer_short<'a, R, F, O, G, W>(
+    rt: &R,
+    invocation: Invocation<'a>,
+    opener: &O,
+    gate: &G,
+    out: &mut Watched<W>,
+) -> (u8, Request<'a, Opened<F>>)
+where
+    R: Eprint + AllocGlobal + Threads + Sync,
+    F: Read + Drop,
+    O: Fn(&str) -> io::Result<F>,
+    G: Gate + Sync,
+    W: Write,
+    requires opener { O.IsAlwaysCallable opener.now }
+    requires limits { IsWithinLimits invocation.request }
+    requires out { failed_of out.old ≡ false }
+    ensures exit { result.0 ≤ 2 }
+{
+    let files = open_all(opener, invocation.request);
+    let mut shortener = Shortener::new(rt, invocation);
+    let mut kept = Watched::new(Vec::new(rt.alloc()));
+    let (end, files) = serve(rt, files, gate, &mut shortener, &mut kept);
+    let end = shortener.write(end, &kept.into_inner(), out);
+    let status = tell(rt, end);
+    shortener.hear_end(end, &files);
+    (status, files)
+}
+
+/// Runs a script by a worker for each core, as [`answer`] does what is asked for. What it promises
+/// holds if it returns, since workers wait for each other's calls; so it is apart from all else,
+/// which always returns.
 fn answer_split<'a, R, F, O, W>(
     rt: &R,
     run: SplitRun<'a>,
@@ -124,7 +167,8 @@ where
     W: Write,
     requires opener { O.IsAlwaysCallable opener.now }
     requires out { failed_of out.old ≡ false }
-    ensures served { IsServed (FnReturnsAt O.Fn opener.now) (RunsSplit F.remaining (written W.contents out.old out.new)) (names_of run.entry) result.1 result.0 }
+    ensures served { IsServed (FnReturnsAt O.Fn opener.now)
+        (RunsSplit F.remaining (written W.contents out.old out.new)) (names_of run.entry) result.1 result.0 }
     ensures exit { result.0 ≤ 2 }
 {
     let mut table = open_by(opener, run.table);
@@ -144,6 +188,44 @@ where
     let status = tell(rt, end);
     let files = Request::OfThree(OfThree::Run, table, policy, script);
     explainer.hear_end(end, &files);
+    (status, files)
+}
+
+/// Runs a script by a worker for each core, as [`answer_split`] does, and writes to `out` as [`answer_short`] does.
+fn answer_split_short<'a, R, F, O, W>(
+    rt: &R,
+    run: SplitRun<'a>,
+    opener: &O,
+    out: &mut Watched<W>,
+) -> (u8, Request<'a, Opened<F>>)
+where
+    R: Eprint + AllocGlobal + Threads + Wait + Sync,
+    F: Read + Drop,
+    O: Fn(&str) -> io::Result<F>,
+    W: Write,
+    requires opener { O.IsAlwaysCallable opener.now }
+    requires out { failed_of out.old ≡ false }
+    ensures exit { result.0 ≤ 2 }
+{
+    let mut table = open_by(opener, run.table);
+    let mut policy = open_by(opener, run.policy);
+    let mut script = open_by(opener, run.script);
+    let mut shortener = Shortener::new(rt, run.invocation());
+    let mut kept = Watched::new(Vec::new(rt.alloc()));
+    let end = run_split(
+        rt,
+        rt.alloc(),
+        &mut table,
+        &mut policy,
+        &mut script,
+        &Open,
+        &mut shortener,
+        &mut kept,
+    );
+    let end = shortener.write(end, &kept.into_inner(), out);
+    let status = tell(rt, end);
+    let files = Request::OfThree(OfThree::Run, table, policy, script);
+    shortener.hear_end(end, &files);
     (status, files)
 }
 
@@ -206,7 +288,8 @@ fn serve_table<T: Source, L: Listener, O: Sink>(
 ) -> End
     requires table { T.failed table.old ≡ false }
     requires out { O.failed out.old ≡ false }
-    ensures served { ServesTable asked (input T.remaining T.failed table.old table.new) (output O.contents O.failed O.is_flushed out.old out.new) result }
+    ensures served { ServesTable asked (input T.remaining T.failed table.old table.new)
+        (output O.contents O.failed O.is_flushed out.old out.new) result }
     ensures exit { status_of result ≤ 2 }
 {
     match asked {
@@ -237,7 +320,8 @@ where
     requires out { O.failed out.old ≡ false }
     requires workers { HasFewWorkers asked }
     ensures served { ServesSystem asked.entry (input T.remaining T.failed table.old table.new)
-        (input P.remaining P.failed policy.old policy.new) (output O.contents O.failed O.is_flushed out.old out.new) result }
+        (input P.remaining P.failed policy.old policy.new)
+        (output O.contents O.failed O.is_flushed out.old out.new) result }
     ensures exit { status_of result ≤ 2 }
     ensures arrived { status_of result ≡ 0 → SystemHasArrived (G.HasArrived gate.now) asked.entry }
 {

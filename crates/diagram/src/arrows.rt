@@ -25,7 +25,8 @@ pub(crate) fn write_arrows(
     rows: &[Row],
     others: &[Label],
 ) -> Result<(), AllocError>
-    ensures { OnOk result (string_bytes text.new ≡ string_bytes text.old ++ flat_map (λ row. flat_map (λ other. arrow_text table.now others.now
+    ensures { OnOk result (string_bytes text.new
+        ≡ string_bytes text.old ++ flat_map (λ row. flat_map (λ other. arrow_text table.now others.now
         (program_of (allows policy.now) row) (program_of (allows policy.now) other)) rows.now) rows.now) }
 {
     for row in rows {
@@ -44,7 +45,8 @@ fn write_arrows_from(
     others: &[Label],
     row: &Row,
 ) -> Result<(), AllocError>
-    ensures { OnOk result (string_bytes text.new ≡ string_bytes text.old ++ flat_map (λ other. arrow_text table.now others.now
+    ensures { OnOk result (string_bytes text.new
+        ≡ string_bytes text.old ++ flat_map (λ other. arrow_text table.now others.now
         (program_of (allows policy.now) row.now) (program_of (allows policy.now) other)) rows.now) }
 {
     for other in rows {
@@ -81,7 +83,8 @@ fn write_worded(
     object: Label,
     words: &str,
 ) -> Result<(), AllocError>
-    ensures { OnOk result (string_bytes text.new ≡ string_bytes text.old ++ worded_text table.now (program_of (allows policy.now) row.now)
+    ensures { OnOk result (string_bytes text.new
+        ≡ string_bytes text.old ++ worded_text table.now (program_of (allows policy.now) row.now)
         object words.now) }
 {
     let _ = policy;
@@ -164,7 +167,8 @@ fn write_reasons(
     row: &Row,
     label: Label,
 ) -> Result<(), AllocError>
-    ensures { OnOk result (string_bytes text.new ≡ string_bytes text.old ++ reasons_text (program_of (allows policy.now) row.now) label) }
+    ensures { OnOk result (string_bytes text.new
+        ≡ string_bytes text.old ++ reasons_text (program_of (allows policy.now) row.now) label) }
 {
     push_if(text, row.calls.has(label), "calls\\n")?;
     push_if(text, row.answers.has(label), "answers\\n")?;

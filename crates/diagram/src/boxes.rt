@@ -1,5 +1,6 @@
 //! The boxes of programs, with the labels without a thread that one program alone uses.
-ghost use Rattle.std.specs.{List.{flat_map, list_all}, Prelude.{◌++◌, ◌==◌, ◌||◌, ◌≡◌, IfOk, OnOk, map, not, string_bytes}};
+ghost use Rattle.std.specs.List.{flat_map, list_all};
+ghost use Rattle.std.specs.Prelude.{◌++◌, ◌==◌, ◌||◌, ◌≡◌, IfOk, OnOk, map, not, string_bytes};
 ghost use Rattle.base.specs.Labels.{is_in};
 ghost use Rattle.policy.specs.Policy.{allows};
 ghost use Rattle.diagram.specs.{Folded.{box_text, inside_text}, Programs.program_of, Regions.{inside, is_inside}};
@@ -92,7 +93,8 @@ fn inside(
 
 // Whether a program uses a label, and no other does.
 fn is_inside(policy: &Policy, rows: &[Row], row: &Row, label: Label) -> bool
-    ensures { result ≡ is_inside (map (program_of (allows policy.now)) rows.now) (program_of (allows policy.now) row.now) label }
+    ensures { result ≡ is_inside (map (program_of (allows policy.now)) rows.now)
+        (program_of (allows policy.now) row.now) label }
 {
     let _ = policy;
     uses(row, label) && is_apart(rows, row.label, label)

@@ -4,13 +4,14 @@ ghost use Rattle.machine.specs.Layout.{Layout};
 ghost use Rattle.verdict.specs.Extents.{Reach};
 ghost use Rattle.diagram.specs.{Folded.IsFoldedDrawing, Programs.Program, Regions.{StandsBetween, is_inside}};
 
-/// A law: a table has one folded drawing with a reach.
+/// Proves that a table has one folded drawing with a reach.
 pub fn each_system_has_one_drawing()
-    ensures { (t : Layout) (reach : Reach) (text other : List ℕ) → IsFoldedDrawing t reach text → IsFoldedDrawing t reach other → text ≡ other }
+    ensures { (t : Layout) (reach : Reach) (text other : List ℕ)
+        → IsFoldedDrawing t reach text → IsFoldedDrawing t reach other → text ≡ other }
 {}
 
-/// A law: a label that a program may change or make smaller stands inside the program, or in the words of an
-/// arrow from it to another program.
+/// Proves that a label that a program may change or make smaller stands inside the program, or in
+/// the words of an arrow from it to another program.
 pub fn folding_loses_no_label()
     ensures { (programs : List Program) (p : Program) (l : ℕ) → (p.changes l ≡ true) ⊎ (p.shrinks l ≡ true)
         → (is_inside programs p l ≡ true) ⊎ StandsBetween programs p l }

@@ -59,7 +59,8 @@ fn writes(policy: &Policy, from: Label, to: Label) -> bool
 
 // Whether a program does this to a label that another uses.
 fn is_between(policy: &Policy, row: &Row, other: &Row, verb: Verb, label: Label) -> bool
-    ensures { result ≡ is_between (program_of (allows policy.now) row.now) (program_of (allows policy.now) other.now) verb label }
+    ensures { result ≡ is_between (program_of (allows policy.now) row.now)
+        (program_of (allows policy.now) other.now) verb label }
 {
     does(policy, row, verb, label) && uses(other, label)
 }

@@ -1,15 +1,17 @@
+//! The edge that a denial asks for.
 ghost use Rattle.std.specs.Prelude.{◌≡◌, Some, false};
 ghost use Rattle.base.specs.declared.edge.Edge.{Edge as EdgeOf};
 ghost use Rattle.machine.specs.Layout.{Layout};
 ghost use Rattle.policy.specs.Domain.{EdgeTest};
-ghost use Rattle.verdict.specs.{declared.denial.Denial.Denial as DenialOf, Rules.joined, Verdict.{IsLeastBroken, edge_asked}};
+ghost use Rattle.verdict.specs.{declared.denial.Denial.Denial as DenialOf, Rules.joined};
+ghost use Rattle.verdict.specs.Verdict.{IsLeastBroken, edge_asked};
 
 use base::{Edge, Kind, Label};
 use labels::declared_label;
 use table::Table;
 use verdict::Denial;
 
-/// The edge that a denial asks for, if one edge would mend it.
+/// Returns the edge that a denial asks for, if one edge would mend it.
 ///
 /// P1 doesn't tell which of two labels lacks the edge, and no edge mends a certificate.
 pub fn asked_edge(table: &Table, denial: &Denial) -> Option<Edge>
@@ -60,8 +62,7 @@ fn joined(from: Option<Label>, kind: Kind, to: Option<Label>) -> Option<Edge>
     })
 }
 
-/// A law about denials, with nothing to run: the edge that the verdict's denial asks for is one that
-/// the policy lacks.
+/// Proves that the edge that the verdict's denial asks for is one that the policy lacks.
 pub fn an_asked_edge_is_missing()
     ensures { (t : Layout) (allowed : EdgeTest) (denied : DenialOf) (edge : EdgeOf)
         → IsLeastBroken t allowed denied

@@ -37,17 +37,15 @@ pub fn explain_breaches<R: Threads + Sync>(
     let mut sentences = String::new(alloc);
     for one in broken {
         if let Some(claim) = claim_at(lines, one.line) {
-            let line = one.line;
-            let text = claim_text(alloc, claim, table)?;
-            write!(sentences, "{claims}:{line}: `{text}` doesn't hold: ")?;
-            let edges = push_failure(
+            let edges = push_line(
                 alloc,
                 &mut sentences,
                 names,
+                claims,
                 table,
                 policy,
                 claim,
-                one.failure,
+                one,
             )?;
             push_origins(rt, alloc, &mut sentences, names.table, table, policy, edges)?;
             if let Failure::Pair(breach) = one.failure {
@@ -56,6 +54,64 @@ pub fn explain_breaches<R: Threads + Sync>(
         }
     }
     Ok(sentences)
+}
+
+/// Returns a line for each claim on an accepted system that doesn't hold: the first line of what
+/// [`explain_breaches`] says of the claim.
+///
+/// # Errors
+///
+/// 40 where memory is refused.
+pub fn breach_lines(
+    alloc: Global,
+    names: &Names<'_>,
+    claims: &str,
+    table: &Table,
+    policy: &Policy,
+    lines: &StatedLines,
+    broken: &[Broken],
+) -> Result<String, Refusal> {
+    let mut sentences = String::new(alloc);
+    for one in broken {
+        if let Some(claim) = claim_at(lines, one.line) {
+            push_line(
+                alloc,
+                &mut sentences,
+                names,
+                claims,
+                table,
+                policy,
+                claim,
+                one,
+            )?;
+        }
+    }
+    Ok(sentences)
+}
+
+/// Adds the line on a claim that doesn't hold, and gives the edges of the reason.
+fn push_line(
+    alloc: Global,
+    sentences: &mut String,
+    names: &Names<'_>,
+    claims: &str,
+    table: &Table,
+    policy: &Policy,
+    claim: &Stated,
+    broken: &Broken,
+) -> Result<Vec<Edge>, Refusal> {
+    let line = broken.line;
+    let text = claim_text(alloc, claim, table)?;
+    write!(sentences, "{claims}:{line}: `{text}` doesn't hold: ")?;
+    push_failure(
+        alloc,
+        sentences,
+        names,
+        table,
+        policy,
+        claim,
+        broken.failure,
+    )
 }
 
 /// Adds the calls of a run that shows a breach, or that none was found.
@@ -81,7 +137,8 @@ fn push_run(
             let steps = found.steps;
             writeln!(
                 sentences,
-                "no run that shows it was found, with {steps} calls tried: the claim is broken by the bound alone"
+                "no run that shows it was found ({steps} calls tried). The claim is broken all the same: the policy's \
+                 bound doesn't exclude such a run."
             )?;
         }
     }
@@ -147,7 +204,7 @@ fn push_breach(
     write!(sentences, "`{actor}` {does} `{object}`, by ")?;
     push_edges(sentences, table, &edges)?;
     sentences.push_str(
-        ": change the claim, or take an edge out of the policy, and what asks for it out of the table\n",
+        ". Change the claim, or remove an edge from the policy and what requires that edge from the table.\n",
     )?;
     Ok(edges)
 }
@@ -168,7 +225,8 @@ fn push_edge(
     let line = EdgeLine { table, edge };
     writeln!(
         sentences,
-        "{start}the policy has `{line}`: change the claim, or take the edge out of the policy, and what asks for it out of the table"
+        "{start}the policy has `{line}`. Change the claim, or remove the edge from the policy and what \
+         requires the edge from the table."
     )?;
     let mut edges = Vec::new(alloc);
     edges.push(edge)?;
@@ -191,13 +249,14 @@ fn push_chain(
         let name = label_name(table, *label);
         write!(
             sentences,
-            "{separator}`{last}` may change objects of `{name}`, or take from it"
+            "{separator}`{last}` may change objects of `{name}` or take from them"
         )?;
         separator = ", ";
         last = name;
     }
     sentences.push_str(
-        ": change the claim, or what makes one of these changes possible (`confine why` tells its edges)\n",
+        ". Change the claim, or change what makes one of these steps possible. \
+         `confine why` prints the edges of a step.\n",
     )
 }
 

@@ -10,6 +10,10 @@ use table::Table;
 use verdict::actors;
 
 /// Returns why a claim on an accepted system doesn't hold, by the edges of one reason, and what may be done.
+///
+/// # Errors
+///
+/// 40 where memory is refused.
 pub fn explain_broken(
     alloc: Global,
     table: &Table,
@@ -61,16 +65,16 @@ fn push_why(
     match why {
         Why::Full(edges) => {
             push_authority(sentence, table, "may change objects of", object, edges)?;
-            sentence.push_str("leave the claim out, or ")?;
+            sentence.push_str("Remove the claim, or ")?;
         }
         Why::Take(edges) => {
             push_authority(sentence, table, "may take from", object, edges)?;
             let actor = label_name(table, broken.claim.actor);
-            write!(sentence, "claim `take {actor} {object}`, or ")?;
+            write!(sentence, "Claim `take {actor} {object}`, or ")?;
         }
         Why::Nothing => write!(sentence, "has no authority on `{object}`: ")?,
     }
-    sentence.push_str("take an edge out of the policy, and what asks for it out of the table")
+    sentence.push_str("remove an edge from the policy and what requires that edge from the table.")
 }
 
 /// Adds what a label may do, and the edges by which it may.
@@ -83,26 +87,11 @@ fn push_authority(
 ) -> Result<(), AllocError> {
     write!(sentence, "{authority} `{object}`, by ")?;
     push_edges(sentence, table, edges)?;
-    sentence.push_str(": ")
-}
-
-/// Adds edges to a sentence, one after another.
-pub(crate) fn push_edges(
-    sentence: &mut String,
-    table: &Table,
-    edges: &[Edge],
-) -> Result<(), AllocError> {
-    let mut separator = "";
-    for edge in edges {
-        let line = EdgeLine { table, edge: *edge };
-        write!(sentence, "{separator}`{line}`")?;
-        separator = ", ";
-    }
-    Ok(())
+    sentence.push_str(". ")
 }
 
 /// Adds edges to a sentence, as in `edge a send b`, `edge a call b` and `edge a read b`.
-pub(crate) fn push_edges_and(
+pub(crate) fn push_edges(
     sentence: &mut String,
     table: &Table,
     edges: &[Edge],

@@ -1,5 +1,5 @@
 //! The sentence on a capability that gives more than the policy has.
-use crate::broken::push_edges_and;
+use crate::broken::push_edges;
 use crate::sentences::{comes_by_right, name_of_label, verb};
 use base::{Edge, Kind, Label, Refusal, SlotRef};
 use captext::{label_name, object_name};
@@ -8,8 +8,8 @@ use policy::Policy;
 use std::alloc::{AllocError, Global};
 use table::Table;
 
-/// Adds what the capability in a slot gives over a label that the policy lacks, and what may be done; gives how many edges are
-/// missing.
+/// Adds what the capability in a slot gives over a label that the policy lacks, and what may be
+/// done; gives how many edges are missing.
 pub(crate) fn push_capability(
     alloc: Global,
     sentence: &mut String,
@@ -60,10 +60,7 @@ fn push_deeds(
     }
     let name = label_name(table, label);
     let edges = if missing.len() == 1 { "edge" } else { "edges" };
-    write!(
-        sentence,
-        " what is labelled `{name}`, and the policy has no such {edges}: "
-    )
+    write!(sentence, " `{name}`, but the policy has no such {edges}. ")
 }
 
 /// Returns what stands before an item of a list of so many.
@@ -96,7 +93,8 @@ fn push_ways(
     push_both_ways(sentence, table, &always, &by_rights)
 }
 
-/// Adds what may be done about edges that the capability gives whatever its rights, and about those that come by rights.
+/// Adds what may be done about edges that the capability gives whatever its rights, and about those
+/// that come by rights.
 fn push_both_ways(
     sentence: &mut String,
     table: &Table,
@@ -104,20 +102,20 @@ fn push_both_ways(
     by_rights: &[Edge],
 ) -> Result<(), AllocError> {
     if !always.is_empty() {
-        sentence.push_str("add ")?;
-        push_edges_and(sentence, table, always)?;
+        sentence.push_str("Add ")?;
+        push_edges(sentence, table, always)?;
     }
     if !by_rights.is_empty() {
         let (before, between) = if always.is_empty() {
-            ("", ",")
+            ("Give", ",")
         } else {
-            (", and ", "")
+            (", and give", "")
         };
         write!(
             sentence,
-            "{before}give the capability fewer rights{between} or add "
+            "{before} the capability fewer rights{between} or add "
         )?;
-        push_edges_and(sentence, table, by_rights)?;
+        push_edges(sentence, table, by_rights)?;
     }
-    Ok(())
+    sentence.push_str(".")
 }

@@ -17,7 +17,12 @@ const LABELS: usize = Label::COUNT as usize;
 /// Returns a line for each edge that a policy lacks: the rule and the place that ask for it, and the edge, as
 /// `table:11: A1 space.0: edge app await bell`, where the place is a line of the table of this name.
 ///
-/// Each is what the verdict asks for first, where the edges of the lines before are there. So each line costs a verdict.
+/// Each is what the verdict asks for first, where the edges of the lines before are there. So each
+/// line costs a verdict.
+///
+/// # Errors
+///
+/// 40 where memory is refused.
 pub fn explain_closing<R: Threads + Sync>(
     rt: &R,
     alloc: Global,

@@ -22,8 +22,8 @@ pub struct Names<'a> {
 
 /// Returns a sentence on a denial: the line of its place, why the rule is broken there, and what may be done.
 ///
-/// Of A1 it names all edges that the policy lacks for the capability. The place of a rule of closed policies is the first edge
-/// by which the rule asks for another.
+/// Of A1 it names all edges that the policy lacks for the capability. The place of a rule of closed
+/// policies is the first edge by which the rule asks for another.
 ///
 /// # Errors
 ///
@@ -111,36 +111,36 @@ fn push_place(
     let lacks = match *denial {
         // P1 asks for one of two edges, and its reason says that only one is there.
         Denial::Policy(Broken::SubjectsDisagree { .. }) => "",
-        _ => ", and the policy has no such edge",
+        _ => ", but the policy has no such edge",
     };
     match mending_edge(table, policy, denial) {
         Some(edge) => {
             let edge = EdgeLine { table, edge };
-            write!(sentence, "{reason}{lacks}: {other}, or add `{edge}`")?;
+            write!(sentence, "{reason}{lacks}. {other}, or add `{edge}`.")?;
             Ok(1)
         }
         None => {
-            write!(sentence, "{reason}: {other}")?;
+            write!(sentence, "{reason}. {other}.")?;
             Ok(0)
         }
     }
 }
 
-/// Adds the command that writes the missing lines in their place, if there are any.
+/// Adds the command that adds the missing edges, if there are any.
 fn push_command(
     sentence: &mut String,
     names: &Names<'_>,
     missing: usize,
 ) -> Result<(), AllocError> {
     let (table, policy) = (Pasted(names.table), Pasted(names.policy));
-    let lines = match missing {
+    let edges = match missing {
         0 => return Ok(()),
-        1 => "line in its place",
-        _ => "lines in their place",
+        1 => "edge",
+        _ => "edges",
     };
     write!(
         sentence,
-        "; `confine close {table} {policy}` writes the {lines}"
+        " `confine close {table} {policy}` adds the {edges} for you."
     )
 }
 
@@ -162,7 +162,12 @@ impl fmt::Display for Pasted<'_> {
     }
 }
 
-/// Returns a sentence on the last state of a log, which lies outside a policy: the log's last line, and which edge it would take.
+/// Returns a sentence on the last state of a log, which lies outside a policy: the log's last line,
+/// and which edge it would take.
+///
+/// # Errors
+///
+/// [`AllocError`] where memory is refused.
 pub fn explain_outside(
     alloc: Global,
     log: &str,
@@ -178,17 +183,19 @@ pub fn explain_outside(
             let reason = Reason { table, denial };
             let edge = EdgeLine { table, edge };
             format!(in alloc;
-                "{log}:{line}: outside by {rule}: after the last entry {reason}, and the policy has no such edge: `{edge}`"
+                "{log}:{line}: outside by {rule}: after the last entry, {reason}, but the policy has no `{edge}`"
             )
         }
         None => format!(in alloc;
-            "{log}:{line}: outside by {rule}: after the last entry an object that the log made (the report has its number, after `#`) gives authority, or is under some, that the policy lacks"
+            "{log}:{line}: outside by {rule}: after the last entry, an object that the log made gives authority that \
+             the policy lacks, or is under such authority. The report has the object's number, after `#`."
         ),
     }
 }
 
-/// Returns the line for an edge that closing adds: the rule and the place that ask for it, and the edge, as
-/// `table:11: A1 space.0: edge app await bell`. It begins with the place's line, where that is one of the table of this name.
+/// Returns the line for an edge that closing adds: the rule and the place that ask for it, and the
+/// edge, as `table:11: A1 space.0: edge app await bell`. It begins with the place's line, where
+/// that is one of the table of this name.
 pub(crate) fn explain_edge(
     alloc: Global,
     file: &str,

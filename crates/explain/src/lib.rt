@@ -1,6 +1,7 @@
-//! Words to a person: why a table and a policy are denied or a claim is broken, and what may be done; what each
-//! label may do to which others, and where the authority comes from, or why there is none; which threads can't call, and
-//! which bits of an address a root doesn't read; and that a word is no label.
+//! Words to a person: why a table and a policy are denied or a claim is broken, and what may be
+//! done; what each label may do to which others, and where the authority comes from, or why there
+//! is none; which threads can't call, and which bits of an address a root doesn't read; and that a
+//! word is no label.
 #![tactic(auto)]
 
 mod asked;
@@ -9,6 +10,7 @@ mod broken;
 mod capability;
 mod closing;
 mod denials;
+mod escapes;
 mod lines;
 mod notes;
 mod nothing;
@@ -20,10 +22,11 @@ mod sentences;
 mod unlabelled;
 
 pub use asked::{an_asked_edge_is_missing, asked_edge};
-pub use breaches::explain_breaches;
+pub use breaches::{breach_lines, explain_breaches};
 pub use broken::explain_broken;
 pub use closing::explain_closing;
 pub use denials::{Names, explain_denial, explain_outside};
+pub use escapes::explain_escape;
 pub use lines::{
     line_of_binding, line_of_child, line_of_edge, line_of_label, line_of_object, line_of_slot,
 };

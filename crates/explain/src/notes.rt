@@ -48,7 +48,8 @@ enum Matter {
     Short(SlotRef, u64),
 }
 
-/// Returns the notes on an accepted table, which stands in this file, each with its line. Those of one kind are at most 16.
+/// Returns the notes on an accepted table, which stands in this file, each with its line. Those of
+/// one kind are at most 16.
 ///
 /// # Errors
 ///
@@ -97,20 +98,23 @@ impl fmt::Display for Told<'_> {
             }
             Matter::Unnamed(object) => {
                 let name = object_name(table, object);
-                write!(f, "no capability is for `{name}`: no thread can use it")
+                write!(
+                    f,
+                    "there is no capability for `{name}`, so no thread can use it"
+                )
             }
             Matter::Rootless(thread) => {
                 let name = object_name(table, thread);
                 write!(
                     f,
-                    "`{name}` has no root: it finds no capability, and what needs one is refused 6 1"
+                    "`{name}` has no root: it finds no capabilities, and each call that needs one is refused 6 1"
                 )
             }
             Matter::Unbound(thread, true) => {
                 let name = object_name(table, thread);
                 write!(
                     f,
-                    "`{name}` runs on no context: each of its calls is refused 32 0, until it runs on one"
+                    "`{name}` has no context: each of its calls is refused 32 0 until it has one"
                 )
             }
             Matter::Unbound(thread, false) => {
@@ -125,7 +129,8 @@ impl fmt::Display for Told<'_> {
                 let slot = SlotName { table, slot };
                 write!(
                     f,
-                    "calls arrive by `{slot}`, and `{holder}` has no capability for a reply object: they are never answered"
+                    "calls arrive through `{slot}`, but `{holder}` has no capability for a reply object: these calls \
+                     are never answered"
                 )
             }
             Matter::Alike(slot, other) => {
@@ -133,7 +138,7 @@ impl fmt::Display for Told<'_> {
                 let other = SlotName { table, slot: other };
                 write!(
                     f,
-                    "`{slot}` has the badge of `{other}`: who receives can't tell one sender from the other"
+                    "`{slot}` has the same badge as `{other}`: a receiver can't tell the two senders apart"
                 )
             }
             Matter::Short(slot, bits) => {
@@ -141,8 +146,8 @@ impl fmt::Display for Told<'_> {
                 let unread = 64u64.saturating_sub(bits);
                 write!(
                     f,
-                    "the guard and the radix of `{slot}` are {bits} bits of the 64 of an address, and the low {unread} aren't \
-                     read: addresses that differ in these alone find one slot"
+                    "the guard and the radix of `{slot}` take {bits} of the 64 bits of an address, and leave the low \
+                     {unread} unread: addresses that differ only there find the same slot"
                 )
             }
         }
@@ -391,8 +396,9 @@ fn badge_of_sender(filled: &Filled) -> Option<u64> {
     }
 }
 
-/// Adds the roots whose lookups end before the last bit of an address: where several addresses find each slot, and address 1 may be
-/// no slot 1. A CNode that has capabilities for CNodes may be meant to, and isn't told.
+/// Adds the roots whose lookups end before the last bit of an address: where several addresses find
+/// each slot, and address 1 may be no slot 1. A CNode that has capabilities for CNodes may be meant
+/// to, and isn't told.
 fn add_roots(notes: &mut Vec<Note>, table: &Table) -> Result<(), AllocError> {
     let mut short = 0;
     for filled in table.caps() {

@@ -24,12 +24,13 @@ pub(crate) fn push_nothing(
     } else if may_have_threads(table, actor) {
         writeln!(
             lines,
-            "no thread of `{name}` ever runs: none is ready at boot and bound to a context, and no label whose threads run has an edge of control to `{name}`"
+            "no thread of `{name}` ever runs: at boot none is both ready and bound to a context, and no label \
+             whose threads run has a `control` edge to `{name}`"
         )?;
     } else {
         writeln!(
             lines,
-            "`{name}` has no thread, and no untyped memory to make one of"
+            "`{name}` has no thread, and no untyped memory from which to make one"
         )?;
     }
     Ok(())
@@ -82,10 +83,10 @@ fn push_none_by(
     let (actor, object) = (label_name(table, actor), label_name(table, object));
     write!(
         lines,
-        "by no edges of the policy may `{actor}` change objects of `{object}`, or make them smaller"
+        "no edges of the policy let `{actor}` change objects of `{object}` or make them smaller"
     )?;
     if !joining.is_empty() {
-        lines.push_str(", not even by ")?;
+        lines.push_str(", not even ")?;
         push_edges(lines, table, joining)?;
     }
     lines.push('\n')

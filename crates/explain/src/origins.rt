@@ -1,5 +1,5 @@
-//! The sentences on whence the edges of a reason come: from a place of the table, by a rule from other edges,
-//! or from the policy alone; and, of labels with no reason, why there is none.
+//! The sentences on where the edges of a reason come from: a place of the table, by a rule from other edges,
+//! or the policy alone; and, for labels with no reason, why there is none.
 use crate::asked::asked_edge;
 use crate::broken::push_edges;
 use crate::closing::{MOST_EDGES, mending_edge};
@@ -16,11 +16,16 @@ use std::thread::Threads;
 use table::Table;
 use verdict::{Denial, actors};
 
-/// Returns a line for each edge of the reason that [`Policy::why_among`] gives, and then for each edge by
-/// which a rule asks for one of those before: where it comes from. Where there is no authority, it returns why that is so.
+/// Returns a line for each edge of the reason that [`Policy::why_among`] gives, and then for each
+/// edge by which a rule asks for one of those before: where it comes from. Where there is no
+/// authority, it returns why that is so.
 ///
 /// If `alone`, each label counts as one whose threads make calls, else those of which it is so in the system.
 /// `file` is the table's name.
+///
+/// # Errors
+///
+/// 40 where memory is refused.
 pub fn explain_why<R: Threads + Sync>(
     rt: &R,
     alloc: Global,
@@ -85,7 +90,7 @@ pub(crate) fn push_origins<R: Threads + Sync>(
     Ok(())
 }
 
-/// Adds whence an edge comes, and gives the edges by which a rule asks for it, if that is whence.
+/// Adds where an edge comes from, and gives the edges by which a rule asks for the edge, if one does.
 fn push_origin<R: Threads + Sync>(
     rt: &R,
     alloc: Global,
@@ -96,14 +101,14 @@ fn push_origin<R: Threads + Sync>(
     edge: &Edge,
 ) -> Result<Vec<Edge>, Refusal> {
     let line = EdgeLine { table, edge: *edge };
-    write!(lines, "`{line}` comes ")?;
+    write!(lines, "`{line}` ")?;
     match place_of(alloc, table, edge)? {
         Some(denial) => {
             let denial = &denial;
             let line = line_of_place(table, denial);
             let start = Start { file, line };
             let reason = Reason { table, denial };
-            writeln!(lines, "from {start}{reason}")?;
+            writeln!(lines, "comes from {start}{reason}")?;
             Ok(Vec::new(alloc))
         }
         None => push_rule(rt, alloc, lines, table, policy, edge),
@@ -170,13 +175,13 @@ fn push_rule<R: Threads + Sync>(
 ) -> Result<Vec<Edge>, Refusal> {
     match asked_by(rt, alloc, table, policy, edge)? {
         Some(Asked { rule, by }) => {
-            write!(lines, "by {rule} from ")?;
+            write!(lines, "follows by {rule} from ")?;
             push_edges(lines, table, &by)?;
             lines.push('\n')?;
             Ok(by)
         }
         None => {
-            lines.push_str("from the policy alone\n")?;
+            lines.push_str("comes from the policy alone\n")?;
             Ok(Vec::new(alloc))
         }
     }

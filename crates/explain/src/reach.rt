@@ -34,7 +34,8 @@ pub fn explain_reach(
         };
         writeln!(
             lines,
-            "{others} more {have} no thread: `confine summary {table_file} {policy_file}` tells who changes and reads {them}"
+            "{others} more {have} no thread. `confine summary {table_file} {policy_file}` prints who changes and \
+             reads {them}."
         )?;
     }
     Ok(lines)
@@ -133,7 +134,7 @@ fn push_apart(
     }
     let names = names_of(alloc, table, apart)?;
     if count(table, programs) < 2 {
-        writeln!(lines, "{names} alone has a thread")
+        writeln!(lines, "only {names} has a thread")
     } else {
         writeln!(
             lines,

@@ -32,7 +32,7 @@ pub(crate) fn name_of_label<'a>(table: &'a Table, id: ObjId) -> &'a str {
     }
 }
 
-/// What an edge of the kind lets a label do, before the words 'what is labelled'.
+/// What an edge of the kind lets a label do, before the name of another label.
 pub(crate) fn verb(kind: Kind) -> &'static str {
     match kind {
         Kind::Control => "control",
@@ -47,9 +47,9 @@ pub(crate) fn verb(kind: Kind) -> &'static str {
         Kind::Write => "write",
         Kind::Reply => "reply through",
         Kind::Context => "bind and configure",
-        Kind::SchedControl => "configure contexts by",
+        Kind::SchedControl => "configure contexts through",
         Kind::Space => "find capabilities in",
-        Kind::Derive => "hand capabilities on to",
+        Kind::Derive => "pass capabilities on to",
         Kind::Runs => "run on",
         Kind::Holds => "hold",
     }
@@ -88,7 +88,7 @@ impl fmt::Display for Reason<'_> {
             Denial::Root { slot, label } => tell_root(f, table, slot, label),
             Denial::Pair { child, parent } => {
                 tell_slot(f, table, "the capability in", child)?;
-                tell_slot(f, table, " is derived from that in", parent)
+                tell_slot(f, table, " is derived from the one in", parent)
             }
             Denial::Binding { thread, context } => {
                 tell_object(f, table, "the thread", thread)?;
@@ -104,12 +104,13 @@ impl fmt::Display for Reason<'_> {
                 label,
             } => {
                 tell_object(f, table, "the thread", thread)?;
-                f.write_str(" waits, and keeps the right to ")?;
+                f.write_str(" waits and keeps the right to ")?;
                 tell_deed(f, table, kind, label)
             }
             Denial::Certificate { line } => write!(
                 f,
-                "line {line} after the certificate's header differs from what the table gives, is missing or is too many"
+                "line {line} after the certificate's header differs from what the table gives, is missing, \
+                 or is one line too many"
             ),
         }
     }
@@ -142,7 +143,7 @@ fn tell_root<W: fmt::Write>(
     let slot = SlotName { table, slot };
     write!(
         f,
-        "by `{slot}` a thread of `{from}` finds its capabilities in what is labelled `{to}`"
+        "a thread of `{from}` finds its capabilities in `{to}` through `{slot}`"
     )
 }
 
@@ -179,7 +180,7 @@ fn tell_deed<W: fmt::Write>(
 ) -> fmt::Result {
     let verb = verb(kind);
     let name = label_name(table, label);
-    write!(f, "{verb} what is labelled `{name}`")
+    write!(f, "{verb} `{name}`")
 }
 
 /// Why a rule of closed policies is broken.
@@ -195,15 +196,15 @@ fn tell_rule<W: fmt::Write>(
             two,
             " is in the domain of ",
             one,
-            ", and only one of the two may ",
+            ", but only one of the two may ",
         ),
-        Broken::ControlLacks { .. } => ("", one, " controls ", two, ", and so may come to "),
+        Broken::ControlLacks { .. } => ("", one, " controls ", two, ", and so may get to "),
         Broken::GrantLacks { .. } => (
             "",
             one,
             " may grant its capabilities to ",
             two,
-            ", also one to ",
+            ", including one to ",
         ),
         Broken::DomainLacks { parent, child } if parent == child => return tell_itself(f, one),
         Broken::DomainLacks { .. } => (
@@ -211,28 +212,28 @@ fn tell_rule<W: fmt::Write>(
             one,
             " and ",
             two,
-            " are in the domain of one label, which may copy capabilities from the one to the other",
+            " are in the domain of one label, which may copy capabilities from one to the other",
         ),
         Broken::DeriveLacks { .. } => (
             "capabilities of ",
             two,
-            " may come to be derived from those of ",
+            " may be derived from capabilities of ",
             one,
             ", by a grant or in two steps",
         ),
         Broken::ContextLacks { .. } => (
             "",
             one,
-            " may bind a context labelled ",
+            " may bind a context of ",
             two,
-            ", and then runs on it",
+            " and then runs on it",
         ),
         Broken::ReplyLacks { .. } => (
-            "a reply object labelled ",
+            "a reply object of ",
             one,
-            " may come to hold a thread of ",
+            " may get to hold a thread of ",
             two,
-            ", which receives with it or calls who does",
+            ", which receives with that object or calls a thread that does",
         ),
         Broken::LentLacks { .. } => return tell_lent(f, one, two),
     };
@@ -245,7 +246,7 @@ fn tell_rule<W: fmt::Write>(
 fn tell_itself<W: fmt::Write>(f: &mut fmt::Formatter<W>, one: &str) -> fmt::Result {
     write!(
         f,
-        "`{one}` is in the domain of a label, which may copy its capabilities within it"
+        "`{one}` is in the domain of a label, and that label may copy capabilities of `{one}` within `{one}`"
     )
 }
 
@@ -253,7 +254,7 @@ fn tell_itself<W: fmt::Write>(f: &mut fmt::Formatter<W>, one: &str) -> fmt::Resu
 fn tell_lent<W: fmt::Write>(f: &mut fmt::Formatter<W>, one: &str, two: &str) -> fmt::Result {
     write!(
         f,
-        "`{one}` may be lent a context labelled `{two}`, by who runs on it and calls where `{one}` receives"
+        "`{one}` may be lent a context of `{two}` by a thread that runs on it and calls where `{one}` receives"
     )
 }
 
@@ -354,24 +355,26 @@ impl fmt::Display for OtherWay<'_> {
         let (table, policy) = (self.table, self.policy);
         match *self.denial {
             Denial::Policy(broken) => tell_rule_way(f, table, policy, &broken),
-            Denial::Capability { .. } => f.write_str("give the capability fewer rights"),
+            Denial::Capability { .. } => f.write_str("Give the capability fewer rights"),
             Denial::Root { .. } => f.write_str(
-                "let the root be a CNode to whose label there is such an edge",
+                "Make the root a CNode of a label to which the policy has such an edge",
             ),
             Denial::Pair { child, parent } => {
-                f.write_str("take `child ")?;
+                f.write_str("Remove `child ")?;
                 tell_pair(f, table, child, parent)?;
-                f.write_str("` out of the table")
+                f.write_str("` from the table")
             }
             Denial::Binding { .. } => f.write_str(
-                "bind the thread to a context to whose label there is such an edge",
+                "Bind the thread to a context of a label to which the policy has such an edge",
             ),
             Denial::Holding { .. } => f.write_str(
-                "let the reply hold a thread to whose label there is such an edge",
+                "Let the reply hold a thread of a label to which the policy has such an edge",
             ),
-            Denial::Recorded { .. } => f.write_str("let the thread wait where it has such an edge"),
+            Denial::Recorded { .. } => f.write_str(
+                "Let the thread wait where its label has such an edge",
+            ),
             Denial::Certificate { .. } => {
-                f.write_str("let `confine check --cert` write the certificate anew")
+                f.write_str("Write the certificate again with `confine check --cert`")
             }
         }
     }
@@ -388,15 +391,18 @@ fn tell_rule_way<W: fmt::Write>(
     let kind = match *broken {
         Broken::SubjectsDisagree { subject, other, .. } => {
             let [_, twin, _, _] = premises(policy, *broken);
-            tell_edge(f, table, "take ", twin)?;
+            tell_edge(f, table, "Remove ", twin)?;
             return tell_other_domain(f, table, policy, subject, other);
         }
         Broken::GrantLacks { .. } => return tell_no_grant(f, one, two),
+        Broken::DomainLacks { parent, child } if parent == child => {
+            return write!(f, "Take `{one}` out of that domain");
+        }
         Broken::ControlLacks { .. } => "control",
         Broken::ContextLacks { .. } => "context",
         _ => return f.write_str(plain_way(broken)),
     };
-    write!(f, "take `edge {one} {kind} {two}` away")
+    write!(f, "Remove `edge {one} {kind} {two}`")
 }
 
 /// An edge after some words, if there is one.
@@ -415,7 +421,7 @@ fn tell_edge<W: fmt::Write>(
     }
 }
 
-/// What else mends it where two labels of a domain disagree.
+/// What else mends a policy where two labels of a domain disagree.
 fn tell_other_domain<W: fmt::Write>(
     f: &mut fmt::Formatter<W>,
     table: &Table,
@@ -424,31 +430,29 @@ fn tell_other_domain<W: fmt::Write>(
     other: Label,
 ) -> fmt::Result {
     let name = label_name(table, other);
-    write!(f, " away, or what puts `{name}` into that domain, ")?;
+    write!(f, ", or remove what puts `{name}` into that domain (")?;
     let space = there(policy, subject, Kind::Space, other);
     let control = there(policy, subject, Kind::Control, other);
     let between = if space.is_some() { " and " } else { "" };
     tell_edge(f, table, "", space)?;
-    tell_edge(f, table, between, control)
+    tell_edge(f, table, between, control)?;
+    f.write_str(")")
 }
 
-/// What mends it where one label may grant to another.
+/// What mends a policy where one label may grant to another.
 fn tell_no_grant<W: fmt::Write>(f: &mut fmt::Formatter<W>, one: &str, two: &str) -> fmt::Result {
     write!(
         f,
-        "let `{one}` have no `grant` over what `{two}` has `receive` from"
+        "Give `{one}` no `grant` edge to a label to which `{two}` has a `receive` edge"
     )
 }
 
-/// What mends it where no label is named.
+/// What mends a broken rule of closed policies where no label is named.
 fn plain_way(broken: &Broken) -> &'static str {
     match *broken {
-        Broken::DomainLacks { parent, child } if parent == child => "take it out of that domain",
-        Broken::DomainLacks { .. } => "take one of the two out of that domain",
-        Broken::DeriveLacks { .. } => "take the grant or one of the steps away",
-        Broken::ReplyLacks { .. } => {
-            "take the edge of kind `reply`, `call` or `receive` away by which it does"
-        }
-        _ => "take the edge of kind `call`, `receive` or `runs` away by which it may",
+        Broken::DomainLacks { .. } => "Take one of the two labels out of that domain",
+        Broken::DeriveLacks { .. } => "Remove the grant or one of the steps",
+        Broken::ReplyLacks { .. } => "Remove the `reply`, `call` or `receive` edge by which it may",
+        _ => "Remove the `call`, `receive` or `runs` edge by which it may",
     }
 }

@@ -15,7 +15,7 @@ pub enum Class {
 }
 
 impl Class {
-    /// Whether a byte is of the class.
+    /// Returns whether a byte is of the class.
     pub fn has(self, byte: u8) -> bool {
         match self {
             Class::Capital => matches!(byte, b'A'..=b'Z'),
@@ -27,7 +27,7 @@ impl Class {
         }
     }
 
-    /// Whether some of these bytes is.
+    /// Returns whether some of these bytes is of the class.
     pub fn is_in(self, bytes: &[u8]) -> bool {
         for byte in bytes {
             if self.has(*byte) {
@@ -37,7 +37,7 @@ impl Class {
         false
     }
 
-    /// Whether each of these bytes is.
+    /// Returns whether each of these bytes is of the class.
     pub fn has_all(self, bytes: &[u8]) -> bool {
         for byte in bytes {
             if !self.has(*byte) {

@@ -43,7 +43,7 @@ impl File {
         }
     }
 
-    /// The first line of its second version, which a table has.
+    /// Returns the first line of the file's second version, if there is one. Only a table has one.
     pub fn later_header(self) -> Option<&'static str> {
         match self {
             File::Table => Some("confine-table 2"),
@@ -51,7 +51,7 @@ impl File {
         }
     }
 
-    /// Whether a line is the first of a version. Any tag begins a description.
+    /// Returns whether a line is the first of a version of the file. Any tag begins a description.
     pub fn has_header(self, line: &str) -> bool {
         match self.later_header() {
             Some(later) if later == line => true,
@@ -60,7 +60,7 @@ impl File {
         }
     }
 
-    /// The word by which reports and messages name it.
+    /// Returns the word by which reports and messages name the file.
     pub fn as_str(self) -> &'static str
         ensures { result.now ≡ file_word self }
     {
@@ -75,7 +75,7 @@ impl File {
         }
     }
 
-    /// What sentences on faults call it.
+    /// Returns what sentences on faults call the file.
     pub fn name(self) -> &'static str {
         match self {
             File::Claims => "claim list",
@@ -83,7 +83,7 @@ impl File {
         }
     }
 
-    /// How many words of a line stand before the one by which its form is known.
+    /// Returns how many words of a line stand before the word by which its form is known.
     pub fn words_before(self) -> u64 {
         match self {
             File::Script | File::Log => 2,
@@ -91,7 +91,7 @@ impl File {
         }
     }
 
-    /// Whether its lines have a form, which a log's share with a script's.
+    /// Returns whether lines of the file have a form. A log shares forms with a script.
     pub fn has(self, form: Form) -> bool {
         form.file() == self || (self == File::Log && form.file() == File::Script)
     }

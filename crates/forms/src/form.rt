@@ -2,7 +2,7 @@
 use crate::file::File;
 use crate::lines::{has_word, part, word};
 
-/// The form by whose word a line of the file is known.
+/// Returns the form by whose word a line of the file is known, if there is one.
 pub fn form_of(file: File, line: &str) -> Option<Form> {
     let word = word(line, file.words_before())?;
     for form in &Form::ALL {
@@ -109,7 +109,7 @@ impl Form {
         Form::ClaimTake,
     ];
 
-    /// The file that has such lines.
+    /// Returns the file that has such lines.
     pub fn file(self) -> File {
         match self {
             Form::Edge => File::Policy,
@@ -145,7 +145,8 @@ impl Form {
         }
     }
 
-    /// The word by which it is known: the first of a line, and the third of a script's.
+    /// Returns the word by which the form is known: the first word of a line, but the third of a
+    /// script's line.
     pub fn word(self) -> &'static str {
         match self {
             Form::Label => "label",
@@ -192,7 +193,7 @@ impl Form {
         }
     }
 
-    /// The words of such a line, in backquotes.
+    /// Returns the words of such a line, in backquotes.
     pub fn words(self) -> &'static str {
         match self {
             Form::Label => "`label NAME`",
@@ -245,7 +246,7 @@ impl Form {
         }
     }
 
-    /// Which section of its file such lines are of. Sections come one after another.
+    /// Returns the section of its file that such lines are in. Sections come one after another.
     pub fn section(self) -> u8 {
         match self {
             Form::Cap => 2,
@@ -264,7 +265,8 @@ impl Form {
         }
     }
 
-    /// The words that a line of it is to have, by what [`Wanted::of`](crate::wanted::Wanted::of) reads.
+    /// Returns the words that such a line must have, as [`Wanted::of`](crate::wanted::Wanted::of)
+    /// reads them.
     pub fn pattern(self, line: &str) -> &'static str {
         match self {
             Form::Tcb => "tcb NAME LABEL HEX START",

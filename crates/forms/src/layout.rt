@@ -30,7 +30,7 @@ pub enum LayoutFlaw<'a> {
     Below(Form, Form),
 }
 
-/// What is wrong with the first line.
+/// Returns what is wrong with the first line.
 pub fn header_flaw(line: &str) -> LayoutFlaw<'_> {
     for file in &File::ALL {
         if file.has_header(line) {
@@ -40,7 +40,7 @@ pub fn header_flaw(line: &str) -> LayoutFlaw<'_> {
     LayoutFlaw::NoHeader
 }
 
-/// What is wrong with the bytes of a line after the header, if anything is.
+/// Returns what is wrong with the bytes of a line after the header, if anything is.
 pub fn bytes_flaw<'a>(line: Line<'a>, before: &str) -> Option<LayoutFlaw<'a>> {
     if !line.has_line_feed {
         return Some(LayoutFlaw::NoLineFeed);
@@ -81,7 +81,7 @@ fn spaces_flaw<'a>(line: &str) -> Option<LayoutFlaw<'a>> {
     None
 }
 
-/// What is wrong with a line that has no form.
+/// Returns what is wrong with a line that has no form.
 pub fn formless_flaw<'a>(file: File, line: &'a str, before: &str) -> LayoutFlaw<'a> {
     let Some(first) = word(line, file.words_before()) else {
         return LayoutFlaw::NoCall;
@@ -95,7 +95,7 @@ pub fn formless_flaw<'a>(file: File, line: &'a str, before: &str) -> LayoutFlaw<
     }
 }
 
-/// What is wrong with the section in which a line stands, if anything is.
+/// Returns what is wrong with the section in which a line stands, if anything is.
 pub fn section_flaw<'a>(file: File, form: Form, before: &str) -> Option<LayoutFlaw<'a>> {
     let last = form_of(file, before)?;
     if form.section() < last.section() {
@@ -105,7 +105,7 @@ pub fn section_flaw<'a>(file: File, form: Form, before: &str) -> Option<LayoutFl
     }
 }
 
-/// The words of the line before one.
+/// Returns the words of the line before another one; no words, if there is no line before.
 pub fn before_of(line: Option<Line<'_>>) -> &str {
     match line {
         Some(line) => text_of(line.bytes),

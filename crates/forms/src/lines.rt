@@ -8,7 +8,7 @@ pub struct Line<'a> {
     pub has_line_feed: bool,
 }
 
-/// The line of this number, from 1, if the text goes so far.
+/// Returns the line of this number, from 1, if the text goes so far.
 pub fn line_at(text: &[u8], number: u64) -> Option<Line<'_>> {
     let mut lines = Lines::new(text);
     for _ in 1..number {
@@ -32,11 +32,12 @@ pub struct Lines<'a> {
 }
 
 impl<'a> Lines<'a> {
+    /// Returns the lines of a text, none of which is read yet.
     pub fn new(text: &'a [u8]) -> Lines<'a> {
         Lines { rest: Some(text) }
     }
 
-    /// The next line, without its line feed.
+    /// Returns the next line, without its line feed, if there is one.
     pub fn next_line(&mut self) -> Option<&'a [u8]> {
         let rest = self.rest?;
         match rest.iter().position(|byte| *byte == b'\n') {
@@ -52,7 +53,7 @@ impl<'a> Lines<'a> {
     }
 }
 
-/// The words of a line; of one that isn't text it has none.
+/// Returns the words of a line; no words, if the line isn't text.
 pub fn text_of(bytes: &[u8]) -> &str {
     match std::str::from_utf8(bytes) {
         Ok(line) => line,
@@ -60,17 +61,17 @@ pub fn text_of(bytes: &[u8]) -> &str {
     }
 }
 
-/// The word of this number, from 0, of those between single spaces.
+/// Returns the word of this number, from 0, of those between single spaces.
 pub fn word(line: &str, number: u64) -> Option<&str> {
     part(line, ' ', number)
 }
 
-/// The part of this number, from 0, of those between the separators.
+/// Returns the part of this number, from 0, of those between the separators.
 pub fn part(text: &str, separator: char, number: u64) -> Option<&str> {
     text.split(separator).nth(number as usize)
 }
 
-/// Whether the word of this number is there, and is this one.
+/// Returns whether the word of this number is there, and is this one.
 pub fn has_word(line: &str, number: u64, wanted: &str) -> bool {
     word(line, number) == Some(wanted)
 }

@@ -13,7 +13,7 @@ pub enum OutcomeFlaw<'a> {
     Words(WordFlaw<'a>),
 }
 
-/// What is wrong with an outcome, if anything is.
+/// Returns what is wrong with an outcome, if anything is.
 pub fn outcome_flaw(outcome: &str) -> Option<OutcomeFlaw<'_>> {
     match pattern_of(outcome) {
         Ok(pattern) => Some(OutcomeFlaw::Words(pattern_flaw(pattern, outcome)?)),

@@ -3,12 +3,13 @@ use crate::form::Form;
 use crate::lines::{part, word};
 use crate::wanted::{MOST, Wanted, WordFlaw, word_flaw};
 
-/// What is wrong with the words of a line, if anything is.
+/// Returns what is wrong with the words of a line, if anything is.
 pub fn shape_flaw(form: Form, line: &str) -> Option<WordFlaw<'_>> {
     pattern_flaw(form.pattern(line), line)
 }
 
-/// The first word that isn't as the pattern has it, is missing or is too many.
+/// Returns the first word that isn't as the pattern has it, is missing or is too many, if there is
+/// one.
 pub fn pattern_flaw<'a>(pattern: &str, line: &'a str) -> Option<WordFlaw<'a>> {
     for index in 0..MOST {
         match (part(pattern, ' ', index), word(line, index)) {

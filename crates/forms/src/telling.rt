@@ -10,7 +10,7 @@ impl fmt::Display for OfLayout<'_> {
         match self.flaw {
             LayoutFlaw::HeaderOf(other) => tell_header(f, other, self.file),
             LayoutFlaw::NoHeader => tell_headers(f, self.file),
-            LayoutFlaw::Capitals(word) => write!(f, "`{word}` is to be in small letters"),
+            LayoutFlaw::Capitals(word) => write!(f, "`{word}` must be in small letters"),
             LayoutFlaw::NoCall => f.write_str("core, thread and call are missing"),
             LayoutFlaw::NoOutcome => f.write_str("` = ` and an outcome are missing"),
             LayoutFlaw::UnknownCall(word) => tell_calls(f, word),
@@ -24,10 +24,7 @@ impl fmt::Display for OfLayout<'_> {
 // That a line is the header of another text.
 fn tell_header<W: fmt::Write>(f: &mut fmt::Formatter<W>, is: File, wanted: File) -> fmt::Result {
     let (name, wanted) = (is.name(), wanted.name());
-    write!(
-        f,
-        "this is the header of a {name}, in place of a {wanted}'s"
-    )
+    write!(f, "this is the header of a {name}, not of a {wanted}")
 }
 
 // Which headers a text may have.
@@ -42,7 +39,7 @@ fn tell_headers<W: fmt::Write>(f: &mut fmt::Formatter<W>, file: File) -> fmt::Re
 
 // Which calls there are, in place of a word.
 fn tell_calls<W: fmt::Write>(f: &mut fmt::Formatter<W>, word: &str) -> fmt::Result {
-    write!(f, "`{word}` is no call: calls are ")?;
+    write!(f, "`{word}` isn't a call: the calls are ")?;
     words_of(f, File::Script, 0, ", ")
 }
 
@@ -56,7 +53,7 @@ fn tell_lines<W: fmt::Write>(
     let name = file.name();
     write!(
         f,
-        "no line of a {name} begins with `{word}`: here stands one of `"
+        "no line of a {name} begins with `{word}`: expected one of `"
     )?;
     let section = match before {
         Some(form) => form.section(),
@@ -69,22 +66,23 @@ fn tell_lines<W: fmt::Write>(
 // That lines of a form don't stand below those of another.
 fn tell_order<W: fmt::Write>(f: &mut fmt::Formatter<W>, form: Form, above: Form) -> fmt::Result {
     let (word, above) = (form.word(), above.word());
-    write!(f, "no `{word}` line stands below a `{above}` line")
+    write!(f, "a `{word}` line must come before all `{above}` lines")
 }
 
 // What is wrong with a line, where nothing of it is named.
 fn plain(flaw: LayoutFlaw<'_>) -> &'static str {
     match flaw {
-        LayoutFlaw::NoLineFeed => "a line feed is missing at its end",
-        LayoutFlaw::AfterEnd => "nothing stands after the line `end`",
-        LayoutFlaw::Blank => "there are no blank lines",
-        LayoutFlaw::Comment => "there are no comments",
-        LayoutFlaw::CarriageReturn => "lines end with a line feed alone, without a CR",
-        LayoutFlaw::Tab => "words are parted by a space, and there are no tabs",
-        LayoutFlaw::NoAscii => "a text is printable ASCII",
-        LayoutFlaw::SpaceFirst => "no space stands at the beginning of a line",
-        LayoutFlaw::SpaceLast => "no space stands at the end of a line",
-        LayoutFlaw::TwoSpaces => "words are parted by one space",
+        LayoutFlaw::NoLineFeed => "the line must end with a line feed",
+        LayoutFlaw::AfterEnd => "nothing may follow the line `end`",
+        LayoutFlaw::Blank => "blank lines aren't allowed",
+        LayoutFlaw::Comment => "comments aren't allowed",
+        LayoutFlaw::CarriageReturn =>
+            "lines must end with a line feed only, without a carriage return",
+        LayoutFlaw::Tab => "words are separated by a space; tabs aren't allowed",
+        LayoutFlaw::NoAscii => "only printable ASCII is allowed",
+        LayoutFlaw::SpaceFirst => "a line can't begin with a space",
+        LayoutFlaw::SpaceLast => "a line can't end with a space",
+        LayoutFlaw::TwoSpaces => "words are separated by one space",
         _ => "",
     }
 }
@@ -112,11 +110,11 @@ impl fmt::Display for OutcomeFlaw<'_> {
         match *self {
             OutcomeFlaw::Unknown(word) => write!(
                 f,
-                "`{word}` begins no outcome: that is `done ..`, `blocked` or `refused CODE DETAIL`"
+                "no outcome begins with `{word}`: an outcome is `done ..`, `blocked` or `refused CODE DETAIL`"
             ),
             OutcomeFlaw::NoAnswer(word) => write!(
                 f,
-                "`{word}` doesn't follow `done`: that is nothing, `aborted`, `word`, `count` or `msg`"
+                "`{word}` can't follow `done`: expected nothing, `aborted`, `word`, `count` or `msg`"
             ),
             OutcomeFlaw::Words(flaw) => flaw.fmt(f),
         }

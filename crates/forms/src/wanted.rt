@@ -48,7 +48,7 @@ const KEYWORDS: [(&str, Wanted); 14] = [
 ];
 
 impl Wanted {
-    /// What a word of a pattern stands for.
+    /// Returns what a word of a pattern stands for.
     pub fn of(keyword: &str) -> Wanted {
         for (word, wanted) in &KEYWORDS {
             if *word == keyword {
@@ -168,7 +168,7 @@ const MINTINGS: [&str; 2] = ["badge", "guard"];
 /// How many capabilities came along.
 const CAME: [&str; 2] = ["0", "1"];
 
-/// The number of a kind.
+/// Returns the number of a kind, if the word names one.
 pub fn kind_number(word: &str) -> Option<usize> {
     place_among(&KINDS, word)
 }
@@ -176,7 +176,7 @@ pub fn kind_number(word: &str) -> Option<usize> {
 /// The longest name.
 const LONGEST: usize = 31;
 
-/// Why a word isn't the one that is wanted, if it isn't.
+/// Returns why a word isn't the one that is wanted, if it isn't.
 pub fn word_flaw(wanted: Wanted, word: &str) -> Option<WordFlaw<'_>> {
     match wanted {
         Wanted::Name => Some(WordFlaw::Name(word, name_flaw(word)?)),
@@ -235,7 +235,7 @@ fn name_flaw(word: &str) -> Option<NameFlaw> {
     None
 }
 
-/// A decimal number, if the word is one.
+/// Returns a decimal number, if the word is one.
 pub fn decimal(word: &str) -> Option<u64> {
     if !has_digits_alone(word) || has_zeros(word) {
         return None;
@@ -243,7 +243,7 @@ pub fn decimal(word: &str) -> Option<u64> {
     number_of(word, 10)
 }
 
-/// A hexadecimal number, if the word is one.
+/// Returns a hexadecimal number, if the word is one.
 pub fn hexadecimal(word: &str) -> Option<u64> {
     let digits = word.strip_prefix("0x")?;
     if digits.is_empty() || has_zeros(digits) {
@@ -341,7 +341,7 @@ fn slot_flaw(word: &str) -> Option<WordFlaw<'_>> {
     }
 }
 
-/// The number of a right, by its letter.
+/// Returns the number of a right, by its letter, if the letter names one.
 pub fn right_number(letter: u8) -> Option<usize> {
     match letter {
         b'r' => Some(0),
@@ -419,10 +419,15 @@ impl fmt::Display for WordFlaw<'_> {
             }
             WordFlaw::Name(word, flaw) => tell_name(f, word, flaw),
             WordFlaw::Number(word, flaw) => tell_number(f, word, flaw),
-            WordFlaw::NoKind("") => f.write_str("a comma stands between two kinds alone"),
+            WordFlaw::NoKind("") => f.write_str("a comma is only allowed between two kinds"),
             WordFlaw::NoKind(word) => tell_kinds(f, word, "authority", &KINDS),
-            WordFlaw::NoMaterial(word) => tell_kinds(f, word, "object that is made", &MATERIALS),
-            WordFlaw::RightsFall => f.write_str("rights stand in the order rwgy"),
+            WordFlaw::NoMaterial(word) => tell_kinds(
+                f,
+                word,
+                "object that a retype makes",
+                &MATERIALS,
+            ),
+            WordFlaw::RightsFall => f.write_str("rights must be in the order `rwgy`"),
             WordFlaw::NoRight(..)
             | WordFlaw::RightTwice(_)
             | WordFlaw::KindTwice(_)
@@ -437,13 +442,13 @@ fn tell_part<W: fmt::Write>(f: &mut fmt::Formatter<W>, flaw: WordFlaw<'_>) -> fm
     match flaw {
         WordFlaw::NoRight(word, letter) => write!(
             f,
-            "`{letter}` in `{word}` is no right: rights are some of `rwgy`, or `-`"
+            "`{letter}` in `{word}` isn't a right: rights are some of `rwgy`, or `-`"
         ),
-        WordFlaw::RightTwice(letter) => write!(f, "the right `{letter}` stands twice"),
-        WordFlaw::KindTwice(word) => write!(f, "the kind `{word}` stands twice"),
+        WordFlaw::RightTwice(letter) => write!(f, "the right `{letter}` is given twice"),
+        WordFlaw::KindTwice(word) => write!(f, "the kind `{word}` is given twice"),
         WordFlaw::KindsFall(word, before) => write!(
             f,
-            "kinds rise by their number, and `{word}` comes before `{before}`"
+            "kinds must be in the order of their numbers: write `{word}` before `{before}`"
         ),
         _ => Ok(()),
     }
@@ -452,16 +457,16 @@ fn tell_part<W: fmt::Write>(f: &mut fmt::Formatter<W>, flaw: WordFlaw<'_>) -> fm
 // What is wrong with a word by itself.
 fn tell_word<W: fmt::Write>(f: &mut fmt::Formatter<W>, flaw: WordFlaw<'_>) -> fmt::Result {
     let (word, words) = match flaw {
-        WordFlaw::TooMany(word) => (word, "is a word too many"),
+        WordFlaw::TooMany(word) => (word, "is one word too many"),
         WordFlaw::NoDot(word) => (
             word,
-            "is no slot: a dot and an index, or `.root`, follow the name",
+            "isn't a slot: write a dot and an index, or `.root`, after the name",
         ),
         WordFlaw::NoIndex(word) => (
             word,
-            "is no slot: after the dot stands an index in decimal, or `root`",
+            "isn't a slot: write a decimal index, or `root`, after the dot",
         ),
-        WordFlaw::NoCame(word) => (word, "is neither 1, where a capability came along, nor 0"),
+        WordFlaw::NoCame(word) => (word, "must be 1 if a capability came along, else 0"),
         WordFlaw::NoStart(word) => (word, "is neither `ready` nor `inactive`"),
         WordFlaw::NoMinting(word) => (word, "is neither `badge` nor `guard`"),
         _ => return Ok(()),
@@ -476,7 +481,7 @@ fn tell_kinds<W: fmt::Write>(
     what: &str,
     kinds: &[&str],
 ) -> fmt::Result {
-    write!(f, "`{word}` is no kind of {what}: the kinds are ")?;
+    write!(f, "`{word}` isn't a kind of {what}: the kinds are ")?;
     let mut separator = "";
     for kind in kinds {
         f.write_str(separator)?;
@@ -489,8 +494,8 @@ fn tell_kinds<W: fmt::Write>(
 // Why a word is no name.
 fn tell_name<W: fmt::Write>(f: &mut fmt::Formatter<W>, word: &str, flaw: NameFlaw) -> fmt::Result {
     let words = match flaw {
-        NameFlaw::Slot => "is a slot, and a name stands here",
-        NameFlaw::Character => "is no name: a name has small letters, digits and `_` alone",
+        NameFlaw::Slot => "is a slot, but a name is expected here",
+        NameFlaw::Character => "isn't a name: a name has only small letters, digits and `_`",
         NameFlaw::Capital => return f.write_str("names are written in small letters"),
         NameFlaw::First => return f.write_str("a name begins with a small letter"),
         NameFlaw::Long => {
@@ -514,13 +519,13 @@ fn tell_number<W: fmt::Write>(
         NumberFlaw::CapitalInNumber => {
             return f.write_str("hexadecimal numbers are written in small letters");
         }
-        NumberFlaw::Hexadecimal => "is to be a decimal number",
-        NumberFlaw::Sign => "has a sign, and numbers have none",
-        NumberFlaw::Zeros => "has a leading zero, and numbers have none",
+        NumberFlaw::Hexadecimal => "must be a decimal number",
+        NumberFlaw::Sign => "has a sign, but numbers have none",
+        NumberFlaw::Zeros => "has a leading zero, but numbers have none",
         NumberFlaw::Large => "isn't below 2^64",
-        NumberFlaw::NoDecimal => "is no decimal number",
-        NumberFlaw::NoPrefix => "is no address: addresses begin with `0x`",
-        NumberFlaw::NoHexadecimal => "is no hexadecimal number",
+        NumberFlaw::NoDecimal => "isn't a decimal number",
+        NumberFlaw::NoPrefix => "isn't an address: addresses begin with `0x`",
+        NumberFlaw::NoHexadecimal => "isn't a hexadecimal number",
     };
     write!(f, "`{word}` {words}")
 }

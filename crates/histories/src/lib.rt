@@ -1,5 +1,5 @@
-//! Threads of the host that call one kernel, each by a seat of its own, and seats that don't fit: what no text can say, so that it
-//! is no case. Tests alone.
+//! Threads of the host that call one kernel, each by a seat of its own, and seats that don't fit:
+//! what no text can say, so that it is no case. Tests alone.
 #![tactic(auto)]
 
 #[cfg(test)]

@@ -15,10 +15,13 @@ use std::test::Fail;
 use std::thread::Threads;
 use table::Table;
 
+/// The outcome of a call that answers nothing.
 pub const DONE: Outcome = Outcome::Done(Answer::Nothing);
 
+/// A signal by the capability at address 0.
 pub const SIGNAL: Call = Call::Signal { address: 0 };
 
+/// A poll by the capability at address 0.
 pub const POLL: Call = Call::Poll { address: 0 };
 
 /// The thread that may signal, on core 1.
@@ -27,12 +30,12 @@ pub const SIGNALLER: ObjId = ObjId(2);
 /// The thread that may poll, on core 0.
 pub const POLLER: ObjId = ObjId(3);
 
-/// The answer of a poll.
+/// Returns the outcome of a poll that gets this word.
 pub fn word(word: u64) -> Outcome {
     Outcome::Done(Answer::Word(word))
 }
 
-/// The answer of a kernel whose log is full.
+/// Returns the outcome of a call to a kernel whose log is full.
 pub fn full() -> Outcome {
     Outcome::Refused(Refusal::from(Misuse::LogFull))
 }
@@ -101,7 +104,11 @@ fn report(size: usize) -> &'static str {
     }
 }
 
-/// A signal and two polls, over a log of so many entries.
+/// Makes a signal and two polls, over a log of `size` entries, and compares how they end.
+///
+/// # Errors
+///
+/// The failure of the test, where the calls don't end as they must.
 pub fn play_signal_and_polls<
     J: Naming + Send + Sync,
     R: Abort + AllocGlobal + Threads + Wait + Sync,

@@ -1,9 +1,6 @@
--- There are as many names as labels.
-use Rattle.std.proofs.Common.{[], ℕ, ◌++◌, ◌+◌, ◌∷◌, ◌≡◌, ◌≤◌, Err, List, Ok, Result, ap, arith, length, suc, sym}
+-- There are as many names as subjects.
+use Rattle.std.proofs.Common.{[], ℕ, ◌++◌, ◌+◌, ◌∷◌, ◌≡◌, Err, List, Ok, Result, ap, arith, length, suc, sym}
 use Rattle.std.proofs.lemmas.List.{length_push}
-use Rattle.std.specs.Global.{Vec}
-use Rattle.importing.proofs.Labels.{seen_length}
-use Rattle.microkit.specs.LabelView.{bytes_of}
 use Rattle.microkit.specs.{Description.{Description}, Labels.{label_at, named_at, names_from, names_of, subjects_of}}
 use Rattle.microkit.specs.declared.labels.Subject.{Subject}
 use Rattle.words.specs.{Reading.{bind}, declared.faults.Fault.{Fault}}
@@ -32,16 +29,6 @@ names_counted d names (subject ∷ subjects) all e =
         let size : length (names ++ name ∷ []) ≡ length names + 1 = length_push names name in
         omega (arith, more, size)
 
-labels_few : (d : Description) (names : List (List ℕ)) → names_of d ≡ Ok names → length names ≡ length (subjects_of d)
+pub labels_few : (d : Description) (names : List (List ℕ)) → names_of d ≡ Ok names → length names ≡ length (subjects_of d)
 unfolding names_of
 labels_few d names e = let size = names_counted d [] (subjects_of d) names e in omega (arith, size)
-
--- so the names are few where the labels are
-pub few_of : (d : Description) (names : List (Vec ℕ)) (subjects seen : List Subject) → names_of d ≡ Ok (bytes_of names)
-    → subjects ≡ subjects_of d → seen ≡ subjects → length seen ≤ 256 → length names ≤ 256
-few_of d names subjects seen named are sees few =
-    let size : length (bytes_of names) ≡ length (subjects_of d) = labels_few d (bytes_of names) named in
-    let lie : length (bytes_of names) ≡ length names = seen_length names in
-    let same : length subjects ≡ length (subjects_of d) = ap length are in
-    let shown : length seen ≡ length subjects = ap length sees in
-    omega (arith, size, lie, same, shown, few)

@@ -1,6 +1,6 @@
 -- What a list shows of another one: tests, and what stands at a place.
 use Rattle.std.specs.{List.{list_any, position, position_or_len}}
-use Rattle.std.proofs.Common.{[], ℕ, ◌+◌, ◌∙◌, ◌∷◌, ◌≡◌, ◌||◌, Bool, List, None, Some, ap, cond, length, map, nat_lt, not, refl, suc, zero}
+use Rattle.std.proofs.Common.{[], ℕ, ◌++◌, ◌+◌, ◌∙◌, ◌∷◌, ◌≡◌, ◌||◌, Bool, List, None, Some, ap, cond, length, map, nat_lt, not, refl, suc, zero}
 use Rattle.std.specs.{Option.{option_map}, Prelude.{slice_get}}
 
 -- a test of any of what is seen
@@ -32,3 +32,8 @@ position_seen {X = X} see test xs =
     before : (ys : List X) → position_or_len test (map see ys) ≡ position_or_len (λ x. test (see x)) ys
     before [] = refl
     before (y ∷ ys) = ap (λ n. cond (not (test (see y))) (1 + n) 0) (before ys)
+
+-- one more is seen
+pub seen_more : {X Y : Type 0} (see : X → Y) (xs : List X) (x : X) → map see (xs ++ x ∷ []) ≡ map see xs ++ see x ∷ []
+seen_more see [] x = refl
+seen_more see (y ∷ xs) x = ap (λ ys. see y ∷ ys) (seen_more see xs x)

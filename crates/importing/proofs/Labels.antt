@@ -1,16 +1,16 @@
 -- How labels are added one after another.
 use Rattle.std.specs.{List.{AllByRecursion, AllPairs}}
 use Rattle.std.proofs.Common.{[], ℕ, ◌++◌, ◌+◌, ◌<◌, ◌∙◌, ◌∷◌, ◌≡◌, ◌≢◌, ◌≤◌, Bool, List, add-one, ap, arith, cond, false, get_or, length, nat_le, refl, subst, suc, sym, take, true, zero}
-use Rattle.std.proofs.lemmas.List.{get_or-take, length-take-le, take_all}
+use Rattle.std.proofs.lemmas.List.{get_or-map, get_or-take, length-take-le, take_all}
 use Rattle.table.specs.{Building.{AdmitsLabel, with_label}, Names.{label_named}}
 use Rattle.table.proofs.FrontLemmas.{no_place}
 use Rattle.machine.specs.Layout.{Layout, most_labels}
-use Rattle.microkit.specs.{LabelView.{bytes_of}, Names.{IsLabelName}}
-use Rattle.std.specs.Global.{Vec}
+use Rattle.microkit.specs.Names.{IsLabelName}
 use Rattle.machine.specs.declared.layout.Version.TheVariants as version
 use Rattle.std.proofs.lemmas.Bool.Decides.{nat_tests}
 use Rattle.words.specs.Name.{is_name}
-use Rattle.importing.specs.Built.{labelled, version_for}
+use Rattle.importing.specs.{Built.{labelled, version_for}, Groups.{labels_at, name_at}}
+use Rattle.importing.proofs.Items.{length_seen}
 
 -- the first so many labels
 abbrev pub first_labels : List (List ℕ) → ℕ → Layout
@@ -59,42 +59,40 @@ admits_next names i d all distinct few below =
       room = subst (λ n. n < most_labels (version_for (length names))) (sym size) (room i (length names) below few);
     }
 
--- the same of names as they lie in memory
+-- the same of the names at some places
 
-pub seen_at : (names : List (Vec ℕ)) (i : ℕ) (d : Vec ℕ) → get_or (bytes_of names) i d.items ≡ (get_or names i d).items
-seen_at [] i d = refl
-seen_at (name ∷ names) zero d = refl
-seen_at (name ∷ names) (suc i) d = seen_at names i d
+named : (names : List (List ℕ)) (places : List ℕ) (i item : ℕ) (name : List ℕ) → i < length places → item ≡ get_or places i 0
+    → name ≡ name_at names item → get_or (labels_at names places) i (name_at names item) ≡ name
+named names places i item name below at is =
+    get_or-map (name_at names) places i 0 (name_at names item) below ∙ ap (name_at names) (sym at) ∙ sym is
 
-pub seen_length : (names : List (Vec ℕ)) → length (bytes_of names) ≡ length names
-seen_length [] = refl
-seen_length (name ∷ names) = ap suc (seen_length names)
-
-named : (names : List (Vec ℕ)) (i : ℕ) (item : Vec ℕ) (name : List ℕ) → item ≡ get_or names i item → name ≡ item.items
-    → get_or (bytes_of names) i item.items ≡ name
-named names i item name at is = seen_at names i item ∙ ap (λ (v : Vec ℕ). v.items) (sym at) ∙ sym is
-
-pub admits_at : (names : List (Vec ℕ)) (i : ℕ) (item : Vec ℕ) (draft : Layout) (name : List ℕ)
-    → AllByRecursion IsLabelName (bytes_of names) → AllPairs (λ one other. one ≢ other) (bytes_of names)
-    → length names ≤ 256 → i < length names → item ≡ get_or names i item → name ≡ item.items
-    → draft ≡ first_labels (bytes_of names) i → AdmitsLabel draft name
-admits_at names i item draft name all distinct few below at is so_far =
-    let size = seen_length names in
+pub admits_at : (names : List (List ℕ)) (places : List ℕ) (i item : ℕ) (draft : Layout) (name : List ℕ)
+    → AllByRecursion IsLabelName (labels_at names places) → AllPairs (λ one other. one ≢ other) (labels_at names places)
+    → length places ≤ 256 → i < length places → item ≡ get_or places i 0 → name ≡ name_at names item
+    → draft ≡ first_labels (labels_at names places) i → AdmitsLabel draft name
+admits_at names places i item draft name all distinct few below at is so_far =
+    let size : length (labels_at names places) ≡ length places = length_seen (name_at names) places in
     subst (λ t. AdmitsLabel t name) (sym so_far)
-    (subst (λ n. AdmitsLabel (first_labels (bytes_of names) i) n) (named names i item name at is)
-    (admits_next (bytes_of names) i item.items all distinct (omega (arith, few, size)) (omega (arith, below, size))))
+    (subst (λ n. AdmitsLabel (first_labels (labels_at names places) i) n) (named names places i item name below at is)
+    (admits_next (labels_at names places) i (name_at names item) all distinct (omega (arith, few, size)) (omega (arith, below, size))))
 
-pub more_at : (names : List (Vec ℕ)) (i : ℕ) (item : Vec ℕ) (draft : Layout) (name : List ℕ) → i < length names
-    → item ≡ get_or names i item → name ≡ item.items → draft ≡ first_labels (bytes_of names) i
-    → with_label draft name ≡ first_labels (bytes_of names) (i + 1)
-more_at names i item draft name below at is so_far =
-    let size = seen_length names in
+pub more_at : (names : List (List ℕ)) (places : List ℕ) (i item : ℕ) (draft : Layout) (name : List ℕ) → i < length places
+    → item ≡ get_or places i 0 → name ≡ name_at names item → draft ≡ first_labels (labels_at names places) i
+    → with_label draft name ≡ first_labels (labels_at names places) (i + 1)
+more_at names places i item draft name below at is so_far =
+    let size : length (labels_at names places) ≡ length places = length_seen (name_at names) places in
     ap (λ t. with_label t name) so_far
-    ∙ ap (λ n. with_label (first_labels (bytes_of names) i) n) (sym (named names i item name at is))
-    ∙ ap (λ xs. record (labelled (bytes_of names)) { labels = xs })
-    (sym (one_more (bytes_of names) i item.items (omega (arith, below, size))))
+    ∙ ap (λ n. with_label (first_labels (labels_at names places) i) n) (sym (named names places i item name below at is))
+    ∙ ap (λ xs. record (labelled (labels_at names places)) { labels = xs })
+    (sym (one_more (labels_at names places) i (name_at names item) (omega (arith, below, size))))
 
-pub all_at : (names : List (Vec ℕ)) (i : ℕ) → length names ≤ i → first_labels (bytes_of names) i ≡ labelled (bytes_of names)
-all_at names i past =
-    let size = seen_length names in
-    ap (λ xs. record (labelled (bytes_of names)) { labels = xs }) (take_all i (bytes_of names) (omega (arith, past, size)))
+pub all_at : (names : List (List ℕ)) (places : List ℕ) (i : ℕ) → length places ≤ i
+    → first_labels (labels_at names places) i ≡ labelled (labels_at names places)
+all_at names places i past =
+    let size : length (labels_at names places) ≡ length places = length_seen (name_at names) places in
+    ap (λ xs. record (labelled (labels_at names places)) { labels = xs }) (take_all i (labels_at names places) (omega (arith, past, size)))
+
+-- there are as many labels as places
+pub same_version : (names : List (List ℕ)) (places : List ℕ)
+    → version_for (length (labels_at names places)) ≡ version_for (length places)
+same_version names places = ap version_for (length_seen (name_at names) places)

@@ -10,4 +10,5 @@ pub mod Ends
 pub mod Steps
 pub mod Labels
 pub mod Counts
+pub mod Places
 pub mod Whole

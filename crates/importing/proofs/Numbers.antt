@@ -1,6 +1,6 @@
 -- Capabilities in slots that follow one another, and lists that are joined one after another.
 use Rattle.std.specs.List.{flat_map, range_with_len}
-use Rattle.std.proofs.Common.{[], ℕ, ◌++◌, ◌+◌, ◌<◌, ◌∙◌, ◌∷◌, ◌≡◌, ◌≤◌, List, add-one, ap, append_assoc, arith, drop, get_or, length, suc, sym, zero}
+use Rattle.std.proofs.Common.{[], ℕ, ◌++◌, ◌+◌, ◌<◌, ◌∙◌, ◌∷◌, ◌≡◌, ◌≤◌, List, add-one, ap, append_assoc, arith, drop, get_or, length, map, refl, suc, sym, zero}
 use Rattle.std.proofs.lemmas.List.{append-nil, drop_all}
 use Rattle.std.proofs.lemmas.Grind.{flat_map-append}
 use Rattle.importing.specs.{Grants.{grant, numbered}, declared.{pieces.{Grant.{Grant}, Piece.{Piece}}, slots.{Held.{Held}}}}
@@ -37,3 +37,13 @@ flat_more f n =
     rw add-one
     (ap (flat_map f) (range_more 0 n ∙ ap (λ k. range_with_len 0 n ++ k ∷ []) same)
     ∙ flat_map-append f (range_with_len 0 n) (n ∷ []) ∙ ap (λ xs. flat_map f (range_with_len 0 n) ++ xs) (append-nil (f n)))
+
+map_end : {X : Type 0} (f : ℕ → X) (xs : List ℕ) (x : ℕ) → map f (xs ++ x ∷ []) ≡ map f xs ++ f x ∷ []
+map_end f [] x = refl
+map_end f (y ∷ xs) x = ap (λ ys. f y ∷ ys) (map_end f xs x)
+
+-- what a row of numbers shows, with one number more
+pub map_more : {X : Type 0} (f : ℕ → X) (n : ℕ) → map f (range_with_len 0 (n + 1)) ≡ map f (range_with_len 0 n) ++ f n ∷ []
+map_more f n =
+    let same : 0 + n ≡ n = omega arith in
+    rw add-one (ap (map f) (range_more 0 n ∙ ap (λ k. range_with_len 0 n ++ k ∷ []) same) ∙ map_end f (range_with_len 0 n) n)

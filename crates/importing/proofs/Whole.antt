@@ -1,21 +1,20 @@
 -- What a table that is built up has: the objects, capabilities and bindings of the whole lists.
 use Rattle.std.proofs.Common.{[], ℕ, ◌&&◌, ◌++◌, ◌∙◌, ◌∷◌, ◌≡◌, Bool, Err, List, None, Ok, Option, Result, Some, ap, append_assoc, cond, false, is_some, length, map, nat_le, nat_lt, not, refl, subst, sym, true}
 use Rattle.std.proofs.lemmas.List.{append-nil, map-append}
-use Rattle.std.specs.Prelude.{slice_get, unwrap_or}
+use Rattle.std.specs.Prelude.{unwrap_or}
 use Rattle.base.specs.declared.{ids.SlotRef.SlotRef, limits.TheConstants.{ADDRESS_END}}
 use Rattle.machine.specs.{Layout.{Layout, initial_parent}, Objects.{end_of}, declared.cap.Detail.{Detail}}
 use Rattle.machine.specs.declared.{layout.{Binding.Binding, Filled.Filled, Initial.Initial, Pair.Pair}, object.Object.{Object}}
-use Rattle.microkit.specs.Names.{object_name}
 use Rattle.words.specs.Name.{is_name, name_of}
 use Rattle.table.specs.{Names.{object_named}, Tree.{is_original, source_of, tree_fault, with_mark, with_originals}}
 use Rattle.importing.specs.Built.{Built, Plan, object_added, object_placed, piece_added, pieces_added, with_object}
-use Rattle.importing.specs.{Objects.{object_of}, Plan.{label_of, part_of, subject_of}}
+use Rattle.importing.specs.{Built.{piece_label, piece_name}, Groups.{labels_at}, Objects.{object_of}}
 use Rattle.microkit.specs.Description.{Description}
 use Rattle.words.specs.{Fault.{fault_at}, declared.faults.Wrong.TheVariants.{Double, Limit, UnknownName}}
 use Rattle.words.specs.{Reading.{bind}, declared.faults.{Wrong.Wrong}}
 use Rattle.importing.specs.{Built.{or_fault}}
 use Rattle.importing.specs.Tables.{bond_added, bonds_added, binding_added, binding_by, cap_added, filled_by, finished, grant_added, grants_added, piece_number, takes_binding, takes_cap}
-use Rattle.importing.specs.Whole.{AreOfPieces, IsOfPiece, binding_at, filled_at, piece_name}
+use Rattle.importing.specs.Whole.{AreOfPieces, IsOfPiece, binding_at, filled_at}
 use Rattle.microkit.specs.Labels.{names_of}
 use Rattle.importing.specs.{Built.{labelled, started}, Grants.{grants_of, roots_of}, Pieces.{pieces_of}, Whole.{IsTableOf}}
 use Rattle.importing.specs.Tables.{bonds_of, filled_up, objects_by, plan_for, planned, table_at, table_by}
@@ -142,15 +141,12 @@ unfolding piece_added
 piece_was plan piece b c e =
     let one = stepped _ _ c e in
     let two = stepped _ _ c one.2 in
-    let label = found _ _ (label_of plan.subjects (subject_of plan.description piece)) one.0 one.1 in
+    let label = found _ _ (piece_label plan piece) one.0 one.1 in
     let object = found _ _ (object_of plan.description plan.children plan.grants piece b.next) two.0 two.1 in
     let initial : Initial = record { label = one.0; object = two.0 } in (
       initial,
       (label, object),
-      added_was _ _ one.0 two.0 b c two.2
-          ∙ (λ i.
-          with_object b
-          (object_name (unwrap_or (slice_get plan.names (unwrap_or (sym label i) 0)) []) (part_of plan.description piece)) initial),
+      added_was _ _ one.0 two.0 b c two.2,
     )
 
 -- all objects are there
@@ -232,11 +228,11 @@ filled_whole d pieces grants children t u e =
 
 objects_were : (plan : Plan) (pieces : List Piece) (t : Layout) → objects_by pieces plan ≡ Ok t
     → (objects : List Initial) × AreOfPieces plan 4096 pieces objects
-    × (t ≡ record (labelled plan.names) { names = map (piece_name plan) pieces; objects = objects })
+    × (t ≡ record (labelled (labels_at plan.names plan.places)) { names = map (piece_name plan) pieces; objects = objects })
 unfolding objects_by
 objects_were plan pieces t e =
     let one = stepped _ _ t e in
-    let whole = pieces_whole plan pieces (started plan.names) one.0 one.1 in
+    let whole = pieces_whole plan pieces (started (labels_at plan.names plan.places)) one.0 one.1 in
     (whole.0, whole.1, sym (same_ok _ t one.2) ∙ whole.2)
 
 planned_was : (d : Description) (minting : Minting) (children : Children) (plan : Plan) → planned d minting children ≡ Ok plan
@@ -245,7 +241,8 @@ unfolding planned
 planned_was d minting children plan e =
     let one = stepped _ _ plan e in
     let two = stepped _ _ plan one.2 in
-    (two.0, two.1, sym (same_ok _ plan two.2))
+    let three = stepped _ _ plan two.2 in
+    (three.0, three.1, sym (same_ok _ plan three.2))
 
 by_plan : (d : Description) (minting : Minting) (children : Children) (names : List (List ℕ)) (t : Layout) → names_of d ≡ Ok names
     → table_by (pieces_of d minting) (plan_for d children names (grants_of d minting children)) ≡ Ok t
@@ -259,7 +256,7 @@ by_plan d minting children names t named e =
     let two = stepped _ _ t one.2 in
     let objects = objects_were plan pieces one.0 one.1 in
     let whole : Layout =
-    record (labelled names) {
+    record (labelled (labels_at plan.names plan.places)) {
       names = map (piece_name plan) pieces;
       objects = objects.0;
       caps = map (filled_at pieces) (grants ++ roots_of d grants);
@@ -280,7 +277,9 @@ by_plan d minting children names t named e =
     ap (λ caps. record whole { caps = caps }) (originals whole pieces (grants ++ roots_of d grants) refl) in
     let is : IsTableOf d minting children whole =
     record {
-      labels = named;
+      all = names;
+      called = named;
+      labels = refl;
       version = refl;
       names = refl;
       objects = objects.1;

@@ -1,23 +1,28 @@
 -- How a table is built up from a description: its labels, then one object after another (confine's own).
 use Rattle.std.specs.{List.AllByRecursion, Prelude.{[], ℕ, ◌&&◌, ◌∷◌, ◌≤◌, Err, List, None, Ok, Option, Result, Some, if◌then◌else◌, is_some, length}}
-use Rattle.std.specs.Prelude.{nat_le, nat_lt, not, slice_get, unwrap_or}
+use Rattle.std.specs.Prelude.{nat_le, nat_lt, not, unwrap_or}
 use Rattle.base.specs.declared.limits.TheConstants.{ADDRESS_END}
 use Rattle.machine.specs.declared.{layout.{Initial.Initial, Version.Version}, object.Object.{Object}}
 use Rattle.machine.specs.declared.layout.Version.TheVariants as version
 use Rattle.machine.specs.{Layout.{Layout, empty_layout}, Objects.end_of}
 use Rattle.microkit.specs.{Description.{Description}, Names.{object_name}}
-use Rattle.microkit.specs.declared.labels.Subject.{Subject}
+use Rattle.microkit.specs.declared.{description.Map.{Map}, labels.Subject.{Subject}}
 use Rattle.words.specs.{Fault.{fault_at}, Name.{name_of}, Reading.{◌>>=◌}, declared.faults.{Fault.Fault, Wrong.{Wrong, TheVariants.{Double, Limit, UnknownName}}}}
 use Rattle.table.specs.{Building.{has_room, with_initial}, Names.{object_named}}
-use Rattle.importing.specs.{Objects.{object_of}, Plan.{label_of, part_of, piece_line, subject_of}}
+use Rattle.importing.specs.{Groups.{leader_of, name_at}, Objects.{object_of}}
+use Rattle.importing.specs.Plan.{label_of, part_of, piece_line, subject_of}
 use Rattle.importing.specs.declared.pieces.{Children.{Children}, Grant.{Grant}, Piece.{Piece}}
 
--- what a table is built up from
+-- what a table is built up from: what has a name and how it is called, the maps of regions if some share a label, and which subjects
+-- have a label of their own
 pub record Plan : Type 0 where
   pub description : Description
   pub children : Children
   pub subjects : List Subject
   pub names : List (List ℕ)
+  pub uses : List (List Map)
+  pub places : List ℕ
+  pub labelled : List Subject
   pub grants : List Grant
 
 -- a table of which the labels and some objects were added, and the first address that is free
@@ -63,14 +68,24 @@ object_added line word label object built = do
   name ← or_fault line Limit (name_of word)
   object_placed line name label object built
 
+-- the number of a piece's label, if there is one
+abbrev pub piece_label : Plan → Piece → Option ℕ
+piece_label plan piece = label_of plan.labelled (leader_of plan.uses (subject_of plan.description piece))
+
+-- the name of a piece's own subject, which goes for its object also where its label is another region's
+abbrev pub piece_subject : Plan → Piece → List ℕ
+piece_subject plan piece = name_at plan.names (unwrap_or (label_of plan.subjects (subject_of plan.description piece)) 0)
+
+abbrev pub piece_name : Plan → Piece → List ℕ
+piece_name plan piece = object_name (piece_subject plan piece) (part_of plan.description piece)
+
 -- the object of a piece more
 unfoldable pub piece_added : Plan → Piece → Built → Result Built Fault
 piece_added plan piece built = do
-  label ← or_fault (piece_line plan.description piece) UnknownName (label_of plan.subjects (subject_of plan.description piece))
+  label ← or_fault (piece_line plan.description piece) UnknownName (piece_label plan piece)
   object ← or_fault (piece_line plan.description piece) Limit
       (object_of plan.description plan.children plan.grants piece built.next)
-  object_added (piece_line plan.description piece)
-      (object_name (unwrap_or (slice_get plan.names label) []) (part_of plan.description piece)) label object built
+  object_added (piece_line plan.description piece) (piece_name plan piece) label object built
 
 -- the objects of pieces, one after another
 unfoldable pub pieces_added : Plan → List Piece → Built → Result Built Fault

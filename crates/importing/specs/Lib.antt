@@ -3,6 +3,7 @@ pub mod Objects
 pub mod Slots
 pub mod Plan
 pub mod Tails
+pub mod Groups
 pub mod Grants
 pub mod Built
 pub mod PlanView

@@ -1,7 +1,12 @@
 -- What a plan says, without where it lies in memory (confine's own).
+use Rattle.std.specs.{Global.{Vec}, Prelude.{List, map}}
+use Rattle.microkit.specs.declared.description.Map.{Map}
 use Rattle.microkit.specs.{LabelView.{bytes_of}, View.{description_of}}
 use Rattle.importing.specs.Built.{Plan}
 use Rattle.importing.specs.declared.builder.Plan as declared_plan
+
+abbrev pub maps_of : List (Vec Map) → List (List Map)
+maps_of uses = map (λ (one : Vec Map). one.items) uses
 
 abbrev pub plan_of : declared_plan.Plan → Plan
 plan_of plan =
@@ -10,5 +15,8 @@ plan_of plan =
       children = plan.children;
       subjects = plan.subjects.items;
       names = bytes_of plan.names.items;
+      uses = maps_of plan.uses.items;
+      places = plan.places.items;
+      labelled = plan.labelled.items;
       grants = plan.grants.items;
     }

@@ -6,6 +6,7 @@ use Rattle.std.specs.Prelude.{[], ℕ, ◌&&◌, ◌++◌, ◌∷◌, Bool, Err,
 use Rattle.std.specs.Prelude.{position, slice_get, true}
 use Rattle.std.specs.List.{range_with_len}
 use Rattle.base.specs.declared.label.TheConstants.Label as Label
+use Rattle.base.specs.declared.limits.TheConstants.{MAX_OBJECTS}
 use Rattle.machine.specs.declared.layout.{Binding.Binding, Filled.Filled}
 use Rattle.machine.specs.{Layout.{Layout, initial_of}, declared.object.ObjectKind.ObjectKind}
 use Rattle.machine.specs.declared.object.ObjectKind.TheVariants as kind
@@ -15,18 +16,27 @@ use Rattle.words.specs.{Fault.{fault_at}, Reading.{◌>>=◌}, declared.faults.{
 use Rattle.table.specs.Building.{declares_slot, is_above_bindings, is_above_caps, is_bound, is_fitting, may_hold, repeats_untyped}
 use Rattle.table.specs.{Building.{with_binding, with_filled}, Rules.{kind_at}, Tree.{tree_fault, with_originals}}
 use Rattle.importing.specs.{Built.{Plan, or_fault, pieces_added, started}, Grants.{grants_of, roots_of}, Pieces.{pieces_of, same_piece}}
+use Rattle.importing.specs.Groups.{labelled_of, labels_at, line_at, places_of, uses_in}
 use Rattle.importing.specs.{Plan.{piece_line}, declared.pieces.{Children.{Children}, Form.{Form}, Grant.{Grant}, Minting.{Minting}, Piece.{Piece}}}
 use Rattle.importing.specs.declared.tables.Bond.{Bond}
 use Rattle.importing.specs.declared.pieces.Children.TheVariants as children
 use Rattle.importing.specs.declared.pieces.Form.TheVariants as form
 
--- there are at most as many labels as a table of version 2 may have
-abbrev pub label_beyond : Description → Option Subject → Result (Unit {0}) Fault
-label_beyond d None = Ok tt
-label_beyond d (Some subject) = Err (fault_at (line_of d subject) Limit)
+-- each subject has an object, and there are at most as many objects as a table may have
+abbrev pub subject_beyond : Description → Option Subject → Result (Unit {0}) Fault
+subject_beyond d None = Ok tt
+subject_beyond d (Some subject) = Err (fault_at (line_of d subject) Limit)
 
-unfoldable pub labels_fit : Description → Result (Unit {0}) Fault
-labels_fit d = label_beyond d (slice_get (subjects_of d) Label.COUNT)
+unfoldable pub subjects_fit : Description → List Subject → Result (Unit {0}) Fault
+subjects_fit d subjects = subject_beyond d (slice_get subjects MAX_OBJECTS)
+
+-- there are at most as many labels as a table of version 2 may have
+abbrev pub label_beyond : Description → List Subject → Option ℕ → Result (Unit {0}) Fault
+label_beyond d subjects None = Ok tt
+label_beyond d subjects (Some place) = Err (fault_at (line_at subjects d place) Limit)
+
+unfoldable pub labels_fit : Description → List Subject → List ℕ → Result (Unit {0}) Fault
+labels_fit d subjects places = label_beyond d subjects (slice_get places Label.COUNT)
 
 -- the number of an object is the place of its piece
 abbrev pub piece_number : List Piece → Piece → Option ℕ
@@ -118,12 +128,22 @@ finished t = by (tree_fault (with_originals t))
 -- what the table is built up from
 abbrev pub plan_for : Description → Children → List (List ℕ) → List Grant → Plan
 plan_for d children names grants =
-    record { description = d; children = children; subjects = subjects_of d; names = names; grants = grants }
+    record {
+      description = d;
+      children = children;
+      subjects = subjects_of d;
+      names = names;
+      uses = uses_in d;
+      places = places_of (uses_in d) (subjects_of d);
+      labelled = labelled_of d;
+      grants = grants;
+    }
 
--- the plan of a description, whose labels must be within the limit
+-- the plan of a description, whose subjects and labels must be within the limits
 unfoldable pub planned : Description → Minting → Children → Result Plan Fault
 planned d minting children = do
-  _ ← labels_fit d
+  _ ← subjects_fit d (subjects_of d)
+  _ ← labels_fit d (subjects_of d) (places_of (uses_in d) (subjects_of d))
   names ← names_of d
   Ok (plan_for d children names (grants_of d minting children))
 
@@ -137,7 +157,7 @@ filled_up d pieces grants children t = do
 -- the table of the labels and objects of a plan
 unfoldable pub objects_by : List Piece → Plan → Result Layout Fault
 objects_by pieces plan = do
-  built ← pieces_added plan pieces (started plan.names)
+  built ← pieces_added plan pieces (started (labels_at plan.names plan.places))
   Ok built.table
 
 -- the table of a plan

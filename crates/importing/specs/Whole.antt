@@ -1,9 +1,10 @@
 -- The table of a description as whole lists: which objects, capabilities and bindings it has (confine's own).
-use Rattle.std.specs.Prelude.{[], ℕ, ◌++◌, ◌∷◌, ◌≡◌, List, Ok, Some, length, map, slice_get, unwrap_or}
+use Rattle.std.specs.Prelude.{[], ℕ, ◌++◌, ◌∷◌, ◌≡◌, List, Ok, Some, length, map, unwrap_or}
 use Rattle.machine.specs.{Layout.{Layout}, Objects.end_of, declared.layout.{Binding.Binding, Filled.Filled, Initial.Initial}}
-use Rattle.microkit.specs.{Description.{Description}, Labels.{names_of}, Names.{object_name}}
-use Rattle.importing.specs.{Built.{Plan, version_for}, Grants.{grants_of, roots_of}, Objects.{object_of}, Pieces.{pieces_of}}
-use Rattle.importing.specs.{Plan.{label_of, part_of, subject_of}, Tables.{binding_by, bonds_of, filled_by, piece_number, plan_for}}
+use Rattle.microkit.specs.{Description.{Description}, Labels.{names_of, subjects_of}}
+use Rattle.importing.specs.{Built.{Plan, piece_label, piece_name, version_for}, Groups.{labels_at, places_of, uses_in}}
+use Rattle.importing.specs.{Grants.{grants_of, roots_of}, Objects.{object_of}, Pieces.{pieces_of}}
+use Rattle.importing.specs.{Tables.{binding_by, bonds_of, filled_by, piece_number, plan_for}}
 use Rattle.importing.specs.declared.{pieces.{Children.{Children}, Grant.{Grant}, Minting.{Minting}, Piece.{Piece}}, tables.Bond.{Bond}}
 
 -- a filled slot of these pieces
@@ -16,19 +17,10 @@ abbrev pub binding_at : List Piece → Bond → Binding
 binding_at pieces bond =
     binding_by (unwrap_or (piece_number pieces bond.thread) 0) (unwrap_or (piece_number pieces bond.context) 0)
 
--- the number of a piece's label, and the name of its object
-
-abbrev pub piece_label : Plan → Piece → ℕ
-piece_label plan piece = unwrap_or (label_of plan.subjects (subject_of plan.description piece)) 0
-
-abbrev pub piece_name : Plan → Piece → List ℕ
-piece_name plan piece =
-    object_name (unwrap_or (slice_get plan.names (piece_label plan piece)) []) (part_of plan.description piece)
-
--- an object is that of a piece, at the next multiple of its size from an address on, with the label of its subject
+-- an object is that of a piece, at the next multiple of its size from an address on, with the label that its subject has
 abbrev pub IsOfPiece : Plan → ℕ → Piece → Initial → Type 0
 IsOfPiece plan next piece initial =
-    (label_of plan.subjects (subject_of plan.description piece) ≡ Some initial.label)
+    (piece_label plan piece ≡ Some initial.label)
     × (object_of plan.description plan.children plan.grants piece next ≡ Some initial.object)
 
 -- objects are those of pieces, each from the end of the one before on
@@ -38,13 +30,18 @@ AreOfPieces plan next (piece ∷ pieces) [] = ⊥
 AreOfPieces plan next (piece ∷ pieces) (initial ∷ objects) =
     IsOfPiece plan next piece initial × AreOfPieces plan (end_of initial.object) pieces objects
 
+-- the plan of a description whose subjects have these names
+abbrev pub plan_by : Description → Minting → Children → List (List ℕ) → Plan
+plan_by d minting children names = plan_for d children names (grants_of d minting children)
+
 -- a table is that of a description: its labels, objects from 0x1000 up, capabilities and bindings, each in order
 pub record IsTableOf (d : Description) (minting : Minting) (children : Children) (t : Layout) : Type 0 where
-  pub labels : names_of d ≡ Ok t.labels
+  pub all : List (List ℕ)
+  pub called : names_of d ≡ Ok all
+  pub labels : t.labels ≡ labels_at all (places_of (uses_in d) (subjects_of d))
   pub version : t.version ≡ version_for (length t.labels)
-  pub names :
-      t.names ≡ map (piece_name (plan_for d children t.labels (grants_of d minting children))) (pieces_of d minting)
-  pub objects : AreOfPieces (plan_for d children t.labels (grants_of d minting children)) 4096 (pieces_of d minting) t.objects
+  pub names : t.names ≡ map (piece_name (plan_by d minting children all)) (pieces_of d minting)
+  pub objects : AreOfPieces (plan_by d minting children all) 4096 (pieces_of d minting) t.objects
   pub caps :
       t.caps
       ≡ map (filled_at (pieces_of d minting)) (grants_of d minting children ++ roots_of d (grants_of d minting children))

@@ -1,23 +1,24 @@
 //! A table that is built up from a description: its labels and objects.
 ghost use Rattle.std.specs.{List.{AllByRecursion, AllPairs}, Option.option_copied};
-ghost use Rattle.std.specs.Prelude.{[], ◌&&◌, ◌<◌, ◌≡◌, ◌≢◌, ◌≤◌, IfOk, OnOk, false, is_some, length, nat_le};
-ghost use Rattle.std.specs.Prelude.{slice_get, true, unwrap_or};
+ghost use Rattle.std.specs.Prelude.{◌&&◌, ◌<◌, ◌≡◌, ◌≢◌, ◌≤◌, IfOk, OnOk, false, is_some, length, nat_le, true};
 ghost use Rattle.base.specs.declared.limits.TheConstants.{ADDRESS_END};
 ghost use Rattle.base.specs.declared.label.TheConstants.Label as LabelLimits;
 ghost use Rattle.machine.specs.Objects.{end_of, size_bits, size_of};
 ghost use Rattle.microkit.specs.{LabelView.bytes_of, Names.IsLabelName};
 ghost use Rattle.words.specs.{Name.is_name, Reading.Reads};
 ghost use Rattle.table.specs.{Building.{AdmitsLabel, has_room, with_label}, Names.object_named};
-ghost use Rattle.importing.specs.Built.{object_added, object_placed, piece_added, pieces_added, started, version_for};
-ghost use Rattle.importing.specs.Built.{with_object};
+ghost use Rattle.importing.specs.Built.{object_added, object_placed, piece_added, piece_label, piece_name};
+ghost use Rattle.importing.specs.Built.{piece_subject, pieces_added, started, version_for, with_object};
+ghost use Rattle.importing.specs.Groups.{labels_at, name_at};
 ghost use Rattle.importing.specs.{Objects.{IsPlaced, IsSmall}, PlanView.{plan_of}};
 
+use crate::groups::leader_of;
 use crate::objects::object_of;
 use crate::pieces::{Children, Grant, Piece};
 use crate::plan::{label_of, object_name, part_of, piece_line, subject_of};
 use base::Label;
 use machine::{Initial, Object, Version};
-use microkit::{Description, Subject};
+use microkit::{Description, Map, Subject};
 use std::alloc::{AllocError, Global};
 use std::marker::Model;
 use table::{Draft, is_addressable};
@@ -28,9 +29,14 @@ use words::{Fault, Wrong, name_of};
 pub(crate) struct Plan<'a> {
     pub description: &'a Description,
     pub children: Children,
-    /// What has a label, and its names.
+    /// What has a label or shares one, and what its objects are called by.
     pub subjects: Vec<Subject>,
     pub names: Vec<Vec<u8>>,
+    /// The maps of each region, if some share a label.
+    pub uses: Vec<Vec<Map>>,
+    /// What has a label of its own, by its places among the subjects.
+    pub places: Vec<usize>,
+    pub labelled: Vec<Subject>,
     pub grants: Vec<Grant>,
 }
 
@@ -54,17 +60,20 @@ impl Model for Builder {
 }
 
 impl Builder {
-    /// Returns a table of these labels, without objects.
+    /// Returns a table whose labels are those of a plan, without objects.
     #[tactic(auto)]
-    pub(crate) fn new(alloc: Global, names: &[Vec<u8>]) -> Result<Builder, AllocError>
-        requires names { AllByRecursion IsLabelName (bytes_of names.now) }
-        requires distinct { AllPairs (λ one other. one ≢ other) (bytes_of names.now) }
-        requires few { length names.now ≤ LabelLimits.COUNT }
-        ensures { IfOk result (λ builder. builder ≡ started (bytes_of names.now)) }
+    pub(crate) fn new(alloc: Global, plan: &Plan<'_>) -> Result<Builder, AllocError>
+        requires names { AllByRecursion IsLabelName
+            (labels_at (bytes_of plan.now.names.items) plan.now.places.items) }
+        requires distinct { AllPairs (λ one other. one ≢ other)
+            (labels_at (bytes_of plan.now.names.items) plan.now.places.items) }
+        requires few { length plan.now.places.items ≤ LabelLimits.COUNT }
+        ensures { IfOk result (λ builder. builder
+            ≡ started (labels_at (bytes_of plan.now.names.items) plan.now.places.items)) }
     {
-        let mut draft = Draft::new(alloc, version_for(names));
-        for name in names {
-            add_name(&mut draft, name)?;
+        let mut draft = Draft::new(alloc, version_for(plan.places.len()));
+        for place in &plan.places {
+            add_name(&mut draft, place_name(plan, *place))?;
         }
         Ok(Builder {
             draft,
@@ -104,12 +113,10 @@ impl Builder {
         ensures { Reads (λ _. self.new) result (piece_added (plan_of plan.now) piece self.old) }
     {
         let line = piece_line(plan.description, piece);
-        let subject = subject_of(plan.description, piece);
-        let Some(label) = label_of(&plan.subjects, subject) else {
+        let Some(label) = piece_label(plan, piece) else {
             return Err(Fault::at(Wrong::UnknownName, line));
         };
-        let part = part_of(plan.description, piece);
-        let name = object_name(alloc, label_name(&plan.names, label), part)?;
+        let name = piece_name(alloc, plan, piece)?;
         let next = self.next;
         match object_of(plan.description, plan.children, &plan.grants, piece, next) {
             Some(object) => self.add_object(line, &name, label, object),
@@ -191,21 +198,55 @@ fn add_name(draft: &mut Draft, name: &[u8]) -> Result<(), AllocError>
     }
 }
 
-fn version_for(names: &[Vec<u8>]) -> Version
-    ensures { result ≡ version_for (length names.now) }
+fn version_for(labels: usize) -> Version
+    ensures { result ≡ version_for labels }
 {
-    if names.len() <= 64 {
+    if labels <= 64 {
         Version::One
     } else {
         Version::Two
     }
 }
 
-#[tactic(auto, using(crate::proofs::Items::get_seen))]
-fn label_name(names: &[Vec<u8>], label: usize) -> &[u8]
-    ensures { result.now ≡ unwrap_or (slice_get (bytes_of names.now) label) [] }
+// The number of a piece's label.
+fn piece_label(plan: &Plan<'_>, piece: Piece) -> Option<usize>
+    ensures { result ≡ piece_label (plan_of plan.now) piece }
 {
-    match names.get(label) {
+    let subject = subject_of(plan.description, piece);
+    let leader = leader_of(&plan.uses, subject);
+    label_of(&plan.labelled, leader)
+}
+
+// The name of a piece's object, which goes by its own subject.
+fn piece_name(alloc: Global, plan: &Plan<'_>, piece: Piece) -> Result<Vec<u8>, AllocError>
+    ensures { IfOk result (λ name. name.items ≡ piece_name (plan_of plan.now) piece) }
+{
+    let part = part_of(plan.description, piece);
+    object_name(alloc, piece_subject(plan, piece), part)
+}
+
+fn piece_subject<'a>(plan: &'a Plan<'_>, piece: Piece) -> &'a [u8]
+    ensures { result.now ≡ piece_subject (plan_of plan.now) piece }
+{
+    let subject = subject_of(plan.description, piece);
+    match label_of(&plan.subjects, subject) {
+        Some(place) => name_at(&plan.names, place),
+        None => name_at(&plan.names, 0),
+    }
+}
+
+// The name of the subject at a place.
+fn place_name<'a>(plan: &'a Plan<'_>, place: usize) -> &'a [u8]
+    ensures { result.now ≡ name_at (bytes_of plan.now.names.items) place }
+{
+    name_at(&plan.names, place)
+}
+
+#[tactic(auto, using(crate::proofs::Items::get_seen))]
+fn name_at(names: &[Vec<u8>], place: usize) -> &[u8]
+    ensures { result.now ≡ name_at (bytes_of names.now) place }
+{
+    match names.get(place) {
         Some(name) => name,
         None => b"",
     }

@@ -6,8 +6,8 @@ ghost use Rattle.importing.specs.Tails.{HasParentsFirst, children_of, domain_has
 ghost use Rattle.importing.specs.declared.pieces.Children.TheVariants as children;
 ghost use Rattle.importing.specs.declared.pieces.Minting.{Minting};
 
-/// A law: with `directed`, a domain has from slot 458 on its maps, then all that each of its children
-/// has, child by child, then all that its virtual machine has.
+/// Proves that, with `directed`, a domain has from slot 458 on its maps, then all that each of its
+/// children has, child by child, then all that its virtual machine has.
 ///
 /// All that a child has includes its copies of what its own children have. Each domain must stand
 /// before its children, as in each description that is read.

@@ -3,6 +3,7 @@
 
 mod builder;
 mod grants;
+mod groups;
 mod laws;
 mod objects;
 mod pieces;
@@ -11,6 +12,7 @@ mod slots;
 mod tables;
 mod tails;
 
+pub use groups::labelled_of;
 pub use laws::parents_have_what_children_have;
 pub use pieces::{Children, Minting};
 pub use tables::table_of;

@@ -122,7 +122,8 @@ pub(crate) fn label_of(subjects: &[Subject], subject: Subject) -> Option<usize>
         .position(|other| same_subject(*other, subject))
 }
 
-fn same_subject(one: Subject, other: Subject) -> bool
+/// Whether two subjects are one.
+pub(crate) fn same_subject(one: Subject, other: Subject) -> bool
     ensures { result ≡ same_subject one other }
 {
     subject_code(one) == subject_code(other) && subject_number(one) == subject_number(other)

@@ -2,23 +2,25 @@
 ghost use Rattle.std.specs.List.{AllByRecursion, AllPairs, range_with_len};
 ghost use Rattle.std.specs.Prelude.{◌≡◌, ◌≢◌, ◌≤◌, IfOk, length, map, position, Some, true};
 ghost use Rattle.base.specs.declared.label.TheConstants.Label as LabelLimits;
-ghost use Rattle.microkit.specs.{Labels.{names_of, subjects_of}, LabelView.bytes_of, Names.IsLabelName};
+ghost use Rattle.microkit.specs.{Labels.names_of, LabelView.bytes_of, Names.IsLabelName};
 ghost use Rattle.microkit.specs.{View.description_of};
 ghost use Rattle.words.specs.Reading.{Reads};
 ghost use Rattle.importing.specs.Whole.{IsTableOf};
 ghost use Rattle.table.specs.Building.{repeats_untyped};
 ghost use Rattle.words.specs.declared.faults.Wrong.TheVariants.{UnknownName};
+ghost use Rattle.importing.specs.Groups.{labels_at};
 ghost use Rattle.importing.specs.{Built.or_fault, PlanView.plan_of, Pieces.same_piece, declared.pieces.Form.{Form}};
 ghost use Rattle.importing.specs.Tables.{binding_added, bond_added, bond_of, bonds_added, bonds_of, cap_added};
 ghost use Rattle.importing.specs.Tables.{filled_by, filled_up, finished, grant_added, grants_added, guest_bonds};
 ghost use Rattle.importing.specs.Tables.{is_context, is_thread, labels_fit, objects_by, piece_number, planned};
-ghost use Rattle.importing.specs.Tables.{table_at, table_by, takes_binding, takes_cap};
+ghost use Rattle.importing.specs.Tables.{subjects_fit, table_at, table_by, takes_binding, takes_cap};
 
 use crate::builder::{Builder, Plan};
 use crate::grants::{grants_of, roots_of};
+use crate::groups::{leaders_at, line_at, places_of, uses_in};
 use crate::pieces::{Children, Form, Grant, Minting, Piece, pieces_of, same_piece};
 use crate::plan::{line_of, piece_line};
-use base::{Label, ObjId, SlotRef};
+use base::{Label, MAX_OBJECTS, ObjId, SlotRef};
 use machine::{Binding, Cap, Detail, Filled, ObjectKind};
 use microkit::{Description, Subject, label_names, subjects_of};
 use std::alloc::{AllocError, Global};
@@ -279,21 +281,35 @@ fn fill_up(
     add_bonds(draft, description, pieces, &bonds)
 }
 
-// A table has at most so many labels.
-#[tactic(auto, unfolding(crate::specs::Tables::labels_fit))]
-fn check_labels(description: &Description, subjects: &[Subject]) -> Result<(), Fault>
-    requires { subjects.now ≡ subjects_of (description_of description.now) }
-    ensures exact { result ≡ labels_fit (description_of description.now) }
-    ensures few { IfOk result (λ _. length subjects.now ≤ LabelLimits.COUNT) }
+// Each subject has an object, and a table has at most so many.
+#[tactic(auto, unfolding(crate::specs::Tables::subjects_fit))]
+fn check_subjects(description: &Description, subjects: &[Subject]) -> Result<(), Fault>
+    ensures { result ≡ subjects_fit (description_of description.now) subjects.now }
 {
-    match subjects.get(usize::from(Label::COUNT)) {
+    match subjects.get(MAX_OBJECTS) {
         Some(subject) => Err(Fault::at(Wrong::Limit, line_of(description, *subject))),
         None => Ok(()),
     }
 }
 
+// A table has at most so many labels.
+#[tactic(auto, unfolding(crate::specs::Tables::labels_fit))]
+fn check_labels(
+    description: &Description,
+    subjects: &[Subject],
+    places: &[usize],
+) -> Result<(), Fault>
+    ensures exact { result ≡ labels_fit (description_of description.now) subjects.now places.now }
+    ensures few { IfOk result (λ _. length places.now ≤ LabelLimits.COUNT) }
+{
+    match places.get(usize::from(Label::COUNT)) {
+        Some(place) => Err(Fault::at(Wrong::Limit, line_at(subjects, description, *place))),
+        None => Ok(()),
+    }
+}
+
 // The plan of a description.
-#[tactic(auto, unfolding(crate::specs::Tables::planned, words::specs::Reading::bind))]
+#[tactic(auto, unfolding(crate::specs::Tables::planned, crate::specs::Groups::labelled_of, words::specs::Reading::bind))]
 fn planned(
     alloc: Global,
     description: &Description,
@@ -301,12 +317,18 @@ fn planned(
     children: Children,
 ) -> Result<Plan<'_>, Fault>
     ensures exact { Reads (λ plan. plan_of plan) result (planned (description_of description.now) minting children) }
-    ensures names { IfOk result (λ plan. AllByRecursion IsLabelName (bytes_of plan.names.items)) }
-    ensures distinct { IfOk result (λ plan. AllPairs (λ one other. one ≢ other) (bytes_of plan.names.items)) }
-    ensures few { IfOk result (λ plan. length plan.names.items ≤ LabelLimits.COUNT) }
+    ensures names { IfOk result (λ plan. AllByRecursion IsLabelName
+        (labels_at (bytes_of plan.names.items) plan.places.items)) }
+    ensures distinct { IfOk result (λ plan. AllPairs (λ one other. one ≢ other)
+        (labels_at (bytes_of plan.names.items) plan.places.items)) }
+    ensures few { IfOk result (λ plan. length plan.places.items ≤ LabelLimits.COUNT) }
 {
     let subjects = subjects_of(alloc, description)?;
-    check_labels(description, &subjects)?;
+    check_subjects(description, &subjects)?;
+    let uses = uses_in(alloc, description, &subjects)?;
+    let places = places_of(alloc, &uses, &subjects)?;
+    check_labels(description, &subjects, &places)?;
+    let labelled = leaders_at(alloc, &subjects, &places)?;
     let names = label_names(alloc, description)?;
     let grants = grants_of(alloc, description, minting, children)?;
     Ok(Plan {
@@ -314,6 +336,9 @@ fn planned(
         children,
         subjects,
         names,
+        uses,
+        places,
+        labelled,
         grants,
     })
 }
@@ -321,12 +346,13 @@ fn planned(
 // The table of the labels and objects of a plan.
 #[tactic(auto, unfolding(crate::specs::Tables::objects_by, words::specs::Reading::bind))]
 fn objects_by(alloc: Global, plan: &Plan<'_>, pieces: &[Piece]) -> Result<Draft, Fault>
-    requires names { AllByRecursion IsLabelName (bytes_of plan.now.names.items) }
-    requires distinct { AllPairs (λ one other. one ≢ other) (bytes_of plan.now.names.items) }
-    requires few { length plan.now.names.items ≤ LabelLimits.COUNT }
+    requires names { AllByRecursion IsLabelName (labels_at (bytes_of plan.now.names.items) plan.now.places.items) }
+    requires distinct { AllPairs (λ one other. one ≢ other)
+        (labels_at (bytes_of plan.now.names.items) plan.now.places.items) }
+    requires few { length plan.now.places.items ≤ LabelLimits.COUNT }
     ensures { Reads (λ draft. draft) result (objects_by pieces.now (plan_of plan.now)) }
 {
-    let mut builder = Builder::new(alloc, &plan.names)?;
+    let mut builder = Builder::new(alloc, plan)?;
     match builder.add_pieces(alloc, plan, pieces) {
         Ok(()) => Ok(builder.into_draft()),
         Err(fault) => {
@@ -339,9 +365,10 @@ fn objects_by(alloc: Global, plan: &Plan<'_>, pieces: &[Piece]) -> Result<Draft,
 // The table of a plan.
 #[tactic(auto, unfolding(crate::specs::Tables::table_by, words::specs::Reading::bind))]
 fn table_by(alloc: Global, plan: &Plan<'_>, pieces: &[Piece]) -> Result<Table, Fault>
-    requires names { AllByRecursion IsLabelName (bytes_of plan.now.names.items) }
-    requires distinct { AllPairs (λ one other. one ≢ other) (bytes_of plan.now.names.items) }
-    requires few { length plan.now.names.items ≤ LabelLimits.COUNT }
+    requires names { AllByRecursion IsLabelName (labels_at (bytes_of plan.now.names.items) plan.now.places.items) }
+    requires distinct { AllPairs (λ one other. one ≢ other)
+        (labels_at (bytes_of plan.now.names.items) plan.now.places.items) }
+    requires few { length plan.now.places.items ≤ LabelLimits.COUNT }
     ensures { Reads (λ table. table) result (table_by pieces.now (plan_of plan.now)) }
 {
     let mut draft = objects_by(alloc, plan, pieces)?;

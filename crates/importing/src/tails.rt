@@ -34,7 +34,8 @@ fn user_number(user: User) -> usize
     }
 }
 
-fn is_user(one: User, other: User) -> bool
+/// Whether two users are one.
+pub(crate) fn is_user(one: User, other: User) -> bool
     ensures { result ≡ is_user one other }
 {
     user_code(one) == user_code(other) && user_number(one) == user_number(other)

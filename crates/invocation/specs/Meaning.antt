@@ -17,6 +17,7 @@ use Rattle.commands.specs.declared.choices.OnClose.{OnClose as on_close}
 use Rattle.invocation.specs.declared.meaning.Verb.{Verb}
 use Rattle.invocation.specs.declared.meaning.Verb.{Verb as verb}
 use Rattle.invocation.specs.declared.meaning.Words.{Words}
+use Rattle.invocation.specs.declared.request.{Format.{Format, Format as format}, Manner.Manner}
 use Rattle.invocation.specs.declared.request.OfSystem.{OfSystem}
 use Rattle.invocation.specs.declared.request.OfSystem.{OfSystem as of_system}
 use Rattle.invocation.specs.declared.request.CommandLine.{CommandLine}
@@ -91,9 +92,24 @@ on_import_of words = do
   children ← children_of word.now
   Some (record { minting = minting; children = children; writes = imported_of words })
 
+-- how findings are printed by a word
+abbrev pub format_of : List ℕ → Option Format
+format_of word =
+    if bytes_eq word (codes "json") then Some format.Json
+    else if bytes_eq word (codes "short") then Some format.Short else None
+
+-- how a command tells what it finds
+abbrev pub manner_of : Words → Option Manner
+manner_of words = do
+  word ← words.format
+  format ← format_of word.now
+  Some (record { explains = words.explain; is_quiet = words.quiet; format = format })
+
 -- a request that is done in turn
 abbrev pub in_turn : Words → Request Name → Option CommandLine
-in_turn words asked = Some (InTurn (record { request = asked; explains = words.explain }))
+in_turn words asked = do
+  manner ← manner_of words
+  Some (InTurn (record { request = asked; manner = manner }))
 
 -- .. of a table alone
 abbrev pub of_table : Words → OfTable → Option CommandLine
@@ -122,7 +138,8 @@ split_of words = do
   table ← words.table
   policy ← words.policy
   script ← words.script
-  Some (Split (record { table = table; policy = policy; script = script; explains = words.explain }))
+  manner ← manner_of words
+  Some (Split (record { table = table; policy = policy; script = script; manner = manner }))
 
 -- what each command asks for with these words; nothing, if it lacks one
 abbrev pub asked_by : Verb → Words → Option CommandLine
@@ -193,10 +210,10 @@ AreFound found words =
     ((codes "description", words.description) ∷ (codes "table", words.table) ∷ (codes "policy", words.policy) ∷ (codes "certificate", words.certificate)
     ∷ (codes "script", words.script) ∷ (codes "log", words.log) ∷ (codes "claims", words.claims) ∷ (codes "actor", words.actor)
     ∷ (codes "object", words.object) ∷ (codes "workers", words.workers) ∷ (codes "steps", words.steps) ∷ (codes "rights", words.rights)
-    ∷ (codes "children", words.children) ∷ [])
+    ∷ (codes "children", words.children) ∷ (codes "format", words.format) ∷ [])
     × Each (IsGiven found)
-    ((codes "explain", words.explain) ∷ (codes "cert", words.cert) ∷ (codes "missing", words.missing) ∷ (codes "surplus", words.surplus)
-    ∷ (codes "split", words.split) ∷ (codes "all", words.all) ∷ (codes "policy-alone", words.policy_alone)
+    ((codes "explain", words.explain) ∷ (codes "quiet", words.quiet) ∷ (codes "cert", words.cert) ∷ (codes "missing", words.missing)
+    ∷ (codes "surplus", words.surplus) ∷ (codes "split", words.split) ∷ (codes "all", words.all) ∷ (codes "policy-alone", words.policy_alone)
     ∷ (codes "take", words.take) ∷ (codes "as-claims", words.as_claims) ∷ [])
 
 -- a line asks for what its command and the words found for that make

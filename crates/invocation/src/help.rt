@@ -1,6 +1,10 @@
-//! The texts of `--help`: what each command is for, what its files hold, and an example to be pasted
-//! into a shell. `tests/command-line` runs the examples, and compares what they print with what is
-//! shown.
+//! The texts of `--help`: what each command is for, what its files hold, and an example to be
+//! pasted into a shell. `tests/command-line` runs the examples, and compares what they print with
+//! what is shown.
+//!
+//! A constant `ABOUT_..` is the line on a command, and `EXAMPLE_..` its example. The others are the
+//! texts on the argument or option of their name; `WRONG_..` is printed where an option has a wrong
+//! value.
 
 pub const ABOUT: &str =
     "Checks what the threads of a system of capabilities may do, and runs and replays their calls";
@@ -164,6 +168,12 @@ pub const VERSION: &str = "0.16.0";
 pub const EXPLAIN: &str =
     "Says in sentences, on standard error, what is denied or faulty, and what to do";
 
+pub const QUIET: &str = "Leaves out notes on standard error";
+
+pub const FORMAT: &str = "Prints reports as `json`, or as `short`: FILE:LINE: message";
+
+pub const WRONG_FORMAT: &str = "'--format <F>' takes 'json' or 'short'";
+
 pub const WORKERS: &str = "Threads that check the slots at the same time, 1 to 16";
 
 pub const WRONG_WORKERS: &str = "'--workers <N>' takes a decimal number from 1 to 16";
@@ -199,8 +209,7 @@ pub const MISSING: &str =
 pub const SURPLUS: &str =
     "Writes only the lines of POLICY that nothing requires; status as with --missing";
 
-pub const ALL: &str =
-    "Writes the strongest claims that hold, on all pairs of labels, in place of CLAIMS";
+pub const ALL: &str = "Writes the strongest claims that hold, on all labels, in place of CLAIMS";
 
 pub const ACTOR: &str = "The label whose threads act, by its name in the table";
 
@@ -320,11 +329,11 @@ It prints the rule that is broken and the place, and ends with status 1:
 {\"place\":[\"space.0\",\"await\",\"b\"],\"rule\":\"A1\",\"verdict\":\"deny\"}
 
 By rule A1 each capability keeps to the policy. With `--explain` standard error says, in one line,
-which doesn't, in which line it is, and what may be done:
+which capability doesn't, in which line it is, and what may be done:
 
-table:8: denied by A1: slot 0 of `space` lets `a` await what is labelled `b`, and the policy has no
-such edge: give the capability fewer rights, or add `edge a await b`; `confine close table policy`
-writes the line in its place
+table:8: denied by A1: slot 0 of `space` lets `a` await `b`, but the policy has no such edge. Give
+the capability fewer rights, or add `edge a await b`. `confine close table policy` adds the edge
+for you.
 
 The edge belongs after the edge `notify`:
 
@@ -506,7 +515,7 @@ edge a await b
 
 pub const EXAMPLE_CLAIMS: &str = with_policy!(
     "a thread `main` may signal a bell and poll it.
-Its owner claims that `b` never changes what is labelled `a`.",
+Its owner claims that `b` never changes objects of `a`.",
     "\
 cat >claims <<'.'
 confine-claims 2
@@ -525,10 +534,11 @@ may be claimed at all, `--all` tells:
 
 confine claims table policy --all
 
-It prints the strongest claims that hold, with status 0:
+It prints the strongest claims that hold, with status 0. `b` has no thread, so `only` names all
+labels that may change what is labelled `b`:
 
-confine-claims 1
-none b a
+confine-claims 2
+only b a
 end
 
 Now it is claimed that `a` changes nothing of `b`:
@@ -542,10 +552,10 @@ It prints the claims that don't hold and what authority there is, and ends with 
 
 With `--explain` standard error says by which edges, where each is from, and which calls show it:
 
-claims:3: `take a b` doesn't hold: `a` may change objects of `b`, by `edge a notify b`: change the
-claim, or take an edge out of the policy, and what asks for it out of the table
+claims:3: `take a b` doesn't hold: `a` may change objects of `b`, by `edge a notify b`. Change the
+claim, or remove an edge from the policy and what requires that edge from the table.
 
-`edge a notify b` comes from table:8: slot 0 of `space` lets `a` notify what is labelled `b`
+`edge a notify b` comes from table:8: slot 0 of `space` lets `a` notify `b`
 
 a run that shows it:
 
@@ -572,7 +582,7 @@ So a line of a script in which `main` signals on core 0 begins with `0 1 signal`
 
 pub const EXAMPLE_WHY: &str = with_policy!(
     "a thread `main` may signal a bell and poll it.
-What may label `a` do to what is labelled `b`?",
+What may label `a` do to objects of `b`?",
     "\
 confine why table policy a b
 
@@ -620,7 +630,7 @@ A system that `confine check` denies is denied here, with status 1 too.
 
 pub const EXAMPLE_SHOW: &str = with_policy!(
     "a thread `main` may signal a bell and poll it.
-By which calls does `a` change what is labelled `b`?",
+By which calls does `a` change objects of `b`?",
     "\
 confine show table policy a b
 
@@ -668,7 +678,7 @@ confine summary table policy | tail -n +3
 
 Each command ends with status 0. On standard error `import` says that there is more to be read:
 
-system: 3 notes on what the table doesn't show: `--explain` tells them
+system: 3 notes on what the table doesn't show. `--explain` prints them.
 
 The last command prints who may change whom, as `confine summary --help` explains it:
 
@@ -703,7 +713,7 @@ digraph authority {
   \"a\" [label=\"a\\nwith b\"]
 }
 
-So `a` alone has a thread, and it alone uses what is labelled `b`, which stands in its box. Between
+So only `a` has a thread, and only `a` uses objects of `b`: the box of `a` has `b` too. Between
 two boxes an arrow says what threads of the one may do to objects of the other, and to memory that
 both use. A dashed arrow is for threads that may only take away, a dotted one is about memory
 alone. With `--all` each label is a node, and an arrow has the first edge of the reason:

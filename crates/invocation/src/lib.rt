@@ -8,5 +8,6 @@ mod meaning;
 mod request;
 
 pub use request::{
-    CommandLine, Invocation, OfSystem, OfTable, OfThree, Request, SplitRun, read_request,
+    CommandLine, Format, Invocation, Manner, OfSystem, OfTable, OfThree, Request, SplitRun,
+    read_request,
 };

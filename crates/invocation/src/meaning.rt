@@ -1,10 +1,13 @@
 //! Which request the words of a command line make.
 ghost use Rattle.std.specs.Prelude.{◌≡◌, ◌≢◌, ◌≤◌, IfNone, IfSome};
-ghost use Rattle.invocation.specs.Meaning.{basis_of, children_of, command_line_of, imported_of, in_turn, minting_of, number_to, of_all, of_table, of_two};
-ghost use Rattle.invocation.specs.Meaning.{on_accept_of, on_close_of, on_import_of, picture_of, search_of, split_of, verb_name};
-ghost use Rattle.invocation.specs.Requests.{IsWithinLimits, OnInTurn};
+ghost use Rattle.invocation.specs.Meaning.{basis_of, children_of, command_line_of, format_of, imported_of, in_turn};
+ghost use Rattle.invocation.specs.Meaning.{manner_of, minting_of, number_to, of_all, of_table, of_two, on_accept_of};
+ghost use Rattle.invocation.specs.Meaning.{on_close_of, on_import_of, picture_of, search_of, split_of, verb_name};
+ghost use Rattle.invocation.specs.Requests.{HasFewWorkers, IsWithinLimits, OnInTurn};
 
-use crate::request::{CommandLine, Invocation, OfSystem, OfTable, OfThree, Request, SplitRun};
+use crate::request::{
+    CommandLine, Format, Invocation, Manner, OfSystem, OfTable, OfThree, Request, SplitRun,
+};
 use commands::{Basis, Children, Imported, Minting, OnAccept, OnClose, OnImport, Picture, Search};
 use words::decimal_of;
 
@@ -66,7 +69,9 @@ pub struct Words<'a> {
     pub steps: Option<&'a str>,
     pub rights: Option<&'a str>,
     pub children: Option<&'a str>,
+    pub format: Option<&'a str>,
     pub explain: bool,
+    pub quiet: bool,
     pub cert: bool,
     pub missing: bool,
     pub surplus: bool,
@@ -78,8 +83,8 @@ pub struct Words<'a> {
 }
 
 impl<'a> Words<'a> {
-    /// Returns the command line that the words make, or `None` if a word is missing, or isn't a number within the limits of
-    /// its option, or one of the option's words.
+    /// Returns the command line that the words make, or `None` if a word is missing, or isn't a
+    /// number within the limits of its option, or one of the option's words.
     pub fn line(self) -> Option<CommandLine<'a>>
         ensures meaning { result ≡ command_line_of self.entry }
         ensures limits { IfSome result (λ line. OnInTurn line IsWithinLimits) }
@@ -125,44 +130,60 @@ impl<'a> Words<'a> {
 
     // A command that waits for nothing.
     fn in_turn(self, request: Request<'a, &'a str>) -> Option<CommandLine<'a>>
-        ensures { result ≡ in_turn self.entry request.entry }
+        ensures meaning { result ≡ in_turn self.entry request.entry }
+        ensures limits { IsWithinLimits request.entry → IfSome result (λ line. OnInTurn line IsWithinLimits) }
     {
         Some(CommandLine::InTurn(Invocation {
             request,
-            explains: self.explain,
+            manner: self.manner()?,
         }))
+    }
+
+    // How the command tells what it finds.
+    fn manner(self) -> Option<Manner>
+        ensures { result ≡ manner_of self.entry }
+    {
+        Some(Manner {
+            explains: self.explain,
+            is_quiet: self.quiet,
+            format: format(self.format?)?,
+        })
     }
 
     // A command of a table alone.
     fn of_table(self, asked: OfTable) -> Option<CommandLine<'a>>
-        ensures { result ≡ of_table self.entry asked }
+        ensures meaning { result ≡ of_table self.entry asked }
+        ensures limits { IfSome result (λ line. OnInTurn line IsWithinLimits) }
     {
         self.in_turn(Request::OfTable(asked, self.table?))
     }
 
     // A command of a table and a policy.
     fn of_two(self, asked: OfSystem<'a>) -> Option<CommandLine<'a>>
-        ensures { result ≡ of_two self.entry asked.entry }
+        ensures meaning { result ≡ of_two self.entry asked.entry }
+        ensures limits { HasFewWorkers asked.entry → IfSome result (λ line. OnInTurn line IsWithinLimits) }
     {
         self.in_turn(Request::OfSystem(asked, self.table?, self.policy?))
     }
 
     // A command of a table, a policy and a third file.
     fn of_all(self, asked: OfThree, third: Option<&'a str>) -> Option<CommandLine<'a>>
-        ensures { result ≡ of_all self.entry asked third.entry }
+        ensures meaning { result ≡ of_all self.entry asked third.entry }
+        ensures limits { IfSome result (λ line. OnInTurn line IsWithinLimits) }
     {
         self.in_turn(Request::OfThree(asked, self.table?, self.policy?, third?))
     }
 
     // A run by workers.
     fn split_run(self) -> Option<CommandLine<'a>>
-        ensures { result ≡ split_of self.entry }
+        ensures meaning { result ≡ split_of self.entry }
+        ensures limits { IfSome result (λ line. OnInTurn line IsWithinLimits) }
     {
         Some(CommandLine::Split(SplitRun {
             table: self.table?,
             policy: self.policy?,
             script: self.script?,
-            explains: self.explain,
+            manner: self.manner()?,
         }))
     }
 
@@ -242,6 +263,19 @@ impl<'a> Words<'a> {
         } else {
             Imported::Table
         }
+    }
+}
+
+// How findings are printed by this word.
+pub(crate) fn format(word: &str) -> Option<Format>
+    ensures { result ≡ format_of word.now }
+{
+    if word == "json" {
+        Some(Format::Json)
+    } else if word == "short" {
+        Some(Format::Short)
+    } else {
+        None
     }
 }
 

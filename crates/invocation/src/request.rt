@@ -5,7 +5,7 @@ ghost use Rattle.invocation.specs.{Meaning.{AreFound, IsAskedIn}, Requests.{IsWi
 ghost use Rattle.invocation.specs.Requests.{file_name_of, file_of, label_of};
 
 use crate::help;
-use crate::meaning::{Verb, Words};
+use crate::meaning::{Verb, Words, format};
 use clap::error::ErrorKind;
 use clap::{Arg, ArgAction, ArgMatches, Command, Error};
 use commands::{Asked, Basis, File, OnAccept, OnClose, OnImport, Picture, Search};
@@ -26,8 +26,7 @@ pub struct SplitRun<'a> {
     pub table: &'a str,
     pub policy: &'a str,
     pub script: &'a str,
-    /// Whether `--explain` was given: findings are then also told in sentences, on standard error.
-    pub explains: bool,
+    pub manner: Manner,
 }
 
 impl<'a> SplitRun<'a> {
@@ -37,17 +36,35 @@ impl<'a> SplitRun<'a> {
     {
         Invocation {
             request: Request::OfThree(OfThree::Run, self.table, self.policy, self.script),
-            explains: self.explains,
+            manner: self.manner,
         }
     }
 }
 
-/// A request, and whether its findings are also told in sentences.
+/// A request, and how a person is told what it finds.
 #[derive(Clone, Copy)]
 pub struct Invocation<'a> {
     pub request: Request<'a, &'a str>,
+    pub manner: Manner,
+}
+
+/// How a person is told what a command finds.
+#[derive(Clone, Copy)]
+pub struct Manner {
     /// Whether `--explain` was given: findings are then also told in sentences, on standard error.
     pub explains: bool,
+    /// Whether `--quiet` was given: notes are then left out.
+    pub is_quiet: bool,
+    pub format: Format,
+}
+
+/// How reports are printed on standard output.
+#[derive(Clone, Copy, PartialEq, Eq, Debug)]
+pub enum Format {
+    /// As a JSON object.
+    Json,
+    /// As one line for each finding.
+    Short,
 }
 
 /// What a command does, and with which files: by their names, or as opening them gave them.
@@ -197,15 +214,24 @@ fn read_by<'a>(command: &mut Command<'a>, words: &'a [String]) -> Result<Command
 
 // What is wrong with a command line that makes no request.
 fn misuse_of(matches: &ArgMatches<'_>) -> (ErrorKind, &'static str) {
-    let Some((name, _)) = matches.subcommand() else {
+    let Some((name, found)) = matches.subcommand() else {
         return (ErrorKind::MissingSubcommand, "a command is missing");
     };
     let message = match name {
+        _ if !has_format(found) => help::WRONG_FORMAT,
         "show" => help::WRONG_STEPS,
         "import" => help::WRONG_RIGHTS,
         _ => help::WRONG_WORKERS,
     };
     (ErrorKind::InvalidValue, message)
+}
+
+// Whether the word for the format is one.
+fn has_format(found: &ArgMatches<'_>) -> bool {
+    match found.get_str("format") {
+        Some(word) => format(word).is_some(),
+        None => false,
+    }
 }
 
 // The command line that the subcommand and its words make.
@@ -237,7 +263,9 @@ fn words_of<'a>(verb: Verb, found: &ArgMatches<'a>) -> Words<'a>
         steps: found.get_str("steps"),
         rights: found.get_str("rights"),
         children: found.get_str("children"),
+        format: found.get_str("format"),
         explain: found.get_flag("explain"),
+        quiet: found.get_flag("quiet"),
         cert: found.get_flag("cert"),
         missing: found.get_flag("missing"),
         surplus: found.get_flag("surplus"),
@@ -299,10 +327,7 @@ fn taking<'a>(
 }
 
 fn import_command<'a>(alloc: Global) -> Result<Command<'a>, AllocError> {
-    let command = Command::new(alloc, "import")
-        .about(help::ABOUT_IMPORT)
-        .after_help(help::EXAMPLE_IMPORT)
-        .arg(flag(alloc, "explain", help::EXPLAIN));
+    let command = telling(alloc, "import", help::ABOUT_IMPORT, help::EXAMPLE_IMPORT);
     let description = word(alloc, "description", "FILE", help::DESCRIPTION);
     let command = taking(command, Ok(description));
     let rights = option(alloc, "rights", "R", help::RIGHTS);
@@ -407,11 +432,23 @@ fn on_table<'a>(
     about: &'a str,
     example: &'a str,
 ) -> Result<Command<'a>, AllocError> {
-    Command::new(alloc, name)
+    telling(alloc, name, about, example)?.arg(word(alloc, "table", "TABLE", help::TABLE))
+}
+
+// A command with the options that each has: how it tells what it finds.
+fn telling<'a>(
+    alloc: Global,
+    name: &'a str,
+    about: &'a str,
+    example: &'a str,
+) -> Result<Command<'a>, AllocError> {
+    let command = Command::new(alloc, name)
         .about(about)
         .after_help(example)
-        .arg(flag(alloc, "explain", help::EXPLAIN))?
-        .arg(word(alloc, "table", "TABLE", help::TABLE))
+        .arg(flag(alloc, "explain", help::EXPLAIN));
+    let command = taking(command, Ok(flag(alloc, "quiet", help::QUIET)));
+    let format = option(alloc, "format", "F", help::FORMAT);
+    taking(command, Ok(format.default_value("json")))
 }
 
 // The option for the number of workers.

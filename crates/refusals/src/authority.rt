@@ -5,6 +5,11 @@ use labels::{authority, slot_edges};
 use table::Table;
 
 /// Lists the authority of the table's boot state, and once more if memory was refused.
+///
+/// # Errors
+///
+/// [`Stopped::Refused`] where the call was refused memory and answered when it was made again, and
+/// [`Stopped::Wrong`] where something else isn't as it has to be.
 pub fn lists_authority<R: AllocGlobal>(rt: &R, table: &Table) -> Result<(), Stopped> {
     let expected = table_edges()?;
     match met(NO_MEMORY, authority(rt.alloc(), table))? {
@@ -14,6 +19,11 @@ pub fn lists_authority<R: AllocGlobal>(rt: &R, table: &Table) -> Result<(), Stop
 }
 
 /// Lists the edges of the notification's slot, and once more if memory was refused.
+///
+/// # Errors
+///
+/// [`Stopped::Refused`] where the call was refused memory and answered when it was made again, and
+/// [`Stopped::Wrong`] where something else isn't as it has to be.
 pub fn lists_edges_of_a_slot<R: AllocGlobal>(rt: &R, table: &Table) -> Result<(), Stopped> {
     let expected = bell::slot_edges()?;
     match met(NO_MEMORY, slot_edges(rt.alloc(), table, SLOT))? {

@@ -88,11 +88,19 @@ fn label() -> Result<Label, Stopped> {
 }
 
 /// Returns the core that the thread runs on.
+///
+/// # Errors
+///
+/// [`Stopped::Wrong`] where 0 is no core.
 pub fn core() -> Result<CoreNo, Stopped> {
     Ok(CoreNo::new(0).ok_or(Stopped::Wrong(Wrong::Core))?)
 }
 
 /// Returns the edges of the policy.
+///
+/// # Errors
+///
+/// [`Stopped::Wrong`] where 0 is no label.
 pub fn edges() -> Result<[Edge; 6], Stopped> {
     let a = label()?;
     let edge = |kind| Edge {
@@ -111,12 +119,20 @@ pub fn edges() -> Result<[Edge; 6], Stopped> {
 }
 
 /// Returns the edges that the table gives: those of the policy but derive, which no pair gives.
+///
+/// # Errors
+///
+/// [`Stopped::Wrong`] where 0 is no label.
 pub fn table_edges() -> Result<[Edge; 5], Stopped> {
     let [reset, notify, await_, space, _, runs] = edges()?;
     Ok([reset, notify, await_, space, runs])
 }
 
 /// Returns the edges that the notification's capability gives.
+///
+/// # Errors
+///
+/// [`Stopped::Wrong`] where 0 is no label.
 pub fn slot_edges() -> Result<[Edge; 3], Stopped> {
     let [reset, notify, await_, ..] = edges()?;
     Ok([reset, notify, await_])
@@ -128,6 +144,10 @@ fn kinds_given() -> Kinds {
 }
 
 /// Returns the certificate's lines.
+///
+/// # Errors
+///
+/// [`Stopped::Wrong`] where 0 is no label.
 pub fn certificate_lines() -> Result<[Line; 3], Stopped> {
     let a = label()?;
     Ok([
@@ -160,6 +180,10 @@ fn event(call: Call) -> Result<Event, Stopped> {
 }
 
 /// Returns the script's events.
+///
+/// # Errors
+///
+/// [`Stopped::Wrong`] where 0 is no core.
 pub fn events() -> Result<[Event; 2], Stopped> {
     Ok([
         event(Call::Signal { address: 0 })?,
@@ -174,6 +198,10 @@ pub const DONE: Outcome = Outcome::Done(Answer::Nothing);
 pub const WORD: Outcome = Outcome::Done(Answer::Word(4));
 
 /// Asserts that a table is the system's.
+///
+/// # Errors
+///
+/// [`Stopped::Wrong`] with the first difference.
 pub fn is_the_system(table: &Table) -> Result<(), Stopped> {
     holds(table.object_count() == 4, Wrong::ObjectCount)?;
     holds(names_the_notification(table), Wrong::Notification)?;
@@ -201,6 +229,10 @@ fn has_the_binding(table: &Table) -> bool {
 }
 
 /// Asserts that a state is that of the system before a call.
+///
+/// # Errors
+///
+/// [`Stopped::Wrong`] with the first difference.
 pub fn is_booted(state: &State) -> Result<(), Stopped> {
     holds(state.next_id() == 4, Wrong::NextNumber)?;
     holds(is_unsignalled(state), Wrong::Pending)?;

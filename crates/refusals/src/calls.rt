@@ -18,6 +18,12 @@ edges close authority slot_edges make_certificate read_certificate write_certifi
 judge check open boot run step step_cnode step_frame step_sixteen run_retype replay";
 
 /// Makes a call after `count` allocations.
+///
+/// # Errors
+///
+/// [`Stopped::Before`] where memory is refused before the call, [`Stopped::Refused`] where the call
+/// was refused memory and answered when it was made again, and [`Stopped::Wrong`] where something
+/// else isn't as it has to be.
 pub fn make<R: AllocGlobal + Threads + Wait + Sync>(
     rt: &R,
     call: &str,

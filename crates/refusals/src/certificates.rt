@@ -11,11 +11,20 @@ use std::thread::Threads;
 use table::Table;
 
 /// Asserts that a certificate is the system's.
+///
+/// # Errors
+///
+/// [`Stopped::Wrong`] where it is another one.
 pub fn is_the_certificate(certificate: &Certificate) -> Result<(), Stopped> {
     are(certificate.lines(), &certificate_lines()?)
 }
 
 /// Makes the system's certificate, and once more if memory was refused.
+///
+/// # Errors
+///
+/// [`Stopped::Refused`] where the call was refused memory and answered when it was made again, and
+/// [`Stopped::Wrong`] where something else isn't as it has to be.
 pub fn makes_a_certificate<R: AllocGlobal>(rt: &R, table: &Table) -> Result<(), Stopped> {
     match met(NO_MEMORY, make(rt.alloc(), table))? {
         Some(made) => passes(made, is_the_certificate),
@@ -24,6 +33,11 @@ pub fn makes_a_certificate<R: AllocGlobal>(rt: &R, table: &Table) -> Result<(), 
 }
 
 /// Reads the system's certificate, and once more if memory was refused.
+///
+/// # Errors
+///
+/// [`Stopped::Refused`] where the call was refused memory and answered when it was made again, and
+/// [`Stopped::Wrong`] where something else isn't as it has to be.
 pub fn reads_a_certificate<R: AllocGlobal>(rt: &R, table: &Table) -> Result<(), Stopped> {
     match met(UNREAD, read(rt.alloc(), CERTIFICATE.as_bytes(), table))? {
         Some(made) => passes(made, is_the_certificate),
@@ -50,6 +64,12 @@ fn writes<R: AllocGlobal>(rt: &R, certificate: &Certificate, table: &Table) -> R
 }
 
 /// Writes the system's certificate, and once more if memory was refused.
+///
+/// # Errors
+///
+/// [`Stopped::Before`] where memory is refused before the call, [`Stopped::Refused`] where the call
+/// was refused memory and answered when it was made again, and [`Stopped::Wrong`] where something
+/// else isn't as it has to be.
 pub fn writes_a_certificate<R: AllocGlobal>(rt: &R, table: &Table) -> Result<(), Stopped> {
     match certificate_of(rt, table) {
         Ok(certificate) => {
@@ -80,6 +100,12 @@ fn verifies<R: AllocGlobal + Threads + Sync>(
 }
 
 /// Verifies the system's certificate, and once more if memory was refused.
+///
+/// # Errors
+///
+/// [`Stopped::Before`] where memory is refused before the call, [`Stopped::Refused`] where the call
+/// was refused memory and answered when it was made again, and [`Stopped::Wrong`] where something
+/// else isn't as it has to be.
 pub fn verifies_a_certificate<R: AllocGlobal + Threads + Sync>(
     rt: &R,
     table: &Table,

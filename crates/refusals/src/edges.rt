@@ -8,6 +8,10 @@ use base::Edge;
 use policy::Policy;
 
 /// Asserts that of the system's edges a policy has these, and that the last of them is its last.
+///
+/// # Errors
+///
+/// [`Stopped::Wrong`] where the policy doesn't have them.
 pub fn has_edges(policy: &Policy, rising: &[Edge]) -> Result<(), Stopped> {
     for edge in &edges()? {
         holds(policy.has(*edge) == rising.contains(edge), Wrong::Edges)?;
@@ -17,6 +21,10 @@ pub fn has_edges(policy: &Policy, rising: &[Edge]) -> Result<(), Stopped> {
 }
 
 /// Asserts that a policy has the system's edges.
+///
+/// # Errors
+///
+/// [`Stopped::Wrong`] where the policy doesn't have them.
 pub fn has_all_edges(policy: &Policy) -> Result<(), Stopped> {
     has_edges(policy, &edges()?)
 }
@@ -48,6 +56,12 @@ fn adds_edges_to(policy: &mut Policy) -> Result<(), Stopped> {
 }
 
 /// Adds the system's edges to a policy, and one once more if memory was refused for it.
+///
+/// # Errors
+///
+/// [`Stopped::Before`] where memory is refused before the call, [`Stopped::Refused`] where the call
+/// was refused memory and answered when it was made again, and [`Stopped::Wrong`] where something
+/// else isn't as it has to be.
 pub fn adds_edges<R: AllocGlobal>(rt: &R, count: u64) -> Result<(), Stopped> {
     spend(rt.alloc(), count)?;
     let mut policy = Policy::new(rt.alloc());
@@ -72,6 +86,12 @@ fn fills_and_lists<R: AllocGlobal>(rt: &R, policy: &mut Policy) -> Result<(), St
 }
 
 /// Lists the edges of a policy, and once more if memory was refused.
+///
+/// # Errors
+///
+/// [`Stopped::Before`] where memory is refused before the call, [`Stopped::Refused`] where the call
+/// was refused memory and answered when it was made again, and [`Stopped::Wrong`] where something
+/// else isn't as it has to be.
 pub fn lists_edges<R: AllocGlobal>(rt: &R, count: u64) -> Result<(), Stopped> {
     spend(rt.alloc(), count)?;
     let mut policy = Policy::new(rt.alloc());
@@ -90,6 +110,12 @@ fn closes_the<R: AllocGlobal>(rt: &R, empty: &Policy) -> Result<(), Stopped> {
 }
 
 /// Closes a policy, and once more if memory was refused.
+///
+/// # Errors
+///
+/// [`Stopped::Before`] where memory is refused before the call, [`Stopped::Refused`] where the call
+/// was refused memory and answered when it was made again, and [`Stopped::Wrong`] where something
+/// else isn't as it has to be.
 pub fn closes<R: AllocGlobal>(rt: &R, count: u64) -> Result<(), Stopped> {
     spend(rt.alloc(), count)?;
     let empty = Policy::new(rt.alloc());

@@ -171,7 +171,7 @@ pub const CALLS: [EngineCall; 31] = [
         policy: EMPTY_POLICY,
         third: "",
         status: 0,
-        text: CLAIMS,
+        text: STRONGEST,
     },
     EngineCall {
         name: "engine_summary",
@@ -371,6 +371,8 @@ edge a runs a
 const TWO_LABELS: &str = "confine-table 1\nlabel a\nlabel b\nend\n";
 
 const CLAIMS: &str = "confine-claims 1\nnone a b\nnone b a\nend\n";
+
+const STRONGEST: &str = "confine-claims 2\nnone * a\nnone * b\nend\n";
 
 const HOLD: &str = "{\"claims\":2,\"verdict\":\"hold\"}\n";
 
@@ -637,6 +639,12 @@ fn is_refused<R: AllocGlobal + Threads + Wait + Sync>(
 /// Makes a call of an engine after `count` allocations.
 ///
 /// A call that is refused memory is made again, and has to be answered then.
+///
+/// # Errors
+///
+/// [`Stopped::Before`] where memory is refused before the call, [`Stopped::Refused`] where the call
+/// was refused memory and answered when it was made again, and [`Stopped::Wrong`] where something
+/// else isn't as it has to be.
 pub fn answers<R: AllocGlobal + Threads + Wait + Sync>(
     rt: &R,
     count: u64,

@@ -12,6 +12,12 @@ fn writes_the<R: AllocGlobal>(rt: &R, log: &Log) -> Result<(), Stopped> {
 }
 
 /// Writes the system's log, and once more if memory was refused.
+///
+/// # Errors
+///
+/// [`Stopped::Before`] where memory is refused before the call, [`Stopped::Refused`] where the call
+/// was refused memory and answered when it was made again, and [`Stopped::Wrong`] where something
+/// else isn't as it has to be.
 pub fn writes_the_log<R: AllocGlobal>(rt: &R, count: u64) -> Result<(), Stopped> {
     spend(rt.alloc(), count)?;
     let [signal, poll] = events()?;

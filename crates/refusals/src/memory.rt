@@ -98,6 +98,10 @@ impl Wrong {
 }
 
 /// Asserts what has to hold, with what it is where it doesn't.
+///
+/// # Errors
+///
+/// [`Stopped::Wrong`] with `wrong` where `is_so` is false.
 pub fn holds(is_so: bool, wrong: Wrong) -> Result<(), Stopped> {
     if is_so {
         Ok(())
@@ -107,6 +111,10 @@ pub fn holds(is_so: bool, wrong: Wrong) -> Result<(), Stopped> {
 }
 
 /// Makes `count` allocations, and gives them back.
+///
+/// # Errors
+///
+/// [`Stopped::Before`] where memory is refused.
 pub fn spend(alloc: Global, count: u64) -> Result<(), Stopped> {
     for number in 0..count {
         prepared(Box::new(alloc, number))?;
@@ -115,6 +123,10 @@ pub fn spend(alloc: Global, count: u64) -> Result<(), Stopped> {
 }
 
 /// Returns what was made before the call.
+///
+/// # Errors
+///
+/// [`Stopped::Before`] where it wasn't made.
 pub fn prepared<T, E: Drop>(made: Result<T, E>) -> Result<T, Stopped>
     ensures { IfOk result (λ value. made ≡ Ok value) }
 {
@@ -126,6 +138,10 @@ pub fn prepared<T, E: Drop>(made: Result<T, E>) -> Result<T, Stopped>
 
 /// Returns what a call has made, or nothing where it was refused memory. Then it has to say so by
 /// this error, and must be made again.
+///
+/// # Errors
+///
+/// [`Stopped::Wrong`] where the call answered another error.
 pub fn met<T, E: PartialEq + Drop>(
     no_memory: E,
     answer: Result<T, E>,
@@ -140,6 +156,10 @@ pub fn met<T, E: PartialEq + Drop>(
 }
 
 /// Returns what a call answered that was made again.
+///
+/// # Errors
+///
+/// [`Stopped::Wrong`] where the call answered an error again.
 pub fn again<T, E: Drop>(answer: Result<T, E>) -> Result<T, Stopped> {
     match answer {
         Ok(value) => Ok(value),
@@ -149,6 +169,10 @@ pub fn again<T, E: Drop>(answer: Result<T, E>) -> Result<T, Stopped> {
 
 /// Asserts that what a call has made passes a test. It is let go here, as a value of any type: a
 /// function that lets go of a `Table` by name has a step for each of its fields, at each way out.
+///
+/// # Errors
+///
+/// That of the test.
 pub fn passes<T: Drop, F: Fn(&T) -> Result<(), Stopped> + Drop>(
     made: T,
     test: F,
@@ -159,6 +183,11 @@ pub fn passes<T: Drop, F: Fn(&T) -> Result<(), Stopped> + Drop>(
 }
 
 /// Ends a call that was refused memory, and is made again: now it has to have made what passes the test.
+///
+/// # Errors
+///
+/// [`Stopped::Wrong`] where the call answered an error again, the error of the test where that
+/// fails, and else [`Stopped::Refused`]: the call was refused memory once.
 pub fn passes_again<T: Drop, E: Drop, F: Fn(&T) -> Result<(), Stopped> + Drop>(
     answer: Result<T, E>,
     test: F,
@@ -170,16 +199,29 @@ pub fn passes_again<T: Drop, E: Drop, F: Fn(&T) -> Result<(), Stopped> + Drop>(
 }
 
 /// Asserts that these items are the expected ones.
+///
+/// # Errors
+///
+/// [`Stopped::Wrong`] where they are others.
 pub fn are<T: PartialEq>(items: &[T], expected: &[T]) -> Result<(), Stopped> {
     holds(items == expected, Wrong::Items)
 }
 
 /// Asserts that a call has made the expected items.
+///
+/// # Errors
+///
+/// [`Stopped::Wrong`] where they are others.
 pub fn are_made<T: PartialEq + Drop>(made: Vec<T>, expected: &[T]) -> Result<(), Stopped> {
     are(&made, expected)
 }
 
 /// Ends a call that was refused memory, and is made again: now it has to make the expected items.
+///
+/// # Errors
+///
+/// [`Stopped::Wrong`] where the call answered an error again or made other items, and else
+/// [`Stopped::Refused`]: the call was refused memory once.
 pub fn are_made_again<T: PartialEq + Drop, E: Drop>(
     answer: Result<Vec<T>, E>,
     expected: &[T],

@@ -22,6 +22,12 @@ fn opens_for<R: AllocGlobal>(rt: &R, accepted: &Accepted<'_>) -> Result<(), Stop
 }
 
 /// Opens a kernel with one seat, and once more if memory was refused.
+///
+/// # Errors
+///
+/// [`Stopped::Before`] where memory is refused before the call, [`Stopped::Refused`] where the call
+/// was refused memory and answered when it was made again, and [`Stopped::Wrong`] where something
+/// else isn't as it has to be.
 pub fn opens<R: AllocGlobal + Threads + Sync>(
     rt: &R,
     table: &Table,

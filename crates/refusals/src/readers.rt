@@ -4,6 +4,12 @@ use crate::memory::{Stopped, UNREAD, are_made, are_made_again, met, spend};
 use evtext::{read_log, read_script};
 
 /// Reads the system's script, and once more if memory was refused.
+///
+/// # Errors
+///
+/// [`Stopped::Before`] where memory is refused before the call, [`Stopped::Refused`] where the call
+/// was refused memory and answered when it was made again, and [`Stopped::Wrong`] where something
+/// else isn't as it has to be.
 pub fn reads_the_script<R: AllocGlobal>(rt: &R, count: u64) -> Result<(), Stopped> {
     spend(rt.alloc(), count)?;
     let events = events()?;
@@ -14,6 +20,12 @@ pub fn reads_the_script<R: AllocGlobal>(rt: &R, count: u64) -> Result<(), Stoppe
 }
 
 /// Reads the system's log, and once more if memory was refused.
+///
+/// # Errors
+///
+/// [`Stopped::Before`] where memory is refused before the call, [`Stopped::Refused`] where the call
+/// was refused memory and answered when it was made again, and [`Stopped::Wrong`] where something
+/// else isn't as it has to be.
 pub fn reads_the_log<R: AllocGlobal>(rt: &R, count: u64) -> Result<(), Stopped> {
     spend(rt.alloc(), count)?;
     let [signal, poll] = events()?;

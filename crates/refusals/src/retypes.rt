@@ -356,6 +356,12 @@ fn try_after_boot<R: AllocGlobal>(rt: &R, table: &Table, trial: Trial) -> Result
 }
 
 /// Tries it in the boot state of a table, after `count` allocations.
+///
+/// # Errors
+///
+/// [`Stopped::Before`] where memory is refused before the call, [`Stopped::Refused`] where the call
+/// was refused memory and answered when it was made again, and [`Stopped::Wrong`] where something
+/// else isn't as it has to be.
 pub fn tried<R: AllocGlobal>(rt: &R, count: u64, trial: Trial) -> Result<(), Stopped> {
     spend(rt.alloc(), count)?;
     let text = match trial {

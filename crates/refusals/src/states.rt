@@ -12,6 +12,11 @@ use objects::State;
 use table::Table;
 
 /// Makes the system's boot state, and once more if memory was refused.
+///
+/// # Errors
+///
+/// [`Stopped::Refused`] where the call was refused memory and answered when it was made again, and
+/// [`Stopped::Wrong`] where something else isn't as it has to be.
 pub fn boots<R: AllocGlobal>(rt: &R, table: &Table) -> Result<(), Stopped> {
     match met(NO_MEMORY, boot(rt.alloc(), table))? {
         Some(made) => passes(made, is_booted),
@@ -47,6 +52,10 @@ fn runs_on<R: AllocGlobal>(rt: &R, state: &mut State) -> Result<(), Stopped>
 }
 
 /// Returns the boot state of a table.
+///
+/// # Errors
+///
+/// [`Stopped::Before`] where memory is refused.
 pub fn booted<R: AllocGlobal>(rt: &R, table: &Table) -> Result<State, Stopped>
     ensures { IfOk result IsWellFormed }
 {
@@ -54,6 +63,12 @@ pub fn booted<R: AllocGlobal>(rt: &R, table: &Table) -> Result<State, Stopped>
 }
 
 /// Runs the system's script, and once more if memory was refused.
+///
+/// # Errors
+///
+/// [`Stopped::Before`] where memory is refused before the call, [`Stopped::Refused`] where the call
+/// was refused memory and answered when it was made again, and [`Stopped::Wrong`] where something
+/// else isn't as it has to be.
 pub fn runs<R: AllocGlobal>(rt: &R, table: &Table) -> Result<(), Stopped> {
     match booted(rt, table) {
         Ok(mut state) => {

@@ -6,6 +6,12 @@ use captext::{read_policy, read_table};
 use table::Table;
 
 /// Reads the system's table, and once more if memory was refused.
+///
+/// # Errors
+///
+/// [`Stopped::Before`] where memory is refused before the call, [`Stopped::Refused`] where the call
+/// was refused memory and answered when it was made again, and [`Stopped::Wrong`] where something
+/// else isn't as it has to be.
 pub fn reads_the_table<R: AllocGlobal>(rt: &R, count: u64) -> Result<(), Stopped> {
     spend(rt.alloc(), count)?;
     match met(UNREAD, read_table(rt.alloc(), TABLE.as_bytes()))? {
@@ -15,6 +21,11 @@ pub fn reads_the_table<R: AllocGlobal>(rt: &R, count: u64) -> Result<(), Stopped
 }
 
 /// Reads the system's policy, and once more if memory was refused.
+///
+/// # Errors
+///
+/// [`Stopped::Refused`] where the call was refused memory and answered when it was made again, and
+/// [`Stopped::Wrong`] where something else isn't as it has to be.
 pub fn reads_the_policy<R: AllocGlobal>(rt: &R, table: &Table) -> Result<(), Stopped> {
     match met(UNREAD, read_policy(rt.alloc(), POLICY.as_bytes(), table))? {
         Some(made) => passes(made, has_all_edges),

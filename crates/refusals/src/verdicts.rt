@@ -13,6 +13,11 @@ fn is_granted(verdict: &Result<Accepted<'_>, Denial>) -> Result<(), Stopped> {
 }
 
 /// Judges the system, and once more if memory was refused.
+///
+/// # Errors
+///
+/// [`Stopped::Refused`] where the call was refused memory and answered when it was made again, and
+/// [`Stopped::Wrong`] where something else isn't as it has to be.
 pub fn accepts<R: AllocGlobal + Threads + Sync>(
     rt: &R,
     table: &Table,
@@ -32,6 +37,11 @@ fn is_accepted(verdict: &Verdict<'_>) -> Result<(), Stopped> {
 }
 
 /// Checks the system, and once more if memory was refused.
+///
+/// # Errors
+///
+/// [`Stopped::Refused`] where the call was refused memory and answered when it was made again, and
+/// [`Stopped::Wrong`] where something else isn't as it has to be.
 pub fn checks<R: AllocGlobal + Threads + Sync>(
     rt: &R,
     table: &Table,

@@ -7,6 +7,11 @@ use policy::Policy;
 use table::Table;
 
 /// Writes the system's table, and once more if memory was refused.
+///
+/// # Errors
+///
+/// [`Stopped::Refused`] where the call was refused memory and answered when it was made again, and
+/// [`Stopped::Wrong`] where something else isn't as it has to be.
 pub fn writes_a_table<R: AllocGlobal>(rt: &R, table: &Table) -> Result<(), Stopped> {
     match met(NO_MEMORY, write_table(rt.alloc(), table))? {
         Some(made) => are_made(made, TABLE.as_bytes()),
@@ -15,6 +20,11 @@ pub fn writes_a_table<R: AllocGlobal>(rt: &R, table: &Table) -> Result<(), Stopp
 }
 
 /// Writes the system's policy, and once more if memory was refused.
+///
+/// # Errors
+///
+/// [`Stopped::Refused`] where the call was refused memory and answered when it was made again, and
+/// [`Stopped::Wrong`] where something else isn't as it has to be.
 pub fn writes_a_policy<R: AllocGlobal>(
     rt: &R,
     policy: &Policy,
@@ -27,6 +37,12 @@ pub fn writes_a_policy<R: AllocGlobal>(
 }
 
 /// Writes the system's script, and once more if memory was refused.
+///
+/// # Errors
+///
+/// [`Stopped::Before`] where memory is refused before the call, [`Stopped::Refused`] where the call
+/// was refused memory and answered when it was made again, and [`Stopped::Wrong`] where something
+/// else isn't as it has to be.
 pub fn writes_a_script<R: AllocGlobal>(rt: &R, count: u64) -> Result<(), Stopped> {
     spend(rt.alloc(), count)?;
     let events = events()?;

@@ -14,6 +14,10 @@ use xml::{Element, read_document};
 /// Says which element of a description has a fault, and which condition it doesn't meet.
 ///
 /// `text` is all of the file called `name`. Where memory was refused that is said, and no line.
+///
+/// # Errors
+///
+/// [`AllocError`] where memory is refused.
 pub fn explain_fault(
     alloc: Global,
     name: &str,
@@ -154,11 +158,12 @@ fn document_words(text: &[u8], number: u64) -> &'static str {
     match number {
         52 => "an attribute is given twice",
         54 =>
-            "a limit of the text is passed: 1 MiB, 66 levels, 20,000 elements, 32 attributes, 4,096 bytes of a value",
-        _ if has_part(text, "<!DOCTYPE") => "this isn't read as XML: document types are refused",
-        _ if has_part(text, "<![CDATA[") => "this isn't read as XML: CDATA is refused",
+            "a limit of the text is exceeded: 1 MiB, 66 levels, 20,000 elements, 32 attributes, 4,096 bytes of a value",
+        _ if has_part(text, "<!DOCTYPE") => "this isn't read as XML: document types aren't allowed",
+        _ if has_part(text, "<![CDATA[") => "this isn't read as XML: CDATA isn't allowed",
         _ => {
-            "this isn't read as XML: there is one root, with elements, attributes of printable ASCII, and comments alone"
+            "this isn't read as XML: only one root is allowed, with elements, attributes of printable ASCII, and \
+             comments"
         }
     }
 }

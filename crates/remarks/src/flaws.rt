@@ -59,7 +59,7 @@ impl fmt::Display for Flaw<'_> {
         match *self {
             Flaw::Element(outer, inner) => tell_element(f, outer, inner),
             Flaw::Attribute(name) => write!(f, "there is no attribute {}", Shown { bytes: name }),
-            Flaw::Form(name, form) => write!(f, "{name} is to be {}", form_words(form)),
+            Flaw::Form(name, form) => write!(f, "{name} must be {}", form_words(form)),
             Flaw::Missing(name) => write!(f, "{name} is missing"),
             Flaw::NoRegion(name) => write!(
                 f,
@@ -71,15 +71,15 @@ impl fmt::Display for Flaw<'_> {
                 "there is no protection domain {}",
                 Shown { bytes: name }
             ),
-            Flaw::Name(line) => write!(f, "line {line} has this name too"),
+            Flaw::Name(line) => write!(f, "line {line} has the same name"),
             Flaw::Id(domain) => write!(f, "this id is given twice in {}", Shown { bytes: domain }),
-            Flaw::Interrupt(line) => write!(f, "line {line} has this interrupt too"),
+            Flaw::Interrupt(line) => write!(f, "line {line} has the same interrupt"),
             Flaw::SecondMachine(line) => write!(
                 f,
-                "line {line} is a virtual machine of this domain too"
+                "this domain already has a virtual machine, in line {line}"
             ),
-            Flaw::Overlap(line) => write!(f, "it has memory of the region in line {line}"),
-            Flaw::Large(name, most) => write!(f, "{name} is at most {most}"),
+            Flaw::Overlap(line) => write!(f, "this region overlaps the region in line {line}"),
+            Flaw::Large(name, most) => write!(f, "{name} must be at most {most}"),
             flaw => f.write_str(plain(flaw)),
         }
     }
@@ -93,19 +93,19 @@ fn tell_element<W: fmt::Write>(
 ) -> fmt::Result {
     let outer = Shown { bytes: outer };
     match (outer.bytes, inner) {
-        (b"", _) => write!(f, "the root is to be {inner}"),
-        (_, "") => write!(f, "nothing stands within {outer}"),
-        _ => write!(f, "within {outer} stand {inner} alone"),
+        (b"", _) => write!(f, "the root must be {inner}"),
+        (_, "") => write!(f, "{outer} can't contain other elements"),
+        _ => write!(f, "{outer} can only contain {inner}"),
     }
 }
 
 fn form_words(form: Form) -> &'static str {
     match form {
         Form::Text => "a text",
-        Form::Number => "a number below 2^64, decimal or hexadecimal after 0x",
+        Form::Number => "a number below 2^64, in decimal, or in hexadecimal after 0x",
         Form::Flag => "true or false",
         Form::PageSize => "0x1000 or 0x200000",
-        Form::Rights => "some of r, w, x, and not w without r",
+        Form::Rights => "some of r, w and x, but not w without r",
         Form::Trigger => "level or edge",
     }
 }
@@ -113,21 +113,23 @@ fn form_words(form: Form) -> &'static str {
 // A sentence without words of its own.
 fn plain(flaw: Flaw<'_>) -> &'static str {
     match flaw {
-        Flaw::Pages => "its size is to be a multiple of the page size",
-        Flaw::Address => "its address is to be a multiple of the page size, and its end below 2^64",
+        Flaw::Pages => "its size must be a multiple of the page size",
+        Flaw::Address =>
+            "its address must be a multiple of the page size, and its end must be below 2^64",
         Flaw::Budget => "its budget is more than its period",
-        Flaw::Mixed => "pp stands at a domain too, and means the opposite there",
+        Flaw::Mixed => "a domain has pp too, and there it means the opposite",
         Flaw::ThirdEnd => "a channel has two ends",
         Flaw::Ends => "it has fewer than two ends",
         Flaw::BothCall => "only one end may have pp",
-        Flaw::Priority => "pp may call only a domain of a higher priority",
+        Flaw::Priority => "an end with pp may only call a domain of a higher priority",
         Flaw::Domains => "there are more than 63 protection domains",
         Flaw::Table =>
-            "its table passes a limit here: 256 labels, cores 0 to 15, times of 1 to 3600000000 microseconds, 4096 slots, or 2^48 bytes of memory",
-        Flaw::Other(50) => "it hasn't its form",
-        Flaw::Other(51) => "a name isn't known",
+            "its table exceeds a limit here: 256 labels, cores 0 to 15, times of 1 to 3600000000 \
+             microseconds, 4096 slots, or 2^48 bytes of memory",
+        Flaw::Other(50) => "its form is wrong",
+        Flaw::Other(51) => "a name is unknown",
         Flaw::Other(52) => "something is given twice",
-        Flaw::Other(54) => "a limit is passed",
-        _ => "it doesn't go together with what stands before",
+        Flaw::Other(54) => "a limit is exceeded",
+        _ => "it doesn't fit what comes before it",
     }
 }

@@ -2,6 +2,7 @@
 use base::Label;
 use captext::label_name;
 use forms::Shown;
+use importing::labelled_of;
 use microkit::{Description, Map, Region, Subject, subjects_of};
 use std::alloc::{AllocError, Global};
 use std::fmt;
@@ -22,6 +23,8 @@ pub enum Matter<'a> {
     Monitor,
     /// A table of so many labels, which is of version 2.
     Labels(usize),
+    /// How many regions have the label of another one.
+    Sharing(usize),
     /// An interrupt, by its number.
     Interrupt(u64),
     /// I/O ports, by the id that a domain of this name has for them.
@@ -44,6 +47,10 @@ pub enum Matter<'a> {
 ///
 /// What is of the whole description comes first, then the notes in the order of their lines. `table` is the
 /// description's.
+///
+/// # Errors
+///
+/// [`AllocError`] where memory is refused.
 pub fn notes_of<'a>(
     alloc: Global,
     description: &'a Description,
@@ -54,6 +61,7 @@ pub fn notes_of<'a>(
     if table.label_count() > 64 {
         add_note(&mut notes, 0, Matter::Labels(table.label_count()))?;
     }
+    add_sharing(alloc, &mut notes, description)?;
     add_names(alloc, &mut notes, description, table)?;
     add_regions(&mut notes, description)?;
     add_domains(&mut notes, description)?;
@@ -63,6 +71,10 @@ pub fn notes_of<'a>(
 }
 
 /// Returns a line for each note, which begins with the file's name.
+///
+/// # Errors
+///
+/// [`AllocError`] where memory is refused.
 pub fn explain_notes(alloc: Global, file: &str, notes: &[Note<'_>]) -> Result<String, AllocError> {
     let mut lines = String::new(alloc);
     for note in notes {
@@ -78,23 +90,27 @@ impl fmt::Display for Note<'_> {
     fn fmt<W: fmt::Write>(&self, f: &mut fmt::Formatter<W>) -> fmt::Result {
         match self.matter {
             Matter::Monitor => f.write_str(
-                "the monitor and the initial task are left out: they have capabilities for all threads, and it is a premise \
-                 that they do nothing once the system runs",
+                "the monitor and the initial task are left out. They have capabilities for all threads. It is \
+                 a premise that they do nothing once the system runs.",
             ),
             Matter::Labels(count) => write!(
                 f,
-                "{count} labels are more than 64: the table is of version 2"
+                "there are {count} labels, more than 64, so the table is of version 2"
+            ),
+            Matter::Sharing(count) => write!(
+                f,
+                "{count} regions have the label of an earlier region, which the same users map with the same rights"
             ),
             Matter::Interrupt(irq) => write!(f, "interrupt {irq} is left out"),
             Matter::Ports(domain, id) => {
                 let domain = Shown { bytes: domain };
-                write!(f, "the I/O ports that `{domain}` has as {id} are left out")
+                write!(f, "the I/O ports of `{domain}` with id {id} are left out")
             }
             Matter::Registers(domain, id) => {
                 let domain = Shown { bytes: domain };
                 write!(
                     f,
-                    "the registers of the virtual processor that `{domain}` has as {id} are left out"
+                    "the registers of the virtual processor of `{domain}` with id {id} are left out"
                 )
             }
             Matter::MonitorCalls(domain) => {
@@ -112,19 +128,21 @@ impl fmt::Display for Note<'_> {
                 let domain = Shown { bytes: domain };
                 write!(
                     f,
-                    "`{domain}` is passive: it is bound to the context on which it runs `init`, which is taken away then"
+                    "`{domain}` is passive: it is bound to the context on which it runs `init`, and loses that context \
+                     after `init`"
                 )
             }
             Matter::Device(region) => {
                 let region = Shown { bytes: region };
                 write!(
                     f,
-                    "`{region}` is at a fixed address and mapped uncached: what its device writes by itself (DMA) is left out"
+                    "`{region}` is at a fixed address and mapped uncached: what its device writes by itself \
+                     (DMA) is left out"
                 )
             }
             Matter::Renamed(name, label) => {
                 let name = Shown { bytes: name };
-                write!(f, "`{name}` is called `{label}`")
+                write!(f, "`{name}` is called `{label}` in the table")
             }
         }
     }
@@ -139,6 +157,21 @@ fn add_note<'a>(
     Ok(())
 }
 
+// Adds how many regions have the label of another one.
+fn add_sharing<'a>(
+    alloc: Global,
+    notes: &mut Vec<Note<'a>>,
+    description: &'a Description,
+) -> Result<(), AllocError> {
+    let subjects = subjects_of(alloc, description)?;
+    let labelled = labelled_of(alloc, description)?;
+    let count = subjects.len().saturating_sub(labelled.len());
+    if count > 0 {
+        add_note(notes, 0, Matter::Sharing(count))?;
+    }
+    Ok(())
+}
+
 // Adds which names were changed. The time of a domain is called after the domain, which has a note.
 fn add_names<'a>(
     alloc: Global,
@@ -146,7 +179,7 @@ fn add_names<'a>(
     description: &'a Description,
     table: &'a Table,
 ) -> Result<(), AllocError> {
-    let subjects = subjects_of(alloc, description)?;
+    let subjects = labelled_of(alloc, description)?;
     for (number, subject) in subjects.iter().enumerate() {
         if let (Some((name, line)), Some(label)) = (
             name_of(description, *subject),

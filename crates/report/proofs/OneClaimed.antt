@@ -2,14 +2,13 @@
 use Rattle.std.proofs.Common.{[], ◌∙◌, ◌∷◌, ◌≡◌, All, List, Option, ap, subst, sym}
 use Rattle.verdict.specs.declared.denial.Denial.{Denial}
 use Rattle.verdict.specs.Verdict.{rule_name}
-use Rattle.claims.specs.ClaimsText.{claims_text}
-use Rattle.claims.proofs.OneList.{broken_once, none_broken, strongest_once}
+use Rattle.claims.proofs.OneList.{broken_once, none_broken}
 use Rattle.base.specs.declared.edge.Edge.{Edge}
 use Rattle.machine.specs.Layout.{Layout}
 use Rattle.stated.specs.declared.{claim.Stated.Stated, deciding.Broken.Broken}
 use Rattle.stated.specs.declared.lines.TheConstants.StatedLines as StatedLines
-use Rattle.stated.specs.Holding.{AreBroken}
-use Rattle.stated.proofs.OneList.{broken_once as broken_once_stated}
+use Rattle.stated.specs.{Holding.AreBroken, Strongest.AreStrongest, Text.lines_text}
+use Rattle.stated.proofs.{OneList.{broken_once as broken_once_stated}, StrongestLaws.strongest_once}
 use Rattle.commands.specs.declared.later.ClaimList.TheVariants.{First, Second}
 use Rattle.reptext.specs.Breaches.{breaches_data}
 use Rattle.reptext.specs.Places.{place_names}
@@ -18,7 +17,7 @@ use Rattle.report.specs.Claimed.{JudgesClaimList, JudgesClaims, JudgesStated, Te
 use Rattle.report.specs.Claimed.{some_broken}
 use Rattle.report.proofs.OneAnswer.{JudgesOnce, JudgesSystemOnce}
 use Rattle.report.proofs.OneReport.{one_denial, verdict_once}
-use Rattle.claims.specs.Holding.{AreStrongest, Holds, IsFirstBroken}
+use Rattle.claims.specs.Holding.{Holds, IsFirstBroken}
 use Rattle.verdict.specs.Extents.{IsReachOf, Reach}
 use Rattle.verdict.proofs.Extents.{one_reach}
 
@@ -77,5 +76,5 @@ pub strongest_told_once : JudgesSystemOnce WritesStrongest
 strongest_told_once t edges =
     verdict_once t edges (TellsStrongest t edges)
     (λ text other is also.
-    is.told ∙ ap (claims_text t) (strongest_once t also.reach is.claims also.claims
-    (subst (λ r. AreStrongest t r is.claims) (one_reach t edges is.reach also.reach is.is_reach also.is_reach) is.strongest) also.strongest) ∙ sym also.told)
+    is.told ∙ ap (lines_text t) (strongest_once t also.reach is.lines also.lines
+    (subst (λ r. AreStrongest t r is.lines) (one_reach t edges is.reach also.reach is.is_reach also.is_reach) is.strongest) also.strongest) ∙ sym also.told)

@@ -1,6 +1,6 @@
 -- What is told of claims on a table and a policy, and of the strongest that hold (confine's own; what they claim is kept by the integrity
 -- of 'seL4 Enforces Integrity', section 4, restated).
-use Rattle.std.specs.{List.{Contains, filter}, Prelude.{[], ℕ, ◌∷◌, ◌≡◌, All, List, Ok, Option, Some, is_some, length}}
+use Rattle.std.specs.{List.{Contains, filter}, Prelude.{[], ℕ, ◌∷◌, ◌≡◌, All, List, Option, Some, is_some, length}}
 use Rattle.base.specs.declared.edge.Edge.{Edge}
 use Rattle.machine.specs.Layout.{Layout}
 use Rattle.policy.specs.Policy.{allows}
@@ -8,13 +8,11 @@ use Rattle.verdict.specs.declared.denial.Denial.{Denial}
 use Rattle.verdict.specs.Verdict.{IsAccepted, IsLeastBroken, rule_name}
 use Rattle.claims.specs.declared.claim.Claim.{Claim}
 use Rattle.claims.specs.declared.holding.BrokenClaim.{BrokenClaim}
-use Rattle.claims.specs.ClaimsText.{claims_text}
-use Rattle.claims.specs.Holding.{AreStrongest, Holds, IsFirstBroken, IsKept}
-use Rattle.claims.specs.Reading.{read_claims_of}
+use Rattle.claims.specs.Holding.{Holds, IsFirstBroken, IsKept}
 use Rattle.stated.specs.declared.{claim.Stated.Stated, deciding.Broken.Broken}
 use Rattle.stated.specs.declared.lines.TheConstants.StatedLines as StatedLines
 use Rattle.stated.specs.Holding as stated
-use Rattle.stated.specs.Holding.{AreBroken}
+use Rattle.stated.specs.{Holding.AreBroken, Strongest.AreStrongest, Text.lines_text}
 use Rattle.forms.specs.declared.file.File.{File as file}
 use Rattle.reptext.specs.Breaches.{breaches_data}
 use Rattle.reptext.specs.Places.{place_names}
@@ -63,16 +61,15 @@ JudgesClaimList t edges (Second lines) = JudgesStated t edges lines
 abbrev pub AreJudged : {T P S O : Type 0} → Input T → Input P → Input S → Output O → End → Type 0
 AreJudged = IsDoneOnThree file.Claims read_claim_list_of JudgesClaimList
 
--- a text is that of the strongest claims that hold of a table and a policy that are accepted. It is read as these, and what they claim
--- is kept in every run
+-- a text is that of the strongest claims that hold of a table and a policy that are accepted. What they claim is kept in every run
 pub record TellsStrongest (t : Layout) (edges : List Edge) (text : List ℕ) : Type 0 where
   pub reach : Reach
   pub is_reach : IsReachOf t edges reach
-  pub claims : List Claim
-  pub strongest : AreStrongest t reach claims
-  pub kept : All (IsKept t) claims
-  pub told : text ≡ claims_text t claims
-  pub read : read_claims_of t text ≡ Ok claims
+  pub lines : List (Option Stated)
+  pub strongest : AreStrongest t reach lines
+  pub none_broken : AreBroken t reach StatedLines.FIRST lines []
+  pub kept : (claim : Stated) → Contains lines (Some claim) → stated.IsKept t claim
+  pub told : text ≡ lines_text t lines
 
 -- the answer to a table and a policy whose strongest claims are asked for
 abbrev pub WritesStrongest : Layout → List Edge → List ℕ → ℕ → Type 0

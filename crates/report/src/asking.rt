@@ -1,3 +1,4 @@
+//! The commands `why` and `draw`: what a label may do to another, and the drawing of all labels.
 ghost use Rattle.std.specs.Prelude.{ℕ, ◌++◌, ◌<◌, ◌↔◌, ◌≡◌, IfErr, IfOk, false, true};
 ghost use Rattle.base.specs.{Labels.is_in, Refusals.out_of_memory};
 ghost use Rattle.base.specs.declared.label.TheConstants.Label as LabelLimits;
@@ -45,7 +46,8 @@ where
     requires policy { P.failed policy.old ≡ false }
     requires out { O.failed out.old ≡ false }
     ensures { questions.IsTold basis actor.now object.now (input T.remaining T.failed table.old table.new)
-        (input P.remaining P.failed policy.old policy.new) (output O.contents O.failed O.is_flushed out.old out.new) result }
+        (input P.remaining P.failed policy.old policy.new)
+        (output O.contents O.failed O.is_flushed out.old out.new) result }
 {
     let system = load_system(alloc, table, policy, listener);
     let answer = why_judged(rt, alloc, basis, &system, actor, object);
@@ -61,7 +63,8 @@ fn why_judged<R: Threads + Sync>(
     actor: &str,
     object: &str,
 ) -> Result<Answer, Stop>
-    ensures { SystemIsJudged (λ t. questions.unlabelled t actor.now object.now) (questions.Tells basis actor.now object.now) loaded.now result }
+    ensures { SystemIsJudged (λ t. questions.unlabelled t actor.now object.now)
+        (questions.Tells basis actor.now object.now) loaded.now result }
 {
     match loaded {
         Ok(System { table, policy }) => explained(rt, alloc, basis, table, policy, actor, object),
@@ -79,7 +82,8 @@ fn explained<R: Threads + Sync>(
     actor: &str,
     object: &str,
 ) -> Result<Answer, Stop>
-    ensures { IsJudgedSo (questions.unlabelled table.now actor.now object.now) (questions.Tells basis actor.now object.now table.now policy.now) result }
+    ensures { IsJudgedSo (questions.unlabelled table.now actor.now object.now)
+        (questions.Tells basis actor.now object.now table.now policy.now) result }
 {
     let Some(actor) = table.label_named(actor) else {
         return Err(Stop::NoLabel(Asked::Actor));
@@ -153,8 +157,9 @@ fn headed(alloc: Global, line: &str, table: &Table, edges: &[Edge]) -> Result<Ve
 
 /// Draws who may change or take from whom, as Graphviz reads it.
 ///
-/// Writes the labels, or the programs alone with the memory that they use, and an arrow from each to each other
-/// whose objects it may change or make smaller, with status 0; or the report of the denial, with status 1; or the report of the first fault, with status 2.
+/// Writes the labels, or the programs alone with the memory that they use, and an arrow from each
+/// to each other whose objects it may change or make smaller, with status 0; or the report of the
+/// denial, with status 1; or the report of the first fault, with status 2.
 pub fn draw<R, T, P, L, O>(
     rt: &R,
     alloc: Global,
@@ -175,7 +180,8 @@ where
     requires policy { P.failed policy.old ≡ false }
     requires out { O.failed out.old ≡ false }
     ensures { questions.IsDrawn basis picture (input T.remaining T.failed table.old table.new)
-        (input P.remaining P.failed policy.old policy.new) (output O.contents O.failed O.is_flushed out.old out.new) result }
+        (input P.remaining P.failed policy.old policy.new)
+        (output O.contents O.failed O.is_flushed out.old out.new) result }
 {
     let system = load_system(alloc, table, policy, listener);
     let answer = drawn(rt, alloc, basis, picture, &system);

@@ -1,3 +1,4 @@
+//! The command `check`.
 ghost use Rattle.std.specs.Prelude.{ℕ, ◌<◌, ◌≡◌, ◌≤◌, IfOk, false};
 ghost use Rattle.commands.specs.{Commands.{SystemIsJudged, input, no_label, output}, Ends.status_of};
 ghost use Rattle.report.specs.Answers as answers;
@@ -39,7 +40,8 @@ where
     requires out { O.failed out.old ≡ false }
     requires workers { (1 ≤ workers) × (workers ≤ 16) }
     ensures checked { answers.IsChecked on_accept (input T.remaining T.failed table.old table.new)
-        (input P.remaining P.failed policy.old policy.new) (output O.contents O.failed O.is_flushed out.old out.new) result }
+        (input P.remaining P.failed policy.old policy.new)
+        (output O.contents O.failed O.is_flushed out.old out.new) result }
     ensures arrived { status_of result ≡ 0 → (worker : ℕ) → worker < workers → G.HasArrived gate.now worker }
 {
     let system = load_system(alloc, table, policy, listener);
@@ -58,7 +60,8 @@ fn checked<R: Threads + Sync, G: Gate + Sync>(
 ) -> Result<Answer, Stop>
     requires workers { (1 ≤ workers) × (workers ≤ 16) }
     ensures judged { SystemIsJudged no_label (answers.Checks on_accept) loaded.now result }
-    ensures arrived { IfOk result (λ answer. answer.status ≡ 0 → (worker : ℕ) → worker < workers → G.HasArrived gate.now worker) }
+    ensures arrived { IfOk result (λ answer. answer.status ≡ 0
+        → (worker : ℕ) → worker < workers → G.HasArrived gate.now worker) }
 {
     let System { table, policy } = match loaded {
         Ok(system) => system,

@@ -1,3 +1,4 @@
+//! The command `claims`: whether claims hold, and the strongest claims that do.
 ghost use Rattle.std.specs.Prelude.{◌≡◌, ◌≤◌, All, IfNone, IfOk, IfSome, false, length};
 ghost use Rattle.claims.specs.Holding.{Holds, IsFirstBroken, IsKept};
 ghost use Rattle.commands.specs.Commands.{SystemIsJudged, ThreeIsJudged, input, no_label, output};
@@ -6,11 +7,11 @@ ghost use Rattle.report.specs.Claimed as claimed;
 
 use crate::{End, Finding, Listener, Sink, Source};
 use base::Refusal;
-use claims::{Claims, first_broken, strongest};
+use claims::{Claims, first_broken};
 use commands::{Answer, ClaimList, Stop, System, Three, denied, load_system, load_three, tell};
 use deal::Open;
 use reptext::{breaches_report, broken_report, hold_report};
-use stated::{StatedLines, all_broken};
+use stated::{StatedLines, all_broken, strongest};
 use std::alloc::Global;
 use std::thread::Threads;
 use verdict::{Accepted, judge};
@@ -157,7 +158,8 @@ where
     requires policy { P.failed policy.old ≡ false }
     requires out { O.failed out.old ≡ false }
     ensures { claimed.AreWritten (input T.remaining T.failed table.old table.new)
-        (input P.remaining P.failed policy.old policy.new) (output O.contents O.failed O.is_flushed out.old out.new) result }
+        (input P.remaining P.failed policy.old policy.new)
+        (output O.contents O.failed O.is_flushed out.old out.new) result }
 {
     let system = load_system(alloc, table, policy, listener);
     let answer = strongest_judged(rt, alloc, &system);
@@ -188,6 +190,6 @@ fn strongest_text(alloc: Global, accepted: &Accepted<'_>) -> Result<Vec<u8>, Ref
 {
     let bounds = accepted.bounds();
     let _ = bounds.actors();
-    let claims = strongest(alloc, &bounds)?;
-    claims::write(alloc, &claims, accepted.table())
+    let lines = strongest(alloc, &bounds)?;
+    stated::write(alloc, &lines, accepted.table())
 }

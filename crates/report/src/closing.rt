@@ -1,3 +1,4 @@
+//! The command `close`: the least policy to which a table keeps, and what a policy lacks of it.
 ghost use Rattle.std.specs.Prelude.{[], ◌≡◌, ◌≤◌, IfOk, false};
 ghost use Rattle.captext.specs.PolicyText.{edge_lines};
 ghost use Rattle.commands.specs.Commands.{IsJudged, SystemIsJudged, input, no_label, output};
@@ -35,7 +36,8 @@ where
     requires policy { P.failed policy.old ≡ false }
     requires out { O.failed out.old ≡ false }
     ensures { closings.IsClosedOver on_close (input T.remaining T.failed table.old table.new)
-        (input P.remaining P.failed policy.old policy.new) (output O.contents O.failed O.is_flushed out.old out.new) result }
+        (input P.remaining P.failed policy.old policy.new)
+        (output O.contents O.failed O.is_flushed out.old out.new) result }
 {
     let system = load_system(alloc, table, policy, listener);
     let answer = system_closed(alloc, &system, on_close);
@@ -99,7 +101,8 @@ fn closed(
     policy: &Policy,
     on_close: OnClose,
 ) -> Result<Answer, Refusal>
-    ensures right { IfOk result (λ answer. closings.Closes on_close table.now policy.now answer.text.items answer.status) }
+    ensures right { IfOk result
+        (λ answer. closings.Closes on_close table.now policy.now answer.text.items answer.status) }
     ensures exit { IfOk result (λ answer. answer.status ≤ 2) }
 {
     match on_close {
@@ -123,7 +126,8 @@ fn least(alloc: Global, table: &Table, policy: &Policy) -> Result<Policy, Refusa
 
 /// The text of the least policy.
 fn whole_answer(alloc: Global, table: &Table, policy: &Policy) -> Result<Answer, Refusal>
-    ensures right { IfOk result (λ answer. closings.Closes OnClose.Policy table.now policy.now answer.text.items answer.status) }
+    ensures right { IfOk result
+        (λ answer. closings.Closes OnClose.Policy table.now policy.now answer.text.items answer.status) }
     ensures exit { IfOk result (λ answer. answer.status ≤ 2) }
 {
     // Laws about tables and their boot states.
@@ -136,7 +140,8 @@ fn whole_answer(alloc: Global, table: &Table, policy: &Policy) -> Result<Answer,
 
 /// The lines of the edges that the policy lacks, and whether there are any.
 fn missing_answer(alloc: Global, table: &Table, policy: &Policy) -> Result<Answer, Refusal>
-    ensures right { IfOk result (λ answer. closings.Closes OnClose.Missing table.now policy.now answer.text.items answer.status) }
+    ensures right { IfOk result
+        (λ answer. closings.Closes OnClose.Missing table.now policy.now answer.text.items answer.status) }
     ensures exit { IfOk result (λ answer. answer.status ≤ 2) }
 {
     // Laws about tables, their boot states, and verdicts on these.
@@ -150,7 +155,8 @@ fn missing_answer(alloc: Global, table: &Table, policy: &Policy) -> Result<Answe
 /// The lines of the edges that the policy has and the table and the rules don't ask for, and whether there
 /// are any.
 fn surplus_answer(alloc: Global, table: &Table, policy: &Policy) -> Result<Answer, Refusal>
-    ensures right { IfOk result (λ answer. closings.Closes OnClose.Surplus table.now policy.now answer.text.items answer.status) }
+    ensures right { IfOk result
+        (λ answer. closings.Closes OnClose.Surplus table.now policy.now answer.text.items answer.status) }
     ensures exit { IfOk result (λ answer. answer.status ≤ 2) }
 {
     // Laws about tables, their boot states, and verdicts on these.
@@ -168,8 +174,10 @@ fn lacked_answer(
     policy: &Policy,
     other: &Policy,
 ) -> Result<Answer, Refusal>
-    ensures text { IfOk result (λ answer. answer.text.items ≡ edge_lines table.now (closings.missing_edges policy.now other.now)) }
-    ensures status { IfOk result (λ answer. answer.status ≡ closings.missing_status (closings.missing_edges policy.now other.now)) }
+    ensures text { IfOk result (λ answer. answer.text.items
+        ≡ edge_lines table.now (closings.missing_edges policy.now other.now)) }
+    ensures status { IfOk result (λ answer. answer.status
+        ≡ closings.missing_status (closings.missing_edges policy.now other.now)) }
     ensures exit { IfOk result (λ answer. answer.status ≤ 2) }
 {
     let missing = missing_edges(alloc, policy, other)?;

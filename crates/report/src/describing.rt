@@ -1,3 +1,4 @@
+//! The command `import`.
 ghost use Rattle.std.specs.Prelude.{◌<◌, ◌≡◌, IfErr, IfOk, false, length};
 ghost use Rattle.base.specs.Refusals.{out_of_memory};
 ghost use Rattle.captext.specs.PolicyText.{label_name};

@@ -1,17 +1,22 @@
+//! The law that reports are functions of the bytes of files.
 ghost use Rattle.std.specs.Prelude.{[], ℕ, List};
 ghost use Rattle.evtext.specs.{Log.read_log_of, Script.read_script_of};
 ghost use Rattle.certificate.specs.Reading.{read_certificate_of};
 ghost use Rattle.forms.specs.declared.file.File.TheVariants as file;
 ghost use Rattle.commands.specs.Claims.{read_claim_list_of};
-ghost use Rattle.commands.specs.declared.choices.{Basis.Basis, OnAccept.OnAccept, OnClose.OnClose, OnImport.OnImport, Picture.Picture};
+ghost use Rattle.commands.specs.declared.choices.{Basis.Basis, OnAccept.OnAccept, OnClose.OnClose, OnImport.OnImport};
+ghost use Rattle.commands.specs.declared.choices.Picture.{Picture};
 ghost use Rattle.report.specs.Answers.{Checks, Verifies};
-ghost use Rattle.report.specs.{Claimed.{JudgesClaimList, WritesStrongest}, Closings.Closes, Imports.Imports, Questions.{Draws, Lists, Tells}, Replays.Replays, Summaries.Sums};
-ghost use Rattle.report.specs.OneAnswer.{DescriptionHasOneAnswer, RunsInMemory, SystemHasOneAnswer, TableHasOneAnswer, ThreeHaveOneAnswer};
+ghost use Rattle.report.specs.{Claimed.{JudgesClaimList, WritesStrongest}, Closings.Closes, Imports.Imports};
+ghost use Rattle.report.specs.{Questions.{Draws, Lists, Tells}, Replays.Replays, Summaries.Sums};
+ghost use Rattle.report.specs.OneAnswer.{DescriptionHasOneAnswer, RunsInMemory, SystemHasOneAnswer, TableHasOneAnswer};
+ghost use Rattle.report.specs.OneAnswer.{ThreeHaveOneAnswer};
 
-/// A law: a report is a function of the bytes of the files. What a command writes, and its status, are
-/// the same whenever and wherever it is carried out. So is the log of a run in which no call was refused
-/// memory. Of a split run this isn't so: its log is one of those that the cores' events may come to, each
-/// core's in their order. Nor is it so of `show`, which may answer with any run that is as it asks.
+/// Proves that a report is a function of the bytes of the files. What a command writes, and its
+/// status, are the same whenever and wherever it is carried out. So is the log of a run in which no
+/// call was refused memory. It isn't so of a split run: its log is one of those that the cores'
+/// events may come to, each core's in their order. Nor is it so of `show`, which may answer with
+/// any run that is as it asks.
 pub fn reports_are_functions_of_the_bytes()
     ensures check { (written : OnAccept) → SystemHasOneAnswer (Checks written) }
     ensures verify { ThreeHaveOneAnswer file.Certificate read_certificate_of Verifies }

@@ -1,3 +1,4 @@
+//! The command `replay`.
 ghost use Rattle.std.specs.Prelude.{◌≡◌, ◌≤◌, IfOk, false};
 ghost use Rattle.machine.specs.{Boot.IsBoot, WellFormed.IsWellFormed};
 ghost use Rattle.commands.specs.Commands.{ThreeIsJudged, input, output};
@@ -60,7 +61,8 @@ fn log_replayed(alloc: Global, loaded: &Result<Three<Entries>, Stop>) -> Result<
 
 /// The answer to a log: the text and status of what its replay comes to.
 fn replayed(alloc: Global, table: &Table, policy: &Policy, log: &Entries) -> Result<Answer, Refusal>
-    ensures right { IfOk result (λ answer. replays.Replays table.now policy.now log.now answer.text.items answer.status) }
+    ensures right { IfOk result
+        (λ answer. replays.Replays table.now policy.now log.now answer.text.items answer.status) }
     ensures exit { IfOk result (λ answer. answer.status ≤ 2) }
 {
     let mut state = boot(alloc, table)?;
@@ -79,7 +81,8 @@ fn replayed_from(
 ) -> Result<Answer, Refusal>
     requires boot { IsBoot table.now state.old }
     requires well_formed { IsWellFormed state.old }
-    ensures right { IfOk result (λ answer. replays.Replays table.now policy.now entries.now answer.text.items answer.status) }
+    ensures right { IfOk result
+        (λ answer. replays.Replays table.now policy.now entries.now answer.text.items answer.status) }
     ensures exit { IfOk result (λ answer. answer.status ≤ 2) }
 {
     if let Some(at) = kernel::replay(state, entries)? {
@@ -96,8 +99,8 @@ fn replayed_from(
     }
 }
 
-/// What the kernel answers to the event of an entry, from 0, where it makes the steps of the entries before: none where
-/// these are no steps, and where there is no such entry.
+/// Returns what the kernel answers to the event of an entry, from 0, after the steps of the entries
+/// before. It is `None` where these are no steps, and where there is no such entry.
 ///
 /// # Errors
 ///

@@ -1,3 +1,4 @@
+//! The command `run`, where one thread makes the calls.
 ghost use Rattle.std.specs.Prelude.{◌≡◌, IfOk, None, false};
 ghost use Rattle.commands.specs.Commands.{ThreeIsJudged, input, output};
 ghost use Rattle.report.specs.Answers as answers;

@@ -1,3 +1,4 @@
+//! The command `show`.
 ghost use Rattle.std.specs.Prelude.{◌≡◌, ◌≤◌, IfErr, IfOk, false};
 ghost use Rattle.base.specs.Refusals.{out_of_memory};
 ghost use Rattle.commands.specs.Commands.{IsJudgedSo, SystemIsJudged, input, output};
@@ -42,7 +43,8 @@ where
     requires policy { P.failed policy.old ≡ false }
     requires out { O.failed out.old ≡ false }
     ensures { shows.IsShownTo sought actor.now object.now (input T.remaining T.failed table.old table.new)
-        (input P.remaining P.failed policy.old policy.new) (output O.contents O.failed O.is_flushed out.old out.new) result }
+        (input P.remaining P.failed policy.old policy.new)
+        (output O.contents O.failed O.is_flushed out.old out.new) result }
 {
     let system = load_system(alloc, table, policy, listener);
     let answer = show_judged(rt, alloc, sought, &system, actor, object);
@@ -58,7 +60,8 @@ fn show_judged<R: Threads + Sync>(
     actor: &str,
     object: &str,
 ) -> Result<Answer, Stop>
-    ensures { SystemIsJudged (λ t. unlabelled t actor.now object.now) (shows.Shows sought actor.now object.now) loaded.now result }
+    ensures { SystemIsJudged (λ t. unlabelled t actor.now object.now)
+        (shows.Shows sought actor.now object.now) loaded.now result }
 {
     match loaded {
         Ok(System { table, policy }) => shown(rt, alloc, sought, table, policy, actor, object),
@@ -76,7 +79,8 @@ fn shown<R: Threads + Sync>(
     actor: &str,
     object: &str,
 ) -> Result<Answer, Stop>
-    ensures { IsJudgedSo (unlabelled table.now actor.now object.now) (shows.Shows sought actor.now object.now table.now policy.now) result }
+    ensures { IsJudgedSo (unlabelled table.now actor.now object.now)
+        (shows.Shows sought actor.now object.now table.now policy.now) result }
 {
     let Some(actor) = table.label_named(actor) else {
         return Err(Stop::NoLabel(Asked::Actor));
@@ -138,7 +142,8 @@ fn bounded_answer(
     bound: Extent,
     most: u64,
 ) -> Result<Answer, Refusal>
-    ensures told { IfOk result (λ answer. shows.TellsRun table.now question.now bound most answer.text.items answer.status) }
+    ensures told { IfOk result
+        (λ answer. shows.TellsRun table.now question.now bound most answer.text.items answer.status) }
     ensures exit { IfOk result (λ answer. answer.status ≤ 2) }
     ensures memory { IfErr result (λ refusal. refusal ≡ out_of_memory) }
 {
@@ -156,7 +161,8 @@ fn found_answer(
     bound: Extent,
     most: u64,
 ) -> Result<Answer, Refusal>
-    ensures told { IfOk result (λ answer. shows.TellsFound table.now question.now bound most answer.text.items answer.status) }
+    ensures told { IfOk result
+        (λ answer. shows.TellsFound table.now question.now bound most answer.text.items answer.status) }
     ensures exit { IfOk result (λ answer. answer.status ≤ 2) }
     ensures memory { IfErr result (λ refusal. refusal ≡ out_of_memory) }
 {

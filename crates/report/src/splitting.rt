@@ -1,3 +1,4 @@
+//! The command `run`, where a worker for each core makes the calls.
 ghost use Rattle.std.specs.Prelude.{◌≡◌, IfOk, None, false};
 ghost use Rattle.commands.specs.Commands.{ThreeIsJudged, input, output};
 ghost use Rattle.report.specs.Answers as answers;
@@ -12,8 +13,9 @@ use std::sync::Wait;
 use std::thread::Threads;
 use verdict::{Accepted, judge};
 
-/// Checks a table against a policy, and makes a script's calls where they are accepted: each core's by a worker of
-/// its own, in the script's order. A worker that has calls arrives at the gate first; workers are numbered by rising core.
+/// Checks a table against a policy, and makes a script's calls where they are accepted: each core's
+/// by a worker of its own, in the script's order. A worker that has calls arrives at the gate
+/// first; workers are numbered by rising core.
 ///
 /// Writes the log, in the order in which the calls were made, with status 0; or the report of the denial, with
 /// status 1; or the report of the first fault, with status 2. What is promised holds if it returns: a worker waits

@@ -1,3 +1,4 @@
+//! The command `summary`.
 ghost use Rattle.std.specs.Prelude.{◌≡◌, IfErr, IfOk, false};
 ghost use Rattle.base.specs.Refusals.{out_of_memory};
 ghost use Rattle.commands.specs.Commands.{SystemIsJudged, input, no_label, output};
@@ -33,7 +34,8 @@ where
     requires policy { P.failed policy.old ≡ false }
     requires out { O.failed out.old ≡ false }
     ensures { summaries.AreSummed (input T.remaining T.failed table.old table.new)
-        (input P.remaining P.failed policy.old policy.new) (output O.contents O.failed O.is_flushed out.old out.new) result }
+        (input P.remaining P.failed policy.old policy.new)
+        (output O.contents O.failed O.is_flushed out.old out.new) result }
 {
     let system = load_system(alloc, table, policy, listener);
     let answer = summed(rt, alloc, &system);

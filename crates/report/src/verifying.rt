@@ -1,3 +1,4 @@
+//! The command `verify`.
 ghost use Rattle.std.specs.Prelude.{◌≡◌, false};
 ghost use Rattle.commands.specs.Commands.{ThreeIsJudged, input, output};
 ghost use Rattle.report.specs.Answers as answers;

@@ -1,7 +1,8 @@
 //! The report of claims that don't hold.
 ghost use Rattle.std.specs.{List.flat_map, Prelude.{◌++◌, ◌≡◌, IfOk, OnOk, map, option_copied}};
 ghost use Rattle.serde_json.specs.View.{view};
-ghost use Rattle.reptext.specs.Breaches.{breaches_data, claim_at, failure_data, names_both, pair_data, plain_data, told};
+ghost use Rattle.reptext.specs.Breaches.{breaches_data, claim_at, failure_data, names_both, pair_data, plain_data};
+ghost use Rattle.reptext.specs.Breaches.{told};
 ghost use Rattle.reptext.specs.Reports.{line_of, names_data};
 ghost use Rattle.captext.specs.PolicyText.{label_name as label_name_of};
 ghost use Rattle.std.specs.Prelude.{[], ◌∷◌};
@@ -70,7 +71,8 @@ fn push_value(
     broken: &Broken,
     values: &mut Vec<Value>,
 ) -> Result<(), AllocError>
-    ensures { OnOk result (map view values.new.items ≡ map view values.old.items ++ told table.now lines.now broken.now) }
+    ensures { OnOk result (map view values.new.items
+        ≡ map view values.old.items ++ told table.now lines.now broken.now) }
 {
     if let Some(claim) = claim_at(lines, broken.line) {
         values.push(value_of(alloc, table, claim, broken)?)?;

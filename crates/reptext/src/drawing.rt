@@ -1,4 +1,6 @@
-ghost use Rattle.std.specs.{List.flat_map, Prelude.{[], ◌++◌, ◌<◌, ◌∷◌, ◌≡◌, IfErr, IfOk, List, OnErr, OnOk, length, string_bytes}};
+//! The drawing of who may change or take from whom.
+ghost use Rattle.std.specs.List.{flat_map};
+ghost use Rattle.std.specs.Prelude.{[], ◌++◌, ◌<◌, ◌∷◌, ◌≡◌, IfErr, IfOk, List, OnErr, OnOk, length, string_bytes};
 ghost use Rattle.base.specs.{declared.edge.Edge.Edge as EdgeOf, Refusals.out_of_memory};
 ghost use Rattle.verdict.specs.Extents.{reach_by};
 ghost use Rattle.reptext.specs.Drawing.{AddsArrows, IsDrawing, arrow_line, label_line, pairs_of, pairs_with};
@@ -80,7 +82,8 @@ fn write_arrows_from(
     actors: Labels,
     actor: Label,
 ) -> Result<(), Refusal>
-    ensures drawn { OnOk result (AddsArrows (reach_by policy.now actors) table.now (pairs_with (length table.now.labels) actor)
+    ensures drawn { OnOk result (AddsArrows (reach_by policy.now actors) table.now
+        (pairs_with (length table.now.labels) actor)
         (string_bytes text.old) (string_bytes text.new)) }
     ensures memory { IfErr result (λ refusal. refusal ≡ out_of_memory) }
 {

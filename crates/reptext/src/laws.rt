@@ -1,3 +1,4 @@
+//! The law on the reports of an upgraded table.
 ghost use Rattle.std.specs.Prelude.{ℕ, ◌↔◌, ◌≡◌, List, Option};
 ghost use Rattle.base.specs.declared.{edge.Edge.Edge, ids.ObjId.ObjId};
 ghost use Rattle.machine.specs.{declared.object.ObjectKind.ObjectKind, Layout.{Layout, upgraded}, Machine.Machine};
@@ -5,9 +6,9 @@ ghost use Rattle.policy.specs.Domain.{EdgeTest};
 ghost use Rattle.verdict.specs.{declared.denial.Denial.Denial, Rules.Excess, Verdict.IsOutside};
 ghost use Rattle.reptext.specs.{Places.{place_names, place_names_by}, Reports.IsCheckReport};
 
-/// A law: an upgraded table keeps the reports of its acceptance, the names at the place of each denial,
-/// and the first place outside of a policy in each state of its runs, with the names there. None of these
-/// depends on the version.
+/// Proves that an upgraded table keeps the reports of its acceptance, the names at the place of
+/// each denial, and the first place outside of a policy in each state of its runs, with the names
+/// there. None of these depends on the version.
 pub fn upgraded_tables_are_reported_alike()
     ensures report { (t : Layout) (edges : List Edge) (text : List ℕ)
         → IsCheckReport (upgraded t) edges text ↔ IsCheckReport t edges text }

@@ -1,5 +1,6 @@
-//! The texts that the program writes besides tables, policies, certificates and logs: reports, each one JSON object on a line, and the
-//! names at the place that it tells; the list of a table's objects; and the drawing of who may change or take from whom.
+//! The texts that the program writes besides tables, policies, certificates and logs: reports, each
+//! one JSON object on a line, and the names at the place that it tells; the list of a table's
+//! objects; and the drawing of who may change or take from whom.
 #![tactic(auto)]
 
 mod breaches;

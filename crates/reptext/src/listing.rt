@@ -1,3 +1,4 @@
+//! The list of a table's objects.
 ghost use Rattle.std.specs.Prelude.{◌++◌, ◌≡◌, IfErr, IfOk, OnOk, string_bytes};
 ghost use Rattle.base.specs.Refusals.{out_of_memory};
 ghost use Rattle.machine.specs.KindWords.{object_kind_word};
@@ -11,8 +12,8 @@ use machine::{Initial, ObjectKind};
 use std::alloc::{AllocError, Global};
 use table::Table;
 
-/// The list of a table's objects: the number of each, which a script names, its kind, its name and its
-/// label, in a line of its own.
+/// Returns the list of a table's objects. Each object has a line of its own: its number, which a
+/// script names, its kind, its name and its label.
 ///
 /// # Errors
 ///

@@ -1,3 +1,4 @@
+//! The names at the place that a denial names.
 ghost use Rattle.std.specs.Prelude.{[], ◌∷◌, ◌≡◌, IfOk, Option, map, string_bytes};
 ghost use Rattle.base.specs.{Kinds.kind_name, declared.ids.ObjId.ObjId as Id};
 ghost use Rattle.machine.specs.{declared.object.ObjectKind.ObjectKind as KindOfObject, WellFormed.kind_of};
@@ -42,7 +43,12 @@ impl KindsOfObjects for State {
     }
 }
 
-/// The names at the place that a denial names. Slots are spelled by the kinds of their holders.
+/// Returns the names at the place that a denial names. Slots are spelled by the kinds of their
+/// holders.
+///
+/// # Errors
+///
+/// [`AllocError`] where memory is refused.
 pub fn place_names<K: KindsOfObjects>(
     alloc: Global,
     table: &Table,

@@ -1,4 +1,6 @@
-ghost use Rattle.std.specs.{List.filter, Prelude.{[], ℕ, ◌++◌, ◌<◌, ◌↔◌, ◌∷◌, ◌≡◌, Bool, IfOk, OnOk, length, map, true}};
+//! Which labels each label may act on, as the report of an acceptance shows it.
+ghost use Rattle.std.specs.List.{filter};
+ghost use Rattle.std.specs.Prelude.{[], ℕ, ◌++◌, ◌<◌, ◌↔◌, ◌∷◌, ◌≡◌, Bool, IfOk, OnOk, length, map, true};
 ghost use Rattle.serde_json.specs.{Data.string, View.{members_view, view}};
 ghost use Rattle.base.specs.Labels.{is_in};
 ghost use Rattle.policy.specs.Policy.{allows};
@@ -28,7 +30,8 @@ pub(crate) fn relation_value(
     relation: Relation,
 ) -> Result<Value, AllocError>
     ensures { IfOk result (λ value. (test : ℕ → ℕ → Bool)
-        × Decides table.now test (relates relation (allows policy.now)) × (view value ≡ reports.relation_data table.now test)) }
+        × Decides table.now test (relates relation (allows policy.now))
+        × (view value ≡ reports.relation_data table.now test)) }
 {
     let sets = sets_of(alloc, table, policy, relation)?;
     sets_value(alloc, table, &sets)
@@ -42,7 +45,8 @@ fn sets_of(
     relation: Relation,
 ) -> Result<Vec<Labels>, AllocError>
     ensures count { IfOk result (λ sets. length sets.items ≡ length table.now.labels) }
-    ensures sets { IfOk result (λ sets. Decides table.now (relation_of sets.items) (relates relation (allows policy.now))) }
+    ensures sets { IfOk result (λ sets. Decides table.now
+        (relation_of sets.items) (relates relation (allows policy.now))) }
 {
     let mut sets = Vec::new(alloc);
     for number in 0..table.label_count() {
@@ -101,7 +105,8 @@ fn put_label(
 #[tactic(auto, using(crate::proofs::LabelLists::names_more))]
 fn names_in(alloc: Global, table: &Table, set: Labels) -> Result<Value, AllocError>
     ensures { IfOk result (λ value. view value
-        ≡ reports.names_data (map (policy_text.label_name table.now) (filter (is_in set) (reports.labels_of table.now)))) }
+        ≡ reports.names_data (map (policy_text.label_name table.now)
+        (filter (is_in set) (reports.labels_of table.now)))) }
 {
     let mut names = Vec::new(alloc);
     for number in 0..table.label_count() {

@@ -1,3 +1,4 @@
+//! Reports, each one JSON object on a line.
 ghost use Rattle.std.specs.Prelude.{ℕ, ◌≡◌, Bool, IfOk, false, map, string_bytes};
 ghost use Rattle.serde_json.specs.{View.view, Written.has_float};
 ghost use Rattle.verdict.specs.Verdict.{rule_name};
@@ -13,8 +14,12 @@ use std::alloc::{AllocError, Global};
 use table::Table;
 use verdict::{Denial, Extent};
 
-/// The report of a text that isn't one of its format: the fault's number, the file, and the line
-/// that has it.
+/// Returns the report of a text that isn't one of its format: the fault's number, the file, and the
+/// line that has it.
+///
+/// # Errors
+///
+/// [`AllocError`] where memory is refused.
 pub fn fault_report(alloc: Global, fault: u64, file: File, line: u64) -> Result<Vec<u8>, AllocError>
     ensures { IfOk result (λ report. report.items ≡ reports.fault_report fault file line) }
 {
@@ -30,16 +35,26 @@ fn denial_report(alloc: Global, rule: &str, place: &[String]) -> Result<Vec<u8>,
     line_of(alloc, &denial_value(alloc, rule, place)?)
 }
 
-/// The report of a denial: the rule that is broken, and the names at the place that breaks it.
+/// Returns the report of a denial: the rule that is broken, and the names at the place that breaks
+/// it.
+///
+/// # Errors
+///
+/// [`AllocError`] where memory is refused.
 pub fn denial_text(alloc: Global, table: &Table, denial: &Denial) -> Result<Vec<u8>, AllocError>
-    ensures { IfOk result (λ text. text.items ≡ reports.denial_report (rule_name denial.now) (place_names table.now denial.now)) }
+    ensures { IfOk result (λ text. text.items
+        ≡ reports.denial_report (rule_name denial.now) (place_names table.now denial.now)) }
 {
     let place = place_names(alloc, table, table, denial)?;
     denial_report(alloc, denial.rule(), &place)
 }
 
-/// The report of an acceptance: how many slots of the table are filled, and for each label the labels on
-/// whose objects it may act, by removals and at all.
+/// Returns the report of an acceptance: how many slots of the table are filled, and for each label
+/// the labels on whose objects it may act, by removals and at all.
+///
+/// # Errors
+///
+/// [`AllocError`] where memory is refused.
 pub fn check_report(alloc: Global, table: &Table, policy: &Policy) -> Result<Vec<u8>, AllocError>
     ensures { IfOk result (λ report. reports.IsCheckReport table.now policy.now report.items) }
 {
@@ -49,21 +64,35 @@ pub fn check_report(alloc: Global, table: &Table, policy: &Policy) -> Result<Vec
     line_of(alloc, &value)
 }
 
-/// The report of an acceptance that tells no more.
+/// Returns the report of an acceptance that says no more.
+///
+/// # Errors
+///
+/// [`AllocError`] where memory is refused.
 pub fn accept_report(alloc: Global) -> Result<Vec<u8>, AllocError>
     ensures { IfOk result (λ report. report.items ≡ reports.line_of reports.accept_data) }
 {
     line_of(alloc, &accept_value(alloc)?)
 }
 
-/// The report of a legal log of so many entries, whose last state lies within the policy.
+/// Returns the report of a legal log of this number of entries, whose last state lies within the
+/// policy.
+///
+/// # Errors
+///
+/// [`AllocError`] where memory is refused.
 pub fn within_report(alloc: Global, entries: usize) -> Result<Vec<u8>, AllocError>
     ensures { IfOk result (λ report. report.items ≡ reports.line_of (reports.within_data entries)) }
 {
     line_of(alloc, &within_value(alloc, entries)?)
 }
 
-/// The report of a legal log whose last state lies outside: the rule, and the names at the place.
+/// Returns the report of a legal log whose last state lies outside: the rule, and the names at the
+/// place.
+///
+/// # Errors
+///
+/// [`AllocError`] where memory is refused.
 #[tactic(auto, using(crate::proofs::Names::names_have_no_float))]
 pub fn outside_report(
     alloc: Global,
@@ -77,35 +106,57 @@ pub fn outside_report(
     line_of(alloc, &outside_value(alloc, entries, rule, place)?)
 }
 
-/// The report of a log that isn't legal: the first entry, from 1, that is no step.
+/// Returns the report of a log that isn't legal: the first entry, from 1, that is no step.
+///
+/// # Errors
+///
+/// [`AllocError`] where memory is refused.
 pub fn illegal_report(alloc: Global, entry: usize) -> Result<Vec<u8>, AllocError>
     ensures { IfOk result (λ report. report.items ≡ reports.line_of (reports.illegal_data entry)) }
 {
     line_of(alloc, &illegal_value(alloc, entry)?)
 }
 
-/// The report of so many claims that hold.
+/// Returns the report of this number of claims that hold.
+///
+/// # Errors
+///
+/// [`AllocError`] where memory is refused.
 pub fn hold_report(alloc: Global, claims: usize) -> Result<Vec<u8>, AllocError>
     ensures { IfOk result (λ report. report.items ≡ reports.line_of (reports.hold_data claims)) }
 {
     line_of(alloc, &hold_value(alloc, claims)?)
 }
 
-/// The report of a claim that doesn't hold: how far the authority goes, and which claim it is, from 1.
+/// Returns the report of a claim that doesn't hold: how far the authority goes, and which claim it
+/// is, from 1.
+///
+/// # Errors
+///
+/// [`AllocError`] where memory is refused.
 pub fn broken_report(alloc: Global, extent: Extent, claim: usize) -> Result<Vec<u8>, AllocError>
     ensures { IfOk result (λ report. report.items ≡ reports.line_of (reports.broken_data extent claim)) }
 {
     line_of(alloc, &broken_value(alloc, extent, claim)?)
 }
 
-/// The report that one label does nothing to another in any run.
+/// Returns the report that one label does nothing to another in any run.
+///
+/// # Errors
+///
+/// [`AllocError`] where memory is refused.
 pub fn impossible_report(alloc: Global) -> Result<Vec<u8>, AllocError>
     ensures { IfOk result (λ report. report.items ≡ reports.line_of reports.impossible_data) }
 {
     line_of(alloc, &impossible_value(alloc)?)
 }
 
-/// The report that no run was found: how far the authority goes, and how many calls were tried.
+/// Returns the report that no run was found: how far the authority goes, and how many calls were
+/// tried.
+///
+/// # Errors
+///
+/// [`AllocError`] where memory is refused.
 pub fn unfound_report(alloc: Global, bound: Extent, steps: u64) -> Result<Vec<u8>, AllocError>
     ensures { IfOk result (λ report. report.items ≡ reports.line_of (reports.unfound_data bound steps)) }
 {
@@ -182,7 +233,7 @@ fn unfound_value(alloc: Global, bound: Extent, steps: u64) -> Result<Value, Allo
     json!(in alloc; {"bound": bound, "run": "none found", "steps": steps})
 }
 
-/// The word for how far an authority goes.
+/// Returns the word for how far an authority goes.
 pub fn extent_word(extent: Extent) -> &'static str
     ensures { result.now ≡ reports.extent_word extent }
 {

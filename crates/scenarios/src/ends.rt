@@ -88,6 +88,8 @@ end
 
 const CLAIMS: &str = "confine-claims 1\nnone b a\nend\n";
 
+const STRONGEST: &str = "confine-claims 2\nnone b a\nend\n";
+
 /// A label that is claimed to leave alone what it notifies.
 const BROAD: &str = "confine-claims 1\nnone a b\nend\n";
 
@@ -105,8 +107,8 @@ const BREACHES: &str =
     "{\"broken\":[{\"authority\":\"full\",\"claim\":\"take * b\",\"line\":3,\"pair\":[\"a\",\"b\"]},\
     {\"claim\":\"without a notify b\",\"line\":4}],\"verdict\":\"broken\"}\n";
 
-const REPORT: &str =
-    "{\"caps\":4,\"cut\":{\"a\":[\"a\",\"b\"],\"b\":[\"b\"]},\"full\":{\"a\":[\"a\",\"b\"],\"b\":[\"b\"]},\"verdict\":\"accept\"}\n";
+const REPORT: &str = "{\"caps\":4,\"cut\":{\"a\":[\"a\",\"b\"],\"b\":[\"b\"]},\
+    \"full\":{\"a\":[\"a\",\"b\"],\"b\":[\"b\"]},\"verdict\":\"accept\"}\n";
 
 const VERIFIED: &str = "{\"verdict\":\"accept\"}\n";
 
@@ -171,8 +173,8 @@ const INTENDED: &str = "confine-claims 2\nnone a r\nend\n";
 
 const LEGAL: &str = "{\"entries\":3,\"state\":\"within\",\"verdict\":\"legal\"}\n";
 
-const OUTSIDE: &str =
-    "{\"entries\":3,\"place\":[\"ca.0\",\"reset\",\"b\"],\"rule\":\"A1\",\"state\":\"outside\",\"verdict\":\"legal\"}\n";
+const OUTSIDE: &str = "{\"entries\":3,\"place\":[\"ca.0\",\"reset\",\"b\"],\
+    \"rule\":\"A1\",\"state\":\"outside\",\"verdict\":\"legal\"}\n";
 
 const DENIAL: &str =
     "{\"place\":[\"ca.0\",\"reset\",\"b\"],\"rule\":\"A1\",\"verdict\":\"deny\"}\n";
@@ -423,7 +425,7 @@ fn answers_of_claims() -> [Answered; 8] {
         (files.with(File::Claims, faulty()), 2, FAULTY_CLAIMS),
         (stated, 0, HOLD),
         (stated.with(File::Claims, Given::text(BROADER)), 1, BREACHES),
-        (strongest, 0, CLAIMS),
+        (strongest, 0, STRONGEST),
         (strongest.with(File::Policy, empty_policy()), 1, DENIAL),
     ]
 }

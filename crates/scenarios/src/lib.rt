@@ -1,5 +1,5 @@
-//! Devices that fail or move few bytes at a time, commands over such devices, and workers that share work: what no text can say, so
-//! that it is no case. Tests alone.
+//! Devices that fail or move few bytes at a time, commands over such devices, and workers that
+//! share work: what no text can say, so that it is no case. Tests alone.
 #![tactic(auto)]
 
 #[cfg(test)]

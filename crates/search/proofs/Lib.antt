@@ -1,6 +1,7 @@
 pub mod AsShown
 pub mod ByKind
 pub mod Equalities
+pub mod Leaving
 pub mod Looking
 pub mod Parts
 pub mod Popping

@@ -1,3 +1,4 @@
 pub mod Comparing
+pub mod Escapes
 pub mod Sights
 pub mod Shown

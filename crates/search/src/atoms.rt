@@ -26,7 +26,11 @@ enum Aspect {
     Inactive,
     Ready,
     Sending,
+    /// A thread waits to send a message with a capability.
+    Offering,
     Receiving,
+    /// A thread waits for a message, and has a slot for a capability that comes with it.
+    Accepting,
     Waiting,
     Called,
     /// A thread was given a message, a word, or the news that its wait was aborted.
@@ -352,8 +356,14 @@ fn waits(state: &RunState) -> (Aspect, Option<ObjId>) {
     match state {
         RunState::Inactive => (Aspect::Inactive, None),
         RunState::Ready => (Aspect::Ready, None),
-        RunState::Sending(sending) => (Aspect::Sending, Some(sending.endpoint)),
-        RunState::Receiving(receiving) => (Aspect::Receiving, Some(receiving.endpoint)),
+        RunState::Sending(sending) => match sending.capability {
+            Some(_) => (Aspect::Offering, Some(sending.endpoint)),
+            None => (Aspect::Sending, Some(sending.endpoint)),
+        },
+        RunState::Receiving(receiving) => match receiving.slot {
+            Some(_) => (Aspect::Accepting, Some(receiving.endpoint)),
+            None => (Aspect::Receiving, Some(receiving.endpoint)),
+        },
         RunState::Waiting(notification) => (Aspect::Waiting, Some(*notification)),
         RunState::Called(calling) => (Aspect::Called, Some(calling.reply)),
     }

@@ -9,8 +9,8 @@ use crate::question::Question;
 use crate::reaching::reach;
 use crate::seeming::{answering, changes, is_near};
 use crate::showing::{makes, shows};
-use crate::trying::{Choice, calls_in};
-use base::Refusal;
+use crate::trying::{Callers, Choice, calls_in};
+use base::{Label, Refusal};
 use machine::Event;
 use objects::State;
 use std::alloc::{AllocError, Global};
@@ -19,7 +19,7 @@ use table::Table;
 /// The end of a search.
 #[derive(Debug, Drop)]
 pub struct Found {
-    /// The script that answers the question, if one was found.
+    /// The script that is as asked, if one was found.
     pub script: Option<Vec<Event>>,
     /// The number of calls that were tried.
     pub steps: u64,
@@ -96,8 +96,7 @@ fn pass(
             break;
         };
         let choice = Choice {
-            actor: question.actor,
-            own,
+            callers: callers(question.actor, own),
             wide: news == News::Two,
         };
         let found = follow(
@@ -124,6 +123,15 @@ fn pass(
         script: None,
         steps: spent,
     })
+}
+
+// The threads of a label, or all others.
+fn callers(actor: Label, own: bool) -> Callers {
+    if own {
+        Callers::Of(actor)
+    } else {
+        Callers::NotOf(actor)
+    }
 }
 
 // A search that goes on from the boot state alone.
@@ -202,8 +210,12 @@ fn kept_at(alloc: Global, kept: &[Kept], number: usize) -> Result<Option<Vec<Eve
     }
 }
 
-// The same script.
-fn copied(alloc: Global, script: &[Event]) -> Result<Vec<Event>, AllocError> {
+/// Returns the same script.
+///
+/// # Errors
+///
+/// [`AllocError`] where memory is refused.
+pub fn copied(alloc: Global, script: &[Event]) -> Result<Vec<Event>, AllocError> {
     let mut events = Vec::new(alloc);
     events.extend_from_slice(script)?;
     Ok(events)
@@ -278,8 +290,12 @@ fn try_all(
     })
 }
 
-// The first call, from an index on, that isn't refused after a script, and the state that it leads to.
-fn made_after(
+/// Returns the first call, from an index on, that isn't refused after a script, and the state that it leads to.
+///
+/// # Errors
+///
+/// 40 where memory is refused.
+pub fn made_after(
     alloc: Global,
     table: &Table,
     script: &[Event],
@@ -334,8 +350,8 @@ fn judge(
     Ok(None)
 }
 
-// A number, or the most that it may be.
-fn within(number: usize, most: u64) -> u64
+/// Returns a number, or the most that it may be.
+pub fn within(number: usize, most: u64) -> u64
     ensures { result ≤ most }
 {
     (number as u64).min(most)
@@ -354,8 +370,12 @@ fn first_made(state: &mut State, calls: &[Event], from: usize, most: u64) -> Opt
     None
 }
 
-// A script with one more event.
-fn longer(alloc: Global, script: &[Event], last: Event) -> Result<Vec<Event>, AllocError>
+/// Returns a script with one more event.
+///
+/// # Errors
+///
+/// [`AllocError`] where memory is refused.
+pub fn longer(alloc: Global, script: &[Event], last: Event) -> Result<Vec<Event>, AllocError>
     ensures { IfOk result (λ longer. longer.items ≡ script.now ++ last ∷ []) }
 {
     let mut events = Vec::new(alloc);

@@ -2,7 +2,8 @@
 ghost use Rattle.std.specs.Prelude.{◌↔◌, ◌≡◌, IfErr, IfNone, IfOk, IfSome, IsTrue, List};
 ghost use Rattle.base.specs.Refusals.{out_of_memory, plain};
 ghost use Rattle.machine.specs.declared.call.Outcome.TheVariants.{Refused};
-ghost use Rattle.machine.specs.{declared.call.Event.Event as Ev, Layout.Layout, Machine.Machine, WellFormed.IsWellFormed};
+ghost use Rattle.machine.specs.{declared.call.Event.Event as Ev, Layout.Layout, Machine.Machine};
+ghost use Rattle.machine.specs.WellFormed.{IsWellFormed};
 ghost use Rattle.search.specs.Shown.{IsReachedBy, IsStopped};
 
 use base::Refusal;
@@ -44,9 +45,10 @@ fn is_lack(outcome: &Outcome) -> bool
     *outcome == Outcome::Refused(Refusal::OUT_OF_MEMORY)
 }
 
-/// A law: a script leads to one state.
+/// Proves that a script leads to one state.
 pub fn scripts_lead_to_one_state()
-    ensures { (t : Layout) (script : List Ev) (m n : Machine) → IsReachedBy t script m → IsReachedBy t script n → m ≡ n }
+    ensures { (t : Layout) (script : List Ev) (m n : Machine)
+        → IsReachedBy t script m → IsReachedBy t script n → m ≡ n }
 {
     each_table_has_one_boot_state();
 }

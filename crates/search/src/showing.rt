@@ -61,7 +61,8 @@ fn is_asked(
 ) -> Result<bool, Refusal>
     requires formed { IsWellFormed old }
     requires same { new ≡ old }
-    ensures asked { IfOk result (λ asked. IsTrue asked → (next : Machine) × IsAsked table.now question.now old last next id) }
+    ensures asked { IfOk result (λ asked. IsTrue asked
+        → (next : Machine) × IsAsked table.now question.now old last next id) }
     ensures refused { IfErr result (λ refusal. refusal ≡ plain 40) }
 {
     let mut new = new;

@@ -51,7 +51,8 @@ pub fn look(alloc: Global, state: State, id: ObjId) -> Result<Option<Sight>, Ref
 
 // The words of an object that has so many.
 fn words(alloc: Global, state: &State, id: ObjId, count: u64) -> Result<Vec<u64>, AllocError>
-    ensures { IfOk result (λ read. (words : List ℕ) → words_of state.now id ≡ Some words → length words ≡ count → read.items ≡ words) }
+    ensures { IfOk result (λ read. (words : List ℕ) → words_of state.now id ≡ Some words
+        → length words ≡ count → read.items ≡ words) }
 {
     let mut words = Vec::new(alloc);
     for index in 0..count {
@@ -80,7 +81,8 @@ fn slots(
 
 // Who waits at an object that is there. Afterwards nobody does.
 fn queue(alloc: Global, state: &mut State, id: ObjId) -> Result<Vec<ObjId>, AllocError>
-    ensures { IfOk result (λ queue. (threads : List Id) → queue_of state.old id ≡ Some threads → queue.items ≡ threads) }
+    ensures { IfOk result (λ queue. (threads : List Id) → queue_of state.old id ≡ Some threads
+        → queue.items ≡ threads) }
 {
     let mut queue = Vec::new(alloc);
     while let Some(thread) = state.pop_waiting(id) {

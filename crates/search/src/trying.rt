@@ -25,13 +25,20 @@ const MAKINGS: [(MemoryKind, ObjectKind, u64); 8] = [
     (MemoryKind::Frame, ObjectKind::Frame, 0),
 ];
 
+/// The threads whose calls are tried.
+#[derive(Clone, Copy, PartialEq, Eq, Debug)]
+pub enum Callers {
+    All,
+    /// Those of a label.
+    Of(Label),
+    /// Those that aren't of a label.
+    NotOf(Label),
+}
+
 /// Whose calls are tried, and how many kinds of them.
 #[derive(Clone, Copy, PartialEq, Eq, Debug)]
 pub struct Choice {
-    /// The label of which a thread makes the last call.
-    pub actor: Label,
-    /// Whether calls of its threads are tried; else those of all others.
-    pub own: bool,
+    pub callers: Callers,
     /// Whether calls are tried that seldom lead further.
     pub wide: bool,
 }
@@ -64,13 +71,21 @@ pub fn calls_in(
     for number in 0..state.next_id() {
         let thread = ObjId(number);
         if let Some(core) = core_of(state, thread) {
-            let is_own = label_of(table, state, thread) == Some(choice.actor);
-            if is_own == choice.own {
+            if calls(table, state, thread, choice.callers) {
                 list_events(alloc, &scene, thread, core, &mut events)?;
             }
         }
     }
     Ok(events)
+}
+
+// Whether a thread is one of those whose calls are tried.
+fn calls(table: &Table, state: &State, thread: ObjId, callers: Callers) -> bool {
+    match callers {
+        Callers::All => true,
+        Callers::Of(label) => label_of(table, state, thread) == Some(label),
+        Callers::NotOf(label) => label_of(table, state, thread) != Some(label),
+    }
 }
 
 // Lists the events of a thread that runs.

@@ -1,11 +1,11 @@
 -- The claims that a description makes: each label that has a thread leaves alone what it isn't joined to (confine's own).
 use Rattle.std.specs.{List.{flat_map, range_with_len}, Option.{option_map_or}}
 use Rattle.std.specs.Prelude.{[], ℕ, ◌&&◌, ◌++◌, ◌==◌, Bool, List, None, Option, Some, codes, false, filter, length, map, not, option_and_then, slice_get, unwrap_or}
-use Rattle.microkit.specs.{Description.{Description}, Labels.{subjects_of}}
+use Rattle.microkit.specs.Description.{Description}
 use Rattle.microkit.specs.declared.{description.User.{User}, labels.Subject.{Subject}}
 use Rattle.microkit.specs.declared.description.User.TheVariants as user
 use Rattle.microkit.specs.declared.labels.Subject.TheVariants as subject
-use Rattle.importing.specs.declared.pieces.Children.{Children}
+use Rattle.importing.specs.{Groups.{labelled_of}, declared.pieces.Children.{Children}}
 use Rattle.separation.specs.{Joined.{is_joined}, Lending.{all_runners}, declared.claims.Pair.{Pair}}
 
 -- what has a label, as a user, which has threads
@@ -61,7 +61,7 @@ text_of names pairs = codes "confine-claims 2\n" ++ (lines_of names pairs ++ cod
 
 -- all pairs of labels that a description keeps apart
 abbrev pub all_pairs : Description → Children → List Pair
-all_pairs d children = pairs_of d children (all_runners d children) (subjects_of d)
+all_pairs d children = pairs_of d children (all_runners d children) (labelled_of d)
 
 -- the text of the claims of a description, whose labels have these names
 abbrev pub claims_text : List (List ℕ) → Description → Children → List ℕ

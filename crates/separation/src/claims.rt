@@ -6,8 +6,8 @@ ghost use Rattle.separation.specs.Claims.{pairs_of, pairs_with, text_of, user_of
 
 use crate::joined::is_joined;
 use crate::lending::all_runners;
-use importing::Children;
-use microkit::{Description, Subject, User, subjects_of};
+use importing::{Children, labelled_of};
+use microkit::{Description, Subject, User};
 use std::alloc::{AllocError, Global};
 
 /// Two labels that are kept apart, by their numbers.
@@ -21,6 +21,10 @@ pub(crate) struct Pair {
 ///
 /// It has a claim `none A B` for each label A of a domain or of a virtual machine, and each label B that A
 /// isn't joined to.
+///
+/// # Errors
+///
+/// [`AllocError`] where memory is refused.
 pub fn write_claims(
     alloc: Global,
     names: &[Vec<u8>],
@@ -43,7 +47,7 @@ fn all_pairs(
     ensures { IfOk result (λ pairs. pairs.items ≡ all_pairs (description_of description.now) children) }
 {
     let runners = all_runners(alloc, description, children)?;
-    let subjects = subjects_of(alloc, description)?;
+    let subjects = labelled_of(alloc, description)?;
     pairs_of(alloc, description, children, &runners, &subjects)
 }
 

@@ -59,7 +59,7 @@ pub(crate) struct Object {
 }
 
 impl<'a> Row<'a> {
-    /// The word of this number; empty, if there is none.
+    /// Returns the word of this number; an empty one, if there is none.
     pub fn word(self, number: u64) -> &'a str {
         match word(self.text, number) {
             Some(word) => word,
@@ -69,7 +69,8 @@ impl<'a> Row<'a> {
 }
 
 impl Declared<'_> {
-    /// The number of the line of the label of this name: labels stand first.
+    /// Returns the number of the line that declares the label of this name, if there is one. Labels
+    /// stand first.
     pub fn label(self, name: &str) -> Option<u64> {
         match self {
             Declared::Rows(rows) => Some(rows.row(Sought::Label(name))?.line),
@@ -77,7 +78,7 @@ impl Declared<'_> {
         }
     }
 
-    /// The object of this name: objects follow the labels.
+    /// Returns the object of this name, if there is one: objects follow the labels.
     pub fn object(self, name: &str) -> Option<Object> {
         match self {
             Declared::Rows(rows) => rows.object(name),
@@ -111,13 +112,13 @@ fn form_of_kind(kind: ObjectKind) -> Form {
 }
 
 impl<'a> Rows<'a> {
-    /// Whether the table is one of the second version.
+    /// Returns whether the table is one of the second version.
     pub fn is_later(self) -> bool {
         let header = Lines::new(self.text).next_line().map(|line| text_of(line));
         header == File::Table.later_header()
     }
 
-    /// The first line that is sought.
+    /// Returns the first line that is sought, if there is one.
     pub fn row(self, sought: Sought<'_>) -> Option<Row<'a>> {
         let mut lines = Lines::new(self.text);
         for line in 1..self.end {
@@ -129,7 +130,7 @@ impl<'a> Rows<'a> {
         None
     }
 
-    /// How many lines are sought.
+    /// Returns how many lines are sought.
     pub fn count(self, sought: Sought<'_>) -> u64 {
         let mut count = 0u64;
         let mut lines = Lines::new(self.text);
@@ -144,7 +145,7 @@ impl<'a> Rows<'a> {
         count
     }
 
-    /// The object of this name.
+    /// Returns the object of this name, if there is one.
     pub fn object(self, name: &str) -> Option<Object> {
         let row = self.row(Sought::Object(name))?;
         Some(Object {
@@ -154,14 +155,14 @@ impl<'a> Rows<'a> {
         })
     }
 
-    /// The number of the object of this name: objects follow the labels.
+    /// Returns the number of the object of this name, if there is one: objects follow the labels.
     pub fn number_of(self, name: &str) -> Option<u64> {
         let row = self.row(Sought::Object(name))?;
         let labels = self.count(Sought::Form(Form::Label));
         Some(row.line.saturating_sub(labels).saturating_sub(2))
     }
 
-    /// How many slots the objects have.
+    /// Returns how many slots the objects have.
     pub fn slots(self) -> u64 {
         let mut count = 0u64;
         let mut lines = Lines::new(self.text);

@@ -1,3 +1,4 @@
+//! The sentence on a fault of a file: which line has it, and which condition the line doesn't meet.
 use crate::caps::{kind_flaw, slot_flaw};
 use crate::claims::claim_flaw;
 use crate::declared::{Declared, Row, Rows};
@@ -23,6 +24,10 @@ use words::Fault;
 /// explained by the crate `remarks`, since it is XML: here no condition of its lines is known.
 ///
 /// Where memory was refused that is said, and no line.
+///
+/// # Errors
+///
+/// [`AllocError`] where memory is refused.
 pub fn explain_fault(
     alloc: Global,
     file: File,

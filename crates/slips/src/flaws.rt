@@ -73,7 +73,10 @@ impl fmt::Display for OrderFlaw<'_> {
         let (what, line) = (self.what, self.line);
         let (word, earlier) = (self.here.word, self.before.word);
         if word == earlier {
-            return write!(f, "{what} rise, and `{word}` stands in line {line} already");
+            return write!(
+                f,
+                "{what} must be in rising order, but `{word}` is already in line {line}"
+            );
         }
         let numbers = Numbers {
             here: self.here,
@@ -81,7 +84,7 @@ impl fmt::Display for OrderFlaw<'_> {
         };
         write!(
             f,
-            "{what} rise, and `{word}` doesn't come after `{earlier}` of line {line}{numbers}"
+            "{what} must be in rising order, but `{word}` doesn't come after `{earlier}` of line {line}{numbers}"
         )
     }
 }
@@ -98,9 +101,9 @@ impl fmt::Display for Numbers<'_> {
         let (one, two) = (self.here, self.before);
         if one.number != two.number {
             let (name, number) = (one.name, one.number);
-            write!(f, ": `{name}` is object {number}, ")?;
+            write!(f, ": `{name}` is object {number} ")?;
             let (name, number) = (two.name, two.number);
-            return write!(f, "and `{name}` object {number}");
+            return write!(f, "and `{name}` is object {number}");
         }
         if one.index == two.index {
             return f.write_str(": a root has index 0");
@@ -112,13 +115,13 @@ impl fmt::Display for Numbers<'_> {
 impl fmt::Display for EdgeFlaw<'_> {
     fn fmt<W: fmt::Write>(&self, f: &mut fmt::Formatter<W>) -> fmt::Result {
         match *self {
-            EdgeFlaw::Twice(line) => write!(f, "the same edge stands in line {line}"),
+            EdgeFlaw::Twice(line) => write!(f, "line {line} has the same edge"),
             EdgeFlaw::Labels(here, before, line) => {
-                f.write_str("edges rise, and the label ")?;
+                f.write_str("edges must be in rising order, but the label ")?;
                 write_numbers(f, here, before, line)
             }
             EdgeFlaw::Kinds(here, before, line) => {
-                f.write_str("edges rise, and the kind ")?;
+                f.write_str("edges must be in rising order, but the kind ")?;
                 write_numbers(f, here, before, line)
             }
         }
@@ -133,9 +136,9 @@ fn write_numbers<W: fmt::Write>(
     line: u64,
 ) -> fmt::Result {
     let (word, number) = (here.word, here.number);
-    write!(f, "`{word}` has number {number}, ")?;
+    write!(f, "`{word}` has number {number} ")?;
     let (word, number) = (before.word, before.number);
-    write!(f, "`{word}` of line {line} number {number}")
+    write!(f, "and `{word}` of line {line} has number {number}")
 }
 
 impl fmt::Display for ClaimFlaw<'_> {
@@ -144,12 +147,12 @@ impl fmt::Display for ClaimFlaw<'_> {
             ClaimFlaw::Itself(label) => {
                 write!(
                     f,
-                    "a claim is on two labels, and `{label}` stands here twice"
+                    "a claim needs two different labels, but both are `{label}`"
                 )
             }
-            ClaimFlaw::Twice(line) => write!(f, "a claim on the same labels stands in line {line}"),
+            ClaimFlaw::Twice(line) => write!(f, "line {line} has a claim on the same labels"),
             ClaimFlaw::Labels(here, before, line) => {
-                f.write_str("claims rise, and the label ")?;
+                f.write_str("claims must be in rising order, but the label ")?;
                 write_numbers(f, here, before, line)
             }
         }
@@ -163,11 +166,11 @@ impl fmt::Display for KnownFlaw<'_> {
             KnownFlaw::NoObject(name, declared) => write_unknown(f, "object", name, declared),
             KnownFlaw::ObjectForLabel(name, line) => write!(
                 f,
-                "`{name}` is an object, of line {line} of the table, and a label stands here"
+                "`{name}` is an object (line {line} of the table), but a label is expected here"
             ),
             KnownFlaw::LabelForObject(name, line) => write!(
                 f,
-                "`{name}` is a label, of line {line} of the table, and an object stands here"
+                "`{name}` is a label (line {line} of the table), but an object is expected here"
             ),
         }
     }
@@ -181,7 +184,7 @@ fn write_unknown<W: fmt::Write>(
     declared: Declared<'_>,
 ) -> fmt::Result {
     match declared {
-        Declared::Rows(_) => write!(f, "no {what} above is called `{name}`"),
+        Declared::Rows(_) => write!(f, "no {what} above this line is called `{name}`"),
         Declared::Table(_) => write!(f, "the table has no {what} `{name}`"),
     }
 }
@@ -189,16 +192,16 @@ fn write_unknown<W: fmt::Write>(
 impl fmt::Display for TwiceFlaw<'_> {
     fn fmt<W: fmt::Write>(&self, f: &mut fmt::Formatter<W>) -> fmt::Result {
         let (before, word, after, line) = match *self {
-            TwiceFlaw::Label(name, line) => ("a label is called `", name, "` already", line),
-            TwiceFlaw::Object(name, line) => ("an object is called `", name, "` already", line),
-            TwiceFlaw::Control(core, line) => ("core ", core, " has a control already", line),
+            TwiceFlaw::Label(name, line) => ("a label is already called `", name, "`", line),
+            TwiceFlaw::Object(name, line) => ("an object is already called `", name, "`", line),
+            TwiceFlaw::Control(core, line) => ("core ", core, " already has a control", line),
             TwiceFlaw::Untyped(name, line) => (
                 "`",
                 name,
-                "` is untyped memory, and has its one capability already",
+                "` is untyped memory and already has its one capability",
                 line,
             ),
-            TwiceFlaw::Bound(name, line) => ("the context `", name, "` is bound already", line),
+            TwiceFlaw::Bound(name, line) => ("the context `", name, "` is already bound", line),
         };
         write!(f, "{before}{word}{after}, in line {line}")
     }
@@ -209,12 +212,15 @@ impl fmt::Display for PlacedFlaw<'_> {
         match *self {
             PlacedFlaw::Misaligned(address, size) => write!(
                 f,
-                "the address {address:#x} is no multiple of the size, {size:#x}"
+                "the address {address:#x} isn't a multiple of the size, {size:#x}"
             ),
             PlacedFlaw::Meets(row, range) => {
                 let (name, line) = (row.word(1), row.line);
                 let (first, last) = (range.first, range.last);
-                write!(f, "this range meets that of `{name}`, line {line}: ")?;
+                write!(
+                    f,
+                    "this object's memory overlaps that of `{name}` in line {line}, "
+                )?;
                 write!(f, "{first:#x} to {last:#x}")
             }
         }
@@ -233,7 +239,7 @@ impl fmt::Display for LimitFlaw {
             LimitFlaw::Period(period) => (
                 "the period is",
                 period,
-                "more than an hour, 3,600,000,000",
+                "more than an hour, 3,600,000,000 microseconds",
             ),
             LimitFlaw::Share(budget, period) => {
                 return write!(
@@ -242,7 +248,10 @@ impl fmt::Display for LimitFlaw {
                 );
             }
             LimitFlaw::Slots(slots) => {
-                return write!(f, "with it there are {slots} slots, more than 65,536");
+                return write!(
+                    f,
+                    "with this object there are {slots} slots, more than 65,536"
+                );
             }
             flaw => return f.write_str(past_limit(flaw)),
         };
@@ -255,7 +264,7 @@ fn past_limit(flaw: LimitFlaw) -> &'static str {
     match flaw {
         LimitFlaw::End => "the object ends past 2^48",
         LimitFlaw::Labels => {
-            "there are more than 64 labels: a table that begins with `confine-table 2` has up to 256"
+            "there are more than 64 labels: a table that begins with `confine-table 2` can have up to 256"
         }
         LimitFlaw::LaterLabels => "there are more than 256 labels",
         LimitFlaw::Objects => "there are more than 4,096 objects",
@@ -270,13 +279,16 @@ impl fmt::Display for SlotFlaw<'_> {
         match *self {
             SlotFlaw::Index(index, name, slots) => write!(
                 f,
-                "the index {index} isn't below {slots}, the number of slots of `{name}`"
+                "the index {index} must be below {slots}, the number of slots of `{name}`"
             ),
-            SlotFlaw::Bits(bits) => write!(f, "guard and radix are {bits} bits, more than 64"),
+            SlotFlaw::Bits(bits) => write!(
+                f,
+                "the guard and the radix have {bits} bits together, more than 64"
+            ),
             SlotFlaw::Guard(value, size) => {
                 write!(
                     f,
-                    "the guard's value {value} takes more than its {size} bits"
+                    "the guard's value {value} doesn't fit into its {size} bits"
                 )
             }
         }
@@ -301,11 +313,11 @@ pub(crate) fn noun(form: Form) -> &'static str {
 // What a capability's line has after the object of a form.
 fn terms(form: Form) -> &'static str {
     match form {
-        Form::CNode => ": its guard's size and value stand after its name, as `62 0x0`",
-        Form::Endpoint => ": rights and a badge stand after its name, as `wg 1`",
-        Form::Notification => ": rights and a badge stand after its name, as `rw 1`",
-        Form::Frame => ": rights alone stand after its name, as `rw`",
-        _ => ": nothing stands after its name",
+        Form::CNode => ": write its guard's size and value after its name, such as `62 0x0`",
+        Form::Endpoint => ": write its rights and badge after its name, such as `wg 1`",
+        Form::Notification => ": write its rights and badge after its name, such as `rw 1`",
+        Form::Frame => ": write only rights after its name, such as `rw`",
+        _ => ": write nothing after its name",
     }
 }
 
@@ -313,7 +325,7 @@ fn terms(form: Form) -> &'static str {
 fn slots(form: Form) -> &'static str {
     match form {
         Form::CNode => "whose slots have an index",
-        Form::Tcb => "whose one slot is its root",
+        Form::Tcb => "whose only slot is its root",
         _ => "which has no slots",
     }
 }
@@ -323,22 +335,25 @@ impl fmt::Display for KindFlaw<'_> {
         let (name, form, rest) = match *self {
             KindFlaw::Slot(slot, form) => {
                 let (noun, slots) = (noun(form), slots(form));
-                return write!(f, "there is no `{slot}`: it would be of {noun}, {slots}");
+                return write!(
+                    f,
+                    "there is no slot `{slot}`: its holder is {noun}, {slots}"
+                );
             }
             KindFlaw::SlotOf(slot, form) => {
                 let (words, place) = of_another_line(form);
-                return write!(f, "{words}, and `{slot}` is {place}");
+                return write!(f, "{words}, but `{slot}` is {place}");
             }
             KindFlaw::Root(name, form) => {
                 let noun = noun(form);
-                return write!(f, "a root is a CNode's, and `{name}` is {noun}");
+                return write!(f, "a root must be a CNode, but `{name}` is {noun}");
             }
             KindFlaw::Terms(name, form) => (name, form, terms(form)),
             KindFlaw::Rights(name, form) => {
-                (name, form, ": its rights are some of `r` and `w` alone")
+                (name, form, ": it can only have the rights `r` and `w`")
             }
-            KindFlaw::NoThread(name, form) => (name, form, ", and no thread"),
-            KindFlaw::NoContext(name, form) => (name, form, ", and no context"),
+            KindFlaw::NoThread(name, form) => (name, form, ", not a thread"),
+            KindFlaw::NoContext(name, form) => (name, form, ", not a context"),
         };
         let noun = noun(form);
         write!(f, "`{name}` is {noun}{rest}")
@@ -348,8 +363,8 @@ impl fmt::Display for KindFlaw<'_> {
 // What stands in the other line of a certificate, and what the slot of a holder of this form is.
 fn of_another_line(form: Form) -> (&'static str, &'static str) {
     match form {
-        Form::CNode => ("a `space` line has a thread's root", "a CNode's slot"),
-        _ => ("a `cap` line has a CNode's slot", "a thread's root"),
+        Form::CNode => ("a `space` line takes a thread's root", "a CNode's slot"),
+        _ => ("a `cap` line takes a CNode's slot", "a thread's root"),
     }
 }
 
@@ -360,25 +375,25 @@ impl fmt::Display for TreeFlaw<'_> {
             TreeFlaw::Objects(parent, child) => {
                 write!(
                     f,
-                    "the parent is for `{parent}`, and the child for `{child}`"
+                    "the parent is for `{parent}`, but the child is for `{child}`"
                 )
             }
             TreeFlaw::Untyped(name) => write!(
                 f,
-                "`{name}` is untyped memory, whose capability is nobody's parent and nobody's child"
+                "`{name}` is untyped memory: its capability can't be a parent or a child"
             ),
             TreeFlaw::Copied(slot, source, line) => write!(
                 f,
-                "the parent `{slot}` isn't original: it has the badge of its own parent `{source}`, line {line}"
+                "the parent `{slot}` isn't original: it has the same badge as its own parent `{source}` (line {line})"
             ),
             TreeFlaw::Badges(parent, child) => write!(
                 f,
-                "the parent's badge is {parent}, neither 0 nor the child's, {child}"
+                "the parent's badge is {parent}: it must be 0 or the child's badge, {child}"
             ),
             TreeFlaw::Right(right) => {
                 write!(
                     f,
-                    "the child has the right `{right}`, and the parent hasn't"
+                    "the child has the right `{right}`, but the parent doesn't"
                 )
             }
         }

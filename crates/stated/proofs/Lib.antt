@@ -3,4 +3,5 @@ mod Chains
 mod Kept
 mod Gathered
 mod FirstBreach
+pub mod StrongestLaws
 pub mod OneList

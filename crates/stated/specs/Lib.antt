@@ -1,6 +1,7 @@
 pub mod Claims
 pub mod Reading
 pub mod Holding
+pub mod Strongest
 pub mod Rows
 pub mod Breaches
 pub mod Text

@@ -1,8 +1,9 @@
 -- The rows of a system: how far each label goes with each label (confine's own).
-use Rattle.std.specs.Prelude.{ℕ, ◌↔◌, ◌≡◌, Some, slice_get, true}
-use Rattle.base.specs.Labels.{is_in}
-use Rattle.verdict.specs.Extents.{MayChangeIn, MayShrinkIn, Reach}
+use Rattle.std.specs.Prelude.{ℕ, ◌↔◌, ◌≡◌, Some, get_or, if◌then◌else◌, slice_get, true}
+use Rattle.base.specs.Labels.{is_in, no_labels}
+use Rattle.verdict.specs.{declared.extent.Extent.{Extent, Extent as extent}, Extents.{MayChangeIn, MayShrinkIn, Reach}}
 use Rattle.stated.specs.declared.rows.{Row.Row, Rows.Rows}
+use Rattle.stated.specs.Strongest.{Extents}
 
 -- these are the labels whose objects threads of a label may change, and those whose objects they may make smaller
 pub record IsRow (reach : Reach) (a : ℕ) (row : Row) : Type 0 where
@@ -12,3 +13,15 @@ pub record IsRow (reach : Reach) (a : ℕ) (row : Row) : Type 0 where
 -- each label has its row at its number
 abbrev pub AreRows : Reach → Rows → Type 0
 AreRows reach rows = (a : ℕ) (row : Row) → slice_get rows.rows.items a ≡ Some row → IsRow reach a row
+
+-- how far a row goes with a label
+abbrev pub row_extent : Row → ℕ → Extent
+row_extent row l = if is_in row.changed l then extent.Full else (if is_in row.shrunk l then extent.Take else extent.Nothing)
+
+-- the row of a label that has none goes nowhere
+abbrev pub no_row : Row
+no_row = record { changed = no_labels; shrunk = no_labels }
+
+-- how far each label goes with each by these rows
+abbrev pub extents_of : Rows → Extents
+extents_of rows a = row_extent (get_or rows.rows.items a no_row)

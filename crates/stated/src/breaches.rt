@@ -4,7 +4,8 @@ ghost use Rattle.std.specs.List.{Contains, list_any};
 ghost use Rattle.base.specs.Labels.{is_in};
 ghost use Rattle.machine.specs.Layout.{Layout};
 ghost use Rattle.verdict.specs.Extents.{Reach};
-ghost use Rattle.stated.specs.{Breaches.{AreExcess, AreLabelsOf, HoldsOf, IsFirstBreachBy}, Holding.{Bounds, HoldsOnPairs, IsFirstBreach, IsNamed, most_of}, Rows.{AreRows, IsRow}};
+ghost use Rattle.stated.specs.Breaches.{AreExcess, AreLabelsOf, HoldsOf, IsFirstBreachBy};
+ghost use Rattle.stated.specs.{Holding.{Bounds, HoldsOnPairs, IsFirstBreach, IsNamed, most_of}, Rows.{AreRows, IsRow}};
 
 use crate::claim::{LabelList, Stated, Who};
 use crate::rows::{Row, Rows};
@@ -77,7 +78,8 @@ fn objects_of_ends(actors: Who, objects: Who, others: Labels, actor: Label) -> L
 
 /// The label of a table but this one with which `only` bounds what it does.
 fn objects_of_only(object: Label, actors: &LabelList, others: Labels, actor: Label) -> Labels
-    ensures { (l : ℕ) → (is_in result l ≡ true) ↔ ((is_in others l ≡ true) × (l ≡ object) × (¬ Contains actors.now actor)) }
+    ensures { (l : ℕ) → (is_in result l ≡ true)
+        ↔ ((is_in others l ≡ true) × (l ≡ object) × (¬ Contains actors.now actor)) }
 {
     if is_among(actors, actor) {
         return Labels::none();

@@ -6,7 +6,8 @@ ghost use Rattle.machine.specs.Layout.{Layout};
 ghost use Rattle.verdict.specs.Extents.{Reach, reach_of};
 ghost use Rattle.stated.specs.declared.claim.Stated.{Stated as StatedOf};
 ghost use Rattle.stated.specs.declared.lines.TheConstants.StatedLines as StatedLines;
-ghost use Rattle.stated.specs.{Breaches.AreLabelsOf, Holding.{AreBroken, Fails, FailsOnPair, Holds, HoldsOnPairs, IsKept}, Rows.AreRows};
+ghost use Rattle.stated.specs.Breaches.{AreLabelsOf};
+ghost use Rattle.stated.specs.{Holding.{AreBroken, Fails, FailsOnPair, Holds, HoldsOnPairs, IsKept}, Rows.AreRows};
 
 use crate::breaches::{Breach, first_breach, labels_of};
 use crate::claim::Stated;

@@ -1,9 +1,10 @@
-//! Claims of version 2: their text, and which of them don't hold of a system.
+//! Claims of version 2: their text, which of them don't hold of a system, and the strongest that do.
 #![tactic(auto)]
 
 mod breaches;
 mod claim;
 mod deciding;
+mod gathering;
 mod lines;
 mod reaching;
 mod reading;
@@ -13,6 +14,7 @@ mod writing;
 pub use breaches::Breach;
 pub use claim::{LabelList, Stated, Who};
 pub use deciding::{Broken, Failure, all_broken};
+pub use gathering::strongest;
 pub use lines::StatedLines;
 pub use reading::read;
-pub use writing::claim_text;
+pub use writing::{claim_text, write};

@@ -2,7 +2,8 @@
 ghost use Rattle.std.specs.Prelude.{[], ℕ, ◌≡◌, ◌≢◌, Err, IfErr, List, Option};
 ghost use Rattle.std.specs.Prelude.{map, option_map};
 ghost use Rattle.machine.specs.Layout.{Layout};
-ghost use Rattle.words.specs.{declared.faults.Wrong.Wrong, Fault.{fault_at, no_memory}, FirstFault.{IsFirstFault, TellsFirst}};
+ghost use Rattle.words.specs.{declared.faults.Wrong.Wrong, Fault.{fault_at, no_memory}};
+ghost use Rattle.words.specs.FirstFault.{IsFirstFault, TellsFirst};
 ghost use Rattle.words.specs.{Reading.{Gives, GivesOrStops, Reads}, Text.lines_of};
 ghost use Rattle.captext.specs.Policies.{kind_at};
 ghost use Rattle.stated.specs.declared.claim.Stated.{Stated as StatedOf};
@@ -106,7 +107,8 @@ fn names<'a>(alloc: Global, words: &mut Words<'a>) -> Result<Vec<&'a str>, LineE
 /// The labels of these names.
 #[tactic(auto, unfolding(crate::specs::Reading::labels_named, words::specs::Reading::bind))]
 fn labels(alloc: Global, table: &Table, names: &[&str]) -> Result<LabelList, LineError>
-    ensures { GivesOrStops (λ labels. labels) result (reading.labels_named table.now [] (map (λ name. name.now) names.now)) }
+    ensures { GivesOrStops (λ labels. labels) result
+        (reading.labels_named table.now [] (map (λ name. name.now) names.now)) }
 {
     let mut labels = LabelList::new(alloc);
     for name in names {

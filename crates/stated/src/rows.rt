@@ -16,7 +16,7 @@ pub(crate) struct Row {
 }
 
 impl Row {
-    ghost use Rattle.stated.specs.Rows.{IsRow};
+    ghost use Rattle.stated.specs.Rows.{IsRow, row_extent};
 
     /// Returns how far a label goes in a system.
     fn of(bounds: &Bounds<'_>, actor: Label) -> Row
@@ -37,7 +37,8 @@ impl Row {
 
     /// Returns how far it goes with this label.
     pub fn on(self, object: Label) -> Extent
-        ensures { (reach : Reach) (a : ℕ) → IsRow reach a self → GoesTo reach a object result }
+        ensures extent { result ≡ row_extent self object }
+        ensures goes_to { (reach : Reach) (a : ℕ) → IsRow reach a self → GoesTo reach a object result }
     {
         if self.changed.has(object) {
             return Extent::Full;

@@ -1,10 +1,13 @@
 //! How claims of version 2 are written.
-ghost use Rattle.std.specs.{List.join_with_byte, Prelude.{[], ◌++◌, ◌∷◌, ◌≡◌, IfOk, codes, map, string_bytes}};
+ghost use Rattle.std.specs.{List.join_with_byte, Prelude.{[], ◌++◌, ◌∷◌, ◌≡◌, IfErr, IfOk, OnOk, codes, map, string_bytes}};
+ghost use Rattle.base.specs.Refusals.{out_of_memory};
 ghost use Rattle.captext.specs.PolicyText.{label_name};
-ghost use Rattle.stated.specs.Text.{end_word, stated_text};
+ghost use Rattle.words.specs.Text.{line_text};
+ghost use Rattle.stated.specs.Text.{end_word, entry_words, lines_text, stated_text};
 
 use crate::claim::{LabelList, Stated, Who};
-use base::Label;
+use crate::lines::StatedLines;
+use base::{Label, Refusal};
 use captext::label_name;
 use std::alloc::{AllocError, Global};
 use table::Table;
@@ -66,4 +69,50 @@ pub fn claim_text(alloc: Global, claim: &Stated, table: &Table) -> Result<String
             format!(in alloc; "without {actor} {kind} {object}")
         }
     }
+}
+
+/// Returns the text of lines, with the names that the labels of their claims have in the table.
+///
+/// A line that says nothing is empty.
+///
+/// # Errors
+///
+/// 40 where memory is refused.
+pub fn write(alloc: Global, lines: &StatedLines, table: &Table) -> Result<Vec<u8>, Refusal>
+    ensures text { IfOk result (λ text. text.items ≡ lines_text table.now lines.now) }
+    ensures memory { IfErr result (λ refusal. refusal ≡ out_of_memory) }
+{
+    Ok(lines_string(alloc, lines.as_slice(), table)?.into_bytes())
+}
+
+#[tactic(auto, using(captext::proofs::Written::line_more))]
+fn lines_string(
+    alloc: Global,
+    lines: &[Option<Stated>],
+    table: &Table,
+) -> Result<String, AllocError>
+    ensures { IfOk result (λ text. string_bytes text ≡ lines_text table.now lines.now) }
+{
+    let mut text = String::from_str(alloc, "confine-claims 2\n")?;
+    for line in lines {
+        write_line(alloc, &mut text, line, table)?;
+    }
+    text.push_str("end\n")?;
+    Ok(text)
+}
+
+/// Writes a line.
+fn write_line(
+    alloc: Global,
+    text: &mut String,
+    line: &Option<Stated>,
+    table: &Table,
+) -> Result<(), AllocError>
+    ensures { OnOk result (string_bytes text.new ≡ string_bytes text.old ++ line_text (entry_words table.now line.now)) }
+{
+    if let Some(claim) = line {
+        let claim = claim_text(alloc, claim, table)?;
+        text.push_str(&claim)?;
+    }
+    text.push_str("\n")
 }

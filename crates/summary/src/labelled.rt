@@ -47,7 +47,11 @@ pub(crate) fn with_frames(table: &Table) -> Labels
 }
 
 /// Returns the labels with a thread in the table, rising.
-pub(crate) fn programs(alloc: Global, table: &Table) -> Result<Vec<Label>, AllocError>
+///
+/// # Errors
+///
+/// An error where memory is refused.
+pub fn programs(alloc: Global, table: &Table) -> Result<Vec<Label>, AllocError>
     ensures { IfOk result (λ labels. labels.items ≡ programs_of table.now) }
 {
     let _ = table.objects();

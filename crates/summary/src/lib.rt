@@ -1,4 +1,5 @@
-//! The summary of an accepted system: a matrix of who may change whom, and the labels without a thread with those who change and read them.
+//! The summary of an accepted system: a matrix of who may change whom, and the labels without a
+//! thread with those who change and read them.
 #![tactic(auto)]
 
 mod edges;
@@ -14,7 +15,7 @@ mod sources;
 mod ways;
 mod writing;
 
-pub use labelled::others;
+pub use labelled::{others, programs};
 pub use laws::each_change_has_a_letter;
 pub use regions::write_names;
 pub use rows::{Row, rows_of};

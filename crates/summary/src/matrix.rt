@@ -1,6 +1,8 @@
 //! The matrix of who may change whom: blocks of columns, each with a head and all rows.
 ghost use Rattle.std.specs.{List.flat_map, Prelude.{◌++◌, ◌<◌, ◌≡◌, IfOk, OnOk, length, string_bytes}};
-ghost use Rattle.summary.specs.{Matrix.{block_from, cell_text, extent_text, head_text, letters, line_text, marks, matrix_text}, Padding.given};
+ghost use Rattle.summary.specs.Matrix.{block_from, cell_text, extent_text, head_text, letters, line_text, marks};
+ghost use Rattle.summary.specs.Matrix.{matrix_text};
+ghost use Rattle.summary.specs.Padding.{given};
 ghost use Rattle.summary.specs.Matrix.{number_text, start_text};
 
 use crate::lines::{Page, columns, shown_from};
@@ -58,7 +60,8 @@ fn write_lines(
     shown: &[Row],
     rows: &[Row],
 ) -> Result<(), AllocError>
-    ensures { OnOk result (string_bytes text.new ≡ string_bytes text.old ++ flat_map (line_text table.now page shown.now) rows.now) }
+    ensures { OnOk result (string_bytes text.new
+        ≡ string_bytes text.old ++ flat_map (line_text table.now page shown.now) rows.now) }
 {
     for row in rows {
         write_line(alloc, text, table, page, shown, row)?;
@@ -110,7 +113,8 @@ fn write_line(
     shown: &[Row],
     row: &Row,
 ) -> Result<(), AllocError>
-    ensures { OnOk result (string_bytes text.new ≡ string_bytes text.old ++ line_text table.now page shown.now row.now) }
+    ensures { OnOk result (string_bytes text.new
+        ≡ string_bytes text.old ++ line_text table.now page shown.now row.now) }
 {
     let number = digits(alloc, row.number)?;
     write_start(text, page, &number, label_name(table, row.label))?;

@@ -1,6 +1,7 @@
 //! The labels without a thread, with those who change and read them.
 ghost use Rattle.std.specs.{List.{flat_map, list_any}, Prelude.{◌++◌, ◌≡◌, IfOk, OnOk, string_bytes}};
-ghost use Rattle.summary.specs.Regions.{also_text, changers, group_of, group_text, has_same_users, is_leader, is_nil, leads};
+ghost use Rattle.summary.specs.Regions.{also_text, changers, group_of, group_text, has_same_users, is_leader, is_nil};
+ghost use Rattle.summary.specs.Regions.{leads};
 ghost use Rattle.summary.specs.Regions.{more_name, names_text, readers, readers_text, regions_text, users_text};
 
 use crate::rows::Row;
@@ -18,7 +19,8 @@ pub(crate) fn write_regions(
     rows: &[Row],
     others: &[Label],
 ) -> Result<(), AllocError>
-    ensures { OnOk result (string_bytes text.new ≡ string_bytes text.old ++ regions_text table.now rows.now others.now) }
+    ensures { OnOk result (string_bytes text.new
+        ≡ string_bytes text.old ++ regions_text table.now rows.now others.now) }
 {
     for label in others {
         write_group(alloc, text, table, rows, others, *label)?;
@@ -35,7 +37,8 @@ fn write_group(
     others: &[Label],
     label: Label,
 ) -> Result<(), AllocError>
-    ensures { OnOk result (string_bytes text.new ≡ string_bytes text.old ++ group_text table.now rows.now others.now label) }
+    ensures { OnOk result (string_bytes text.new
+        ≡ string_bytes text.old ++ group_text table.now rows.now others.now label) }
 {
     if !leads(rows, others, label) {
         return Ok(());
@@ -130,7 +133,8 @@ fn write_users(
     changers: &[Label],
     readers: &[Label],
 ) -> Result<(), AllocError>
-    ensures { OnOk result (string_bytes text.new ≡ string_bytes text.old ++ users_text table.now changers.now readers.now) }
+    ensures { OnOk result (string_bytes text.new
+        ≡ string_bytes text.old ++ users_text table.now changers.now readers.now) }
 {
     if is_nil(changers) {
         return write_readers(text, table, readers);
@@ -168,7 +172,8 @@ fn write_listed(
     word: &str,
     labels: &[Label],
 ) -> Result<(), AllocError>
-    ensures { OnOk result (string_bytes text.new ≡ string_bytes text.old ++ (word.now ++ names_text table.now labels.now)) }
+    ensures { OnOk result (string_bytes text.new
+        ≡ string_bytes text.old ++ (word.now ++ names_text table.now labels.now)) }
 {
     text.push_str(word)?;
     write_names(text, table, labels)

@@ -4,7 +4,8 @@ ghost use Rattle.base.specs.declared.kind.Kind.TheVariants as authority;
 ghost use Rattle.base.specs.Labels.{is_in};
 ghost use Rattle.policy.specs.{Change.MayHoldCaller, Policy.allows};
 ghost use Rattle.verdict.specs.Extents.{reach_by};
-ghost use Rattle.summary.specs.{Letters.{HasLetter, by_answer, by_call, by_other, by_signal}, Ways.{IsBeside, IsCallers, IsHeldBy}};
+ghost use Rattle.summary.specs.Letters.{HasLetter, by_answer, by_call, by_other, by_signal};
+ghost use Rattle.summary.specs.Ways.{IsBeside, IsCallers, IsHeldBy};
 
 use crate::edges::{beside, row};
 use crate::sources::{Sources, join, waiting};
@@ -32,7 +33,8 @@ impl<'a> Model for Ways<'a> {
 
     ghost view = { λ ways. record { edges = ways.policy.now; actors = ways.actors } };
 
-    ghost invariant = { λ ways. IsWays ways.policy.now ways.actors ways.senders ways.receivers ways.waiters ways.callers.items };
+    ghost invariant = { λ ways. IsWays ways.policy.now ways.actors
+        ways.senders ways.receivers ways.waiters ways.callers.items };
 }
 
 impl<'a> Ways<'a> {
@@ -60,7 +62,8 @@ impl<'a> Ways<'a> {
 
     /// Returns the labels that the label may change by a call or a send.
     pub(crate) fn calls(&self, actor: Label) -> Labels
-        ensures { (l : ℕ) → (is_in result l ≡ true) ↔ HasLetter by_call (reach_by self.now.edges self.now.actors) actor l }
+        ensures { (l : ℕ) → (is_in result l ≡ true)
+            ↔ HasLetter by_call (reach_by self.now.edges self.now.actors) actor l }
     {
         if !self.actors.has(actor) {
             return Labels::none();
@@ -77,7 +80,8 @@ impl<'a> Ways<'a> {
 
     /// Returns the labels that the label may change by an answer, or by taking a call or a message.
     pub(crate) fn answers(&self, actor: Label) -> Labels
-        ensures { (l : ℕ) → (is_in result l ≡ true) ↔ HasLetter by_answer (reach_by self.now.edges self.now.actors) actor l }
+        ensures { (l : ℕ) → (is_in result l ≡ true)
+            ↔ HasLetter by_answer (reach_by self.now.edges self.now.actors) actor l }
     {
         if !self.actors.has(actor) {
             return Labels::none();
@@ -95,7 +99,8 @@ impl<'a> Ways<'a> {
 
     /// Returns the labels that the label may change by a signal.
     pub(crate) fn signals(&self, actor: Label) -> Labels
-        ensures { (l : ℕ) → (is_in result l ≡ true) ↔ HasLetter by_signal (reach_by self.now.edges self.now.actors) actor l }
+        ensures { (l : ℕ) → (is_in result l ≡ true)
+            ↔ HasLetter by_signal (reach_by self.now.edges self.now.actors) actor l }
     {
         if !self.actors.has(actor) {
             return Labels::none();
@@ -107,7 +112,8 @@ impl<'a> Ways<'a> {
 
     /// Returns the labels that the label may change in another way.
     pub(crate) fn others(&self, actor: Label) -> Labels
-        ensures { (l : ℕ) → (is_in result l ≡ true) ↔ HasLetter by_other (reach_by self.now.edges self.now.actors) actor l }
+        ensures { (l : ℕ) → (is_in result l ≡ true)
+            ↔ HasLetter by_other (reach_by self.now.edges self.now.actors) actor l }
     {
         if !self.actors.has(actor) {
             return Labels::none();
@@ -126,7 +132,8 @@ impl<'a> Ways<'a> {
 
     // The labels whose threads these replies may hold since they called.
     fn answered(&self, replies: Labels) -> Labels
-        ensures { (l : ℕ) → (is_in result l ≡ true) ↔ IsHeldBy (allows self.now.edges) (is_in self.now.actors) replies l }
+        ensures { (l : ℕ) → (is_in result l ≡ true)
+            ↔ IsHeldBy (allows self.now.edges) (is_in self.now.actors) replies l }
     {
         self.policy.edges_rise();
         join(&self.callers, replies)

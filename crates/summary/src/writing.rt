@@ -54,7 +54,8 @@ fn write_others(
     table: &Table,
     rows: &[Row],
 ) -> Result<(), AllocError>
-    ensures { OnOk result (string_bytes text.new ≡ string_bytes text.old ++ others_text table.now rows.now (others_of table.now)) }
+    ensures { OnOk result (string_bytes text.new
+        ≡ string_bytes text.old ++ others_text table.now rows.now (others_of table.now)) }
 {
     let others = others(alloc, table)?;
     if others.is_empty() {

@@ -1,8 +1,17 @@
+use Rattle.std.proofs.Common.{◌∙◌}
 use Rattle.microkit.specs.View.{description_of}
-use Rattle.importing.proofs.Counts.{few_of}
+use Rattle.importing.specs.PlanView.{maps_of}
+use Rattle.importing.proofs.Places.{labels_distinct, labels_spelled}
 use Rattle.importing.proofs.tables.planned.Goals as goal
 
-pub returns-clause-few : goal.returns-clause-few
-returns-clause-few c =
-    few_of (description_of c.args.description.now) c.in_ok-names.names.items c.in_ok-subjects.subjects.items c.deref.result.now
-    c.in_ok-names.ensures.exact c.in_ok-subjects.ensures c.deref.ensures.value c.in_ok-check_labels.ensures.few
+pub returns-clause-names : goal.returns-clause-names
+returns-clause-names c =
+    labels_spelled (description_of c.args.description.now) c.in_ok-names.names.items c.deref-4.result.now
+    (maps_of c.deref-3.result.now) c.in_ok-places.places.items c.in_ok-names.ensures.exact
+    (c.deref-4.ensures.value ∙ c.in_ok-subjects.ensures) c.in_ok-places.ensures c.in_ok-names.ensures.names
+
+pub returns-clause-distinct : goal.returns-clause-distinct
+returns-clause-distinct c =
+    labels_distinct (description_of c.args.description.now) c.in_ok-names.names.items c.deref-4.result.now
+    (maps_of c.deref-3.result.now) c.in_ok-places.places.items c.in_ok-names.ensures.exact
+    (c.deref-4.ensures.value ∙ c.in_ok-subjects.ensures) c.in_ok-places.ensures c.in_ok-names.ensures.distinct

@@ -1,18 +1,18 @@
-use Rattle.std.proofs.Common.{◌∙◌, ◌≡◌, sym}
+use Rattle.std.proofs.Common.{◌∙◌, sym}
 use Rattle.std.proofs.lemmas.Bool.{false≢true}
 use Rattle.stated.proofs.rows.Row.on.Goals as goal
 
-pub returns-then-has : goal.returns-then-has
-returns-then-has c = λ reach a is. (is.changed c.args.object).0 (sym c.has.ensures ∙ c.if-has.true)
+pub returns-then-has-clause-goes_to : goal.returns-then-has-clause-goes_to
+returns-then-has-clause-goes_to c = λ reach a is. (is.changed c.args.object).0 (sym c.has.ensures ∙ c.if-has.true)
 
-pub returns-then-has-2 : goal.returns-then-has-2
-returns-then-has-2 c = λ reach a is. (
+pub returns-then-has-2-clause-goes_to : goal.returns-then-has-2-clause-goes_to
+returns-then-has-2-clause-goes_to c = λ reach a is. (
   λ change. false≢true (sym c.if-has.false ∙ c.has.ensures ∙ (is.changed c.args.object).1 change),
   (is.shrunk c.args.object).0 (sym c.has-2.ensures ∙ c.if-has-2.true),
 )
 
-pub returns : goal.returns
-returns c = λ reach a is. (
+pub returns-clause-goes_to : goal.returns-clause-goes_to
+returns-clause-goes_to c = λ reach a is. (
   λ change. false≢true (sym c.if-has.false ∙ c.has.ensures ∙ (is.changed c.args.object).1 change),
   λ shrink. false≢true (sym c.if-has-2.false ∙ c.has-2.ensures ∙ (is.shrunk c.args.object).1 shrink),
 )

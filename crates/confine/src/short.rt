@@ -1,0 +1,159 @@
+//! What `--format short` prints on standard output: a line for each finding, or that there is none.
+ghost use Rattle.std.specs.Prelude.{◌≡◌, ◌⊎◌, false};
+ghost use Rattle.devices.specs.Watched.{failed_of};
+ghost use Rattle.commands.specs.Ends.{status_of};
+
+use crate::explaining::Explainer;
+use crate::files::Opened;
+use base::Refusal;
+use invocation::{Invocation, OfSystem, OfThree, Request};
+use report::{Asked, End, Fault, File, Finding, Heard, Listener, OnAccept, Sink, Watched};
+use std::alloc::{AllocError, Global};
+use std::io::Write;
+use std::thread::Threads;
+use table::Table;
+
+/// Hears what a command finds, and keeps a line for each finding. An [`Explainer`] hears all of it too.
+#[derive(Drop)]
+pub struct Shortener<'a, R> {
+    explainer: Explainer<'a, R>,
+    alloc: Global,
+    request: Request<'a, &'a str>,
+    printed: Printed,
+}
+
+/// What is printed.
+#[derive(Drop)]
+enum Printed {
+    /// The answer, which is no report.
+    Answer,
+    /// These lines, in place of a report.
+    Lines(String),
+    /// Nothing, since memory was refused to the lines.
+    Nothing,
+}
+
+impl Printed {
+    /// Returns what is printed if a sentence, or several lines, are to be.
+    fn of<E: Drop>(told: Result<String, E>) -> Printed {
+        match told {
+            Ok(lines) => Printed::Lines(lines),
+            Err(_) => Printed::Nothing,
+        }
+    }
+}
+
+impl<'a, R: AllocGlobal + Eprint> Shortener<'a, R> {
+    pub fn new(rt: &'a R, invocation: Invocation<'a>) -> Shortener<'a, R> {
+        Shortener {
+            explainer: Explainer::new(rt, invocation),
+            alloc: rt.alloc(),
+            request: invocation.request,
+            printed: Printed::Answer,
+        }
+    }
+
+    /// Tells which file couldn't be read, if one couldn't, and why.
+    pub fn hear_end<F>(&self, end: End, files: &Request<'_, Opened<F>>) {
+        self.explainer.hear_end(end, files);
+    }
+
+    /// Writes the lines, or the answer that was kept in memory in place of its output. Returns how that ends.
+    pub(crate) fn write<W: Write>(&self, end: End, kept: &[u8], out: &mut Watched<W>) -> End
+        requires { failed_of out.old ≡ false }
+        ensures { (status_of result ≡ status_of end) ⊎ (status_of result ≡ 2) }
+    {
+        let text = match (end, &self.printed) {
+            (End::Status(_), Printed::Answer) => kept,
+            (End::Status(_), Printed::Lines(lines)) => lines.as_bytes(),
+            // Nothing but memory is refused to what is kept.
+            (End::Status(_), Printed::Nothing) | (End::CannotWrite, _) => return End::NoMemory,
+            _ => return end,
+        };
+        match out.write_whole(text) {
+            Ok(()) => end,
+            Err(_) => End::CannotWrite,
+        }
+    }
+
+    /// Returns the line on what is found wrong, or several lines.
+    fn finding_lines(&self, heard: &Heard<'_>, finding: &Finding) -> Result<String, Refusal> {
+        let alloc = self.alloc;
+        let sentence = self.explainer.sentence_on(heard, finding)?;
+        match finding {
+            Finding::BrokenLines(_) => Ok(sentence),
+            Finding::Broken(broken) => {
+                let claims = self.request.name_of(File::Claims);
+                // The header is a line too.
+                let line = broken.number.saturating_add(1);
+                Ok(format!(in alloc; "{claims}:{line}: {sentence}\n")?)
+            }
+            _ => Ok(format!(in alloc; "{sentence}\n")?),
+        }
+    }
+
+    /// Returns the line that says that nothing is found wrong, if the answer is a report.
+    fn accepted_line(&self, heard: &Heard<'_>) -> Option<Result<String, AllocError>> {
+        let alloc = self.alloc;
+        match self.request {
+            Request::OfSystem(
+                OfSystem::Check {
+                    on_accept: OnAccept::Report,
+                    ..
+                },
+                table,
+                _,
+            ) => Some(format!(in alloc; "{table}: accepted\n")),
+            Request::OfThree(OfThree::Verify, _, _, certificate) => {
+                Some(format!(in alloc; "{certificate}: accepted\n"))
+            }
+            Request::OfThree(OfThree::Replay, _, _, log) => {
+                Some(format!(in alloc; "{log}: legal, and ends within the policy\n"))
+            }
+            Request::OfThree(OfThree::Claims, _, _, claims) => {
+                Some(holding_line(alloc, claims, claim_count(heard)))
+            }
+            _ => None,
+        }
+    }
+}
+
+/// Returns how many claims were read, if they are of version 2.
+fn claim_count(heard: &Heard<'_>) -> Option<usize> {
+    let lines = heard.claims?.as_slice();
+    Some(lines.iter().filter(|line| line.is_some()).count())
+}
+
+/// Returns the line that says that the claims of a file hold.
+fn holding_line(alloc: Global, file: &str, count: Option<usize>) -> Result<String, AllocError> {
+    match count {
+        Some(1) => format!(in alloc; "{file}: 1 claim holds\n"),
+        Some(count) => format!(in alloc; "{file}: {count} claims hold\n"),
+        None => format!(in alloc; "{file}: all claims hold\n"),
+    }
+}
+
+impl<R: AllocGlobal + Eprint + Threads + Sync> Listener for Shortener<'_, R> {
+    fn hear_fault(&mut self, file: File, text: &[u8], table: Option<&Table>, fault: Fault) {
+        let alloc = self.alloc;
+        let told = self.explainer.fault_told(file, text, table, fault);
+        self.printed = Printed::of(match told {
+            Ok(sentence) => format!(in alloc; "{sentence}\n"),
+            Err(error) => Err(error),
+        });
+        self.explainer.hear_fault(file, text, table, fault);
+    }
+
+    fn hear_answer(&mut self, heard: &Heard<'_>) {
+        if let Some(finding) = heard.finding {
+            self.printed = Printed::of(self.finding_lines(heard, finding));
+        } else if let Some(line) = self.accepted_line(heard) {
+            self.printed = Printed::of(line);
+        }
+        self.explainer.hear_answer(heard);
+    }
+
+    fn hear_unlabelled(&mut self, table: &Table, asked: Asked) {
+        self.explainer.hear_unlabelled(table, asked);
+    }
+}

@@ -1,0 +1,128 @@
+//! The sentences on a run that leaves a policy that breaks a rule of closed policies, or that no such run was found.
+use crate::asked::asked_edge;
+use crate::runs::explain_run;
+use crate::sentences::{EdgeLine, Reason};
+use base::{Edge, Kind, Label, ObjId, Refusal};
+use captext::label_name;
+use labels::label_of;
+use machine::Event;
+use objects::State;
+use policy::Policy;
+use search::{MOST_CALLS, find_escape, leaves, place_outside, reach};
+use std::alloc::{AllocError, Global};
+use table::Table;
+use verdict::Denial;
+
+/// How many calls a search for a run tries.
+const STEPS: u64 = 2_000;
+
+/// Returns lines on a run that leaves a policy, or that no such run was found.
+///
+/// The lines say who makes each call and what the call changes, and which authority lies outside the policy afterwards.
+/// There are none if the table's boot state already lies outside the policy.
+///
+/// # Errors
+///
+/// 40 where memory is refused.
+pub fn explain_escape(alloc: Global, table: &Table, policy: &Policy) -> Result<String, Refusal> {
+    let mut lines = String::new(alloc);
+    if leaves(alloc, table, policy, &[])? {
+        return Ok(lines);
+    }
+    let found = find_escape(alloc, table, policy, STEPS)?;
+    match found.script {
+        Some(script) => push_escape(alloc, &mut lines, table, policy, &script)?,
+        None => {
+            let steps = found.steps;
+            writeln!(
+                lines,
+                "no run of at most {MOST_CALLS} calls that leaves the policy was found ({steps} calls tried). The rule \
+                 is broken all the same: the rules exclude such runs, but a broken rule doesn't mean that there is one."
+            )?;
+        }
+    }
+    Ok(lines)
+}
+
+/// Adds the calls of a run, and which authority lies outside the policy afterwards.
+fn push_escape(
+    alloc: Global,
+    lines: &mut String,
+    table: &Table,
+    policy: &Policy,
+    script: &[Event],
+) -> Result<(), Refusal> {
+    let count = script.len();
+    let calls = if count == 1 { "call" } else { "calls" };
+    writeln!(lines, "a run of {count} {calls} leaves the policy:")?;
+    let run = explain_run(alloc, table, script)?;
+    lines.push_str(&run)?;
+    let place = place_outside(alloc, table, policy, script)?;
+    if let (Some(place), Some(state)) = (place, reach(alloc, table, script)?) {
+        push_excess(lines, table, &state, &place)?;
+    }
+    Ok(())
+}
+
+/// Adds which authority lies outside a policy in a state.
+fn push_excess(
+    lines: &mut String,
+    table: &Table,
+    state: &State,
+    place: &Denial,
+) -> Result<(), AllocError> {
+    if let Some(edge) = asked_edge(table, place) {
+        let reason = Reason {
+            table,
+            denial: place,
+        };
+        let edge = EdgeLine { table, edge };
+        return writeln!(lines, "then {reason}, but the policy has no `{edge}`");
+    }
+    match edge_in(table, state, place) {
+        Some(edge) => {
+            let (from, to) = (label_name(table, edge.from), label_name(table, edge.to));
+            let kind = edge.kind;
+            let edge = EdgeLine { table, edge };
+            writeln!(
+                lines,
+                "then `{from}` has `{kind}` on `{to}` through an object that the run made, but the policy has no \
+                 `{edge}`"
+            )
+        }
+        None => Ok(()),
+    }
+}
+
+/// The edge that a place outside of a policy asks for, by the labels that objects have in a state.
+fn edge_in(table: &Table, state: &State, place: &Denial) -> Option<Edge> {
+    let label = |id: ObjId| label_of(table, state, id);
+    match *place {
+        Denial::Capability {
+            slot,
+            kind,
+            label: to,
+        } => joined(label(slot.holder), kind, Some(to)),
+        Denial::Root { slot, label: to } => joined(label(slot.holder), Kind::Space, Some(to)),
+        Denial::Pair { child, parent } => {
+            joined(label(parent.holder), Kind::Derive, label(child.holder))
+        }
+        Denial::Binding { thread, context } => joined(label(thread), Kind::Runs, label(context)),
+        Denial::Holding { reply, thread } => joined(label(reply), Kind::Holds, label(thread)),
+        Denial::Recorded {
+            thread,
+            kind,
+            label: to,
+        } => joined(label(thread), kind, Some(to)),
+        Denial::Policy(_) | Denial::Certificate { .. } => None,
+    }
+}
+
+/// The edge between two labels, where there are both.
+fn joined(from: Option<Label>, kind: Kind, to: Option<Label>) -> Option<Edge> {
+    Some(Edge {
+        from: from?,
+        kind,
+        to: to?,
+    })
+}

@@ -1,0 +1,259 @@
+//! The search for a run that leaves a policy: one that ends in a state whose authority lies outside of it.
+ghost use Rattle.std.specs.Prelude.{◌≡◌, ◌≤◌, IfErr, IfOk, IfSome, IsTrue};
+ghost use Rattle.base.specs.Refusals.{plain};
+ghost use Rattle.policy.specs.Policy.{allows};
+ghost use Rattle.search.specs.Escapes.{IsAnywhereOutside, Leaves, LeavesAt};
+
+use crate::atoms::{Known, News};
+use crate::finding::{Found, copied, longer, made_after, within};
+use crate::reaching::reach;
+use crate::seeming::changes;
+use crate::trying::{Callers, Choice, calls_in};
+use base::Refusal;
+use machine::Event;
+use objects::State;
+use policy::Policy;
+use std::alloc::{AllocError, Global};
+use table::Table;
+use verdict::{Denial, outside};
+
+/// The most calls that a run has which leaves a policy.
+pub const MOST_CALLS: usize = 8;
+
+/// The scripts after which calls are tried, in this order, and what the search has seen.
+#[derive(Drop)]
+struct Queue<'a> {
+    boot: State,
+    known: Known<'a>,
+    scripts: Vec<Vec<Event>>,
+}
+
+/// Searches for a run of at most [`MOST_CALLS`] calls that leaves a policy, and tries at most so many calls.
+///
+/// A run that is found starts in the table's boot state, no call of it is refused, and its last state lies
+/// outside the policy. That none is found says nothing.
+///
+/// # Errors
+///
+/// 40 where memory is refused.
+pub fn find_escape(
+    alloc: Global,
+    table: &Table,
+    policy: &Policy,
+    steps: u64,
+) -> Result<Found, Refusal>
+    ensures found { IfOk result (λ found. IfSome found.script
+        (λ script. Leaves table.now (allows policy.now) script.items)) }
+    ensures bounded { IfOk result (λ found. found.steps ≤ steps) }
+    ensures refused { IfErr result (λ refusal. refusal ≡ plain 40) }
+{
+    let mut spent = 0;
+    let Some(mut queue) = begin(alloc, table)? else {
+        return Ok(Found {
+            script: None,
+            steps: 0,
+        });
+    };
+    for number in 0..usize::MAX {
+        let Some(script) = script_at(alloc, &queue.scripts, number)? else {
+            break;
+        };
+        let found = try_after(alloc, table, policy, &script, steps - spent, &mut queue)?;
+        spent += found.steps;
+        if let Some(script) = found.script {
+            return Ok(Found {
+                script: Some(script),
+                steps: spent,
+            });
+        }
+        if spent == steps {
+            break;
+        }
+    }
+    Ok(Found {
+        script: None,
+        steps: spent,
+    })
+}
+
+/// Returns where the authority after a script first lies outside a policy: nothing if it doesn't, if a call of
+/// the script is refused, or if the script has more than [`MOST_CALLS`] calls.
+///
+/// # Errors
+///
+/// 40 where memory is refused.
+pub fn place_outside(
+    alloc: Global,
+    table: &Table,
+    policy: &Policy,
+    script: &[Event],
+) -> Result<Option<Denial>, Refusal>
+    ensures left { IfOk result (λ found. IfSome found (LeavesAt table.now (allows policy.now) script.now)) }
+    ensures refused { IfErr result (λ refusal. refusal ≡ plain 40) }
+{
+    if script.len() > MOST_CALLS {
+        return Ok(None);
+    }
+    match reach(alloc, table, script)? {
+        Some(state) => Ok(outside(table, policy, &state)),
+        None => Ok(None),
+    }
+}
+
+// A search that has tried nothing.
+fn begin<'a>(alloc: Global, table: &'a Table) -> Result<Option<Queue<'a>>, Refusal>
+    ensures refused { IfErr result (λ refusal. refusal ≡ plain 40) }
+{
+    let Some(boot) = reach(alloc, table, &[])? else {
+        return Ok(None);
+    };
+    let known = Known::new(alloc, table, News::Atom, &boot)?;
+    let mut scripts = Vec::new(alloc);
+    scripts.push(Vec::new(alloc))?;
+    Ok(Some(Queue {
+        boot,
+        known,
+        scripts,
+    }))
+}
+
+// The script of that number, if there is one.
+fn script_at(
+    alloc: Global,
+    scripts: &[Vec<Event>],
+    number: usize,
+) -> Result<Option<Vec<Event>>, AllocError> {
+    match scripts.get(number) {
+        Some(script) => Ok(Some(copied(alloc, script)?)),
+        None => Ok(None),
+    }
+}
+
+// Tries calls of all threads after a script, but no more than so many, and keeps the scripts that lead to
+// something new.
+fn try_after(
+    alloc: Global,
+    table: &Table,
+    policy: &Policy,
+    script: &[Event],
+    most: u64,
+    queue: &mut Queue<'_>,
+) -> Result<Found, Refusal>
+    ensures found { IfOk result (λ found. IfSome found.script
+        (λ script. Leaves table.now (allows policy.now) script.items)) }
+    ensures bounded { IfOk result (λ found. found.steps ≤ most) }
+    ensures refused { IfErr result (λ refusal. refusal ≡ plain 40) }
+{
+    let Some(from) = reach(alloc, table, script)? else {
+        return Ok(Found {
+            script: None,
+            steps: 0,
+        });
+    };
+    let choice = Choice {
+        callers: Callers::All,
+        wide: false,
+    };
+    let calls = calls_in(alloc, table, &from, &choice)?;
+    try_all(alloc, table, policy, script, &from, &calls, most, queue)
+}
+
+// Tries calls after a script, but no more than so many.
+fn try_all(
+    alloc: Global,
+    table: &Table,
+    policy: &Policy,
+    script: &[Event],
+    from: &State,
+    calls: &[Event],
+    most: u64,
+    queue: &mut Queue<'_>,
+) -> Result<Found, Refusal>
+    ensures found { IfOk result (λ found. IfSome found.script
+        (λ script. Leaves table.now (allows policy.now) script.items)) }
+    ensures bounded { IfOk result (λ found. found.steps ≤ most) }
+    ensures refused { IfErr result (λ refusal. refusal ≡ plain 40) }
+{
+    let mut at = 0;
+    for _ in 0..calls.len() {
+        let Some((index, state)) = made_after(alloc, table, script, calls, at, most)? else {
+            at = calls.len();
+            break;
+        };
+        at = index + 1;
+        if let Some(last) = calls.get(index) {
+            let found = judge(alloc, table, policy, script, *last, from, &state, queue)?;
+            if let Some(script) = found {
+                return Ok(Found {
+                    script: Some(script),
+                    steps: within(at, most),
+                });
+            }
+        }
+    }
+    Ok(Found {
+        script: None,
+        steps: within(at, most),
+    })
+}
+
+// Judges a call that leads from a script's state to another: the script with the call, if it leaves the policy.
+// It is kept if it leads to something new, and may have a further call.
+fn judge(
+    alloc: Global,
+    table: &Table,
+    policy: &Policy,
+    script: &[Event],
+    last: Event,
+    from: &State,
+    to: &State,
+    queue: &mut Queue<'_>,
+) -> Result<Option<Vec<Event>>, Refusal>
+    ensures found { IfOk result (λ found. IfSome found
+        (λ script. Leaves table.now (allows policy.now) script.items)) }
+    ensures refused { IfErr result (λ refusal. refusal ≡ plain 40) }
+{
+    let longer = longer(alloc, script, last)?;
+    // The state is but a first look: what counts is where the whole script leads.
+    if lies_outside(table, policy, to) && leaves(alloc, table, policy, &longer)? {
+        return Ok(Some(longer));
+    }
+    let changes = changes(alloc, from, to)?;
+    if longer.len() < MOST_CALLS && queue.known.note(alloc, &queue.boot, to, &changes)? {
+        queue.scripts.push(longer)?;
+    }
+    Ok(None)
+}
+
+/// Returns whether a script that isn't too long leaves a policy.
+///
+/// # Errors
+///
+/// 40 where memory is refused.
+pub fn leaves(
+    alloc: Global,
+    table: &Table,
+    policy: &Policy,
+    script: &[Event],
+) -> Result<bool, Refusal>
+    ensures left { IfOk result (λ left. IsTrue left → Leaves table.now (allows policy.now) script.now) }
+    ensures refused { IfErr result (λ refusal. refusal ≡ plain 40) }
+{
+    if script.len() > MOST_CALLS {
+        return Ok(false);
+    }
+    match reach(alloc, table, script)? {
+        Some(state) => Ok(lies_outside(table, policy, &state)),
+        None => Ok(false),
+    }
+}
+
+// Whether some authority of a state lies outside a policy.
+fn lies_outside(table: &Table, policy: &Policy, state: &State) -> bool
+    ensures { IsTrue result → IsAnywhereOutside table.now (allows policy.now) state.now }
+{
+    match outside(table, policy, state) {
+        Some(_) => true,
+        None => false,
+    }
+}

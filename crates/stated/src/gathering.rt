@@ -1,0 +1,181 @@
+//! The strongest claims that hold of a system.
+ghost use Rattle.std.specs.Prelude.{[], ◌++◌, ◌≡◌, IfErr, IfOk, OnOk, Some, map};
+ghost use Rattle.std.specs.List.{Contains, flat_map};
+ghost use Rattle.base.specs.Refusals.{out_of_memory};
+ghost use Rattle.verdict.specs.Extents.{reach_of};
+ghost use Rattle.summary.specs.Labelled.{labels_of};
+ghost use Rattle.stated.specs.declared.claim.Stated.{Stated as StatedOf};
+ghost use Rattle.stated.specs.declared.lines.TheConstants.StatedLines as StatedLines;
+ghost use Rattle.stated.specs.{Holding.{AreBroken, IsKept}, Rows.{extents_of, row_extent}};
+ghost use Rattle.stated.specs.Strongest.{AreStrongest, affects, claims_among, claims_for, claims_on, is_user, only_these, users_of};
+
+use crate::claim::{LabelList, Stated, Who};
+use crate::lines::StatedLines;
+use crate::rows::{Row, Rows};
+use base::{Label, Refusal};
+use claims::Most;
+use std::alloc::{AllocError, Global};
+use summary::{others, programs};
+use table::Table;
+use verdict::{Bounds, Extent};
+
+/// Returns the strongest claims that hold of an accepted system, one a line.
+///
+/// For labels that have a thread these are `none` and `take`, on each pair of them on which less than full
+/// authority is left. For each label without a thread it is one `only` with all other labels that may change
+/// or shrink its objects, or `none * B` where no other label may.
+///
+/// What they claim is kept in every run.
+///
+/// # Errors
+///
+/// 40 where memory is refused.
+pub fn strongest(alloc: Global, bounds: &Bounds<'_>) -> Result<StatedLines, Refusal>
+    ensures strongest { IfOk result (AreStrongest bounds.now.system.table (reach_of bounds.now)) }
+    ensures hold { IfOk result (λ lines.
+        AreBroken bounds.now.system.table (reach_of bounds.now) StatedLines.FIRST lines []) }
+    ensures kept { IfOk result (λ lines.
+        (claim : StatedOf) → Contains lines (Some claim) → IsKept bounds.now.system.table claim) }
+    ensures memory { IfErr result (λ refusal. refusal ≡ out_of_memory) }
+{
+    // That its system is accepted, it tells with its actors.
+    let _ = bounds.actors();
+    let lines = strongest_by(alloc, bounds.table(), bounds)?;
+    Ok(lines)
+}
+
+/// The strongest claims that hold by the bounds, on the labels of a table.
+fn strongest_by(
+    alloc: Global,
+    table: &Table,
+    bounds: &Bounds<'_>,
+) -> Result<StatedLines, AllocError>
+    ensures { IfOk result (AreStrongest table.now (reach_of bounds.now)) }
+{
+    // That its labels are few is a rule of the table's own, which it tells with its objects.
+    let _ = table.objects();
+    let rows = Rows::of(alloc, bounds)?;
+    let programs = programs(alloc, table)?;
+    let others = others(alloc, table)?;
+    let mut lines = StatedLines::new(alloc);
+    add_claims_among(&mut lines, &rows, &programs)?;
+    add_claims_for(alloc, &mut lines, table, &rows, &others)?;
+    Ok(lines)
+}
+
+/// Adds the claims among labels.
+fn add_claims_among(
+    lines: &mut StatedLines,
+    rows: &Rows,
+    programs: &[Label],
+) -> Result<(), AllocError>
+    ensures { OnOk result (lines.new ≡ lines.old ++ map Some (claims_among (extents_of rows.now) programs.now)) }
+{
+    for actor in programs {
+        add_claims_of(lines, rows.row(*actor), *actor, programs)?;
+    }
+    Ok(())
+}
+
+/// Adds the claims of a label on these.
+fn add_claims_of(
+    lines: &mut StatedLines,
+    row: Row,
+    actor: Label,
+    objects: &[Label],
+) -> Result<(), AllocError>
+    ensures { OnOk result (lines.new ≡ lines.old ++ map Some (flat_map (claims_on (row_extent row) actor) objects.now)) }
+{
+    for object in objects {
+        add_claim_on(lines, row, actor, *object)?;
+    }
+    Ok(())
+}
+
+/// Adds the claim of a label on another, if it leaves anything out.
+fn add_claim_on(
+    lines: &mut StatedLines,
+    row: Row,
+    actor: Label,
+    object: Label,
+) -> Result<(), AllocError>
+    ensures { OnOk result (lines.new ≡ lines.old ++ map Some (claims_on (row_extent row) actor object)) }
+{
+    if actor.number() == object.number() {
+        return Ok(());
+    }
+    let most = match row.on(object) {
+        Extent::Full => return Ok(()),
+        Extent::Take => Most::Take,
+        Extent::Nothing => Most::Nothing,
+    };
+    lines.push(Some(Stated::AtMost(most, Who::One(actor), Who::One(object))))
+}
+
+/// Adds the claim for each of these labels, by all labels of a table.
+fn add_claims_for(
+    alloc: Global,
+    lines: &mut StatedLines,
+    table: &Table,
+    rows: &Rows,
+    others: &[Label],
+) -> Result<(), AllocError>
+    ensures { OnOk result (lines.new
+        ≡ lines.old ++ map Some (claims_for (extents_of rows.now) (labels_of table.now) others.now)) }
+{
+    for object in others {
+        let users = users_of(alloc, table, rows, *object)?;
+        lines.push(Some(only_these(*object, users)))?;
+    }
+    Ok(())
+}
+
+/// The labels of a table that may change or shrink objects of another.
+fn users_of(
+    alloc: Global,
+    table: &Table,
+    rows: &Rows,
+    object: Label,
+) -> Result<LabelList, AllocError>
+    ensures { IfOk result (λ users. users ≡ users_of (extents_of rows.now) (labels_of table.now) object) }
+{
+    // That its labels are few is a rule of the table's own, which it tells with its objects.
+    let _ = table.objects();
+    let mut users = LabelList::new(alloc);
+    for number in 0..table.label_count() {
+        if let Some(actor) = Label::new(number as u16) {
+            if is_user(rows.row(actor), actor, object) {
+                users.push(actor)?;
+            }
+        }
+    }
+    Ok(users)
+}
+
+/// Whether a label is another than this, and may change or shrink its objects.
+fn is_user(row: Row, actor: Label, object: Label) -> bool
+    ensures { result ≡ is_user (row_extent row) actor object }
+{
+    actor.number() != object.number() && affects(row.on(object))
+}
+
+/// Whether objects change or shrink.
+fn affects(extent: Extent) -> bool
+    ensures { result ≡ affects extent }
+{
+    match extent {
+        Extent::Full => true,
+        Extent::Take => true,
+        Extent::Nothing => false,
+    }
+}
+
+/// The claim that these labels alone change or shrink objects of another.
+fn only_these(object: Label, users: LabelList) -> Stated
+    ensures { result ≡ only_these object users }
+{
+    if users.as_slice().is_empty() {
+        return Stated::AtMost(Most::Nothing, Who::Others, Who::One(object));
+    }
+    Stated::Only(object, users)
+}
