@@ -86,7 +86,8 @@ impl Labels {
 
     /// Returns the label with the least number, if the set has any.
     pub fn first(self) -> Option<Label>
-        ensures some { IfSome result (λ least. (is_in self least ≡ true) × ((label : ℕ) → label < least → is_in self label ≡ false)) }
+        ensures some { IfSome result
+            (λ least. (is_in self least ≡ true) × ((label : ℕ) → label < least → is_in self label ≡ false)) }
         ensures none { IfNone result ((label : ℕ) → is_in self label ≡ false) }
     {
         for (index, part) in self.parts.iter().enumerate() {

@@ -1,5 +1,6 @@
-//! The limits of what a text may declare and a kernel may have. They are confine's own, but for the
-//! numbers of labels and cores, which are `Label::COUNT` and `CoreNo::COUNT`.
+//! The limits of what a text may declare and a kernel may have.
+//!
+//! They are confine's own. The numbers of labels and cores are `Label::COUNT` and `CoreNo::COUNT`.
 
 /// The number of objects that a capability table may declare.
 pub const MAX_OBJECTS: usize = 4096;

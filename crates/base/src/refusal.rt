@@ -1,6 +1,7 @@
 //! Refusals: why a call isn't done, and the numbers by which that is written.
 ghost use Rattle.std.specs.Prelude.{◌≡◌, ◌≢◌};
-ghost use Rattle.base.specs.declared.refusal.{Cause.Cause as Why, LookupFailure.LookupFailure as Failure, Misuse.Misuse as Wrong};
+ghost use Rattle.base.specs.declared.refusal.{Cause.Cause as Why, LookupFailure.LookupFailure as Failure};
+ghost use Rattle.base.specs.declared.refusal.Misuse.{Misuse as Wrong};
 ghost use Rattle.base.specs.Refusals.{IsOfCondition, failure_detail, misuse_refusal, out_of_memory, refusal_of};
 
 use std::alloc::{AllocError, AllocFailed};
@@ -145,7 +146,7 @@ impl<T: Drop> From<AllocFailed<T>> for Refusal {
 /// A law: different causes have different refusals, so a refusal tells its cause.
 ///
 /// Different misuses have different refusals too, and different failures of a lookup have different
-/// details. No condition is refused as a misuse or for want of memory, and want of memory isn't a
+/// details. No condition is refused as a misuse or for lack of memory, and lack of memory isn't a
 /// misuse.
 pub fn a_refusal_tells_its_cause()
     ensures cause { (one other : Why) → refusal_of one ≡ refusal_of other → one ≡ other }

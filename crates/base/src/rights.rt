@@ -1,12 +1,13 @@
 //! The rights of a capability.
-ghost use Rattle.std.specs.{Int.RustNames.bit_and, Prelude.{[], ℕ, ⊤, ◌<◌, ◌==◌, ◌↔◌, ◌∷◌, ◌≡◌, IfSome, List, None, Some, codes}};
-ghost use Rattle.base.specs.{declared.rights.Rights.Rights as Set, Rights.{IsRights, bit_in, letter_of, rights_of_word, rights_with, rights_word}};
+ghost use Rattle.std.specs.Int.RustNames.{bit_and};
+ghost use Rattle.std.specs.Prelude.{[], ℕ, ⊤, ◌<◌, ◌==◌, ◌↔◌, ◌∷◌, ◌≡◌, IfSome, List, None, Some, codes};
+ghost use Rattle.base.specs.declared.rights.Rights.{Rights as Set};
+ghost use Rattle.base.specs.Rights.{IsRights, bit_in, letter_of, rights_of_word, rights_with, rights_word};
 
 use bitflags::{Flag, Flags, bitflag_items};
 use std::fmt;
 
-/// The rights of a capability (seL4 manual, "Capability Rights"), spelled `r`, `w`, `g` and `y` in
-/// texts.
+/// The rights of a capability (seL4 manual, "Capability Rights"), spelled `r`, `w`, `g` and `y` in texts.
 #[derive(Clone, Copy, PartialEq, Eq, Debug)]
 pub struct Rights(u8);
 

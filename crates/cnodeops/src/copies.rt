@@ -1,8 +1,9 @@
 //! What a copy of a capability says, and where it comes in the derivation tree.
 ghost use Rattle.std.specs.Prelude.{◌≡◌, ◌≢◌, IsTrue, None, Some};
+ghost use Rattle.machine.specs.{Capabilities.kind_of_detail, Machine.{cap_of, has_slot, parent_of}};
+ghost use Rattle.machine.specs.{Step.Copy.{copyable, masked}, Tree.{copied, parent_of_copy, with_copy}};
+ghost use Rattle.machine.specs.WellFormed.{IsWellFormed, kind_of};
 ghost use Rattle.machine.specs.declared.object.ObjectKind.TheVariants as kind;
-ghost use Rattle.machine.specs.{Capabilities.kind_of_detail, Machine.{cap_of, has_slot, parent_of}, Step.Copy.{copyable, masked}};
-ghost use Rattle.machine.specs.{Tree.{copied, parent_of_copy, with_copy}, WellFormed.{IsWellFormed, kind_of}};
 
 use base::{Cause, Rights, SlotRef};
 use bitflags::Flags;
@@ -10,8 +11,7 @@ use derivation::insert_child;
 use machine::{Badged, Cap, Detail, Ends};
 use objects::State;
 
-/// Refuses to copy untyped memory (seL4 manual, "Capability Derivation Tree": it has one
-/// capability).
+/// Refuses to copy untyped memory (seL4 manual, "Capability Derivation Tree": it has one capability).
 ///
 /// # Errors
 ///
@@ -65,15 +65,15 @@ fn parent_of_copy(state: &State, slot: SlotRef, source: &Cap) -> Option<SlotRef>
     }
 }
 
-/// Fills the target with a copy of what the source holds, and puts it into the derivation tree
-/// (seL4 manual, "Capability Derivation Tree").
+/// Fills the target with a copy of what the source holds (seL4 manual, "Capability Derivation Tree").
 ///
-/// The target is an empty slot that is there, and the copy says `detail`. It becomes a child of the
-/// source where that is original, else of the source's parent, if it has one.
+/// The target is an empty slot that is there, and the copy says `detail`. In the derivation tree
+/// the copy becomes a child of the source where that is original, else of the source's parent, if
+/// it has one.
 ///
-/// No memory is taken. Whether the kind may be copied, and what a copy may say, is the caller's to
-/// see to: of the same kind, which isn't untyped memory, and in a root slot of a CNode, it leaves
-/// the state well formed.
+/// No memory is taken. The caller must see to it that the kind may be copied, and what the copy
+/// says. Of the same kind, which isn't untyped memory, and in a root slot of a CNode, the copy
+/// leaves the state well formed.
 pub fn derive(state: &mut State, ends: Ends, detail: Detail)
     requires well_formed { IsWellFormed state.old }
     requires there { IsTrue (has_slot state.old ends.target) }

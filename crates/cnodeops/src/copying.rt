@@ -8,11 +8,10 @@ use base::{Cause, ObjId, Rights};
 use machine::{Answer, Made, SlotAddress};
 use objects::State;
 
-/// Copies the capability in the slot that the caller names as `from` to the empty slot that it
-/// names as `to`, with those of its rights that are among `rights` (seL4 manual, seL4_CNode_Copy).
+/// Copies a capability to an empty slot, with those of its rights among `rights` (seL4 manual, seL4_CNode_Copy).
 ///
-/// The copy is a child of its source where that is original, else of the source's parent; it isn't
-/// original.
+/// The caller names the capability's slot as `from`, and the empty slot as `to`. The copy is a
+/// child of its source where that is original, else of the source's parent; it isn't original.
 ///
 /// # Errors
 ///

@@ -1,7 +1,9 @@
 //! Calls on CNodes: a capability is copied, minted or moved from one slot to another.
 //!
-//! Each call does its whole row of the kernel's step, from the row's first condition on, or leaves the
-//! state as it was. No memory is taken.
+//! Each call does its whole row of the kernel's step, from the row's first condition on, or leaves
+//! the state as it was. No memory is taken.
+//!
+//! `transfer`, `removal`, `threads` and `kernel` stand on it. It knows no policy.
 #![tactic(auto)]
 
 mod copies;

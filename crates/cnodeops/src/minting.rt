@@ -62,10 +62,10 @@ fn minted(object: Option<Object>, given: CapData, detail: Detail) -> Result<Deta
     }
 }
 
-/// Copies a capability as [`copy`](crate::copy) does, and gives the copy a badge or a guard (seL4
-/// manual, seL4_CNode_Mint).
+/// Copies a capability, and gives the copy a badge or a guard (seL4 manual, seL4_CNode_Mint).
 ///
-/// Where its badge is another than the source's, the copy is original.
+/// It copies as [`copy`](crate::copy) does. Where the copy's badge is another than the source's,
+/// the copy is original.
 ///
 /// # Errors
 ///

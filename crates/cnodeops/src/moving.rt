@@ -1,6 +1,7 @@
 //! The call Move, which moves a capability.
 ghost use Rattle.std.specs.Prelude.{◌≡◌, IsTrue, None, Some};
-ghost use Rattle.machine.specs.{Machine.{cap_of, has_slot}, Makes.Makes, Step.Move.move_of, Tree.with_moved, WellFormed.IsWellFormed};
+ghost use Rattle.machine.specs.{Machine.{cap_of, has_slot}, Makes.Makes, Step.Move.move_of, Tree.with_moved};
+ghost use Rattle.machine.specs.WellFormed.{IsWellFormed};
 
 use crate::slots::ends;
 use base::{Cause, ObjId};
@@ -22,8 +23,9 @@ fn relocate(state: &mut State, ends: Ends)
     state.take_cap(ends.source);
 }
 
-/// Moves a capability to the empty slot that the caller names as `to`, with its place in the
-/// derivation tree (seL4 manual, seL4_CNode_Move).
+/// Moves a capability to an empty slot, with its place in the derivation tree (seL4 manual, seL4_CNode_Move).
+///
+/// The caller names the capability's slot as `from`, and the empty slot as `to`.
 ///
 /// # Errors
 ///

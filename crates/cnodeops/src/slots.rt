@@ -1,24 +1,14 @@
 //! The slots that a call names, to fill one or to take from one.
 ghost use Rattle.std.specs.Prelude.{◌≡◌, IsOkAnd, Some};
-ghost use Rattle.machine.specs.{Lookup.{level_at, lookup_of}, Machine.cap_of, Step.Target.{ends_of, of_cnode, source_of, target_of}};
-ghost use Rattle.machine.specs.Step.Target.{vacant};
+ghost use Rattle.machine.specs.{Lookup.{level_at, lookup_of}, Machine.cap_of};
+ghost use Rattle.machine.specs.Step.Target.{ends_of, source_of, target_of, vacant};
 ghost use Rattle.cspace.specs.Strings.{level_shown};
 ghost use Rattle.cnodeops.specs.Below.{source_below};
 
 use base::{Cause, LookupFailure, ObjId, SlotRef};
-use cspace::{Level, level_at, level_of_cap, resolve, target_below};
-use machine::{Cap, Detail, Ends, SlotAddress};
+use cspace::{Level, level_at, level_of_cap, of_kind, resolve, target_below};
+use machine::{Cap, Ends, ObjectKind, SlotAddress};
 use objects::State;
-
-/// Refuses what is no CNode's capability.
-fn of_cnode(detail: &Detail) -> Result<(), Cause>
-    ensures { result ≡ of_cnode detail.now }
-{
-    match detail {
-        Detail::CNode(_) => Ok(()),
-        _ => Err(Cause::InvalidCapability),
-    }
-}
 
 /// Returns the slot that a caller names as the target.
 ///
@@ -30,7 +20,7 @@ fn of_cnode(detail: &Detail) -> Result<(), Cause>
 /// - [`Cause::InvalidCapability`] (2), where that holds no CNode's capability
 /// - [`Cause::RangeError`] (4) or [`Cause::FailedLookup`] (6), where the look-up from there fails,
 ///   as in [`cspace::resolve_target`].
-#[tactic(auto, unfolding(machine::specs::Lookup::level_at, machine::specs::Step::Find::find_cap, machine::specs::Step::Target::target_of, machine::specs::Step::Target::lookup_target_of, cspace::specs::Below::target_below))]
+#[tactic(auto, unfolding(machine::specs::Lookup::level_at, machine::specs::Step::Find::find_cap, machine::specs::Step::Find::find, machine::specs::Step::Target::target_of, machine::specs::Step::Target::lookup_target_of, cspace::specs::Below::target_below))]
 pub fn target(state: &State, caller: ObjId, address: SlotAddress) -> Result<SlotRef, Cause>
     ensures { result ≡ target_of state.now caller address }
 {
@@ -38,15 +28,14 @@ pub fn target(state: &State, caller: ObjId, address: SlotAddress) -> Result<Slot
     let Some(root) = state.held(node) else {
         return Err(Cause::InvalidCapability);
     };
-    of_cnode(&root.detail)?;
+    of_kind(ObjectKind::CNode, &root.detail)?;
     let Some(level) = level_of_cap(state, root) else {
         return Err(Cause::FailedLookup(LookupFailure::InvalidRoot));
     };
     target_below(state, &level, address.index, address.depth)
 }
 
-/// Refuses to fill a slot that is filled, where this is what it holds (seL4 manual,
-/// seL4_DeleteFirst).
+/// Refuses to fill a slot that is filled, where this is what it holds (seL4 manual, seL4_DeleteFirst).
 ///
 /// # Errors
 ///
@@ -92,7 +81,8 @@ fn source(
     root: u64,
     level: &Level,
 ) -> Result<(SlotRef, Cap), Cause>
-    requires { IsOkAnd (lookup_of state.now caller root) (λ place. level_at state.now place.0 ≡ Some (level_shown level.now)) }
+    requires { IsOkAnd (lookup_of state.now caller root)
+        (λ place. level_at state.now place.0 ≡ Some (level_shown level.now)) }
     ensures { result ≡ source_of state.now caller address }
 {
     if address.root == root {
@@ -115,7 +105,7 @@ fn source(
 /// - [`Cause::DeleteFirst`] (8), where that slot is filled
 /// - [`Cause::FailedLookup`] (6) or [`Cause::RangeError`] (4), where the slot `from` isn't found
 /// - [`Cause::FailedLookup`] (6) with `MissingCapability`, where it is empty.
-#[tactic(auto, unfolding(machine::specs::Lookup::level_at, machine::specs::Step::Find::find_cap, machine::specs::Step::Target::ends_of, machine::specs::Step::Target::target_of, machine::specs::Step::Target::lookup_target_of, cspace::specs::Below::target_below))]
+#[tactic(auto, unfolding(machine::specs::Lookup::level_at, machine::specs::Step::Find::find_cap, machine::specs::Step::Find::find, machine::specs::Step::Target::ends_of, machine::specs::Step::Target::target_of, machine::specs::Step::Target::lookup_target_of, cspace::specs::Below::target_below))]
 pub fn ends(state: &State, caller: ObjId, to: SlotAddress, from: SlotAddress) -> Result<Ends, Cause>
     ensures { result ≡ ends_of state.now caller to from }
 {
@@ -123,7 +113,7 @@ pub fn ends(state: &State, caller: ObjId, to: SlotAddress, from: SlotAddress) ->
     let Some(root) = state.held(node) else {
         return Err(Cause::InvalidCapability);
     };
-    of_cnode(&root.detail)?;
+    of_kind(ObjectKind::CNode, &root.detail)?;
     let Some(level) = level_of_cap(state, root) else {
         return Err(Cause::FailedLookup(LookupFailure::InvalidRoot));
     };

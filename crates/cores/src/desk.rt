@@ -101,7 +101,8 @@ impl<J: Naming> Desk<J> {
         requires of { IsOf J.ticket seat.old }
         ensures own { result ≢ Refused (plain 42) }
         ensures full { result ≡ Refused (plain 41) → Looks seat.old seat.new × (length seat.new.seen ≡ size) }
-        ensures called { result ≢ Refused (plain 41) → Calls seat.old (record { core = seat.old.core; thread = thread; call = call }) result seat.new
+        ensures called { result ≢ Refused (plain 41)
+            → Calls seat.old (record { core = seat.old.core; thread = thread; call = call }) result seat.new
             × (length seat.new.seen ≤ size) }
     {
         if self.is_full(size) {

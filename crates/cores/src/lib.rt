@@ -1,5 +1,9 @@
-//! One kernel for several threads, each of which calls it by a seat of its own. All calls stand in one history, and each seat
-//! sees a beginning of it. A script is split so: a worker for each core makes its events, side by side.
+//! One kernel for several threads, each of which calls it by a seat of its own.
+//!
+//! All calls stand in one history, and each seat sees a beginning of it. A script is split so: a
+//! worker for each core makes its events, side by side.
+//!
+//! `report` stands on it. It knows no text.
 #![tactic(auto)]
 
 mod board;

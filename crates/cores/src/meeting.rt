@@ -1,9 +1,8 @@
-//! What a meeting tells of the calls that come after it.
+//! What follows from a meeting for the calls that come after it.
 ghost use Rattle.machine.specs.declared.call.{Event.Event as Made, Outcome.Outcome as Answered};
 ghost use Rattle.cores.specs.Seats.{Calls, ComesAfter, Known, Meet};
 
-/// A law: where two seats have met, the next call of the one comes after all that the other had
-/// seen and made.
+/// A law: where two seats have met, the next call of the one comes after all that the other had seen and made.
 ///
 /// A meeting of two seats is one of both, so that it doesn't matter which of them calls.
 pub fn calls_after_a_meeting_come_after_both()

@@ -1,10 +1,10 @@
-//! Which kernel it is, told to the types that have to agree on it.
+//! Which kernel it is, for the types that have to agree on it.
 
 use std::marker::Brand;
 
 /// A name for a kernel: it says which kernel a [`Kernel`](crate::Kernel) is.
 ///
-/// Nothing is known of what lies under a lock but what its type tells, so the kernel's type names
+/// Nothing is known of what lies under a lock but what its type says, so the kernel's type names
 /// it. Each call of a program's generic function picks it.
 pub trait Naming {
     ghost use Rattle.cores.specs.Seats.{Ticket};

@@ -66,7 +66,8 @@ fn all_seats(
     requires first { CanDeal keeper.old.me.0 cores.now 0 }
     ensures keeper { IsAt board.now.shared.table_id keeper.new }
     ensures seats { IfOk result (λ seats. AreFresh keeper.old.table_id (about_in keeper.old.me.0) name seats.items) }
-    ensures dealt { IfOk result (λ _. (CanDeal keeper.new.me.0 cores.now (length cores.now)) × (about_in keeper.new.me.0 ≡ about_in keeper.old.me.0)) }
+    ensures dealt { IfOk result (λ _. (CanDeal keeper.new.me.0 cores.now (length cores.now))
+        × (about_in keeper.new.me.0 ≡ about_in keeper.old.me.0)) }
 {
     let mut seats = Vec::with_capacity(alloc, cores.len())?;
     for number in 0..cores.len() {
@@ -86,8 +87,10 @@ struct Dealt {
 // What a kernel in this state needs besides its log.
 fn deal_all(alloc: Global, state: &State, cores: &[CoreNo], name: u64) -> Result<Dealt, AllocError>
     ensures at { IfOk result (λ d. IsAt d.board.shared.table_id d.keeper) }
-    ensures key { IfOk result (λ d. (d.board.shared.key.boot.value ≡ state.now) × (d.board.shared.key.cores.value.items ≡ cores.now)) }
-    ensures keeper { IfOk result (λ d. CanDeal d.keeper.me.0 cores.now (length cores.now) × (about_in d.keeper.me.0 ≡ about state.now cores.now)) }
+    ensures key { IfOk result
+        (λ d. (d.board.shared.key.boot.value ≡ state.now) × (d.board.shared.key.cores.value.items ≡ cores.now)) }
+    ensures keeper { IfOk result (λ d. CanDeal d.keeper.me.0 cores.now (length cores.now)
+        × (about_in d.keeper.me.0 ≡ about state.now cores.now)) }
     ensures seats { IfOk result (λ d. AreFresh d.board.shared.table_id (about state.now cores.now) name d.seats.items) }
 {
     let list = cores.to_vec(alloc)?;
@@ -114,7 +117,8 @@ fn begun(
 ) -> Result<(Opened, Vec<Seat>), AllocError>
     requires formed { IsWellFormed state }
     requires size { size ≤ MAX_EVENTS }
-    ensures opened { IfOk result (λ r. (r.0.boot ≡ state) × (r.0.cores ≡ cores.now) × (r.0.size ≡ size) × (r.0.name ≡ name)) }
+    ensures opened { IfOk result
+        (λ r. (r.0.boot ≡ state) × (r.0.cores ≡ cores.now) × (r.0.size ≡ size) × (r.0.name ≡ name)) }
     ensures seats { IfOk result (λ r. AreNew r.0 r.1.items) }
 {
     let log = Vec::with_capacity(alloc, size)?;
@@ -135,8 +139,7 @@ fn begun(
 }
 
 impl Opened {
-    /// Opens a kernel in the boot state of an accepted table, with a seat for each of these cores,
-    /// in their order.
+    /// Opens a kernel in the boot state of an accepted table, with a seat for each of these cores, in their order.
     ///
     /// The kernel's log has room for `size` entries, 1 to 1,000,000.
     ///
@@ -153,11 +156,14 @@ impl Opened {
         cores: &[CoreNo],
         name: u64,
     ) -> Result<(Opened, Vec<Seat>), Refusal>
-        ensures opened { IfOk result (λ r. IsBoot accepted.now.table r.0.boot × (r.0.cores ≡ cores.now) × (r.0.size ≡ size) × (r.0.name ≡ name)) }
+        ensures opened { IfOk result (λ r. IsBoot accepted.now.table r.0.boot × (r.0.cores ≡ cores.now)
+            × (r.0.size ≡ size) × (r.0.name ≡ name)) }
         ensures seats { IfOk result (λ r. AreNew r.0 r.1.items × All (IsOf r.0) r.1.items) }
         ensures log_size { (size < 1) ⊎ (MAX_EVENTS < size) → IsErrOf result (plain 43) }
-        ensures seat_count { 1 ≤ size → size ≤ MAX_EVENTS → (length cores.now < 1) ⊎ (MAX_SEATS < length cores.now) → IsErrOf result (plain 46) }
-        ensures memory { 1 ≤ size → size ≤ MAX_EVENTS → 1 ≤ length cores.now → length cores.now ≤ MAX_SEATS → IfErr result (λ refusal. refusal ≡ plain 40) }
+        ensures seat_count { 1 ≤ size → size ≤ MAX_EVENTS → (length cores.now < 1) ⊎ (MAX_SEATS < length cores.now)
+            → IsErrOf result (plain 46) }
+        ensures memory { 1 ≤ size → size ≤ MAX_EVENTS → 1 ≤ length cores.now → length cores.now ≤ MAX_SEATS
+            → IfErr result (λ refusal. refusal ≡ plain 40) }
     {
         if size < 1 || size > MAX_EVENTS {
             return Err(Refusal::from(Misuse::LogSize));

@@ -1,5 +1,6 @@
 //! A kernel that several threads call at once.
-ghost use Rattle.std.specs.Prelude.{ℕ, ◌<◌, ◌==◌, ◌↔◌, ◌≡◌, ◌≢◌, ◌≤◌, ◌⊎◌, All, Decides, IfErr, IfOk, length, slice_index_or};
+ghost use Rattle.std.specs.Prelude.{ℕ, ◌<◌, ◌==◌, ◌↔◌, ◌≡◌, ◌≢◌, ◌≤◌, ◌⊎◌, All, Decides, IfErr, IfOk, length};
+ghost use Rattle.std.specs.Prelude.{slice_index_or};
 ghost use Rattle.base.specs.Refusals.{plain};
 ghost use Rattle.machine.specs.declared.call.Outcome.TheVariants.{Refused};
 ghost use Rattle.cores.specs.Seats.{Calls, Closes, IsAtBoard, IsAtTicket, IsOf, Known, Looks, Meet};
@@ -65,7 +66,8 @@ fn show_all<J: Naming>(board: &Board, desk: &mut Desk<J>, seats: &mut [Seat])
     requires of { All (IsOf J.ticket) seats.old }
     ensures same { desk.new ≡ desk.old }
     ensures count { length seats.new ≡ length seats.old }
-    ensures looks { (i : ℕ) (d : Known) → i < length seats.old → Looks (slice_index_or seats.old i d) (slice_index_or seats.new i d) }
+    ensures looks { (i : ℕ) (d : Known) → i < length seats.old
+        → Looks (slice_index_or seats.old i d) (slice_index_or seats.new i d) }
     ensures whole { (i : ℕ) (d : Known) → i < length seats.old → (slice_index_or seats.new i d).seen ≡ desk.old }
 {
     for number in 0..seats.len() {
@@ -121,7 +123,8 @@ impl<J: Naming> Kernel<J> {
     pub fn meet(&self, first: &mut Seat, second: &mut Seat) -> Result<(), Refusal>
         requires first { first.old.name ≡ J.ticket.name → IsOf J.ticket first.old }
         requires second { second.old.name ≡ J.ticket.name → IsOf J.ticket second.old }
-        ensures ok { IfOk result (λ _. Looks first.old first.new × Looks second.old second.new × Meet first.new second.new) }
+        ensures ok { IfOk result
+            (λ _. Looks first.old first.new × Looks second.old second.new × Meet first.new second.new) }
         ensures own { IfOk result (λ _. (first.old.name ≡ J.ticket.name) × (second.old.name ≡ J.ticket.name)) }
         ensures foreign { IfErr result (λ refusal. (refusal ≡ plain 42)
             × ((first.old.name ≢ J.ticket.name) ⊎ (second.old.name ≢ J.ticket.name))

@@ -5,13 +5,13 @@ ghost use Rattle.policy.specs.Policy.{allows};
 ghost use Rattle.verdict.specs.System.{IsAcceptedSystem, System};
 ghost use Rattle.cores.specs.{declared.view.Noted.Noted as Entered, History.IsLegal, Safety.IsSafeHistory};
 
-/// A law: on a legal history from the boot state of an accepted system, each state is confined and
-/// each step is allowed.
+/// A law: a legal history from the boot state of an accepted system is safe.
 ///
-/// Each object of such a state has a label. Each step takes away only from where its caller's label
-/// may take, and keeps the budgets.
+/// Each of its states is confined, and each of its steps is allowed. Each object of such a state
+/// has a label. Each step takes away only from where its caller's label may take, and keeps the
+/// budgets.
 ///
-/// So it is of all that a seat has seen, and of all that a kernel's log tells.
+/// So it is of all that a seat has seen, and of all that a kernel's log has.
 pub fn seen_histories_are_safe()
     ensures { (system : System) (boot : Machine) (cores : List ℕ) (history : List Entered)
         → IsAcceptedSystem system

@@ -7,7 +7,9 @@ use crate::word::deal;
 use base::CoreNo;
 use std::marker::Model;
 
-/// The right to call a kernel from one core. Contracts see it as what it has seen and made.
+/// The right to call a kernel from one core.
+///
+/// Contracts see it as what it has seen and made.
 #[derive(Drop)]
 pub struct Seat {
     pub(crate) token: Token,

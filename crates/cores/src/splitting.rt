@@ -55,10 +55,9 @@ fn split_named<J: Naming + Send + Sync, R: Threads + Wait + Sync, G: Gate + Sync
     }
 }
 
-/// Makes the script's events on a kernel in the boot state, by a worker for each core, side by
-/// side.
+/// Makes the script's events on a kernel in the boot state, by a worker for each core, side by side.
 ///
-/// Each worker makes the events of its core, in their order; the log tells all of them, in the
+/// Each worker makes the events of its core, in their order. The log has all of them, in the
 /// order in which they were made.
 ///
 /// A worker that has events arrives at the gate before them. At the gate workers are numbered from

@@ -1,10 +1,11 @@
-//! The steps on the word, each as a function that says what becomes of the views. They wait for nobody.
+//! The steps on the word, each as a function that says how the views change. They wait for nobody.
 //!
 //! A call visits the keeper, records, and leaves, so that one step on the word changes what both know. The word is
-//! loaded at each coming and going, and added to once.
+//! loaded as a call begins and as it ends, and added to once.
 ghost use Rattle.std.specs.Prelude.{[], ◌∷◌, ◌≡◌, IfOk, IfSome, None, Some, length};
-ghost use Rattle.cores.specs.{declared.view.{About.About, Hand.Hand, Keeping.Keeping}, Moves.{Sees, Shows, after_deal, after_record}};
-ghost use Rattle.cores.specs.Moves.{guest_as_hand, hand_as_guest, newcomer, with_guest, with_hand, with_seen, without_guest, without_hand};
+ghost use Rattle.cores.specs.declared.view.{About.About, Hand.Hand, Keeping.Keeping};
+ghost use Rattle.cores.specs.Moves.{Sees, Shows, after_deal, after_record, guest_as_hand, hand_as_guest, newcomer};
+ghost use Rattle.cores.specs.Moves.{with_guest, with_hand, with_seen, without_guest, without_hand};
 ghost use Rattle.cores.specs.{Rule.first_view, Tokens.{CanRecord, IsAt, IsSame}};
 
 use crate::board::{Board, Deal, Key, Leave, Record, Saying, See, Token, Visit};
@@ -67,7 +68,9 @@ pub(crate) fn record(board: &Board, keeper: &mut Token, noted: &Noted)
     requires keeper { IsAt board.now.shared.table_id keeper.old }
     requires may { CanRecord keeper.old.me.0 noted.now }
     ensures same { IsSame keeper.old keeper.new }
-    ensures added { (kept : Keeping) (hand : Hand) → keeper.old.me.0.kept ≡ Some kept → keeper.old.me.0.guest ≡ Some hand → (keeper.new.me ≡ (after_record keeper.old.me.0 kept noted.now hand, [])) × Shows kept.history hand }
+    ensures added { (kept : Keeping) (hand : Hand) → keeper.old.me.0.kept ≡ Some kept
+        → keeper.old.me.0.guest ≡ Some hand
+        → (keeper.new.me ≡ (after_record keeper.old.me.0 kept noted.now hand, [])) × Shows kept.history hand }
 {
     record_this::<Brand>(board, keeper, noted);
 }
@@ -77,7 +80,9 @@ fn record_this<N: Saying>(board: &Board, keeper: &mut Token, _noted: &Noted)
     requires keeper { IsAt board.now.shared.table_id keeper.old }
     requires may { CanRecord keeper.old.me.0 _noted.now }
     ensures same { IsSame keeper.old keeper.new }
-    ensures added { (kept : Keeping) (hand : Hand) → keeper.old.me.0.kept ≡ Some kept → keeper.old.me.0.guest ≡ Some hand → (keeper.new.me ≡ (after_record keeper.old.me.0 kept _noted.now hand, [])) × Shows kept.history hand }
+    ensures added { (kept : Keeping) (hand : Hand) → keeper.old.me.0.kept ≡ Some kept
+        → keeper.old.me.0.guest ≡ Some hand
+        → (keeper.new.me ≡ (after_record keeper.old.me.0 kept _noted.now hand, [])) × Shows kept.history hand }
 {
     board.shared.fetch_add::<Record<N>>(keeper, 0, 1);
 }

@@ -5,12 +5,12 @@ use Rattle.base.specs.declared.kind.Kind.TheVariants.{Runs}
 use Rattle.machine.specs.declared.call.{Answer.TheVariants.Nothing, Call.TheVariants.Bind, Event.Event, Made.TheVariants.Done}
 use Rattle.machine.specs.{declared.call.Outcome.Outcome as outcome, Authority.{HasAuthority, HasAuthority.by_link}, Boot.IsBoot}
 use Rattle.machine.specs.{Changes.{with_context, with_tcb}, Machine.Machine, Step.{step_of, Bind.{bind_of, with_bound}}}
-use Rattle.machine.specs.Step.Find.{find_context, find_tcb}
+use Rattle.machine.specs.{declared.object.ObjectKind.ObjectKind as kind, Step.Find.find}
 use Rattle.policy.specs.Needed.{context_runs}
 use Rattle.counterexamples.{specs.Counterexamples.UnsafeWithout, proofs.BootChanges.{Change, becomes, changing, label_now, object_now}}
-use Rattle.counterexamples.proofs.{BootChanges.with_changes, ContextSystem.{binding, joins, second, spare}, FewLabels.among}
-use Rattle.counterexamples.proofs.{SmallSystem.{finding, id, reading, slot, stepping}, UnsafeBy.{LeadsOutside, led_by_one, tests}}
-use Rattle.counterexamples.proofs.UnsafeBy.{unsafe_by_tests}
+use Rattle.counterexamples.proofs.{BootChanges.with_changes, ContextSystem.{binding, joins, second, second_cap, spare, spare_cap}}
+use Rattle.counterexamples.proofs.{FewLabels.among, SmallSystem.{finding, id, reading, slot, stepping}, UnsafeBy.{LeadsOutside, led_by_one}}
+use Rattle.counterexamples.proofs.UnsafeBy.{tests, unsafe_by_tests}
 
 unfoldable pub binds : Event
 binds = record { core = 0; thread = id 1; call = Bind 0 1 }
@@ -24,12 +24,12 @@ abbrev bound : List Change
 bound = becomes 3 (spare (Some (id 4))) ∷ named
 
 module _ (m : Machine) (boot : IsBoot binding m) where
-  finds : find_context m (id 1) 0 ≡ Ok (id 3)
-  unfolding binding find_context finding reading
+  finds : find kind.Context m (id 1) 0 ≡ Ok (slot 0 0, spare_cap)
+  unfolding binding finding reading
   finds = rw (boot.objects (id 1), boot.caps (slot 1 0), boot.objects (id 0), boot.caps (slot 0 0)) refl
 
-  finds_thread : find_tcb m (id 1) 1 ≡ Ok (slot 0 1, id 4)
-  unfolding binding find_tcb finding reading
+  finds_thread : find kind.Tcb m (id 1) 1 ≡ Ok (slot 0 1, second_cap)
+  unfolding binding finding reading
   finds_thread = rw (boot.objects (id 1), boot.caps (slot 1 0), boot.objects (id 0), boot.caps (slot 0 1)) refl
 
   binds_both : with_bound m (id 3) (id 4) ≡ with_changes m bound

@@ -4,15 +4,15 @@ use Rattle.std.proofs.Common.{[], ℕ, ◌∷◌, ◌≡◌, List, None, Ok, Som
 use Rattle.base.specs.declared.ids.{ObjId.ObjId, SlotRef.SlotRef}
 use Rattle.machine.specs.declared.call.{Answer.TheVariants.Nothing, Call.TheVariants.{Receive, Send}, Event.Event, Made.TheVariants.Blocked}
 use Rattle.machine.specs.declared.{call.{Made.TheVariants.Done, Outcome.{Outcome, Outcome as outcome}}, cap.Cap.Cap, object.Object.Object}
-use Rattle.machine.specs.declared.{slot_address.{Ends.Ends, SlotAddress.SlotAddress}, thread.{Inbox.Inbox as inbox, Message.Message}}
-use Rattle.machine.specs.{declared.thread.{Receiving.Receiving, RunState.RunState as state, Sending.Sending}, Boot.IsBoot}
-use Rattle.machine.specs.{Changes.{first_waiting, with_tcb, with_waiting, without_waiting}, Machine.{Machine, cap_of, object_of}}
-use Rattle.machine.specs.{Releasing.{with_blocked, with_given, with_released}, Run.Run, Step.{step_of, Deliver.arrival_of}}
-use Rattle.machine.specs.Step.{Deliver.{delivered, first_at, sending_by}, Find.{find_cap, find_endpoint}, Receive.receive_of, Send.send_of}
-use Rattle.machine.{specs.{Step.{Step.ends, Target.target_of}, Tree.{copied, with_copy}}, proofs.LookUps.queue_of-with_object}
+use Rattle.machine.specs.declared.{object.ObjectKind.ObjectKind as kind, slot_address.{Ends.Ends, SlotAddress.SlotAddress}}
+use Rattle.machine.specs.declared.thread.{Inbox.Inbox as inbox, Message.Message, Receiving.Receiving, RunState.RunState as state}
+use Rattle.machine.specs.{declared.thread.Sending.Sending, Boot.IsBoot, Changes.{first_waiting, with_tcb, with_waiting, without_waiting}}
+use Rattle.machine.specs.{Machine.{Machine, cap_of, object_of}, Releasing.{with_blocked, with_given, with_released}, Run.Run, Step.step_of}
+use Rattle.machine.specs.Step.{Deliver.{arrival_of, delivered, first_at, sending_by}, Find.{find, find_cap}, Receive.receive_of}
+use Rattle.machine.{specs.{Step.{Send.send_of, Step.ends, Target.target_of}, Tree.{copied, with_copy}}, proofs.LookUps.queue_of-with_object}
 use Rattle.counterexamples.proofs.BootChanges.{Change, becomes, cap_after, cap_now, changing, derives, fills, object_after, object_now}
-use Rattle.counterexamples.proofs.{BootChanges.{queue_now, waits, with_changes}, GrantSystem.{frame_cap, give_end, granting, taker}}
-use Rattle.counterexamples.proofs.SmallSystem.{finding, id, reading, receive_end, slot, stepping}
+use Rattle.counterexamples.proofs.{BootChanges.{queue_now, waits, with_changes}, GrantSystem.{frame_cap, give_cap, give_end, granting}}
+use Rattle.counterexamples.proofs.{GrantSystem.{take_cap, taker}, SmallSystem.{finding, id, reading, slot, stepping}}
 
 -- the empty slot of the taker's CNode
 abbrev to : SlotAddress
@@ -73,8 +73,8 @@ abbrev pub given : List Change
 given = becomes 3 answered ∷ emptied
 
 module _ (m : Machine) (boot : IsBoot granting m) where
-  finds_end : find_endpoint m (id 3) 0 ≡ Ok (id 6, receive_end)
-  unfolding find_endpoint finding granting reading
+  finds_end : find kind.Endpoint m (id 3) 0 ≡ Ok (slot 1 0, take_cap)
+  unfolding finding granting reading
   finds_end = rw (boot.objects (id 3), boot.caps (slot 3 0), boot.objects (id 1), boot.caps (slot 1 0)) refl
 
   no_sender : first_at m (id 6) ≡ None
@@ -102,8 +102,8 @@ module _ (m : Machine) (boot : IsBoot granting m) where
   cap : (q : SlotRef) → cap_of (with_changes m queued) q ≡ cap_after granting queued q
   cap q = cap_now granting m boot queued q
 
-  finds_own : find_endpoint (with_changes m queued) (id 2) 0 ≡ Ok (id 6, give_end)
-  unfolding changing find_endpoint finding granting reading
+  finds_own : find kind.Endpoint (with_changes m queued) (id 2) 0 ≡ Ok (slot 0 0, give_cap)
+  unfolding changing finding granting reading
   finds_own = rw (now queued (id 2), cap (slot 2 0), now queued (id 0), cap (slot 0 0)) refl
 
   receiver_first : first_at (with_changes m queued) (id 6) ≡ Some (id 3, state.Receiving awaited)

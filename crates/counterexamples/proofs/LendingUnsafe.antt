@@ -7,16 +7,17 @@ use Rattle.machine.specs.declared.{call.{Made.TheVariants.Done, Outcome.Outcome 
 use Rattle.machine.specs.declared.thread.{Calling.Calling, Inbox.Inbox as inbox, RunState.RunState as state, Sending.Sending, Tcb.Tcb}
 use Rattle.machine.specs.{Authority.{HasAuthority, HasAuthority.by_link}, Boot.IsBoot, Changes.{first_waiting, with_reply, with_tcb}}
 use Rattle.machine.specs.{Changes.without_waiting, Machine.{Machine, cap_of, object_of}, Releasing.{with_called, with_halted, with_holding}}
-use Rattle.machine.specs.{Releasing.with_released, Step.{step_of, Bind.{unbind_of, with_handed}, Find.find_context, Deliver.arrival_of}}
-use Rattle.machine.specs.Step.{Deliver.{delivered, first_at, sending_by}, Find.find_endpoint, Send.endpoint_call_of, Step.ends}
+use Rattle.machine.specs.{Releasing.with_released, Step.{step_of, Bind.{unbind_of, with_handed}, Find.find, Deliver.arrival_of}}
+use Rattle.machine.specs.Step.{Deliver.{delivered, first_at, sending_by}, Send.endpoint_call_of, Step.ends}
+use Rattle.machine.specs.declared.object.ObjectKind.TheVariants as kind
 use Rattle.machine.specs.declared.object.ReplyState.TheVariants as reply
 use Rattle.steps.proofs.ContextsFormed.{bound_is, unbound_is}
 use Rattle.policy.specs.{Domain.EdgeTest, Needed.lent_runs}
 use Rattle.counterexamples.{specs.Counterexamples.UnsafeWithout, proofs.BootChanges.{Change, becomes, cap_after, cap_now, changing}}
 use Rattle.counterexamples.proofs.{BootChanges.{label_now, object_after, object_now, queue_now, waits, with_changes}, FewLabels.among}
 use Rattle.counterexamples.proofs.{ReplyRun.{awaited, receive_made, received, receiving, waiting}, ReplySystem.{answers, caller, context}}
-use Rattle.counterexamples.proofs.{ReplySystem.{end, receiver, serving}, SmallSystem.{finding, id, reading, slot, stepping}}
-use Rattle.counterexamples.proofs.UnsafeBy.{LeadsOutside, tests, unsafe_by_tests}
+use Rattle.counterexamples.proofs.{ReplySystem.{context_cap, end, end_cap, receiver, serving}, SmallSystem.{finding, id, reading, slot}}
+use Rattle.counterexamples.proofs.{SmallSystem.stepping, UnsafeBy.{LeadsOutside, tests, unsafe_by_tests}}
 
 -- The policy, of the labels 0 and 1, obeys every rule but that who may be lent a context may run on it: each label has every edge to 0,
 -- and to 1 every edge but control and context, and 1 alone runs on 1.
@@ -85,8 +86,8 @@ module _ (m : Machine) (boot : IsBoot serving m) where
   cap : (changes : List Change) (q : SlotRef) → cap_of (with_changes m changes) q ≡ cap_after serving changes q
   cap changes q = cap_now serving m boot changes q
 
-  finds_context : find_context (with_changes m received) (id 5) 2 ≡ Ok (id 2)
-  unfolding changing find_context finding reading serving
+  finds_context : find kind.Context (with_changes m received) (id 5) 2 ≡ Ok (slot 0 2, context_cap)
+  unfolding changing finding reading serving
   finds_context =
       rw (now received (id 5), cap received (slot 5 0), now received (id 0), cap received (slot 0 2)) refl
 
@@ -104,8 +105,8 @@ module _ (m : Machine) (boot : IsBoot serving m) where
   unfolding changing reading serving stepping unbinding
   unbind_made = rw (now received (id 5), now received (id 6), unbinds) refl
 
-  finds : find_endpoint (with_changes m unbound) (id 5) 0 ≡ Ok (id 3, end)
-  unfolding changing find_endpoint finding reading serving
+  finds : find kind.Endpoint (with_changes m unbound) (id 5) 0 ≡ Ok (slot 0 0, end_cap)
+  unfolding changing finding reading serving
   finds = rw (now unbound (id 5), cap unbound (slot 5 0), now unbound (id 0), cap unbound (slot 0 0)) refl
 
   first : first_at (with_changes m unbound) (id 3) ≡ Some (id 1, state.Receiving awaited)

@@ -3,13 +3,14 @@ use Rattle.std.proofs.Common.{[], ◌∷◌, ◌≡◌, List, None, Ok, Option, 
 use Rattle.base.specs.declared.ids.ObjId.{ObjId}
 use Rattle.machine.specs.declared.call.{Call.TheVariants.Receive, Event.Event, Made.TheVariants.Blocked, Outcome.Outcome as outcome}
 use Rattle.machine.specs.declared.{object.Object.Object as o, thread.{Inbox.Inbox as inbox, Receiving.Receiving}}
+use Rattle.machine.specs.declared.object.ObjectKind.TheVariants as kind
 use Rattle.machine.specs.declared.object.ReplyState.TheVariants as reply
 use Rattle.machine.specs.{declared.thread.{RunState.RunState as state, Tcb.Tcb}, Boot.IsBoot}
 use Rattle.machine.specs.{Changes.{first_waiting, with_reply, with_tcb, with_waiting}, Machine.Machine, Releasing.with_blocked}
-use Rattle.machine.specs.{Releasing.{with_holder_halted, with_holding}, Step.{step_of, Deliver.first_at, Find.{find_endpoint, find_reply}}}
+use Rattle.machine.specs.{Releasing.{with_holder_halted, with_holding}, Step.{step_of, Deliver.first_at, Find.find}}
 use Rattle.machine.{specs.Step.Receive.receive_of, proofs.LookUps.queue_of-with_object}
-use Rattle.counterexamples.proofs.{BootChanges.{Change, becomes, changing, object_now, waits, with_changes}, ReplySystem.{answers, end}}
-use Rattle.counterexamples.proofs.{ReplySystem.{receiver, serving}, SmallSystem.{finding, id, reading, slot, stepping}}
+use Rattle.counterexamples.proofs.{BootChanges.{Change, becomes, changing, object_now, waits, with_changes}, ReplySystem.{answers, end_cap}}
+use Rattle.counterexamples.proofs.{ReplySystem.{receiver, reply_cap, serving}, SmallSystem.{finding, id, reading, slot, stepping}}
 
 -- what the receiver waits for
 abbrev pub awaited : Receiving
@@ -29,12 +30,12 @@ abbrev pub received : List Change
 received = becomes 4 (answers (reply.Waiting (id 1))) ∷ queued
 
 module _ (m : Machine) (boot : IsBoot serving m) where
-  finds : find_endpoint m (id 1) 0 ≡ Ok (id 3, end)
-  unfolding find_endpoint finding reading serving
+  finds : find kind.Endpoint m (id 1) 0 ≡ Ok (slot 0 0, end_cap)
+  unfolding finding reading serving
   finds = rw (boot.objects (id 1), boot.caps (slot 1 0), boot.objects (id 0), boot.caps (slot 0 0)) refl
 
-  finds_reply : find_reply m (id 1) 1 ≡ Ok (id 4)
-  unfolding find_reply finding reading serving
+  finds_reply : find kind.Reply m (id 1) 1 ≡ Ok (slot 0 1, reply_cap)
+  unfolding finding reading serving
   finds_reply = rw (boot.objects (id 1), boot.caps (slot 1 0), boot.objects (id 0), boot.caps (slot 0 1)) refl
 
   nothing_ends : with_holder_halted m (id 4) ≡ m

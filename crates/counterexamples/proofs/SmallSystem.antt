@@ -7,7 +7,7 @@ use Rattle.machine.specs.declared.cap.Detail.TheVariants as d
 use Rattle.machine.specs.declared.layout.Version.TheVariants as version
 use Rattle.machine.specs.{declared.object.Object.Object as o, Layout.{Layout, bound_context, bound_thread, declared_label, initial_cap}}
 use Rattle.machine.specs.{Layout.{initial_of, initial_parent}, Lookup.{hop, level_at, lookup_of, walk}, Step.{admitted, made_by, step_of}}
-use Rattle.machine.specs.Step.{Find.find_cap, Target.lookup_target_of}
+use Rattle.machine.specs.Step.{Find.{find, find_cap}, Target.lookup_target_of}
 use Rattle.machine.specs.declared.thread.Inbox.TheVariants as inbox
 use Rattle.machine.specs.declared.thread.RunState.TheVariants as state
 use Rattle.policy.specs.Domain.{EdgeTest}
@@ -81,7 +81,7 @@ reading = true
 
 -- what capabilities are found by
 unfoldable pub finding : Bool
-unfolding find_cap hop level_at lookup_of lookup_target_of walk
+unfolding find find_cap hop level_at lookup_of lookup_target_of walk
 finding = true
 
 -- what an event is admitted and made by

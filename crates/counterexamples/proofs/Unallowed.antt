@@ -4,17 +4,17 @@ use Rattle.std.proofs.lemmas.{Bool.false≢true, Option.{none-some, same_Some}}
 use Rattle.base.specs.{declared.{ids.ObjId.ObjId, kind.Kind.Kind}, Kinds.is_structural}
 use Rattle.base.specs.declared.kind.Kind.TheVariants as authority
 use Rattle.machine.specs.declared.call.{Answer.TheVariants.Nothing, Call.TheVariants.Signal, Event.Event, Outcome.TheVariants.Done}
-use Rattle.machine.specs.{declared.object.{Notification.Notification, Object.{Object, Object as o}}, Authority.label_of, Boot.IsBoot}
-use Rattle.machine.specs.{Changes.{first_waiting, with_pending}, Layout.Layout, Machine.{Machine, object_of}}
-use Rattle.machine.specs.Step.{Step, step_of, Find.find_notification, Signal.{signal_of, signalled}}
-use Rattle.machine.{specs.Step.Step.ends, proofs.LookUps.object_of-with_object}
+use Rattle.machine.specs.declared.object.{Notification.Notification, Object.{Object, Object as o}, ObjectKind.ObjectKind as kind}
+use Rattle.machine.specs.{Authority.label_of, Boot.IsBoot, Changes.{first_waiting, with_pending}, Layout.Layout, Machine.Machine}
+use Rattle.machine.specs.{Machine.object_of, Step.{Step, Step.ends, step_of, Find.find, Signal.{signal_of, signalled}}}
+use Rattle.machine.proofs.LookUps.{object_of-with_object}
 use Rattle.policy.specs.{Domain.EdgeTest, Full.{IsFull, is_modifying, IsFull.{grants, links, modifies, notifies, own, receives, replies}}}
 use Rattle.policy.specs.Full.IsFull.{sends}
 use Rattle.table.proofs.{AtBoot.boot_label, BootState.{boot_state, boot_state_is}}
 use Rattle.integrity.specs.{Allowed.{IsAllowedStep, IsLabelled, IsModified, MayModify}, Shrinks.{IsSame, Shrinks}}
 use Rattle.integrity.proofs.Gains.{word_grows}
 use Rattle.counterexamples.{specs.Counterexamples.UnallowedSignal, proofs.SmallSystem.{finding, id, no_edges, notification, reading}}
-use Rattle.counterexamples.proofs.SmallSystem.{signalling, signalling_lawful, slot, stepping}
+use Rattle.counterexamples.proofs.SmallSystem.{signal_cap, signalling, signalling_lawful, slot, stepping}
 
 -- a change of a notification's word, without full authority
 
@@ -80,8 +80,8 @@ pub signal : Event
 signal = record { core = 0; thread = id 1; call = Signal 0 }
 
 module _ (m : Machine) (boot : IsBoot signalling m) where
-  pub finds : find_notification m (id 1) 0 ≡ Ok (id 2, record { rights = record { 0 = 2 }; badge = 1 })
-  unfolding find_notification finding reading signalling
+  pub finds : find kind.Notification m (id 1) 0 ≡ Ok (slot 0 0, signal_cap)
+  unfolding finding reading signalling
   finds = rw (boot.objects (id 1), boot.caps (slot 1 0), boot.objects (id 0), boot.caps (slot 0 0)) refl
 
   pub after_signal : Machine
@@ -131,8 +131,8 @@ unallowed_signal =
       next = after_signal m boot;
       event = signal;
       address = 0;
-      notification = id 2;
-      end = record { rights = record { 0 = 2 }; badge = 1 };
+      slot = slot 0 0;
+      held = signal_cap;
       caller = 0;
       label = 2;
       lawful = signalling_lawful;

@@ -1,9 +1,9 @@
 -- Systems on which the properties of the headline fail, which show that it asks for something (confine's own).
 use Rattle.std.specs.Prelude.{ℕ, ◌≡◌, ◌≢◌, List, Ok, Some, false}
-use Rattle.base.specs.declared.{edge.Edge.Edge, ids.ObjId.ObjId, kind.Kind.Kind as authority}
+use Rattle.base.specs.declared.{edge.Edge.Edge, ids.{ObjId.ObjId, SlotRef.SlotRef}, kind.Kind.Kind as authority}
 use Rattle.machine.specs.declared.call.{Answer.TheVariants.Nothing, Call.TheVariants.Signal, Event.Event, Outcome.TheVariants.Done}
-use Rattle.machine.specs.{declared.{cap.Badged.Badged, object.Object.Object}, Authority.label_of, Boot.IsBoot, Layout.Layout}
-use Rattle.machine.specs.{Machine.{Machine, with_object}, Step.{Step, Find.find_notification}}
+use Rattle.machine.specs.{declared.{cap.Cap.Cap, object.{Object.Object, ObjectKind.TheVariants.Notification}}, Authority.label_of}
+use Rattle.machine.specs.{Boot.IsBoot, Layout.Layout, Machine.{Machine, with_object}, Step.{Step, Find.find}}
 use Rattle.policy.specs.{Domain.EdgeTest, Needed.{Obeys, Rule}, Policy.{IsPolicy, allows}}
 use Rattle.table.specs.Rules.{IsLawful}
 use Rattle.integrity.specs.{Allowed.IsAllowedStep, Confined.IsConfined, Safe.{GuardsBudgets, KeepsBounds, KeepsIntegrity, LabelsObjects}}
@@ -18,17 +18,17 @@ pub record UnallowedSignal : Type 0 where
   pub next : Machine
   pub event : Event
   pub address : ℕ
-  pub notification : ObjId
-  pub end : Badged
+  pub slot : SlotRef
+  pub held : Cap
   pub caller : ℕ
   pub label : ℕ
   pub lawful : IsLawful t
   pub booted : IsBoot t m
   pub signals : event.call ≡ Signal address
-  pub found : find_notification m event.thread address ≡ Ok (notification, end)
+  pub found : find Notification m event.thread address ≡ Ok (slot, held)
   pub done : Step m event (Done Nothing) next
   pub calls : label_of t m event.thread ≡ Some caller
-  pub labelled : label_of t m notification ≡ Some label
+  pub labelled : label_of t m held.object ≡ Some label
   pub missing : allowed caller authority.Notify label ≡ false
   pub not_allowed : ¬ IsAllowedStep t allowed m event next
 

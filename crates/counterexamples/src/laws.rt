@@ -2,16 +2,20 @@
 ghost use Rattle.std.specs.Prelude.{ℕ, ◌≡◌, ◌≢◌, None, Some, false, true};
 ghost use Rattle.base.specs.declared.ids.{ObjId.ObjId as Id, SlotRef.SlotRef as Slot};
 ghost use Rattle.base.specs.declared.kind.Kind.TheVariants as authority;
-ghost use Rattle.machine.specs.declared.{call.Event.Event, cap.Cap.Cap, object.{Notification.Notification, Reply.Reply}};
+ghost use Rattle.machine.specs.declared.{call.Event.Event, cap.Cap.Cap};
+ghost use Rattle.machine.specs.declared.object.{Notification.Notification, Reply.Reply};
 ghost use Rattle.machine.specs.declared.thread.{Calling.Calling as Calls, Lent.Lent, Receiving.Receiving as Receives};
-ghost use Rattle.machine.specs.{declared.thread.{Sending.Sending as Sends, Tcb.Tcb}, Authority.label_of, Layout.Layout, Machine.Machine};
-ghost use Rattle.machine.specs.{Machine.{object_of, with_cap, with_parent}, WellFormed.kind_of};
+ghost use Rattle.machine.specs.declared.thread.{Sending.Sending as Sends, Tcb.Tcb};
+ghost use Rattle.machine.specs.{Authority.label_of, Layout.Layout, Machine.{Machine, object_of, with_cap, with_parent}};
+ghost use Rattle.machine.specs.WellFormed.{kind_of};
 ghost use Rattle.machine.specs.declared.object.Object.TheVariants as o;
 ghost use Rattle.machine.specs.declared.object.ObjectKind.TheVariants as kind;
 ghost use Rattle.machine.specs.declared.object.ReplyState.TheVariants as answers;
 ghost use Rattle.machine.specs.declared.thread.RunState.TheVariants as run;
-ghost use Rattle.policy.specs.{Closed.MayBeGranted, Domain.{EdgeTest, IsInDomain}, Full.IsFull, Needed.{context_runs, control_gives_all}};
-ghost use Rattle.policy.specs.{Needed.{derive_by_grant, grant_shares, lent_runs, reply_holds, subjects_agree}, Policy.allows};
+ghost use Rattle.policy.specs.{Closed.MayBeGranted, Domain.{EdgeTest, IsInDomain}, Full.IsFull};
+ghost use Rattle.policy.specs.Needed.{context_runs, control_gives_all, derive_by_grant, grant_shares, lent_runs};
+ghost use Rattle.policy.specs.Needed.{reply_holds, subjects_agree};
+ghost use Rattle.policy.specs.Policy.{allows};
 ghost use Rattle.integrity.specs.{Allowed.IsAllowedStep, Confined.IsConfined};
 ghost use Rattle.counterexamples.specs.Counterexamples.{TakesOut, UnallowedSignal, UnsafeWithout};
 
@@ -59,11 +63,14 @@ pub fn each_reason_of_authority_counts()
         × TakesOut (o.Tcb (record thread { state = run.Receiving (record receiving { reply = None }) }))
         (o.Tcb (record thread { state = run.Receiving (record receiving { reply = Some named }) })) }
     ensures awaits { (thread : Tcb) × (notification : Id)
-        × TakesOut (o.Tcb (record thread { state = run.Ready })) (o.Tcb (record thread { state = run.Waiting notification })) }
+        × TakesOut (o.Tcb (record thread { state = run.Ready }))
+        (o.Tcb (record thread { state = run.Waiting notification })) }
     ensures waiting { (answer : Reply) × (thread : Id)
-        × TakesOut (o.Reply (record answer { state = answers.Free })) (o.Reply (record answer { state = answers.Waiting thread })) }
+        × TakesOut (o.Reply (record answer { state = answers.Free }))
+        (o.Reply (record answer { state = answers.Waiting thread })) }
     ensures called { (answer : Reply) × (thread : Id)
-        × TakesOut (o.Reply (record answer { state = answers.Free })) (o.Reply (record answer { state = answers.Called thread })) }
+        × TakesOut (o.Reply (record answer { state = answers.Free }))
+        (o.Reply (record answer { state = answers.Called thread })) }
 {}
 
 /// A law: a signal needs authority.
@@ -101,8 +108,7 @@ pub fn safety_needs_control_to_give_all()
     ensures { UnsafeWithout control_gives_all }
 {}
 
-/// A law: safety needs that who may be granted a label's capabilities may do what that label may
-/// (the rule P3).
+/// A law: safety needs that who may be granted a label's capabilities may do what that label may (the rule P3).
 ///
 /// There is a system that breaks no other rule and whose boot state is confined. A thread of it
 /// sends another a capability, so that the other's label can do what it has no edge for.
@@ -126,9 +132,8 @@ pub fn safety_needs_derivation_over_grants()
 /// A law: P5 is needed, as far as it says that derive is transitive.
 ///
 /// There is a system that breaks no other rule, in whose policy all that may be granted may be
-/// derived, and whose boot state is confined;
-/// and a thread of it copies a derived capability into another label's CNode, so that a label
-/// derives where it has no edge for it.
+/// derived, and whose boot state is confined. A thread of it copies a derived capability into
+/// another label's CNode, so that a label derives where it has no edge for it.
 pub fn safety_needs_transitive_derivation()
     ensures { (system : UnsafeWithout derive_by_grant)
         × ((x y giver taker : ℕ)

@@ -1,4 +1,6 @@
-//! Systems that show what safety needs: each rule of closed policies, each reason of authority, and the authority to signal.
+//! Systems that show what safety needs: rules of closed policies, reasons of authority, authority to signal.
+//!
+//! No crate stands on it. It has laws alone, and knows no code of the kernel's calls.
 #![tactic(auto)]
 
 mod laws;

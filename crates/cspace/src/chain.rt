@@ -1,15 +1,17 @@
 //! A law about the chain of capabilities that a look-up follows.
 ghost use Rattle.std.specs.Prelude.{ℕ, ◌++◌, ◌↔◌, ◌≡◌, ◌⊎◌, Bool, Err, List, None, Ok, Some, length};
-ghost use Rattle.base.specs.declared.{ids.{ObjId.ObjId as Id, SlotRef.SlotRef as Slot}, refusal.Cause.TheVariants.FailedLookup};
+ghost use Rattle.base.specs.declared.ids.{ObjId.ObjId as Id, SlotRef.SlotRef as Slot};
+ghost use Rattle.base.specs.declared.refusal.Cause.TheVariants.{FailedLookup};
 ghost use Rattle.base.specs.declared.refusal.LookupFailure.{LookupFailure as Failure, TheVariants.MissingCapability};
 ghost use Rattle.machine.specs.{Bits.bits, Lookup.{Level, lookup_of}, Machine.{Machine, cap_of}};
-ghost use Rattle.cspace.specs.Chain.{Fails, Finds, IsWhole, Leads, Link, Misses, Resolves, TakesBits, selected, spelled, taken};
+ghost use Rattle.cspace.specs.Chain.{Fails, Finds, IsWhole, Leads, Link, Misses, Resolves, TakesBits, selected};
+ghost use Rattle.cspace.specs.Chain.{spelled, taken};
 ghost use Rattle.cspace.specs.Roots.{root_level};
 
-/// A law: a lookup ends exactly where a chain of CNode capabilities does whose guards and indices,
-/// joined, are a beginning of the address.
+/// A law: a lookup ends exactly where a chain of CNode capabilities ends that the address spells.
 ///
-/// So a lookup ends in one way only, and by one chain.
+/// The guards and indices of the chain, joined, are a beginning of the address. So a lookup ends in
+/// one way only, and by one chain.
 ///
 /// Some clauses need that each CNode takes a bit, `TakesBits`. Every [`State`](objects::State) does
 /// so, and [`resolve`](crate::resolve) says the same of it without that premise.
@@ -30,7 +32,8 @@ pub fn lookup_follows_a_chain()
     ensures unique_failure { (m : Machine) (from : Level) (string : List Bool) (failure other : Failure)
         → (a : Misses m from string failure) (b : Misses m from string other)
         → (a.links ≡ b.links) × (a.to ≡ b.to) × (a.rest ≡ b.rest) × (failure ≡ other) }
-    ensures never_both { (m : Machine) (from : Level) (string : List Bool) (slot : Slot) (rest : List Bool) (failure : Failure)
+    ensures never_both { (m : Machine) (from : Level) (string : List Bool) (slot : Slot) (rest : List Bool)
+        (failure : Failure)
         → Resolves m from string slot rest → ¬ Misses m from string failure }
     ensures never_missing { (m : Machine) (thread : Id) (address : ℕ) → ¬ Fails m thread address MissingCapability }
     ensures empty_found { (m : Machine) (thread : Id) (address : ℕ) (root : Level)

@@ -35,8 +35,7 @@ fn after_guard(guard: Guard, address: u64, left: u32) -> Option<u32>
 }
 
 impl Level {
-    /// Returns the slot that the low `left` bits of an address select here, and the number of bits
-    /// that are left then.
+    /// Returns the slot that the low `left` bits of an address select here, and the number of bits that are left then.
     ///
     /// # Errors
     ///

@@ -1,7 +1,9 @@
 //! The slot that a call names by an index and a depth.
 ghost use Rattle.std.specs.Prelude.{◌↔◌, ◌≡◌, ◌≢◌, ◌⊎◌, IfErr, IfOk, IsErrAnd};
-ghost use Rattle.base.specs.declared.{ids.SlotRef.SlotRef as Slot, refusal.Cause.{Cause as Why, TheVariants.FailedLookup}};
-ghost use Rattle.base.specs.{declared.refusal.LookupFailure.TheVariants.MissingCapability, Refusals.refusal_of};
+ghost use Rattle.base.specs.declared.ids.SlotRef.{SlotRef as Slot};
+ghost use Rattle.base.specs.declared.refusal.Cause.{Cause as Why, TheVariants.FailedLookup};
+ghost use Rattle.base.specs.declared.refusal.LookupFailure.TheVariants.{MissingCapability};
+ghost use Rattle.base.specs.Refusals.{refusal_of};
 ghost use Rattle.machine.specs.Step.Target.{exactly, lookup_target_of};
 ghost use Rattle.cspace.specs.{Below.target_below, Chain.{TargetFails, TargetFinds}, Strings.level_shown};
 
@@ -47,11 +49,11 @@ fn walk_target(state: &State, from: SlotRef, index: u64, depth: u64) -> Result<S
     target_below(state, &level, index, depth)
 }
 
-/// Returns the slot to which the low `depth` bits of an index lead, from the CNode whose capability
-/// the slot `from` holds (seL4 manual, "Capability Address Lookup").
+/// Returns the slot to which the low `depth` bits of an index lead (seL4 manual, "Capability Address Lookup").
 ///
-/// The slot may be empty. It is found exactly where a chain of CNode capabilities ends whose guards
-/// and indices, joined, are these bits, and there is one such chain.
+/// The look-up begins at the CNode whose capability the slot `from` holds. The slot that is found
+/// may be empty. It is found exactly where a chain of CNode capabilities ends whose guards and
+/// indices, joined, are these bits, and there is one such chain.
 ///
 /// # Errors
 ///

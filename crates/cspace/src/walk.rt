@@ -1,7 +1,9 @@
 //! Look-ups of addresses in a thread's capability space.
 ghost use Rattle.std.specs.{Option.option_map, Prelude.{ℕ, ◌<◌, ◌↔◌, ◌≡◌, ◌≢◌, ◌≤◌, ◌⊎◌, IfErr, IfOk, IsErrAnd, Some}};
-ghost use Rattle.base.specs.declared.{ids.SlotRef.SlotRef as Slot, refusal.Cause.TheVariants.FailedLookup};
-ghost use Rattle.base.specs.{declared.refusal.LookupFailure.{LookupFailure as Failure, TheVariants.MissingCapability}, Refusals.refusal_of};
+ghost use Rattle.base.specs.declared.ids.SlotRef.{SlotRef as Slot};
+ghost use Rattle.base.specs.declared.refusal.Cause.TheVariants.{FailedLookup};
+ghost use Rattle.base.specs.declared.refusal.LookupFailure.{LookupFailure as Failure, TheVariants.MissingCapability};
+ghost use Rattle.base.specs.Refusals.{refusal_of};
 ghost use Rattle.machine.specs.{Bits.bits, Lookup.{level_at, level_of_cap, lookup_of, walk}};
 ghost use Rattle.cspace.specs.{Chain.{Fails, Finds}, Roots.root_level, Strings.{level_shown, place_shown}};
 
@@ -67,11 +69,11 @@ pub(crate) fn walk(
     }
 }
 
-/// Returns the slot at an address in a thread's capability space, and the number of the address's
-/// 64 bits that are left there (seL4 manual, "Capability Address Lookup").
+/// Returns the slot at an address in a thread's capability space (seL4 manual, "Capability Address Lookup").
 ///
-/// The slot may be empty. It is found exactly where a chain of CNode capabilities ends whose guards
-/// and indices, joined, begin the address, and there is one such chain.
+/// The number of the address's 64 bits that are left there is returned with it. The slot may be
+/// empty. It is found exactly where a chain of CNode capabilities ends whose guards and indices,
+/// joined, begin the address, and there is one such chain.
 ///
 /// # Errors
 ///
@@ -83,12 +85,14 @@ pub(crate) fn walk(
 pub fn resolve(state: &State, thread: ObjId, address: u64) -> Result<(SlotRef, u32), Cause>
     ensures value { result ≡ lookup_of state.now thread address }
     ensures found { (slot : Slot) (left : ℕ) → (result ≡ Ok (slot, left)) ↔ Finds state.now thread address slot left }
-    ensures failed { (failure : Failure) → (result ≡ Err (FailedLookup failure)) ↔ Fails state.now thread address failure }
+    ensures failed { (failure : Failure)
+        → (result ≡ Err (FailedLookup failure)) ↔ Fails state.now thread address failure }
     ensures either { ((slot : Slot) × (left : ℕ) × Finds state.now thread address slot left)
         ⊎ ((failure : Failure) × Fails state.now thread address failure) }
     ensures unique { (slot other : Slot) (left remainder : ℕ)
         → (a : Finds state.now thread address slot left) (b : Finds state.now thread address other remainder)
-        → (a.root ≡ b.root) × (a.resolves.links ≡ b.resolves.links) × (a.resolves.last ≡ b.resolves.last) × (a.rest ≡ b.rest) }
+        → (a.root ≡ b.root) × (a.resolves.links ≡ b.resolves.links) × (a.resolves.last ≡ b.resolves.last)
+        × (a.rest ≡ b.rest) }
     ensures never_missing { result ≢ Err (FailedLookup MissingCapability) }
 {
     state.cnodes_take_bits();

@@ -6,7 +6,7 @@ ghost use Rattle.std.specs.Prelude.{ℕ};
 /// The gate returns; a test may hold a worker in it for a while, to see that others work beside it.
 pub trait Gate {
     // That the worker of a number has arrived. No caller knows it but by `arrive`: so work that
-    // asks for it comes after that.
+    // requires it is done after that.
     ghost HasArrived: { Self → ℕ → Type 0 } = { λ gate worker. Unit {0} };
 
     /// Lets the worker of this number, from 0, arrive.

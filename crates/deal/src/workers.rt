@@ -1,5 +1,6 @@
 //! How items are shared among workers.
-ghost use Rattle.std.specs.Prelude.{ℕ, ◌%◌, ◌*◌, ◌+◌, ◌/◌, ◌<◌, ◌≡◌, ◌≤◌, IfErr, IfOk, IfSome, length, map, min, slice_get};
+ghost use Rattle.std.specs.Prelude.{ℕ, ◌%◌, ◌*◌, ◌+◌, ◌/◌, ◌<◌, ◌≡◌, ◌≤◌, IfErr, IfOk, IfSome, length, map, min};
+ghost use Rattle.std.specs.Prelude.{slice_get};
 ghost use Rattle.base.specs.Refusals.{out_of_memory};
 ghost use Rattle.deal.specs.Shares.{share_of, start_of};
 
@@ -41,7 +42,8 @@ where
 {
     let share = |worker: usize| -> Result<Vec<W::Out>, Refusal>
         requires { (0 < workers) × (worker < workers) }
-        ensures { IfOk result (λ outs. outs.items ≡ map (W.answer work.entry.now) (share_of items.entry.now workers worker))
+        ensures { IfOk result
+            (λ outs. outs.items ≡ map (W.answer work.entry.now) (share_of items.entry.now workers worker))
             × IfErr result (λ refusal. refusal ≡ out_of_memory) × G.HasArrived gate.entry.now worker }
     {
         gate.arrive(worker);

@@ -47,13 +47,6 @@ module _ (old new : Machine) (slot : SlotRef) (not_below : parent_of old slot �
             (all_past (parent_of old q));
       }
 
--- a slot without children leaves
-module _ (m : Machine) (slot : SlotRef) (leaf : (child : SlotRef) → parent_of m child ≢ Some slot) where
-  parent_stays :
-      (q : SlotRef) (above : Option SlotRef) → parent_of m q ≡ above → Nearest (parent_of m) (λ s. same_slot s slot) above above
-  parent_stays q None at = no_ancestor
-  parent_stays q (Some parent) at = survives (apart_slots parent slot (λ same. leaf q (at ∙ ap Some same)))
-
 -- none leaves
 at_once : (parent : SlotRef → Option SlotRef) (to : Option SlotRef) → Nearest parent (λ _. false) to to
 at_once parent None = no_ancestor

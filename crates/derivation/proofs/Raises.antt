@@ -6,12 +6,7 @@ use Rattle.machine.{specs.{Machine.{Machine, cap_of, parent_of}, Orphans.Nearest
 use Rattle.derivation.{specs.Raising.{AreRaised, AreRaisedFrom, IsOnWay, further, is_empty, start}, proofs.Ancestors.{end_stays, ended}}
 use Rattle.derivation.proofs.Ancestors.{only_nearest, ways_led}
 
--- where only pairs of the tree have changed each slot holds what it held
-pub same_caps : (old new : Machine) → new ≡ record old { parents = new.parents } → (q : SlotRef) → cap_of new q ≡ cap_of old q
-unfolding cap_of
-same_caps old new rest q = ap (λ (m : Machine). cap_of m q) rest
-
--- so the same ones are empty
+-- where only pairs of the tree have changed the same slots are empty
 pub same_empties : (old new : Machine) → new ≡ record old { parents = new.parents } → is_empty new ≡ is_empty old
 unfolding cap_of
 same_empties old new rest = ap is_empty rest

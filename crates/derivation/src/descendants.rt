@@ -9,8 +9,7 @@ use crate::tree::descends;
 use base::{ObjId, SlotRef};
 use objects::State;
 
-/// Returns the lowest slot behind `last`, or of all where none is named, that descends from
-/// `above`.
+/// Returns the lowest slot behind `last`, or of all where none is named, that descends from `above`.
 ///
 /// Slots rise by their holders, then by their indices.
 ///
@@ -58,8 +57,10 @@ fn is_behind(last: Option<SlotRef>, slot: SlotRef) -> bool
     }
 }
 
-/// A law: the answers of [`next_descendant`], from none on and each given the one before, are all
-/// that descends from a slot, each once.
+/// A law: [`next_descendant`] names all that descends from a slot, each once.
+///
+/// The calls begin with none, and each is given the answer of the one before.
 pub fn descendants_are_named_once()
-    ensures { (m : Machine) (above : Slot) (slots : List Slot) → AreNamed m above None slots → AreAllDescendants m above slots }
+    ensures { (m : Machine) (above : Slot) (slots : List Slot) → AreNamed m above None slots
+        → AreAllDescendants m above slots }
 {}

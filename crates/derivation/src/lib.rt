@@ -1,6 +1,8 @@
 //! The derivation tree: which capability was derived from which.
 //!
-//! Each call takes no memory, and is told as a change of the pairs of child and parent.
+//! Each call takes no memory, and is described as a change of the pairs of child and parent.
+//!
+//! `cnodeops`, `untyped`, `transfer` and `removal` stand on it. It knows no policy.
 #![tactic(auto)]
 
 mod descendants;

@@ -1,15 +1,15 @@
 //! How slots are put below the nearest filled slot above them.
 ghost use Rattle.std.specs.Prelude.{IfSome, Some};
 ghost use Rattle.machine.specs.{Machine.{parent_of, same_slot}, Orphans.Nearest, WellFormed.Descends};
-ghost use Rattle.derivation.specs.{OwnSlots.is_slot_of, Raising.{AreRaisedFrom, is_empty, parent_hung}, Removing.HasParents};
+ghost use Rattle.derivation.specs.{OwnSlots.is_slot_of, Raising.{AreRaisedFrom, is_empty, parent_hung}};
+ghost use Rattle.derivation.specs.Removing.{HasParents};
 
 use crate::slots::slot_count;
 use base::{ObjId, SlotRef};
 use objects::State;
 
-/// Hangs an empty slot, and the empty ones that it comes to above it, below the first filled one
-/// above them; where there is none they become roots. It takes time in the number of slots that it
-/// hangs there.
+/// Puts an empty slot, and the empty ones above it, below the first filled one above them. Where
+/// there is none they become roots. It takes time in the number of slots that it puts there.
 fn raise(state: &mut State, slot: SlotRef)
     ensures { AreRaisedFrom state.old state.new (λ q. same_slot q slot) }
 {

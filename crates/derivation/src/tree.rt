@@ -1,15 +1,17 @@
 //! How capabilities enter the derivation tree and move in it.
 ghost use Rattle.std.specs.Prelude.{◌↔◌, ◌≡◌, ◌≢◌, IsSome, IsTrue, Some};
 ghost use Rattle.base.specs.declared.ids.SlotRef.{SlotRef as Slot};
-ghost use Rattle.machine.specs.{Machine.{cap_of, has_slot, parent_of, with_parent}, Tree.{IsAlone, with_exchanged}, WellFormed.Descends};
+ghost use Rattle.machine.specs.{Machine.{cap_of, has_slot, parent_of, with_parent}, Tree.{IsAlone, with_exchanged}};
+ghost use Rattle.machine.specs.WellFormed.{Descends};
 ghost use Rattle.objects.specs.Pairs.{IsFilledOrGoing};
 ghost use Rattle.derivation.specs.Moving.{StandsNoLower, handed_over, lifted};
 
 use base::SlotRef;
 use objects::State;
 
-/// Makes the capability in `slot`, which is in no pair of the tree, a child of that in `parent`
-/// (seL4 manual, "Capability Derivation Tree").
+/// Makes the capability in `slot` a child of that in `parent` (seL4 manual, "Capability Derivation Tree").
+///
+/// The slot is in no pair of the tree before.
 pub fn insert_child(state: &mut State, slot: SlotRef, parent: SlotRef)
     requires below { IsSome (cap_of state.old slot) }
     requires above { IsSome (cap_of state.old parent) }
@@ -22,8 +24,7 @@ pub fn insert_child(state: &mut State, slot: SlotRef, parent: SlotRef)
     state.attach(slot, parent);
 }
 
-/// Gives the place of `from` in the tree to `to`, which is in no pair: its parent, and its
-/// children.
+/// Gives the place of `from` in the tree to `to`, which is in no pair: its parent, and its children.
 ///
 /// The call takes time in the number of children.
 pub fn move_node(state: &mut State, from: SlotRef, to: SlotRef)
@@ -67,8 +68,7 @@ pub(crate) fn hand_over(state: &mut State, from: SlotRef, to: SlotRef)
     }
 }
 
-/// Returns whether one slot descends from another: is its child, or a child of what descends from
-/// it.
+/// Returns whether one slot descends from another: is its child, or a child of what descends from it.
 ///
 /// The call takes time in the length of the way up.
 pub fn descends(state: &State, slot: SlotRef, above: SlotRef) -> bool

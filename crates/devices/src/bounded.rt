@@ -1,12 +1,13 @@
 //! A reader with a limit.
-ghost use Rattle.std.specs.{Io.{ReadsAtMost, KnownBytes.ReadConsumes}, Prelude.{◌≡◌, IfNone, IfOk, IfSome, IsErr, OnErr}};
+ghost use Rattle.std.specs.Io.{ReadsAtMost, KnownBytes.ReadConsumes};
+ghost use Rattle.std.specs.Prelude.{◌≡◌, IfNone, IfOk, IfSome, IsErr, OnErr};
 
 use std::io::{self, ErrorKind, Read};
 
 /// A reader of which only a limited number of bytes can be read.
 ///
-/// Once more were read it fails, as a device does. So nobody takes a beginning for the whole, of a
-/// reader that has more or that never ends.
+/// It fails, as a device does, where more would be read. So nobody takes a beginning for the whole,
+/// of a reader that has more or that never ends.
 #[derive(Drop)]
 pub struct Bounded<R> {
     reader: R,
@@ -34,8 +35,10 @@ impl<R: Read> Read for Bounded<R> {
 
     fn read(&mut self, buf: &mut [u8]) -> io::Result<usize>
         ensures bound { ReadsAtMost result buf.new }
-        ensures bytes { ReadConsumes (bytes_there R.remaining self.old) (bytes_there R.remaining self.new) result buf.new }
-        ensures counted { IfSome (bytes_allowed self.old) (λ left. IfOk result (λ n. bytes_allowed self.new ≡ allowed_after left n)) }
+        ensures bytes { ReadConsumes (bytes_there R.remaining self.old)
+            (bytes_there R.remaining self.new) result buf.new }
+        ensures counted { IfSome (bytes_allowed self.old)
+            (λ left. IfOk result (λ n. bytes_allowed self.new ≡ allowed_after left n)) }
         ensures unread { OnErr result (bytes_allowed self.new ≡ bytes_allowed self.old) }
         ensures past { IfNone (bytes_allowed self.old) (IsErr result) }
     {

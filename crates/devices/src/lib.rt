@@ -1,4 +1,7 @@
-//! What a program reads from and writes to: devices that tell whether they failed.
+//! What a program reads from and writes to: devices that report whether they failed.
+//!
+//! The program stands on it: `commands`, `report` and `confine`. It knows nothing of a kernel or a
+//! policy.
 #![tactic(auto)]
 
 mod bounded;

@@ -1,6 +1,7 @@
 //! The sinks that answers are written to.
-ghost use Rattle.std.specs.{Io.{WritesAtMost, KnownBytes.{Appends, Keeps, WriteAppends}}, Prelude.{ℕ, ◌<◌, ◌≡◌, Bool, List, Ok, OnErr}};
-ghost use Rattle.std.specs.{Prelude.{OnOk, Option, false, length, true}, Result.is_err};
+ghost use Rattle.std.specs.Io.{WritesAtMost, KnownBytes.{Appends, Keeps, WriteAppends}};
+ghost use Rattle.std.specs.Prelude.{ℕ, ◌<◌, ◌≡◌, Bool, List, Ok, OnErr, OnOk, Option, false, length, true};
+ghost use Rattle.std.specs.Result.{is_err};
 ghost use Rattle.devices.specs.Devices.{AppendsBeginning};
 
 use thiserror::Error;

@@ -1,6 +1,6 @@
 //! The sources that texts are read from.
-ghost use Rattle.std.specs.{Io.{ReadsAtMost, KnownBytes.ReadConsumes}, IoError.error_kind, Prelude.{ℕ, ◌≡◌, Bool, IfOk, IfSome, List}};
-ghost use Rattle.std.specs.Prelude.{Option, false};
+ghost use Rattle.std.specs.{Io.{ReadsAtMost, KnownBytes.ReadConsumes}, IoError.error_kind};
+ghost use Rattle.std.specs.Prelude.{ℕ, ◌≡◌, Bool, IfOk, IfSome, List, Option, false};
 ghost use Rattle.devices.specs.Devices.{is_failure, read_error_of};
 
 use std::alloc::Global;

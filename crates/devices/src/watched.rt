@@ -1,5 +1,6 @@
 //! A device that keeps whether it failed.
-ghost use Rattle.std.specs.{Io.{ReadsAtMost, WritesAtMost, KnownBytes.{Keeps, ReadConsumes, WriteAppends}}, IoError.error_kind};
+ghost use Rattle.std.specs.Io.{ReadsAtMost, WritesAtMost, KnownBytes.{Keeps, ReadConsumes, WriteAppends}};
+ghost use Rattle.std.specs.IoError.{error_kind};
 ghost use Rattle.std.specs.Prelude.{◌<◌, ◌↔◌, ◌≡◌, ◌≢◌, IfErr, IfOk, IsErr, IsErrAnd, IsOk, IsTrue, Ok, OnErr, OnOk};
 
 use crate::{ReadError, Sink, Source, WriteError};
@@ -48,7 +49,7 @@ impl<D> Watched<D> {
     }
 }
 
-/// Whether a device asks for another try.
+/// Whether a device requests another try.
 fn is_interrupted<T>(answer: &io::Result<T>) -> bool
     ensures { IsTrue result ↔ IsErrAnd answer.now (λ error. error_kind error ≡ ErrorKind.Interrupted) }
 {
@@ -105,8 +106,8 @@ fn flush_to<W: Write>(writer: &mut W) -> io::Result<()>
     Err(io::Error::from(ErrorKind::TimedOut))
 }
 
-/// What the answer of a writer that was given so many bytes comes to. One that takes none of them has
-/// failed.
+/// What the answer of a writer that was given `given` bytes means. A writer that takes none of them
+/// has failed.
 fn taken(given: usize, answer: io::Result<usize>) -> Result<usize, WriteError>
     ensures some { IfOk answer (λ n. 0 < n → result ≡ Ok n) }
     ensures none { IfOk answer (λ n. n ≡ 0 → given ≡ 0 → result ≡ Ok n) }
@@ -119,7 +120,7 @@ fn taken(given: usize, answer: io::Result<usize>) -> Result<usize, WriteError>
     }
 }
 
-/// What the answer of a writer to a flush comes to.
+/// What the answer of a writer to a flush means.
 fn flushed(answer: io::Result<()>) -> Result<(), WriteError>
     ensures ok { OnOk answer (IsOk result) }
     ensures err { OnErr answer (IsErr result) }

@@ -18,8 +18,16 @@ use verdict::{Extent, actors};
 /// How many calls a search for a run tries.
 const STEPS: u64 = 1_000;
 
+/// For how many of the broken claims, the first ones, a run is searched.
+const SEARCHES: usize = 10;
+
+/// What is said in place of a run of a later claim.
+const NOT_SEARCHED: &str =
+    "no run was looked for: that is done for the first 10 broken claims. `confine show` looks for one.\n";
+
 /// Returns why claims on an accepted system don't hold, and what may be done: for each its line, where each
-/// edge of the reason comes from, and a run that shows it, if one is found. `claims` is the file of the claims.
+/// edge of the reason comes from, and a run that shows it, if one is found. A run is looked for where the claim
+/// is one of the first ten. `claims` is the file of the claims.
 ///
 /// # Errors
 ///
@@ -35,7 +43,7 @@ pub fn explain_breaches<R: Threads + Sync>(
     broken: &[Broken],
 ) -> Result<String, Refusal> {
     let mut sentences = String::new(alloc);
-    for one in broken {
+    for (number, one) in broken.iter().enumerate() {
         if let Some(claim) = claim_at(lines, one.line) {
             let edges = push_line(
                 alloc,
@@ -49,7 +57,11 @@ pub fn explain_breaches<R: Threads + Sync>(
             )?;
             push_origins(rt, alloc, &mut sentences, names.table, table, policy, edges)?;
             if let Failure::Pair(breach) = one.failure {
-                push_run(alloc, &mut sentences, table, breach)?;
+                if number < SEARCHES {
+                    push_run(alloc, &mut sentences, table, breach)?;
+                } else {
+                    sentences.push_str(NOT_SEARCHED)?;
+                }
             }
         }
     }

@@ -1,9 +1,9 @@
-pub mod Agreement
 pub mod Linked
 pub mod LinksStep
 pub mod Part
 pub mod PartSteps
 pub mod Passes
+pub mod Reached
 pub mod Releases
 pub mod ReplyStep
 pub mod Tests

@@ -7,59 +7,25 @@ use Rattle.machine.specs.declared.object.ObjectKind.TheVariants as kind
 use Rattle.machine.specs.{declared.thread.{RunState.{RunState, RunState as state}, Tcb.Tcb}, Machine.{Machine, object_of, same_id}}
 use Rattle.machine.specs.{Objects.kind_of_object, Releasing.with_holder_halted, WellFormed.{LinksAgree, WaitsAtKind, kind_of}}
 use Rattle.machine.proofs.LookUps.{one_id}
-use Rattle.finalising.{specs.{Finalised.with_links_cut, Reached.object_by}, proofs.{Part.Follows, PartSteps.{context_step, thread_step}}}
-use Rattle.finalising.proofs.{PartSteps.unlinked_step, Tests.{or_false, plus}, WaitersStep.waiters_step}
-
--- a kind of object at which nobody waits
-abbrev IsUnwaited : ObjectKind → Type 0
-IsUnwaited at = (run : RunState) → ¬ (WaitsAtKind run at)
-
-at_untyped : IsUnwaited kind.Untyped
-at_untyped (state.Sending sending) h = h
-at_untyped (state.Receiving receiving) h = h
-at_untyped (state.Waiting notification) h = h
-at_untyped _ h = h
-
-at_cnode : IsUnwaited kind.CNode
-at_cnode (state.Sending sending) h = h
-at_cnode (state.Receiving receiving) h = h
-at_cnode (state.Waiting notification) h = h
-at_cnode _ h = h
-
-at_frame : IsUnwaited kind.Frame
-at_frame (state.Sending sending) h = h
-at_frame (state.Receiving receiving) h = h
-at_frame (state.Waiting notification) h = h
-at_frame _ h = h
-
-at_control : IsUnwaited kind.Control
-at_control (state.Sending sending) h = h
-at_control (state.Receiving receiving) h = h
-at_control (state.Waiting notification) h = h
-at_control _ h = h
+use Rattle.finalising.{specs.Finalised.with_links_cut, proofs.{Part.Follows, PartSteps.{context_step, thread_step}, Reached.object_by}}
+use Rattle.finalising.proofs.{PartSteps.{no_queue_at, unlinked_step}, Tests.{or_false, plus}, WaitersStep.waiters_step}
 
 module _ (old : Machine) (links : LinksAgree old) (done : ObjId → Bool) (x : ObjId) (now : Machine) (follows : Follows old done now) where
   there_now : (object : Object) → object_of old x ≡ Some object → object_of now x ≡ Some (object_by follows.reach x object)
   there_now object is = follows.reached.objects x ∙ ap (option_map (object_by follows.reach x)) is
 
-  unwaited : (object : Object) → object_of old x ≡ Some object → IsUnwaited (kind_of_object object)
-      → (run : RunState) (at : ObjectKind) → kind_of old x ≡ Some at → ¬ (WaitsAtKind run at)
-  unwaited object is never run at e waits =
-      let same : Some at ≡ Some (kind_of_object object) = sym e ∙ ap (option_map kind_of_object) is in
-      never run (subst (λ (k : ObjectKind). WaitsAtKind run k) (same_Some at (kind_of_object object) same) waits)
-
   -- an object of a kind that has no links
   unlinked :
-      (object : Object) → object_of old x ≡ Some object → IsUnwaited (kind_of_object object)
+      (object : Object) → object_of old x ≡ Some object → kind_of_object object ≢ kind.Endpoint → kind_of_object object ≢ kind.Notification
       → ((tcb : Tcb) → object ≢ o.Tcb tcb) → ((holding : Reply) → object ≢ o.Reply holding)
       → ((context : Context) → object ≢ o.Context context) → with_links_cut now x ≡ now
       → Follows old (plus done x) (with_links_cut now x)
-  unlinked object is never no_tcb no_reply no_context same =
+  unlinked object is not_endpoint not_notification no_tcb no_reply no_context same =
       subst (λ (n : Machine). Follows old (plus done x) n) (sym same)
       (unlinked_step old links done x now follows
       (λ tcb e. no_tcb tcb (same_Some object (o.Tcb tcb) (sym is ∙ e)))
       (λ holding e. no_reply holding (same_Some object (o.Reply holding) (sym is ∙ e)))
-      (unwaited object is never)
+      (no_queue_at old links done x object is not_endpoint not_notification)
       (λ context e. no_context context (same_Some object (o.Context context) (sym is ∙ e))))
 
   -- one that had lost them before
@@ -99,18 +65,8 @@ module _ (old : Machine) (links : LinksAgree old) (done : ObjId → Bool) (x : O
     by_object (Some (o.Context context)) is =
         rw (there_now (o.Context context) is) (context_step old links done x now follows context is)
     by_object (Some (o.Reply holding)) is = rw (there_now (o.Reply holding) is) (again (replies holding is) follows)
-    by_object (Some (o.Untyped memory)) is =
-        unlinked (o.Untyped memory) is at_untyped (λ tcb e. cc) (λ holding e. cc) (λ context e. cc)
-        (rw (there_now (o.Untyped memory) is) refl)
-    by_object (Some (o.CNode node)) is =
-        unlinked (o.CNode node) is at_cnode (λ tcb e. cc) (λ holding e. cc) (λ context e. cc)
-        (rw (there_now (o.CNode node) is) refl)
-    by_object (Some (o.Frame frame)) is =
-        unlinked (o.Frame frame) is at_frame (λ tcb e. cc) (λ holding e. cc) (λ context e. cc)
-        (rw (there_now (o.Frame frame) is) refl)
-    by_object (Some (o.Control control)) is =
-        unlinked (o.Control control) is at_control (λ tcb e. cc) (λ holding e. cc) (λ context e. cc)
-        (rw (there_now (o.Control control) is) refl)
+    by_object (Some _) is =
+        unlinked _ is (λ e. cc) (λ e. cc) (λ tcb e. cc) (λ holding e. cc) (λ context e. cc) (rw (there_now _ is) refl)
 
   -- where there is no reply, no thread is halted
   pub no_holder : ((holding : Reply) → object_of old x ≢ Some (o.Reply holding)) → with_holder_halted now x ≡ now
@@ -120,11 +76,4 @@ module _ (old : Machine) (links : LinksAgree old) (done : ObjId → Bool) (x : O
     by_object None is =
         let none : object_of now x ≡ None = follows.reached.objects x ∙ ap (option_map (object_by follows.reach x)) is in rw none refl
     by_object (Some (o.Reply holding)) is = absurd (other holding is)
-    by_object (Some (o.Tcb tcb)) is = rw (there_now (o.Tcb tcb) is) refl
-    by_object (Some (o.Endpoint endpoint)) is = rw (there_now (o.Endpoint endpoint) is) refl
-    by_object (Some (o.Notification notification)) is = rw (there_now (o.Notification notification) is) refl
-    by_object (Some (o.Context context)) is = rw (there_now (o.Context context) is) refl
-    by_object (Some (o.Untyped memory)) is = rw (there_now (o.Untyped memory) is) refl
-    by_object (Some (o.CNode node)) is = rw (there_now (o.CNode node) is) refl
-    by_object (Some (o.Frame frame)) is = rw (there_now (o.Frame frame) is) refl
-    by_object (Some (o.Control control)) is = rw (there_now (o.Control control) is) refl
+    by_object (Some _) is = rw (there_now _ is) refl

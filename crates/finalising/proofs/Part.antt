@@ -9,8 +9,9 @@ use Rattle.machine.specs.Finalising.{is_released, leads_nowhere, leaves, link_af
 use Rattle.machine.specs.{Machine.{Machine, object_of, queue_of}, Objects.slot_count, Releasing.reply_by, WellFormed.{IsThread, LinksAgree}}
 use Rattle.machine.proofs.{Filters.filter_same, Queues.first_in, RemovalTable.waits_aborted}
 use Rattle.objects.specs.Waiting.{WaitsNowhere}
-use Rattle.finalising.specs.{Pass.IsFinalised, Reached.{IsReached, Reach, has_left, object_by, queue_by, tcb_by}}
-use Rattle.finalising.proofs.Linked.{member_was}
+use Rattle.steps.proofs.LeavingLinks.{HaveLeft, member_was}
+use Rattle.finalising.{specs.Pass.IsFinalised, proofs.Linked.reached_left}
+use Rattle.finalising.proofs.Reached.{IsReached, Reach, has_left, leavers, object_by, queue_by, tcb_by}
 
 -- which threads are reached where the objects of a set have lost their links: of those outside the set it is exact; those in the set
 -- are halted and unbound, whatever else
@@ -132,11 +133,14 @@ module _ (old now : Machine) (goes : ObjId → Bool) (links : LinksAgree old) (f
     by_object (Some (o.Context context)) = refl
     by_object (Some _) = refl
 
+  left_now : HaveLeft old (leavers follows.reach) now
+  left_now = reached_left old now follows.reach follows.reached
+
   -- nobody is left in the queue of an object that goes
   nobody_there :
       (id : ObjId) (threads : List ObjId) (thread : ObjId) → goes id ≡ true → queue_of now id ≡ Some threads → ¬ (Contains threads thread)
   nobody_there id threads thread gone e within =
-      let was = member_was old now follows.reach follows.reached id threads thread e within in
+      let was = member_was old now (leavers follows.reach) left_now id threads thread e within in
       let w = links.queued id was.0 thread was.1 was.2 in
       false≢true
       (sym was.3 ∙ (who_left thread w.0 w.2 ∙ by_goes w.0 w.2 (waits_aborted goes w.0.state id w.3 gone) (goes thread))) where
@@ -161,7 +165,7 @@ module _ (old now : Machine) (goes : ObjId → Bool) (links : LinksAgree old) (f
 
   waits_nowhere_end : (id : ObjId) → goes id ≡ true → WaitsNowhere now id
   waits_nowhere_end id gone at threads e within =
-      let was = member_was old now follows.reach follows.reached at threads id e within in
+      let was = member_was old now (leavers follows.reach) left_now at threads id e within in
       let w = links.queued at was.0 id was.1 was.2 in
       false≢true (sym was.3 ∙ ap (λ h. h || follows.reach.aborts id) (follows.part.halts_it id w.0 w.2 gone))
 

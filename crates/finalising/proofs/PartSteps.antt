@@ -2,14 +2,16 @@
 use Rattle.std.{specs.Prelude.{None, Option, Some, option_map}, proofs.Common.{◌&&◌, ◌||◌, ◌∙◌, ◌≡◌, ◌≢◌, Bool, ap, cond, false, not, refl}}
 use Rattle.std.proofs.{Common.{subst, sym, true}, lemmas.{Bool.false≢true, Option.{none-some, same_Some}}}
 use Rattle.base.specs.declared.ids.ObjId.{ObjId}
-use Rattle.machine.specs.declared.object.{Context.Context, Object.Object as o, ObjectKind.{ObjectKind, ObjectKind as kind}, Reply.Reply}
+use Rattle.machine.specs.declared.object.{Context.Context, Object.{Object, Object as o}, ObjectKind.{ObjectKind, ObjectKind as kind}}
+use Rattle.machine.specs.declared.object.Reply.{Reply}
 use Rattle.machine.specs.{declared.thread.{RunState.{RunState, RunState as state}, Tcb.Tcb}, Finalising.{is_aborted, is_halted}}
 use Rattle.machine.specs.{Finalising.{leads_nowhere, link_after}, Machine.{Machine, object_of, same_id}, Objects.kind_of_object}
 use Rattle.machine.specs.{Releasing.{with_halted, with_unbound}, WellFormed.{IsThread, LinksAgree, WaitsAtKind, kind_of}}
 use Rattle.machine.proofs.{Ids.itself, Leaving.apart_ids, LookUps.one_id, RemovalTable.one_thread, RoundLemmas.or_second}
-use Rattle.finalising.{specs.{Finalised.with_link_cut, Reached.{Reach, and_halted, and_unbound}}, proofs.{Agreement.link_was, Part.Follows}}
+use Rattle.steps.proofs.LeavingLinks.{link_was}
+use Rattle.finalising.{specs.Finalised.with_link_cut, proofs.{Part.Follows, Reached.{Reach, and_halted, and_unbound}}}
 use Rattle.finalising.proofs.{Part.IsPart, Releases.{halted_step, unbound_step}, Tests.{alone, both_aborted, both_halted, both_links}}
-use Rattle.finalising.proofs.Tests.{is_link, link_is, neither, no_context, no_queue, no_reply, or_false, plus, refuted}
+use Rattle.finalising.proofs.Tests.{is_link, link_is, neither, no_context, no_queue, nobody_waits, no_reply, or_false, plus, refuted}
 
 module _ (old : Machine) (links : LinksAgree old) (done : ObjId → Bool) (x : ObjId) where
   -- who is reached by one more object that is no reply, or at which nobody waits, or that is no context
@@ -25,6 +27,14 @@ module _ (old : Machine) (links : LinksAgree old) (done : ObjId → Bool) (x : O
 
   abbrev pub NoThread : Type 0
   NoThread = (tcb : Tcb) → ¬ (IsThread old x tcb)
+
+  pub no_queue_at :
+      (object : Object) → object_of old x ≡ Some object → kind_of_object object ≢ kind.Endpoint
+      → kind_of_object object ≢ kind.Notification → NoQueue
+  no_queue_at object is not_endpoint not_notification run at e waits =
+      let same : Some at ≡ Some (kind_of_object object) = sym e ∙ ap (option_map kind_of_object) is in
+      nobody_waits (kind_of_object object) not_endpoint not_notification run
+      (subst (λ (k : ObjectKind). WaitsAtKind run k) (same_Some at (kind_of_object object) same) waits)
 
   pub plain_halted :
       NoReply → (thread : ObjId) (tcb : Tcb) → IsThread old thread tcb → is_halted (plus done x) tcb.state ≡ is_halted done tcb.state
@@ -122,14 +132,7 @@ module _ (old : Machine) (links : LinksAgree old) (done : ObjId → Bool) (x : O
       thread_no_context context e = let same : Some (o.Context context) ≡ Some (o.Tcb own) = sym e ∙ is in cc
 
       thread_no_queue : NoQueue
-      thread_no_queue run at e waits =
-          let same : Some at ≡ Some kind.Tcb = sym e ∙ ap (option_map kind_of_object) is in
-          nowhere run (subst (λ (k : ObjectKind). WaitsAtKind run k) (same_Some at kind.Tcb same) waits) where
-            nowhere : (run : RunState) → ¬ (WaitsAtKind run kind.Tcb)
-            nowhere (state.Sending sending) h = h
-            nowhere (state.Receiving receiving) h = h
-            nowhere (state.Waiting notification) h = h
-            nowhere _ h = h
+      thread_no_queue = no_queue_at (o.Tcb own) is (λ e. cc) (λ e. cc)
 
       its_own : (d s b : Bool) → (d || s) ≡ true → (d ≡ true → b ≡ true) → (s || b) ≡ true
       its_own d true b e more = refl
@@ -178,14 +181,7 @@ module _ (old : Machine) (links : LinksAgree old) (done : ObjId → Bool) (x : O
       context_no_thread tcb e = let same : Some (o.Tcb tcb) ≡ Some (o.Context own) = sym e ∙ is in cc
 
       context_no_queue : NoQueue
-      context_no_queue run at e waits =
-          let same : Some at ≡ Some kind.Context = sym e ∙ ap (option_map kind_of_object) is in
-          nowhere run (subst (λ (k : ObjectKind). WaitsAtKind run k) (same_Some at kind.Context same) waits) where
-            nowhere : (run : RunState) → ¬ (WaitsAtKind run kind.Context)
-            nowhere (state.Sending sending) h = h
-            nowhere (state.Receiving receiving) h = h
-            nowhere (state.Waiting notification) h = h
-            nowhere _ h = h
+      context_no_queue = no_queue_at (o.Context own) is (λ e. cc) (λ e. cc)
 
       -- a thread that has the context is the context's
       its_thread : (thread : ObjId) (tcb : Tcb) → IsThread old thread tcb → leads_nowhere (alone x) tcb.context ≡ true → own.thread ≡ Some thread
@@ -274,7 +270,7 @@ module _ (old : Machine) (links : LinksAgree old) (done : ObjId → Bool) (x : O
             → Follows old (plus done x) (with_link_cut now link)
         by_link None e = record { reach = follows.reach; reached = follows.reached; part = none_adds e }
         by_link (Some bound) e =
-            let was = link_was old now follows.reach follows.reached links own.thread bound e in
+            let was = link_was follows.reach.unbinds own.thread bound e in
             let w = links.context_thread x bound own is was.0 in
             record {
               reach = and_unbound follows.reach bound;

@@ -2,12 +2,12 @@
 use Rattle.std.{specs.{List.list_any, Prelude.{Contains, None, Option, Some, slice_get}}, proofs.Common.{[], ℕ, ◌&&◌, ◌++◌, ◌+◌, ◌<◌, ◌||◌}}
 use Rattle.std.proofs.Common.{◌∙◌, ◌∷◌, ◌≡◌, ◌≢◌, Bool, List, add-one, ap, false, get_or, length, not, refl, subst, sym, take, true}
 use Rattle.std.proofs.{Math.Seq.take-suc, lemmas.{Bool.false≢true, List.Elements.Contains-get_or, Option.get_or_from_slice_get}}
-use Rattle.std.proofs.lemmas.Option.{none-some, slice_get-get_or, slice_get_within}
+use Rattle.std.proofs.lemmas.Option.{none-some, same_Some, slice_get-get_or, slice_get_within}
 use Rattle.base.specs.declared.ids.ObjId.{ObjId}
 use Rattle.machine.specs.declared.{object.{Object.{Object, Object as o}, Reply.Reply}, thread.RunState.{RunState, RunState as state}}
 use Rattle.machine.specs.{declared.thread.Tcb.Tcb, Finalising.{is_aborted, is_halted, leads_nowhere}, Machine.{Machine, object_of, same_id}}
 use Rattle.machine.{specs.{Releasing.with_holder_halted, WellFormed.LinksAgree}, proofs.{LookUps.one_id, RoundLemmas.or_second}}
-use Rattle.finalising.{specs.{Finalised.with_links_cut, Pass.IsFinalised, Reached.nobody}, proofs.Agreement.{links_reached, reached_nobody}}
+use Rattle.finalising.{specs.{Finalised.with_links_cut, Pass.IsFinalised}, proofs.{Linked.{links_reached, reached_nobody}, Reached.nobody}}
 use Rattle.finalising.proofs.{LinksStep.{links_step, no_holder}, Part.{Follows, finalised_end}, ReplyStep.reply_step, Tests.and_false}
 use Rattle.finalising.proofs.{Tests.{or_false, plus}, WaitersStep.in_any}
 
@@ -115,6 +115,9 @@ module _ (old : Machine) (links : LinksAgree old) where
               (λ tie. absurd (none holding (ap (object_of old) (sym (one_id id x tie)) ∙ is)));
         })
 
+    no_other : {own : Object} (holding : Reply) → Some own ≡ Some (o.Reply holding) → own ≢ o.Reply holding → ⊥
+    no_other {own} holding same apart = apart (same_Some own (o.Reply holding) same)
+
     by_object : (object : Option Object) → object_of old x ≡ object → HoldersHalted old (first ++ x ∷ []) (with_holder_halted now x)
     by_object (Some (o.Reply own)) e =
         record {
@@ -134,19 +137,7 @@ module _ (old : Machine) (links : LinksAgree old) where
               (λ tie. or_second (h.done id) (same_id id x) tie);
         }
     by_object None e = other (λ holding is. none-some (o.Reply holding) (sym e ∙ is))
-    by_object (Some (o.Tcb own)) e = other (λ holding is. let same : Some (o.Tcb own) ≡ Some (o.Reply holding) = sym e ∙ is in cc)
-    by_object (Some (o.Endpoint own)) e =
-        other (λ holding is. let same : Some (o.Endpoint own) ≡ Some (o.Reply holding) = sym e ∙ is in cc)
-    by_object (Some (o.Notification own)) e =
-        other (λ holding is. let same : Some (o.Notification own) ≡ Some (o.Reply holding) = sym e ∙ is in cc)
-    by_object (Some (o.Context own)) e =
-        other (λ holding is. let same : Some (o.Context own) ≡ Some (o.Reply holding) = sym e ∙ is in cc)
-    by_object (Some (o.Untyped own)) e =
-        other (λ holding is. let same : Some (o.Untyped own) ≡ Some (o.Reply holding) = sym e ∙ is in cc)
-    by_object (Some (o.CNode own)) e = other (λ holding is. let same : Some (o.CNode own) ≡ Some (o.Reply holding) = sym e ∙ is in cc)
-    by_object (Some (o.Frame own)) e = other (λ holding is. let same : Some (o.Frame own) ≡ Some (o.Reply holding) = sym e ∙ is in cc)
-    by_object (Some (o.Control own)) e =
-        other (λ holding is. let same : Some (o.Control own) ≡ Some (o.Reply holding) = sym e ∙ is in cc)
+    by_object (Some _) e = other (λ holding is. no_other holding (sym e ∙ is) (λ same. cc))
 
   pub one_cut :
       (going first : List ObjId) (now : Machine) (x : ObjId) → among going x ≡ true → LinksCut old going first now

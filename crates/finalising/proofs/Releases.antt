@@ -3,15 +3,16 @@ use Rattle.std.{specs.Prelude.{None, Option, Some, option_map}, proofs.Common.{�
 use Rattle.std.proofs.{Common.{inl, inr, not, refl, subst, sym, true}, lemmas.{List.Elements.filter_agree, Option.{none-some, same_Some}}}
 use Rattle.base.specs.declared.ids.ObjId.{ObjId}
 use Rattle.machine.specs.declared.object.{Context.Context, Object.{Object, Object as o}, ReplyState.{ReplyState, ReplyState as reply}}
-use Rattle.machine.specs.{declared.thread.Tcb.Tcb, Changes.{with_context, with_tcb}, Finalising.{aborted, halted, link_after}}
-use Rattle.machine.specs.{Machine.{Machine, object_of, queue_of, same_id, with_object}, Releasing.{reply_by, unblocked, with_aborted}}
-use Rattle.machine.specs.{Releasing.{with_halted, with_idle_context, with_unbound}, WellFormed.{IsThread, LinksAgree}}
-use Rattle.machine.proofs.{Filters.filter_twice, Ids.{at_other, itself, one_or_two}, Leaving.{HasLinks, aborted_is, apart_ids, freed}}
-use Rattle.machine.proofs.Leaving.{halted_is, released_objects, released_queues, released_rest, rest-with_object, rest_along, tcb_is}
-use Rattle.machine.proofs.{Leaving.without, LookUps.{object_of-with_object, one_id, queue_of-with_object}, RemovalTable.one_thread}
-use Rattle.machine.proofs.RoundLemmas.{or_second}
-use Rattle.finalising.specs.Reached.{IsReached, Reach, and_aborted, and_halted, and_unbound, has_left, object_by, queue_by, tcb_by}
-use Rattle.finalising.proofs.Linked.{links_now, tcb_now, thread_now}
+use Rattle.machine.specs.{declared.thread.Tcb.Tcb, Finalising.{aborted, halted, link_after}, Releasing.{reply_by, with_aborted}}
+use Rattle.machine.specs.{Machine.{Machine, object_of, queue_of, same_id, with_object}, Releasing.{SameRest, with_halted, with_released}}
+use Rattle.machine.specs.{Releasing.with_unbound, WellFormed.{IsThread, LinksAgree}}
+use Rattle.machine.proofs.{Filters.filter_twice, Ids.{at_itself, at_other, itself, one_or_two}, Leaving.{apart_ids, freed}}
+use Rattle.machine.proofs.Leaving.{rest-with_object, rest_along, rest_itself, without}
+use Rattle.machine.proofs.LookUps.{object_of-with_object, one_id, queue_of-with_object}
+use Rattle.machine.proofs.{RemovalTable.one_thread, RoundLemmas.or_second}
+use Rattle.steps.proofs.{ContextsFormed.unbound_is, Releases.{IsReleased, released_is}}
+use Rattle.finalising.proofs.{Linked.{links_reached, tcb_now, thread_now}, Tests.or_false}
+use Rattle.finalising.proofs.Reached.{IsReached, Reach, and_aborted, and_halted, and_unbound, has_left, object_by, queue_by, tcb_by}
 
 -- tests of who left
 
@@ -29,48 +30,32 @@ neither_one true false = refl
 neither_one false true = refl
 neither_one false false = refl
 
-or_false : (b : Bool) → (b || false) ≡ b
-or_false true = refl
-or_false false = refl
-
 -- one more thread has left
 module _ (reach next : Reach) (thread : ObjId) (more : (id : ObjId) → has_left next id ≡ (same_id id thread || has_left reach id)) where
-  freed_waiter :
-      (waiter : ObjId) (b : Bool)
-      → reply_by (λ other. same_id other thread) (cond b reply.Free (reply.Waiting waiter))
-      ≡ cond (same_id waiter thread || b) reply.Free (reply.Waiting waiter)
-  freed_waiter waiter true =
-      sym (ap (λ b. cond b reply.Free (reply.Waiting waiter)) (or_second (same_id waiter thread) true refl))
-  freed_waiter waiter false =
-      sym (ap (λ b. cond b reply.Free (reply.Waiting waiter)) (or_false (same_id waiter thread)))
-
-  freed_caller :
-      (caller : ObjId) (b : Bool)
-      → reply_by (λ other. same_id other thread) (cond b reply.Free (reply.Called caller))
-      ≡ cond (same_id caller thread || b) reply.Free (reply.Called caller)
-  freed_caller caller true =
-      sym (ap (λ b. cond b reply.Free (reply.Called caller)) (or_second (same_id caller thread) true refl))
-  freed_caller caller false =
-      sym (ap (λ b. cond b reply.Free (reply.Called caller)) (or_false (same_id caller thread)))
+  freed_twice :
+      (run : ReplyState) (s b : Bool) → reply_by (λ other. same_id other thread) run ≡ cond s reply.Free run
+      → reply_by (λ other. same_id other thread) (cond b reply.Free run) ≡ cond (s || b) reply.Free run
+  freed_twice run s true alone = sym (ap (λ b. cond b reply.Free run) (or_second s true refl))
+  freed_twice run s false alone = alone ∙ sym (ap (λ b. cond b reply.Free run) (or_false s))
 
   reply_twice :
       (run : ReplyState) → reply_by (λ other. same_id other thread) (reply_by (has_left reach) run) ≡ reply_by (has_left next) run
-  reply_twice (reply.Waiting waiter) =
-      freed_waiter waiter (has_left reach waiter) ∙ sym (ap (λ b. cond b reply.Free (reply.Waiting waiter)) (more waiter))
-  reply_twice (reply.Called caller) =
-      freed_caller caller (has_left reach caller) ∙ sym (ap (λ b. cond b reply.Free (reply.Called caller)) (more caller))
+  reply_twice (reply.Waiting held) =
+      freed_twice (reply.Waiting held) (same_id held thread) (has_left reach held) refl
+      ∙ sym (ap (λ b. cond b reply.Free (reply.Waiting held)) (more held))
+  reply_twice (reply.Called held) =
+      freed_twice (reply.Called held) (same_id held thread) (has_left reach held) refl
+      ∙ sym (ap (λ b. cond b reply.Free (reply.Called held)) (more held))
   reply_twice reply.Free = refl
-
-  queue_twice : (threads : List ObjId) → without thread (queue_by reach threads) ≡ queue_by next threads
-  queue_twice threads =
-      filter_twice (λ other. not (same_id other thread)) (λ other. not (has_left reach other)) threads
-      ∙ filter_agree (λ other. not (has_left reach other) && not (same_id other thread)) (λ other. not (has_left next other))
-      (λ other. neither_one (same_id other thread) (has_left reach other) ∙ sym (ap not (more other))) threads
 
   queues_twice :
       (queue : Option (List ObjId)) → option_map (without thread) (option_map (queue_by reach) queue) ≡ option_map (queue_by next) queue
   queues_twice None = refl
-  queues_twice (Some threads) = ap Some (queue_twice threads)
+  queues_twice (Some threads) =
+      ap (λ x. Some x)
+      (filter_twice (λ other. not (same_id other thread)) (λ other. not (has_left reach other)) threads
+      ∙ filter_agree (λ other. not (has_left reach other) && not (same_id other thread)) (λ other. not (has_left next other))
+      (λ other. neither_one (same_id other thread) (has_left reach other) ∙ sym (ap not (more other))) threads)
 
   module _ (q : ObjId) (halts : next.halts q ≡ reach.halts q) (aborts : next.aborts q ≡ reach.aborts q)
       (unbinds : next.unbinds ≡ reach.unbinds) where
@@ -90,250 +75,213 @@ module _ (old now : Machine) (reach : Reach) (reached : IsReached old reach now)
   abbrev is : Tcb
   is = tcb_now old now reach reached thread tcb
 
-  is_there : IsThread now thread is
-  is_there = thread_now old now reach reached thread tcb there
-
-  joined : HasLinks now thread is.state
-  joined = links_now old now reach reached links thread tcb there
-
-  module _ (next : Reach) (new : Tcb) (more : (id : ObjId) → has_left next id ≡ (same_id id thread || has_left reach id))
-      (itself_new : new ≡ tcb_by (next.halts thread) (next.aborts thread) (next.unbinds thread) tcb)
+  module _ (change : Tcb → Tcb) (next : Reach)
+      (more : (id : ObjId) → has_left next id ≡ (same_id id thread || has_left reach id))
+      (itself_new : change is ≡ tcb_by (next.halts thread) (next.aborts thread) (next.unbinds thread) tcb)
       (halts : (q : ObjId) → same_id q thread ≡ false → next.halts q ≡ reach.halts q)
       (aborts : (q : ObjId) → same_id q thread ≡ false → next.aborts q ≡ reach.aborts q)
       (unbinds : next.unbinds ≡ reach.unbinds) where
-    released : IsReached old next (with_tcb (unblocked now thread is.state) thread new)
+    left : IsReleased now thread (change is) (with_released now thread change)
+    left =
+        released_is now thread is change (links_reached old now reach reached links) (thread_now old now reach reached thread tcb there)
+
+    released : IsReached old next (with_released now thread change)
     released =
         record {
-          objects = λ q. released_objects now thread is new is_there joined q ∙ by_tie q (same_id q thread) refl;
+          objects = λ q. left.objects q ∙ by_tie q (same_id q thread) refl;
           queues =
               λ q.
-              released_queues now thread is new is_there joined q
+              left.queues q
               ∙ ap (option_map (without thread)) (reached.queues q)
               ∙ queues_twice reach next thread more (queue_of old q);
-          rest = rest_along old now (with_tcb (unblocked now thread is.state) thread new) reached.rest
-              (released_rest now thread is new is_there joined);
+          rest = rest_along old now (with_released now thread change) reached.rest left.rest;
         } where
-          here : Some (o.Tcb new) ≡ option_map (object_by next thread) (object_of old thread)
-          here = ap (λ (t : Tcb). Some (o.Tcb t)) itself_new ∙ ap (option_map (object_by next thread)) (sym there)
-
           by_tie :
               (q : ObjId) (tie : Bool) → same_id q thread ≡ tie
-              → cond tie (Some (o.Tcb new)) (option_map (freed thread) (object_of now q))
+              → cond tie (Some (o.Tcb (change is))) (option_map (freed thread) (object_of now q))
               ≡ option_map (object_by next q) (object_of old q)
           by_tie q true e =
-              subst (λ (x : ObjId). Some (o.Tcb new) ≡ option_map (object_by next x) (object_of old x)) (sym (one_id q thread e)) here
+              subst (λ (x : ObjId). Some (o.Tcb (change is)) ≡ option_map (object_by next x) (object_of old x)) (sym (one_id q thread e))
+              (ap (λ (t : Tcb). Some (o.Tcb t)) itself_new ∙ ap (option_map (object_by next thread)) (sym there))
           by_tie q false e =
               ap (option_map (freed thread)) (reached.objects q)
               ∙ object_twice reach next thread more q (halts q e) (aborts q e) unbinds (object_of old q)
 
   pub halted_step : IsReached old (and_halted reach thread) (with_halted now thread)
   halted_step =
-      subst (λ (n : Machine). IsReached old (and_halted reach thread) n) (sym (halted_is now thread is is_there))
-      (released (and_halted reach thread) (halted is)
+      released halted (and_halted reach thread)
       (λ id. shift_first (same_id id thread) (reach.halts id) (reach.aborts id))
       (ap (λ b. tcb_by (b || reach.halts thread) (reach.aborts thread) (reach.unbinds thread) tcb) (sym (itself thread)))
       (λ q e. ap (λ b. b || reach.halts q) e)
       (λ q e. refl)
-      refl)
+      refl
 
   pub aborted_step : reach.halts thread ≡ false → IsReached old (and_aborted reach thread) (with_aborted now thread)
   aborted_step running =
-      subst (λ (n : Machine). IsReached old (and_aborted reach thread) n) (sym (aborted_is now thread is is_there))
-      (released (and_aborted reach thread) (aborted is)
+      released aborted (and_aborted reach thread)
       (λ id. shift_second (same_id id thread) (reach.halts id) (reach.aborts id))
       (λ i. tcb_by (sym running i) (sym (itself thread) i || reach.aborts thread) (reach.unbinds thread) tcb)
       (λ q e. refl)
       (λ q e. ap (λ b. b || reach.aborts q) e)
-      refl)
+      refl
 
 -- a thread is unbound
 
-context_is :
-    (m : Machine) (id : ObjId) (old new : Context) → object_of m id ≡ Some (o.Context old)
-    → with_context m id new ≡ with_object m id (o.Context new)
-unfolding with_context
-context_is m id old new there = rw there refl
+-- an object without its link to a thread, or a thread's to its context
+abbrev cut : ObjId → ObjId → Object → Object
+cut thread q (o.Tcb tcb) = o.Tcb (record tcb { context = cond (same_id q thread) None tcb.context })
+cut thread q (o.Context context) = o.Context (record context { thread = link_after (λ id. same_id id thread) context.thread })
+cut thread q object = object
 
-idle_is :
-    (m : Machine) (id : ObjId) (context : Context) → object_of m id ≡ Some (o.Context context)
-    → with_idle_context m id ≡ with_object m id (o.Context (record context { thread = None }))
-unfolding with_idle_context
-idle_is m id context there = rw there (context_is m id context (record context { thread = None }) there)
+cut_twice :
+    (reach : Reach) (thread q : ObjId) (object : Option Object)
+    → option_map (cut thread q) (option_map (object_by reach q) object) ≡ option_map (object_by (and_unbound reach thread) q) object
+cut_twice reach thread q None = refl
+cut_twice reach thread q (Some (o.Tcb tcb)) =
+    ap (λ (link : Option ObjId). Some (o.Tcb (record (tcb_by (reach.halts q) (reach.aborts q) false tcb) { context = link })))
+    (by_test (same_id q thread)) where
+      by_test : (b : Bool) → cond b None (cond (reach.unbinds q) None tcb.context) ≡ cond (b || reach.unbinds q) None tcb.context
+      by_test true = refl
+      by_test false = refl
+cut_twice reach thread q (Some (o.Context context)) =
+    ap (λ (link : Option ObjId). Some (o.Context (record context { thread = link }))) (by_link context.thread) where
+      by_tests :
+          (id : ObjId) (s u : Bool) → same_id id thread ≡ s
+          → link_after (λ other. same_id other thread) (cond u None (Some id)) ≡ cond (s || u) None (Some id)
+      by_tests id true true e = refl
+      by_tests id false true e = refl
+      by_tests id true false e = ap (λ b. cond b None (Some id)) e
+      by_tests id false false e = ap (λ b. cond b None (Some id)) e
 
-unbound_nothing :
-    (m : Machine) (thread : ObjId) (tcb : Tcb) → IsThread m thread tcb → tcb.context ≡ None → with_unbound m thread ≡ m
-unfolding with_unbound
-unbound_nothing m thread tcb there none = rw (there, none) refl
+      by_link :
+          (link : Option ObjId)
+          → link_after (λ other. same_id other thread) (link_after reach.unbinds link) ≡ link_after (and_unbound reach thread).unbinds link
+      by_link None = refl
+      by_link (Some id) = by_tests id (same_id id thread) (reach.unbinds id) refl
+cut_twice reach thread q (Some (o.Reply holding)) = refl
+cut_twice reach thread q (Some _) = refl
 
-unbound_is :
-    (m : Machine) (thread id : ObjId) (tcb : Tcb) → IsThread m thread tcb → tcb.context ≡ Some id
-    → with_unbound m thread ≡ with_idle_context (with_tcb m thread (record tcb { context = None })) id
-unfolding with_unbound
-unbound_is m thread id tcb there some = rw (there, some) refl
+record IsUnbound (m : Machine) (thread : ObjId) (next : Machine) : Type 0 where
+  objects : (q : ObjId) → object_of next q ≡ option_map (cut thread q) (object_of m q)
+  queues : (q : ObjId) → queue_of next q ≡ queue_of m q
+  rest : SameRest m next
 
-module _ (old now : Machine) (reach : Reach) (reached : IsReached old reach now) (links : LinksAgree old) (thread : ObjId) (tcb : Tcb)
-    (there : IsThread old thread tcb) where
-  abbrev more : Reach
-  more = and_unbound reach thread
-
-  abbrev its : Tcb
-  its = tcb_now old now reach reached thread tcb
-
-  its_there : IsThread now thread its
-  its_there = thread_now old now reach reached thread tcb there
-
-  same_link : (link : Option ObjId) → link ≢ Some thread → link_after reach.unbinds link ≡ link_after more.unbinds link
-  same_link None differs = refl
-  same_link (Some id) differs =
-      ap (λ b. cond (b || reach.unbinds id) None (Some id)) (sym (apart_ids id thread (λ same. differs (ap (λ x. Some x) same))))
-
+module _ (m : Machine) (links : LinksAgree m) (thread : ObjId) (tcb : Tcb) (there : IsThread m thread tcb) where
+  -- what isn't linked to the thread is as it was
   elsewhere :
-      (q : ObjId) → q ≢ thread
-      → ((context : Context) → object_of old q ≡ Some (o.Context context) → context.thread ≢ Some thread)
-      → object_of now q ≡ option_map (object_by more q) (object_of old q)
-  elsewhere q apart differs = reached.objects q ∙ by_object (object_of old q) differs where
-    by_object :
-        (object : Option Object)
-        → ((context : Context) → object ≡ Some (o.Context context) → context.thread ≢ Some thread)
-        → option_map (object_by reach q) object ≡ option_map (object_by more q) object
-    by_object None other = refl
-    by_object (Some (o.Tcb was)) other =
-        ap (λ b. Some (o.Tcb (tcb_by (reach.halts q) (reach.aborts q) (b || reach.unbinds q) was))) (sym (apart_ids q thread apart))
-    by_object (Some (o.Context context)) other =
-        ap (λ (link : Option ObjId). Some (o.Context (record context { thread = link })))
-        (same_link context.thread (other context refl))
-    by_object (Some _) other = refl
+      (q : ObjId) → q ≢ thread ⊎ (tcb.context ≡ None)
+      → ((context : Context) → object_of m q ≡ Some (o.Context context) → context.thread ≢ Some thread)
+      → object_of m q ≡ option_map (cut thread q) (object_of m q)
+  elsewhere q apart differs = by_object (object_of m q) refl where
+    by_tie :
+        (other : Tcb) → IsThread m q other → (tie : Bool) → same_id q thread ≡ tie → q ≢ thread ⊎ (tcb.context ≡ None)
+        → other.context ≡ cond tie None other.context
+    by_tie other e false tie away = refl
+    by_tie other e true tie (inl away) = absurd (away (one_id q thread tie))
+    by_tie other e true tie (inr none) =
+        ap (λ (t : Tcb). t.context) (one_thread m thread other tcb (ap (object_of m) (sym (one_id q thread tie)) ∙ e) there) ∙ none
 
-  -- it has lost its context already
-  module _ (lost : reach.unbinds thread ≡ true) where
-    same_test : (q : ObjId) → reach.unbinds q ≡ more.unbinds q
-    same_test q = by_tie (same_id q thread) refl where
-      by_tie : (tie : Bool) → same_id q thread ≡ tie → reach.unbinds q ≡ (tie || reach.unbinds q)
-      by_tie true e = ap reach.unbinds (one_id q thread e) ∙ lost
-      by_tie false e = refl
+    by_link : (link : Option ObjId) → link ≢ Some thread → link ≡ link_after (λ id. same_id id thread) link
+    by_link None away = refl
+    by_link (Some id) away = ap (λ b. cond b None (Some id)) (sym (apart_ids id thread (λ same. away (ap (λ x. Some x) same))))
 
-    lost_step : IsReached old more now
-    lost_step = subst (λ (u : ObjId → Bool). IsReached old (record reach { unbinds = u }) now) (λ i q. same_test q i) reached
+    by_object : (object : Option Object) → object_of m q ≡ object → object ≡ option_map (cut thread q) object
+    by_object None e = refl
+    by_object (Some (o.Tcb other)) e =
+        ap (λ (link : Option ObjId). Some (o.Tcb (record other { context = link }))) (by_tie other e (same_id q thread) refl apart)
+    by_object (Some (o.Context context)) e =
+        ap (λ (link : Option ObjId). Some (o.Context (record context { thread = link }))) (by_link context.thread (differs context e))
+    by_object (Some _) e = refl
 
-  -- it had none
-  module _ (none : tcb.context ≡ None) where
-    none_step : IsReached old more now
-    none_step = record { objects = λ q. by_id q (one_or_two q thread); queues = reached.queues; rest = reached.rest } where
-      here : object_of now thread ≡ option_map (object_by more thread) (object_of old thread)
-      here =
-          its_there
-          ∙ ap (λ (link : Option ObjId). Some (o.Tcb (record its { context = link })))
-          ((cut (reach.unbinds thread) tcb.context none) ∙ sym (cut (more.unbinds thread) tcb.context none))
-          ∙ ap (option_map (object_by more thread)) (sym there) where
-            cut : (b : Bool) (link : Option ObjId) → link ≡ None → cond b None link ≡ None
-            cut true link e = refl
-            cut false link e = e
+  none_unbound : tcb.context ≡ None → IsUnbound m thread m
+  none_unbound none =
+      record {
+        objects =
+            λ q.
+            elsewhere q (inr none)
+            (λ context at bound.
+            let w = links.context_thread q thread context at bound in
+            none-some q (sym none ∙ ap (λ (t : Tcb). t.context) (one_thread m thread tcb w.0 there w.1) ∙ w.2));
+        queues = λ q. refl;
+        rest = rest_itself m;
+      }
 
-      by_id : (q : ObjId) → (q ≡ thread) ⊎ (q ≢ thread) → object_of now q ≡ option_map (object_by more q) (object_of old q)
-      by_id q (inl same) =
-          subst (λ (x : ObjId). object_of now x ≡ option_map (object_by more x) (object_of old x)) (sym same) here
-      by_id q (inr apart) =
-          elsewhere q apart
-          (λ context at bound.
-          let w = links.context_thread q thread context at bound in
-          none-some q (sym none ∙ (ap (λ (t : Tcb). t.context) (one_thread old thread tcb w.0 there w.1) ∙ w.2)))
-
-  -- it has one
-  module _ (bound : reach.unbinds thread ≡ false) (id : ObjId) (some : tcb.context ≡ Some id) (context : Context)
-      (at : object_of old id ≡ Some (o.Context context)) (holds : context.thread ≡ Some thread) where
-    abbrev cut_tcb : Tcb
-    cut_tcb = record its { context = None }
-
-    abbrev cut_context : Context
-    cut_context = record context { thread = None }
-
+  module _ (id : ObjId) (context : Context) (some : tcb.context ≡ Some id) (at : object_of m id ≡ Some (o.Context context))
+      (holds : context.thread ≡ Some thread) where
     abbrev mid : Machine
-    mid = with_object now thread (o.Tcb cut_tcb)
+    mid = with_object m thread (o.Tcb (record tcb { context = None }))
 
     abbrev next : Machine
-    next = with_object mid id (o.Context cut_context)
+    next = with_object mid id (o.Context (record context { thread = None }))
 
-    at_now : object_of now id ≡ Some (o.Context (record context { thread = link_after reach.unbinds context.thread }))
-    at_now = reached.objects id ∙ ap (option_map (object_by reach id)) at
+    objects_next : (q : ObjId) → object_of next q ≡ option_map (cut thread q) (object_of m q)
+    objects_next q =
+        object_of-with_object mid id (o.Context (record context { thread = None })) q ∙ by_context (one_or_two q id) where
+          by_thread : q ≢ id → (q ≡ thread) ⊎ (q ≢ thread) → object_of mid q ≡ option_map (cut thread q) (object_of m q)
+          by_thread other (inl same) =
+              subst (λ (x : ObjId). object_of mid x ≡ option_map (cut thread x) (object_of m x)) (sym same)
+              (object_of-with_object m thread (o.Tcb (record tcb { context = None })) thread
+              ∙ at_itself thread (Some (o.Tcb (record tcb { context = None }))) (object_of m thread)
+              ∙ ap (λ b. Some (o.Tcb (record tcb { context = cond b None tcb.context }))) (sym (itself thread))
+              ∙ ap (option_map (cut thread thread)) (sym there))
+          by_thread other (inr apart) =
+              object_of-with_object m thread (o.Tcb (record tcb { context = None })) q
+              ∙ at_other q thread (Some (o.Tcb (record tcb { context = None }))) (object_of m q) apart
+              ∙ elsewhere q (inl apart)
+              (λ also is bound.
+              let w = links.context_thread q thread also is bound in
+              let e : Some q ≡ Some id = sym w.2 ∙ (ap (λ (t : Tcb). t.context) (one_thread m thread w.0 tcb w.1 there) ∙ some) in
+              other (same_Some q id e))
 
-    two : id ≢ thread
-    two same = let e : Some (o.Context context) ≡ Some (o.Tcb tcb) = sym at ∙ ap (object_of old) same ∙ there in cc
+          by_context :
+              (q ≡ id) ⊎ (q ≢ id)
+              → cond (same_id q id) (Some (o.Context (record context { thread = None }))) (object_of mid q)
+              ≡ option_map (cut thread q) (object_of m q)
+          by_context (inl same) =
+              subst
+              (λ (x : ObjId).
+              cond (same_id x id) (Some (o.Context (record context { thread = None }))) (object_of mid x)
+              ≡ option_map (cut thread x) (object_of m x)) (sym same)
+              (at_itself id (Some (o.Context (record context { thread = None }))) (object_of mid id)
+              ∙ ap (λ (link : Option ObjId). Some (o.Context (record context { thread = link })))
+              (sym (ap (link_after (λ other. same_id other thread)) holds ∙ ap (λ b. cond b None (Some thread)) (itself thread)))
+              ∙ ap (option_map (cut thread id)) (sym at))
+          by_context (inr apart) =
+              at_other q id (Some (o.Context (record context { thread = None }))) (object_of mid q) apart
+              ∙ by_thread apart (one_or_two q thread)
 
-    in_mid : object_of mid id ≡ Some (o.Context (record context { thread = link_after reach.unbinds context.thread }))
-    in_mid =
-        object_of-with_object now thread (o.Tcb cut_tcb) id ∙ at_other id thread (Some (o.Tcb cut_tcb)) (object_of now id) two ∙ at_now
-
-    bound_now : its.context ≡ Some id
-    bound_now = ap (λ b. cond b None tcb.context) bound ∙ some
-
-    next_is : with_unbound now thread ≡ next
-    next_is =
-        unbound_is now thread id its its_there bound_now
-        ∙ (ap (λ (n : Machine). with_idle_context n id) (tcb_is now thread its cut_tcb its_there)
-        ∙ idle_is mid id (record context { thread = link_after reach.unbinds context.thread }) in_mid)
-
-    objects_next : (q : ObjId) → object_of next q ≡ option_map (object_by more q) (object_of old q)
-    objects_next q = object_of-with_object mid id (o.Context cut_context) q ∙ by_context (one_or_two q id) where
-      context_here : Some (o.Context cut_context) ≡ option_map (object_by more id) (object_of old id)
-      context_here =
-          ap (λ (link : Option ObjId). Some (o.Context (record context { thread = link })))
-          (sym (ap (link_after more.unbinds) holds
-          ∙ ap (λ b. cond (b || reach.unbinds thread) None (Some thread)) (itself thread)))
-          ∙ ap (option_map (object_by more id)) (sym at)
-
-      thread_here : Some (o.Tcb cut_tcb) ≡ option_map (object_by more thread) (object_of old thread)
-      thread_here =
-          ap (λ b. Some (o.Tcb (tcb_by (reach.halts thread) (reach.aborts thread) (b || reach.unbinds thread) tcb))) (sym (itself thread))
-          ∙ ap (option_map (object_by more thread)) (sym there)
-
-      by_thread :
-          q ≢ id → (q ≡ thread) ⊎ (q ≢ thread)
-          → cond (same_id q thread) (Some (o.Tcb cut_tcb)) (object_of now q) ≡ option_map (object_by more q) (object_of old q)
-      by_thread other (inl same) =
-          ap (λ b. cond b (Some (o.Tcb cut_tcb)) (object_of now q)) (ap (λ (x : ObjId). same_id x thread) same ∙ itself thread)
-          ∙ subst (λ (x : ObjId). Some (o.Tcb cut_tcb) ≡ option_map (object_by more x) (object_of old x)) (sym same) thread_here
-      by_thread other (inr apart) =
-          at_other q thread (Some (o.Tcb cut_tcb)) (object_of now q) apart
-          ∙ elsewhere q apart
-          (λ also there_too bound_too.
-          let w = links.context_thread q thread also there_too bound_too in
-          let e : Some q ≡ Some id = sym w.2 ∙ (ap (λ (t : Tcb). t.context) (one_thread old thread w.0 tcb w.1 there) ∙ some) in
-          other (same_Some q id e))
-
-      by_context :
-          (q ≡ id) ⊎ (q ≢ id)
-          → cond (same_id q id) (Some (o.Context cut_context)) (object_of mid q) ≡ option_map (object_by more q) (object_of old q)
-      by_context (inl same) =
-          ap (λ b. cond b (Some (o.Context cut_context)) (object_of mid q)) (ap (λ (x : ObjId). same_id x id) same ∙ itself id)
-          ∙ subst (λ (x : ObjId). Some (o.Context cut_context) ≡ option_map (object_by more x) (object_of old x)) (sym same) context_here
-      by_context (inr apart) =
-          at_other q id (Some (o.Context cut_context)) (object_of mid q) apart
-          ∙ (object_of-with_object now thread (o.Tcb cut_tcb) q ∙ by_thread apart (one_or_two q thread))
-
-    some_step : IsReached old more next
-    some_step =
+    some_unbound : IsUnbound m thread next
+    some_unbound =
         record {
           objects = objects_next;
           queues =
               λ q.
-              queue_of-with_object mid id (o.Context cut_context) q
-              ∙ (queue_of-with_object now thread (o.Tcb cut_tcb) q ∙ reached.queues q);
+              queue_of-with_object mid id (o.Context (record context { thread = None })) q
+              ∙ queue_of-with_object m thread (o.Tcb (record tcb { context = None })) q;
           rest =
-              rest_along old now next reached.rest
-              (rest_along now mid next (rest-with_object now thread (o.Tcb cut_tcb)) (rest-with_object mid id (o.Context cut_context)));
+              rest_along m mid next (rest-with_object m thread (o.Tcb (record tcb { context = None })))
+              (rest-with_object mid id (o.Context (record context { thread = None })));
         }
 
-  pub unbound_step : IsReached old (and_unbound reach thread) (with_unbound now thread)
-  unbound_step = by_ways (reach.unbinds thread) refl tcb.context refl where
-    by_ways :
-        (lost : Bool) → reach.unbinds thread ≡ lost → (link : Option ObjId) → tcb.context ≡ link
-        → IsReached old more (with_unbound now thread)
-    by_ways true lost link e =
-        subst (λ (n : Machine). IsReached old more n)
-        (sym (unbound_nothing now thread its its_there (ap (λ b. cond b None tcb.context) lost))) (lost_step lost)
-    by_ways false bound None e =
-        subst (λ (n : Machine). IsReached old more n)
-        (sym (unbound_nothing now thread its its_there (ap (λ b. cond b None tcb.context) bound ∙ e))) (none_step e)
-    by_ways false bound (Some id) e =
+  unbound : IsUnbound m thread (with_unbound m thread)
+  unfolding with_unbound
+  unbound = by_link tcb.context refl where
+    by_link : (link : Option ObjId) → tcb.context ≡ link → IsUnbound m thread (with_unbound m thread)
+    by_link None e = rw (there, e) (none_unbound e)
+    by_link (Some id) e =
         let w = links.thread_context thread id tcb there e in
-        subst (λ (n : Machine). IsReached old more n) (sym (next_is bound id e w.0 w.1 w.2)) (some_step bound id e w.0 w.1 w.2)
+        subst (λ (n : Machine). IsUnbound m thread n) (sym (unbound_is m id thread w.0 tcb w.1 there e)) (some_unbound id w.0 e w.1 w.2)
+
+pub unbound_step :
+    (old now : Machine) (reach : Reach) → IsReached old reach now → LinksAgree old → (thread : ObjId) (tcb : Tcb)
+    → IsThread old thread tcb → IsReached old (and_unbound reach thread) (with_unbound now thread)
+unbound_step old now reach reached links thread tcb there =
+    let after =
+    unbound now (links_reached old now reach reached links) thread (tcb_now old now reach reached thread tcb)
+    (thread_now old now reach reached thread tcb there) in
+    record {
+      objects =
+          λ q. after.objects q ∙ ap (option_map (cut thread q)) (reached.objects q) ∙ cut_twice reach thread q (object_of old q);
+      queues = λ q. after.queues q ∙ reached.queues q;
+      rest = rest_along old now (with_unbound now thread) reached.rest after.rest;
+    }

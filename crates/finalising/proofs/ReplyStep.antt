@@ -9,8 +9,10 @@ use Rattle.machine.specs.declared.thread.RunState.TheVariants as state
 use Rattle.machine.specs.{Finalising.is_halted, Machine.{Machine, object_of, same_id}, Objects.kind_of_object, Releasing.reply_by}
 use Rattle.machine.specs.{Releasing.{with_halted, with_holder_halted}, WellFormed.{IsThread, LinksAgree, WaitsAtKind, kind_of}}
 use Rattle.machine.proofs.{HeldThreads.links_of, Ids.itself, Leaving.{Names, apart_ids}, RemovalTable.one_thread, RoundLemmas.or_second}
-use Rattle.finalising.{specs.Reached.{Reach, and_halted, has_left, object_by}, proofs.{Linked.{holder_now, holder_was}, Part.Follows}}
-use Rattle.finalising.proofs.{Part.IsPart, PartSteps.{NoContext, NoThread, part_added, plain_aborted, plain_bound}, Releases.halted_step}
+use Rattle.steps.proofs.LeavingLinks.{HaveLeft, holder_now, holder_was}
+use Rattle.finalising.proofs.{Linked.reached_left, Part.Follows, Reached.{Reach, and_halted, has_left, leavers, object_by}}
+use Rattle.finalising.proofs.{Part.IsPart, PartSteps.{NoContext, NoQueue, NoThread, no_queue_at, part_added, plain_aborted, plain_bound}}
+use Rattle.finalising.proofs.Releases.{halted_step}
 use Rattle.finalising.proofs.Tests.{alone, and_false, both_halted, it_is_named, names_it, or_false, plus, refuted, waited_kind, waits_in}
 
 holder_none :
@@ -57,24 +59,14 @@ module _ (old : Machine) (links : LinksAgree old) where
 
   module _ (done : ObjId → Bool) (only : (id : ObjId) → done id ≡ true → (holding : Reply) × (object_of old id ≡ Some (o.Reply holding)))
       (x : ObjId) (own : Reply) (is : object_of old x ≡ Some (o.Reply own)) (now : Machine) (follows : Follows old done now) where
-    nobody_waits : (run : RunState) → ¬ (WaitsAtKind run kind.Reply)
-    nobody_waits (state.Sending sending) h = h
-    nobody_waits (state.Receiving receiving) h = h
-    nobody_waits (state.Waiting notification) h = h
-    nobody_waits _ h = h
-
-    no_queue_at :
-        (id : ObjId) (holding : Reply) → object_of old id ≡ Some (o.Reply holding) → (run : RunState) (at : ObjectKind)
-        → kind_of old id ≡ Some at → ¬ (WaitsAtKind run at)
-    no_queue_at id holding there run at e waits =
-        let same : Some at ≡ Some kind.Reply = sym e ∙ ap (option_map kind_of_object) there in
-        nobody_waits run (subst (λ (k : ObjectKind). WaitsAtKind run k) (same_Some at kind.Reply same) waits)
-
     no_thread : NoThread old links done x
     no_thread tcb e = let same : Some (o.Tcb tcb) ≡ Some (o.Reply own) = sym e ∙ is in cc
 
     no_context : NoContext old links done x
     no_context context e = let same : Some (o.Context context) ≡ Some (o.Reply own) = sym e ∙ is in cc
+
+    no_queue : NoQueue old links done x
+    no_queue = no_queue_at old links done x (o.Reply own) is (λ e. cc) (λ e. cc)
 
     -- nobody waits at a reply, so nobody is aborted yet
     idle : (thread : ObjId) (tcb : Tcb) → IsThread old thread tcb → is_aborted done tcb.state ≡ false
@@ -84,7 +76,7 @@ module _ (old : Machine) (links : LinksAgree old) where
         let at = waits_in done tcb.state e in
         let its = only at.0 at.2 in
         let w = waited_kind old links thread tcb there at.0 at.1 in
-        no_queue_at at.0 its.0 its.1 tcb.state w.0 w.1 w.2)
+        no_queue_at old links done at.0 (o.Reply its.0) its.1 (λ e. cc) (λ e. cc) tcb.state w.0 w.1 w.2)
 
     not_aborted : (thread : ObjId) (tcb : Tcb) → IsThread old thread tcb → done thread ≡ false → follows.reach.aborts thread ≡ false
     not_aborted thread tcb there stays =
@@ -109,7 +101,7 @@ module _ (old : Machine) (links : LinksAgree old) where
               ap (λ (a : ObjId → Bool). a thread) aborts
               ∙ (not_aborted thread tcb there stays
               ∙ sym (ap (λ a. not (is_halted (plus done x) tcb.state) && a)
-              (plain_aborted old links done x (no_queue_at x own is) thread tcb there ∙ idle thread tcb there)
+              (plain_aborted old links done x no_queue thread tcb there ∙ idle thread tcb there)
               ∙ and_false (not (is_halted (plus done x) tcb.state))));
           unbinds =
               λ thread tcb there stays.
@@ -125,6 +117,9 @@ module _ (old : Machine) (links : LinksAgree old) where
         let one : w.0 ≡ own = cc in
         subst (λ (r : Reply). IsHolding r.state thread) one w.2
 
+    left_now : HaveLeft old (leavers follows.reach) now
+    left_now = reached_left old now follows.reach follows.reached
+
     abbrev left : ReplyState
     left = reply_by (has_left follows.reach) own.state
 
@@ -139,12 +134,12 @@ module _ (old : Machine) (links : LinksAgree old) where
           has_gone : (thread : ObjId) → IsHolding own.state thread → (b : Bool) → has_left follows.reach thread ≡ b → b ≡ true
           has_gone thread holds true e = refl
           has_gone thread holds false e =
-              let w = holder_now old now follows.reach follows.reached x own thread is holds e in
-              let same : Some (o.Reply w.0) ≡ Some (o.Reply (record { address = own.address; state = left })) = sym w.1 ∙ left_there in
-              let one : w.0 ≡ record { address = own.address; state = left } = cc in
+              let at = holder_now old now (leavers follows.reach) left_now x own thread is holds e refl in
+              let same : Some (o.Reply own) ≡ Some (o.Reply (record { address = own.address; state = left })) = sym at ∙ left_there in
+              let one : own ≡ record { address = own.address; state = left } = cc in
               absurd
               (subst (λ (run : ReplyState). IsHolding run thread) free
-              (subst (λ (r : Reply). IsHolding r.state thread) one w.2))
+              (subst (λ (r : Reply). IsHolding r.state thread) one holds))
 
           by_test :
               (thread : ObjId) (tcb : Tcb) → IsThread old thread tcb → done thread ≡ false → (b : Bool)
@@ -189,10 +184,10 @@ module _ (old : Machine) (links : LinksAgree old) where
     halted_holder : (bound : ObjId) → IsHolding left bound → Follows old (plus done x) (with_halted now bound)
     halted_holder bound holds =
         let was =
-        holder_was old now follows.reach follows.reached x (record { address = own.address; state = left }) bound left_there holds in
-        let same : Some (o.Reply was.0) ≡ Some (o.Reply own) = sym was.1 ∙ is in
-        let one : was.0 ≡ own = cc in
-        let held_own : IsHolding own.state bound = subst (λ (r : Reply). IsHolding r.state bound) one was.2 in
+        holder_was old now (leavers follows.reach) left_now x (record { address = own.address; state = left }) bound left_there holds in
+        let same : Some (o.Reply (record { address = own.address; state = left })) ≡ Some (o.Reply own) = sym was.0 ∙ is in
+        let one : record { address = own.address; state = left } ≡ own = cc in
+        let held_own : IsHolding own.state bound = subst (λ (r : Reply). IsHolding r.state bound) one holds in
         let w = holder_thread x bound own is held_own in
         record {
           reach = and_halted follows.reach bound;

@@ -2,7 +2,7 @@
 use Rattle.std.{specs.Prelude.{None, Option, Some}, proofs.Common.{◌&&◌, ◌||◌, ◌∙◌, ◌≡◌, ◌≢◌, Bool, ap, false, refl, subst, sym, true}}
 use Rattle.std.proofs.lemmas.Bool.{false≢true}
 use Rattle.base.specs.declared.ids.ObjId.{ObjId}
-use Rattle.machine.specs.declared.object.{Context.Context, Object.Object as o, ObjectKind.ObjectKind, Reply.Reply}
+use Rattle.machine.specs.declared.object.{Context.Context, Object.Object as o, ObjectKind.{ObjectKind, ObjectKind as kind}, Reply.Reply}
 use Rattle.machine.specs.{declared.thread.{RunState.{RunState, RunState as state}, Tcb.Tcb}, Finalising.{is_aborted, is_halted}}
 use Rattle.machine.specs.{Finalising.leads_nowhere, Machine.{Machine, object_of, same_id}, WellFormed.{IsThread, LinksAgree, WaitsAt}}
 use Rattle.machine.{specs.WellFormed.{WaitsAtKind, kind_of}, proofs.{HeldThreads.links_of, Ids.itself, Leaving.Names, LookUps.one_id}}
@@ -77,6 +77,15 @@ waits_in done (state.Sending sending) e = (sending.endpoint, refl, e)
 waits_in done (state.Receiving receiving) e = (receiving.endpoint, refl, e)
 waits_in done (state.Waiting notification) e = (notification, refl, e)
 waits_in done _ e = absurd (false≢true e)
+
+-- nobody waits at an object that is neither an endpoint nor a notification
+pub nobody_waits : (at : ObjectKind) → at ≢ kind.Endpoint → at ≢ kind.Notification → (run : RunState) → ¬ (WaitsAtKind run at)
+nobody_waits kind.Endpoint not_endpoint not_notification run h = not_endpoint refl
+nobody_waits kind.Notification not_endpoint not_notification run h = not_notification refl
+nobody_waits _ not_endpoint not_notification (state.Sending sending) h = h
+nobody_waits _ not_endpoint not_notification (state.Receiving receiving) h = h
+nobody_waits _ not_endpoint not_notification (state.Waiting notification) h = h
+nobody_waits _ not_endpoint not_notification _ h = h
 
 -- links lead to objects of the kinds that go with them
 module _ (m : Machine) (links : LinksAgree m) (thread : ObjId) (tcb : Tcb) (there : IsThread m thread tcb) where

@@ -5,7 +5,8 @@ use Rattle.base.specs.declared.ids.ObjId.{ObjId}
 use Rattle.machine.specs.{declared.thread.Tcb.Tcb, Changes.first_waiting, Finalising.aborted, Machine.{Machine, queue_of}}
 use Rattle.machine.{specs.{Releasing.with_aborted, WellFormed.{IsThread, LinksAgree}}, proofs.{HeldThreads.links_of, Leaving.aborted_is}}
 use Rattle.machine.proofs.{Leaving.{released_queues, without, without_itself}, Queues.{first_in, once_first, queue_by_first}}
-use Rattle.finalising.{specs.Finalised.{members, with_waiters_aborted}, proofs.Agreement.links_aborted}
+use Rattle.steps.proofs.Releases.{links_released, released_is}
+use Rattle.finalising.specs.Finalised.{members, with_waiters_aborted}
 
 pub record FirstAborted (m : Machine) (id first : ObjId) : Type 0 where
   pub agreed : LinksAgree (with_aborted m first)
@@ -46,7 +47,14 @@ module _ (m : Machine) (links : LinksAgree m) (id : ObjId) where
         omega arith
 
     pub first_aborted : FirstAborted m id first
-    first_aborted = record { agreed = links_aborted m links first thread.0 thread.1; same = same_result; fewer = less }
+    first_aborted =
+        record {
+          agreed =
+              links_released m (with_aborted m first) first (aborted thread.0) (released_is m first thread.0 aborted links thread.1)
+              thread.0 thread.1 refl tt links;
+          same = same_result;
+          fewer = less;
+        }
 
   pub none_left : first_waiting m id ≡ None → with_waiters_aborted m id ≡ m
   unfolding first_waiting with_waiters_aborted

@@ -6,8 +6,10 @@ use Rattle.base.specs.declared.ids.ObjId.{ObjId}
 use Rattle.machine.specs.{declared.thread.Tcb.Tcb, Finalising.{is_aborted, is_halted}, Machine.{Machine, queue_of, same_id}}
 use Rattle.machine.{specs.{Releasing.with_aborted, WellFormed.{IsThread, LinksAgree, WaitsAt}}, proofs.{Ids.itself, LookUps.one_id}}
 use Rattle.machine.proofs.{Queues.{first_in, other_in}, RemovalTable.{one_thread, waits_aborted}, RoundLemmas.or_second}
-use Rattle.finalising.specs.{Finalised.{members, with_waiters_aborted}, Reached.{IsReached, Reach, and_aborted, has_left}}
-use Rattle.finalising.proofs.{Linked.{member_now, member_was}, Part.Follows, PartSteps.{NoContext, NoReply, NoThread, part_added}}
+use Rattle.steps.proofs.LeavingLinks.{HaveLeft, member_now, member_was}
+use Rattle.finalising.specs.Finalised.{members, with_waiters_aborted}
+use Rattle.finalising.proofs.{Linked.reached_left, Reached.{IsReached, Reach, and_aborted, has_left, leavers}}
+use Rattle.finalising.proofs.{Part.Follows, PartSteps.{NoContext, NoReply, NoThread, part_added}}
 use Rattle.finalising.proofs.{PartSteps.{plain_bound, plain_halted}, Releases.aborted_step, Tests.{alone, both_aborted, neither, or_false}}
 use Rattle.finalising.proofs.Tests.{plus, waits_there}
 
@@ -88,13 +90,16 @@ module _ (old : Machine) (links : LinksAgree old) (done : ObjId → Bool) (x : O
   member_is : (thread : ObjId) (threads : List ObjId) → queue_of now x ≡ Some threads → Contains threads thread → Contains waiters thread
   member_is thread threads e within = subst (λ (q : Option (List ObjId)). Contains (members q) thread) (sym e) within
 
+  left_now : HaveLeft old (leavers follows.reach) now
+  left_now = reached_left old now follows.reach follows.reached
+
   -- a waiter was one, and left no queue
   waiter_was :
       (thread : ObjId) → Contains waiters thread
       → (tcb : Tcb) × IsThread old thread tcb × (has_left follows.reach thread ≡ false) × WaitsAt tcb.state x
   waiter_was thread within =
       let at = is_member thread within in
-      let was = member_was old now follows.reach follows.reached x at.0 thread at.1 at.2 in
+      let was = member_was old now (leavers follows.reach) left_now x at.0 thread at.1 at.2 in
       let w = links.queued x was.0 thread was.1 was.2 in
       (w.0, w.2, was.3, w.3)
 
@@ -122,7 +127,7 @@ module _ (old : Machine) (links : LinksAgree old) (done : ObjId → Bool) (x : O
       by_left true e = refl
       by_left false e =
           let at = links.waiting thread x tcb there waits in
-          let is = member_now old now follows.reach follows.reached x at.0 thread at.1 at.2 e in
+          let is = member_now old now (leavers follows.reach) left_now x at.0 thread at.1 at.2 e refl in
           absurd (false≢true (sym absent ∙ in_any thread waiters (member_is thread is.0 is.1 is.2)))
 
     ways : has_left follows.reach thread ≡ (h || (not h && a))

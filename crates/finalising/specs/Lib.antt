@@ -1,3 +1,2 @@
 pub mod Finalised
 pub mod Pass
-pub mod Reached

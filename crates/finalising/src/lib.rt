@@ -1,5 +1,6 @@
-//! What becomes of threads and links where objects go: blocked threads are released, and threads and
-//! scheduling contexts are unbound.
+//! What removed objects leave behind: blocked threads are released, and threads and scheduling contexts are unbound.
+//!
+//! `removal` stands on it. It knows no policy.
 #![tactic(auto)]
 
 mod kinds;

@@ -7,9 +7,9 @@ use crate::kinds::cut_links;
 use objects::State;
 use replies::unlink;
 
-/// Releases who waits for an object that is going, and cuts all links to such objects.
+/// Releases each thread that waits for an object that is going, and cuts all links to such objects.
 ///
-/// Who is reached by a reply is halted first, so that it isn't aborted.
+/// A thread that is reached by a reply is halted first, so that it isn't aborted.
 pub fn finalise(state: &mut State)
     requires { LinksAgree state.old }
     ensures { IsFinalised state.old (λ id. list_any (same_id id) state.old.going) state.new }

@@ -3,6 +3,7 @@ ghost use Rattle.std.specs.Prelude.{◌≡◌, Some};
 ghost use Rattle.forms.specs.Files.{file_word};
 
 use crate::form::Form;
+use crate::lines::{Lines, text_of};
 use std::fmt;
 
 /// A file that an engine reads.
@@ -19,7 +20,7 @@ pub enum File {
 }
 
 impl File {
-    /// All of them.
+    /// All files.
     pub const ALL: [File; 7] = [
         File::Table,
         File::Policy,
@@ -30,7 +31,9 @@ impl File {
         File::Description,
     ];
 
-    /// Its first line. That of a description is the shortest of those that its XML may begin with.
+    /// Returns the first line of the file.
+    ///
+    /// That of a description is the shortest of those that its XML may begin with.
     pub fn header(self) -> &'static str {
         match self {
             File::Table => "confine-table 1",
@@ -43,15 +46,28 @@ impl File {
         }
     }
 
-    /// Returns the first line of the file's second version, if there is one. Only a table has one.
+    /// Returns the first line of the file's second version, if there is one.
+    ///
+    /// Tables and claims have one.
     pub fn later_header(self) -> Option<&'static str> {
         match self {
             File::Table => Some("confine-table 2"),
+            File::Claims => Some("confine-claims 2"),
             _ => None,
         }
     }
 
-    /// Returns whether a line is the first of a version of the file. Any tag begins a description.
+    /// Returns whether a text is one of the file's second version, as its first line says.
+    pub fn is_later(self, text: &[u8]) -> bool {
+        match (self.later_header(), Lines::new(text).next_line()) {
+            (Some(later), Some(line)) => text_of(line) == later,
+            _ => false,
+        }
+    }
+
+    /// Returns whether a line is the first of a version of the file.
+    ///
+    /// Any tag begins a description.
     pub fn has_header(self, line: &str) -> bool {
         match self.later_header() {
             Some(later) if later == line => true,
@@ -91,7 +107,9 @@ impl File {
         }
     }
 
-    /// Returns whether lines of the file have a form. A log shares forms with a script.
+    /// Returns whether lines of the file have a form.
+    ///
+    /// A log shares forms with a script.
     pub fn has(self, form: Form) -> bool {
         form.file() == self || (self == File::Log && form.file() == File::Script)
     }

@@ -13,6 +13,17 @@ pub fn form_of(file: File, line: &str) -> Option<Form> {
     None
 }
 
+/// Returns the form by whose word a line of claims of version 2 is known, if there is one.
+pub fn stated_form_of(line: &str) -> Option<Form> {
+    let word = word(line, 0)?;
+    for form in &Form::STATED {
+        if form.word() == word {
+            return Some(*form);
+        }
+    }
+    None
+}
+
 /// A form of the lines of a file.
 #[derive(Clone, Copy, PartialEq, Eq)]
 pub enum Form {
@@ -59,10 +70,15 @@ pub enum Form {
     Unbind,
     ClaimNothing,
     ClaimTake,
+    StatedNothing,
+    StatedTake,
+    StatedOnly,
+    StatedApart,
+    StatedWithout,
 }
 
 impl Form {
-    /// All forms, those of a file in the order in which its lines may come.
+    /// All forms but those of claims of version 2, those of a file in the order in which its lines may come.
     pub const ALL: [Form; 43] = [
         Form::Label,
         Form::Untyped,
@@ -109,11 +125,26 @@ impl Form {
         Form::ClaimTake,
     ];
 
+    /// The forms of claims of version 2.
+    pub const STATED: [Form; 5] = [
+        Form::StatedNothing,
+        Form::StatedTake,
+        Form::StatedOnly,
+        Form::StatedApart,
+        Form::StatedWithout,
+    ];
+
     /// Returns the file that has such lines.
     pub fn file(self) -> File {
         match self {
             Form::Edge => File::Policy,
-            Form::ClaimNothing | Form::ClaimTake => File::Claims,
+            Form::ClaimNothing
+            | Form::ClaimTake
+            | Form::StatedNothing
+            | Form::StatedTake
+            | Form::StatedOnly
+            | Form::StatedApart
+            | Form::StatedWithout => File::Claims,
             Form::CertifiedCap
             | Form::CertifiedSpace
             | Form::CertifiedDerive
@@ -145,8 +176,7 @@ impl Form {
         }
     }
 
-    /// Returns the word by which the form is known: the first word of a line, but the third of a
-    /// script's line.
+    /// Returns the word by which the form is known: the first word of a line, but the third of a script's line.
     pub fn word(self) -> &'static str {
         match self {
             Form::Label => "label",
@@ -188,8 +218,11 @@ impl Form {
             Form::Resume => "resume",
             Form::Configure => "configure",
             Form::Unbind => "unbind",
-            Form::ClaimNothing => "none",
-            Form::ClaimTake => "take",
+            Form::ClaimNothing | Form::StatedNothing => "none",
+            Form::ClaimTake | Form::StatedTake => "take",
+            Form::StatedOnly => "only",
+            Form::StatedApart => "apart",
+            Form::StatedWithout => "without",
         }
     }
 
@@ -243,10 +276,17 @@ impl Form {
             Form::Unbind => "`DEC DEC unbind DEC`",
             Form::ClaimNothing => "`none LABEL LABEL`",
             Form::ClaimTake => "`take LABEL LABEL`",
+            Form::StatedNothing => "`none LABEL LABEL`, with `*` for at most one LABEL",
+            Form::StatedTake => "`take LABEL LABEL`, with `*` for at most one LABEL",
+            Form::StatedOnly => "`only LABEL LABEL ..`",
+            Form::StatedApart => "`apart LABEL LABEL`",
+            Form::StatedWithout => "`without LABEL KIND LABEL`",
         }
     }
 
-    /// Returns the section of its file that such lines are in. Sections come one after another.
+    /// Returns the section of its file that such lines are in.
+    ///
+    /// Sections come one after another.
     pub fn section(self) -> u8 {
         match self {
             Form::Cap => 2,
@@ -265,8 +305,7 @@ impl Form {
         }
     }
 
-    /// Returns the words that such a line must have, as [`Wanted::of`](crate::wanted::Wanted::of)
-    /// reads them.
+    /// Returns the words that such a line must have, as [`Wanted::of`](crate::wanted::Wanted::of) reads them.
     pub fn pattern(self, line: &str) -> &'static str {
         match self {
             Form::Tcb => "tcb NAME LABEL HEX START",
@@ -286,6 +325,8 @@ impl Form {
             }
             Form::Mint => "DEC DEC mint DEC DEC DEC DEC DEC DEC RIGHTS MINTING DEC",
             Form::Retype => "DEC DEC retype DEC MATERIAL DEC DEC DEC DEC",
+            Form::StatedNothing => "none END END",
+            Form::StatedTake => "take END END",
             form => match part(form.words(), '`', 1) {
                 Some(pattern) => pattern,
                 None => "",

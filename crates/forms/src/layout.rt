@@ -4,7 +4,7 @@ use crate::file::File;
 use crate::form::{Form, form_of};
 use crate::lines::{Line, text_of, word};
 
-/// What is wrong with a line, whatever its words are.
+/// A fault of a line, whatever its words are.
 #[derive(Clone, Copy)]
 pub enum LayoutFlaw<'a> {
     /// The header of another text.
@@ -23,6 +23,12 @@ pub enum LayoutFlaw<'a> {
     Capitals(&'a str),
     /// A word that begins no line of the text, and what may come after the line before.
     Unknown(&'a str, Option<Form>),
+    /// A word that begins no line of claims of version 2.
+    UnknownClaim(&'a str),
+    /// A comment that doesn't begin its line with `#`, in claims of version 2.
+    OtherComment,
+    /// A line that begins with the word of the last, but has more.
+    MoreThanEnd,
     NoCall,
     NoOutcome,
     UnknownCall(&'a str),
@@ -95,6 +101,24 @@ pub fn formless_flaw<'a>(file: File, line: &'a str, before: &str) -> LayoutFlaw<
     }
 }
 
+/// Returns what is wrong with the bytes of a line of claims of version 2, if anything is.
+pub fn stated_bytes_flaw<'a>(line: Line<'a>, before: &str) -> Option<LayoutFlaw<'a>> {
+    match bytes_flaw(line, before) {
+        Some(LayoutFlaw::Comment) => Some(LayoutFlaw::OtherComment),
+        None if line.bytes.contains(&b'#') => Some(LayoutFlaw::OtherComment),
+        flaw => flaw,
+    }
+}
+
+/// Returns what is wrong with a line of claims of version 2 that has no form.
+pub fn stated_formless_flaw(line: &str) -> LayoutFlaw<'_> {
+    match formless_flaw(File::Claims, line, "") {
+        LayoutFlaw::Unknown("end", _) => LayoutFlaw::MoreThanEnd,
+        LayoutFlaw::Unknown(first, _) => LayoutFlaw::UnknownClaim(first),
+        flaw => flaw,
+    }
+}
+
 /// Returns what is wrong with the section in which a line stands, if anything is.
 pub fn section_flaw<'a>(file: File, form: Form, before: &str) -> Option<LayoutFlaw<'a>> {
     let last = form_of(file, before)?;
@@ -113,7 +137,7 @@ pub fn before_of(line: Option<Line<'_>>) -> &str {
     }
 }
 
-/// What is wrong with the layout of a line of a text.
+/// The fault of the layout of a line of a text.
 #[derive(Clone, Copy)]
 pub struct OfLayout<'a> {
     pub file: File,

@@ -1,4 +1,7 @@
 //! The files, the forms of their lines, and what is said of a line that isn't spelled as its form has it.
+//!
+//! The crates with words to a person stand on it, and `reptext`. It knows nothing of a kernel or a
+//! policy.
 #![tactic(auto)]
 
 mod classes;
@@ -12,9 +15,10 @@ mod telling;
 mod wanted;
 
 pub use file::File;
-pub use form::{Form, form_of};
+pub use form::{Form, form_of, stated_form_of};
 pub use layout::{
     LayoutFlaw, OfLayout, before_of, bytes_flaw, formless_flaw, header_flaw, section_flaw,
+    stated_bytes_flaw, stated_formless_flaw,
 };
 pub use lines::{Line, Lines, Shown, has_word, line_at, part, text_of, word};
 pub use outcomes::{OutcomeFlaw, outcome_flaw};

@@ -3,7 +3,7 @@ use crate::lines::word;
 use crate::shapes::pattern_flaw;
 use crate::wanted::WordFlaw;
 
-/// What is wrong with an outcome.
+/// A fault of an outcome.
 #[derive(Clone, Copy)]
 pub enum OutcomeFlaw<'a> {
     /// A word that begins no outcome.

@@ -15,6 +15,7 @@ impl fmt::Display for OfLayout<'_> {
             LayoutFlaw::NoOutcome => f.write_str("` = ` and an outcome are missing"),
             LayoutFlaw::UnknownCall(word) => tell_calls(f, word),
             LayoutFlaw::Unknown(word, before) => tell_lines(f, self.file, word, before),
+            LayoutFlaw::UnknownClaim(word) => tell_claims(f, word),
             LayoutFlaw::Below(form, above) => tell_order(f, form, above),
             flaw => f.write_str(plain(flaw)),
         }
@@ -63,6 +64,19 @@ fn tell_lines<W: fmt::Write>(
     f.write_str("`, or `end`")
 }
 
+// Which lines claims of version 2 may have, in place of one that begins with a word.
+fn tell_claims<W: fmt::Write>(f: &mut fmt::Formatter<W>, word: &str) -> fmt::Result {
+    write!(
+        f,
+        "no line of a claim list begins with `{word}`: expected one of "
+    )?;
+    for form in &Form::STATED {
+        let word = form.word();
+        write!(f, "`{word}`, ")?;
+    }
+    f.write_str("or `end`")
+}
+
 // That lines of a form don't stand below those of another.
 fn tell_order<W: fmt::Write>(f: &mut fmt::Formatter<W>, form: Form, above: Form) -> fmt::Result {
     let (word, above) = (form.word(), above.word());
@@ -76,6 +90,8 @@ fn plain(flaw: LayoutFlaw<'_>) -> &'static str {
         LayoutFlaw::AfterEnd => "nothing may follow the line `end`",
         LayoutFlaw::Blank => "blank lines aren't allowed",
         LayoutFlaw::Comment => "comments aren't allowed",
+        LayoutFlaw::OtherComment => "a comment must have a line of its own that begins with `#`",
+        LayoutFlaw::MoreThanEnd => "the line `end` has no other words",
         LayoutFlaw::CarriageReturn =>
             "lines must end with a line feed only, without a carriage return",
         LayoutFlaw::Tab => "words are separated by a space; tabs aren't allowed",

@@ -23,14 +23,16 @@ pub enum Wanted {
     Minting,
     /// RIGHTS, DEC or HEX.
     Term,
-    /// How many capabilities came along.
+    /// The number of capabilities that arrived.
     Came,
+    /// An end of a claim: a name or `*`.
+    End,
     /// A word by which the form was chosen.
     Fixed,
 }
 
 /// The words of patterns that stand for others. Any other stands for itself, and the form was chosen by it.
-const KEYWORDS: [(&str, Wanted); 14] = [
+const KEYWORDS: [(&str, Wanted); 15] = [
     ("NAME", Wanted::Name),
     ("LABEL", Wanted::Name),
     ("DEC", Wanted::Decimal),
@@ -45,6 +47,7 @@ const KEYWORDS: [(&str, Wanted); 14] = [
     ("MINTING", Wanted::Minting),
     ("TERM", Wanted::Term),
     ("CAME", Wanted::Came),
+    ("END", Wanted::End),
 ];
 
 impl Wanted {
@@ -74,12 +77,13 @@ impl Wanted {
             Wanted::Minting => "`badge` or `guard`",
             Wanted::Term => "RIGHTS, DEC or HEX",
             Wanted::Came => "0 or 1",
+            Wanted::End => "a name or `*`",
             Wanted::Fixed => "a word",
         }
     }
 }
 
-/// Why a word isn't as it is wanted.
+/// The reason why a word isn't as it is wanted.
 #[derive(Clone, Copy)]
 pub enum WordFlaw<'a> {
     Missing(Wanted),
@@ -102,7 +106,7 @@ pub enum WordFlaw<'a> {
     NoCame(&'a str),
 }
 
-/// Why a word is no name.
+/// The reason why a word is no name.
 #[derive(Clone, Copy)]
 pub enum NameFlaw {
     Slot,
@@ -112,7 +116,7 @@ pub enum NameFlaw {
     Character,
 }
 
-/// Why a word is no number.
+/// The reason why a word is no number.
 #[derive(Clone, Copy)]
 pub enum NumberFlaw {
     Hexadecimal,
@@ -162,10 +166,10 @@ const MATERIALS: [&str; 8] = [
 /// How a thread starts.
 const STARTS: [&str; 2] = ["ready", "inactive"];
 
-/// What a mint gives.
+/// The words of what a mint gives.
 const MINTINGS: [&str; 2] = ["badge", "guard"];
 
-/// How many capabilities came along.
+/// The number of capabilities that arrived.
 const CAME: [&str; 2] = ["0", "1"];
 
 /// Returns the number of a kind, if the word names one.
@@ -179,7 +183,8 @@ const LONGEST: usize = 31;
 /// Returns why a word isn't the one that is wanted, if it isn't.
 pub fn word_flaw(wanted: Wanted, word: &str) -> Option<WordFlaw<'_>> {
     match wanted {
-        Wanted::Name => Some(WordFlaw::Name(word, name_flaw(word)?)),
+        Wanted::End if word == "*" => None,
+        Wanted::Name | Wanted::End => Some(WordFlaw::Name(word, name_flaw(word)?)),
         Wanted::Decimal => decimal_flaw(word),
         Wanted::Optional => optional_flaw(word),
         Wanted::Address => Some(WordFlaw::Number(word, address_flaw(word)?)),
@@ -389,7 +394,7 @@ fn kind_flaw(word: &str) -> Option<WordFlaw<'_>> {
     }
 }
 
-/// How many words of a list or a line are looked at.
+/// The number of words of a list or a line that are looked at.
 pub const MOST: u64 = 32;
 
 fn kinds_flaw(word: &str) -> Option<WordFlaw<'_>> {

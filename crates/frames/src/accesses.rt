@@ -1,11 +1,12 @@
 //! The calls Read and Write, on the words of a frame.
 ghost use Rattle.std.specs.Prelude.{◌≡◌};
-ghost use Rattle.machine.specs.{Machine.words_of, Makes.Makes, Step.Words.{in_frame, read_of, word_in, write_of}, WellFormed.IsWellFormed};
+ghost use Rattle.machine.specs.{Machine.words_of, Makes.Makes, Step.Words.{in_frame, read_of, word_in, write_of}};
+ghost use Rattle.machine.specs.WellFormed.{IsWellFormed};
 
 use base::{Cause, ObjId, Rights};
 use bitflags::Flags;
-use cspace::{find_frame, permit};
-use machine::{Answer, Made};
+use cspace::{find, permit};
+use machine::{Answer, Made, ObjectKind};
 use objects::State;
 use steps::calls_keep_machines_well_formed;
 
@@ -34,16 +35,16 @@ fn word(state: &State, id: ObjId, index: u64) -> u64
 ///
 /// # Errors
 ///
-/// Those of [`find_frame`], [`Cause::InvalidCapability`] (2) where the right Read is missing, and
-/// then [`Cause::RangeError`] (4) where the index isn't below 512.
+/// Those of [`find`], [`Cause::InvalidCapability`] (2) where the right Read is missing, and then
+/// [`Cause::RangeError`] (4) where the index isn't below 512.
 #[tactic(auto, unfolding(machine::specs::Step::Words::read_of))]
 pub fn read_word(state: &State, caller: ObjId, address: u64, index: u64) -> Result<Made, Cause>
     ensures { Makes state.now state.now result (read_of state.now caller address index) }
 {
-    let (id, rights) = find_frame(state, caller, address)?;
-    permit(rights.contains(Rights::READ))?;
+    let (_, cap) = find(state, ObjectKind::Frame, caller, address)?;
+    permit(cap.detail.badged().rights.contains(Rights::READ))?;
     in_frame(index)?;
-    Ok(Made::Done(Answer::Word(word(state, id, index))))
+    Ok(Made::Done(Answer::Word(word(state, cap.object, index))))
 }
 
 // Does what the row of a write says.
@@ -57,10 +58,10 @@ fn make_write_word(
 ) -> Result<Made, Cause>
     ensures { Makes state.old state.new result (write_of state.old caller address index word) }
 {
-    let (id, rights) = find_frame(state, caller, address)?;
-    permit(rights.contains(Rights::WRITE))?;
+    let (_, cap) = find(state, ObjectKind::Frame, caller, address)?;
+    permit(cap.detail.badged().rights.contains(Rights::WRITE))?;
     in_frame(index)?;
-    state.set_word(id, index, word);
+    state.set_word(cap.object, index, word);
     Ok(Made::Done(Answer::Nothing))
 }
 
@@ -70,8 +71,8 @@ fn make_write_word(
 ///
 /// # Errors
 ///
-/// Those of [`find_frame`], [`Cause::InvalidCapability`] (2) where the right Write is missing, and
-/// then [`Cause::RangeError`] (4) where the index isn't below 512.
+/// Those of [`find`], [`Cause::InvalidCapability`] (2) where the right Write is missing, and then
+/// [`Cause::RangeError`] (4) where the index isn't below 512.
 pub fn write_word(
     state: &mut State,
     caller: ObjId,

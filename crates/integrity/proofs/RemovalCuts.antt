@@ -18,7 +18,7 @@ use Rattle.machine.proofs.{GoneLemmas.{gone_decided, id_itself, losing_decided},
 use Rattle.machine.proofs.{RemovalTable.finalised_there, RoundLemmas.both_pass, RunsLinks.runs_bound}
 use Rattle.machine.specs.declared.object.ReplyState.TheVariants as reply
 use Rattle.machine.specs.declared.thread.RunState.TheVariants as state
-use Rattle.steps.proofs.RemovalLinks.{queue_now}
+use Rattle.steps.proofs.{LeavingLinks.queue_now, RemovalLinks.{have_left, leavers}}
 use Rattle.policy.specs.{Change.{WayToChange.{modifies, replies}, is_changing}, Closed.IsClosed, Domain.EdgeTest}
 use Rattle.policy.specs.NarrowTake.{TakesByControl.{drops, releases, removes, wakes}, WayToShrink.{controls, ends, halts, stops}}
 use Rattle.policy.specs.NarrowTake.{is_waiting}
@@ -554,7 +554,9 @@ module _
         by_slots content waiting (inr way) = inr way
         by_slots content waiting (inl slots) = inl (record {
           content = finalised_there m chosen id object at stays_there ∙ ap Some content ∙ sym at;
-          queue = queue_now m chosen sound.well_formed id queue.0 stays_there queue.1 ∙ ap Some waiting ∙ sym queue.1;
+          queue =
+              queue_now m (removed m chosen) (leavers m chosen) (have_left m chosen) id queue.0 stays_there queue.1 ∙ ap Some waiting
+              ∙ sym queue.1;
           words = words_stay m chosen id stays_there;
           slots = slots;
         })

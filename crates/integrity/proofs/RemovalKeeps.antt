@@ -18,7 +18,7 @@ use Rattle.machine.specs.Objects.{address_of, kind_of_object}
 use Rattle.machine.specs.Removal.{removed, vanishes}
 use Rattle.machine.proofs.RemovalLooks.{next-removed}
 use Rattle.machine.proofs.RemovalStays.{like_finalised, object_was}
-use Rattle.steps.proofs.RemovalLinks.{removed_formed}
+use Rattle.steps.proofs.RemovalNumbers.{removed_formed}
 use Rattle.policy.specs.Closed.{IsClosed}
 use Rattle.policy.specs.Domain.{EdgeTest}
 use Rattle.integrity.specs.Invariant.{IsSound}

@@ -10,7 +10,7 @@ use Rattle.machine.specs.{Gone.gone_of, Machine.{Machine, cap_of, object_of, wor
 use Rattle.machine.{specs.{Removal.vanishes, WellFormed.IsWellFormed}, proofs.RemovalLooks.{cap_of-removed, object_of-removed}}
 use Rattle.machine.proofs.{RemovalLooks.words_of-removed, RemovalTable.finalised_there}
 use Rattle.machine.specs.declared.thread.RunState.TheVariants as state
-use Rattle.steps.proofs.RemovalLinks.{queue_now, removed_formed}
+use Rattle.steps.proofs.{LeavingLinks.queue_now, RemovalLinks.{have_left, leavers}, RemovalNumbers.removed_formed}
 use Rattle.integrity.specs.Shrinks.{HasLess, IsBlocked, IsPart, IsSame, Lessens, LosesLink, Shrinks, IsPart.{ended, left, stayed}}
 use Rattle.integrity.specs.Shrinks.{Lessens.{as_it_was, freed, released, unbound as unbinds}, Stops.{aborted, goes_on, halted}}
 use Rattle.integrity.proofs.Held.{bare_of}
@@ -118,7 +118,7 @@ module _ (m : Machine) (chosen : SlotRef → Bool) where
           waited = queue.0;
           waiting = staying_in m vanished queue.0;
           queue_was = queue.1;
-          queue_is = queue_now m chosen formed id queue.0 stays queue.1;
+          queue_is = queue_now m (removed m chosen) (leavers m chosen) (have_left m chosen) id queue.0 stays queue.1;
           queue = part_of_all (λ thread. not (leaves m vanished thread)) queue.0;
           words = words_stay id stays;
           slots = λ index. cap_lost (record { holder = id; index = index });

@@ -1,9 +1,13 @@
 //! Laws about what a label may change, and about what its authority leads to.
 ghost use Rattle.std.specs.Prelude.{[], ℕ, ◌++◌, ◌<◌, ◌∷◌, ◌≡◌, ◌≢◌, ◌⊎◌, All, List, None, Some, false, length, true};
-ghost use Rattle.base.specs.{declared.{ids.{ObjId.ObjId as Id, SlotRef.SlotRef as Slot}, kind.Kind.Kind}, Kinds.is_structural};
+ghost use Rattle.base.specs.declared.{ids.{ObjId.ObjId as Id, SlotRef.SlotRef as Slot}, kind.Kind.Kind};
+ghost use Rattle.base.specs.Kinds.{is_structural};
 ghost use Rattle.base.specs.declared.kind.Kind.TheVariants as authority;
-ghost use Rattle.machine.specs.declared.{call.Event.Event, cap.Cap.Cap, object.{Context.Context, Notification.Notification, Object.Object}};
-ghost use Rattle.machine.specs.{declared.{object.{Reply.Reply, Untyped.Untyped}, thread.Tcb.Tcb}, Authority.label_of, Layout.Layout};
+ghost use Rattle.machine.specs.declared.{call.Event.Event, cap.Cap.Cap};
+ghost use Rattle.machine.specs.declared.object.{Context.Context, Notification.Notification, Object.Object, Reply.Reply};
+ghost use Rattle.machine.specs.declared.object.Untyped.{Untyped};
+ghost use Rattle.machine.specs.declared.thread.Tcb.{Tcb};
+ghost use Rattle.machine.specs.{Authority.label_of, Layout.Layout};
 ghost use Rattle.machine.specs.Machine.{Machine, cap_of, object_of, queue_of, with_object, with_queue, words_of};
 ghost use Rattle.machine.specs.declared.object.Object.TheVariants as o;
 ghost use Rattle.machine.specs.declared.object.ReplyState.TheVariants as answers;
@@ -181,7 +185,8 @@ pub fn cuts_follow_paths()
         → IsBase allowed a base }
     ensures held { (k : Kind) → (is_structural k ≡ false) ⊎ (k ≡ authority.Space) → IsHolding k }
     ensures links { All (λ k. is_link k ≡ true)
-        (authority.Send ∷ authority.Receive ∷ authority.Await ∷ authority.Reply ∷ authority.Holds ∷ authority.Runs ∷ authority.Space ∷ []) }
+        (authority.Send ∷ authority.Receive ∷ authority.Await ∷ authority.Reply ∷ authority.Holds ∷ authority.Runs
+        ∷ authority.Space ∷ []) }
     ensures near { (allowed : EdgeTest) (x y : ℕ)
         → (x ≡ y) ⊎ ((k : Kind) × (is_link k ≡ true) × ((allowed x k y ≡ true) ⊎ (allowed y k x ≡ true)))
         → IsNear allowed x y }

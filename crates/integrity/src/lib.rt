@@ -1,5 +1,10 @@
-//! Confinement and integrity: a closed policy that has all authority of a table's boot state has that of every state of every
-//! run, and no step changes more than it allows.
+//! Confinement and integrity: every run stays within a closed policy that has all authority of its boot state.
+//!
+//! The boot state is that of a table. The policy has the authority of every state of the run, and
+//! no step changes more than it allows.
+//!
+//! `verdict` and `cores` stand on it. It knows no code of the kernel, only the definitions and laws
+//! of the steps.
 #![tactic(auto)]
 
 mod laws;

@@ -1,13 +1,14 @@
 //! Laws about removals: what they change, and whose it is.
 ghost use Rattle.std.specs.Prelude.{ℕ, ◌≡◌, ◌⊎◌, Bool, None, Ok, Some};
 ghost use Rattle.base.specs.declared.ids.{ObjId.ObjId as Id, SlotRef.SlotRef as Slot};
-ghost use Rattle.machine.specs.declared.{call.Made.Made, object.Context.Context as Bound, slot_address.SlotAddress.SlotAddress as Place};
+ghost use Rattle.machine.specs.declared.{call.Made.Made, object.Context.Context as Bound};
+ghost use Rattle.machine.specs.declared.slot_address.SlotAddress.{SlotAddress as Place};
+ghost use Rattle.machine.specs.{Authority.label_of, Layout.Layout, Machine.{Machine, object_of}, Removal.removed};
+ghost use Rattle.machine.specs.{Step.{Delete.delete_of, Revoke.revoke_of}, WellFormed.IsWellFormed};
 ghost use Rattle.machine.specs.declared.object.Object.TheVariants as o;
-ghost use Rattle.machine.specs.{Authority.label_of, Layout.Layout, Machine.{Machine, object_of}, Removal.removed, Step.Delete.delete_of};
-ghost use Rattle.machine.specs.{Step.Revoke.revoke_of, WellFormed.IsWellFormed};
 ghost use Rattle.policy.specs.{Change.MayChange, Closed.IsClosed, Domain.EdgeTest, NarrowTake.MayShrink};
-ghost use Rattle.integrity.specs.{Altered.MayAlter, Awake.IsAwake, Confined.IsConfined, Invariant.IsSound, OfTable.IsOfTable, Removals.MayRemove};
-ghost use Rattle.integrity.specs.Shrinks.{IsSame, Shrinks};
+ghost use Rattle.integrity.specs.{Altered.MayAlter, Awake.IsAwake, Confined.IsConfined, Invariant.IsSound};
+ghost use Rattle.integrity.specs.{OfTable.IsOfTable, Removals.MayRemove, Shrinks.{IsSame, Shrinks}};
 
 /// A law: whichever slots are removed, the machine stays within a closed policy and keeps to its table.
 pub fn removals_stay_confined()
@@ -27,8 +28,9 @@ pub fn what_a_removal_changes_shrinks()
         → (id : Id) → IsSame m (removed m chosen) id ⊎ Shrinks m (removed m chosen) id }
 {}
 
-/// A law: where a label may remove the chosen slots' capabilities, each object is as it was, or is of a
-/// label that the label may change or make smaller.
+/// A law: a removal changes only objects of labels that the remover's label may change or make smaller.
+///
+/// The label may remove the capabilities of the chosen slots. Each other object is as it was.
 pub fn a_removal_changes_what_may_be_altered()
     ensures { (t : Layout) (allowed : EdgeTest) (a : ℕ) (m : Machine) (chosen : Slot → Bool)
         → IsSound t allowed m
@@ -41,10 +43,10 @@ pub fn a_removal_changes_what_may_be_altered()
         × (MayChange allowed awake.acts a label ⊎ MayShrink allowed awake.acts a label)) }
 {}
 
-/// A law: where a label may remove the chosen slots' capabilities, the machine stays sound, and no
-/// object changes but within the bounds of the label.
+/// A law: a removal keeps the machine sound, and changes no object but within the bounds of the remover's label.
 ///
-/// Nothing is made, and contexts keep their cores, budgets and periods.
+/// The label may remove the capabilities of the chosen slots. Nothing is made, and contexts keep
+/// their cores, budgets and periods.
 pub fn removals_stay_within_authority()
     ensures sound { (t : Layout) (allowed : EdgeTest) (m : Machine) (chosen : Slot → Bool)
         → IsSound t allowed m
@@ -65,17 +67,20 @@ pub fn removals_stay_within_authority()
         → new.share ≡ old.share }
 {}
 
-/// A law: a delete and a revoke that are made keep the machine sound, and change no object but within the
-/// bounds of the caller's label.
+/// A law: a delete or a revoke that is made keeps the machine sound, within the bounds of the caller's label.
+///
+/// It changes no object but within these bounds.
 pub fn deletes_and_revokes_stay_within_authority()
-    ensures delete { (t : Layout) (allowed : EdgeTest) (a : ℕ) (m next : Machine) (caller : Id) (address : Place) (made : Made)
+    ensures delete { (t : Layout) (allowed : EdgeTest) (a : ℕ) (m next : Machine) (caller : Id) (address : Place)
+        (made : Made)
         → IsSound t allowed m
         → IsClosed allowed
         → label_of t m caller ≡ Some a
         → delete_of m caller address ≡ Ok (made, next)
         → IsSound t allowed next
         × ((awake : IsAwake t allowed m a) → (id : Id) → IsSame m next id ⊎ MayAlter t allowed awake.acts a m next id) }
-    ensures revoke { (t : Layout) (allowed : EdgeTest) (a : ℕ) (m next : Machine) (caller : Id) (address : Place) (made : Made)
+    ensures revoke { (t : Layout) (allowed : EdgeTest) (a : ℕ) (m next : Machine) (caller : Id) (address : Place)
+        (made : Made)
         → IsSound t allowed m
         → IsClosed allowed
         → label_of t m caller ≡ Some a

@@ -1,17 +1,20 @@
 //! The headline and its laws: which systems are safe, and what that says of labels.
 ghost use Rattle.std.specs.Prelude.{ℕ, ◌≡◌, ◌≢◌, ◌↔◌, ◌⊎◌, Some, true};
 ghost use Rattle.base.specs.declared.{ids.ObjId.ObjId as Id, kind.Kind.Kind as authority};
-ghost use Rattle.machine.specs.declared.call.{Event.Event, Outcome.Outcome};
-ghost use Rattle.machine.specs.{Authority.label_of, Boot.IsBoot, Layout.Layout, Machine.{Machine, object_of}, Step.Step};
+ghost use Rattle.machine.specs.{declared.call.{Event.Event, Outcome.Outcome}, Authority.label_of, Boot.IsBoot};
+ghost use Rattle.machine.specs.{Layout.Layout, Machine.{Machine, object_of}, Step.Step};
 ghost use Rattle.policy.specs.{Change.{ActorTest, MayChange}, Closed.IsClosed, Domain.EdgeTest, NarrowTake.MayShrink};
 ghost use Rattle.table.specs.Rules.{IsLawful};
-ghost use Rattle.integrity.specs.{Acting.{HoldsOfActors, MayAct, Starts}, Apart.{NeverChanges, OnlyTakes}, Confined.IsConfined};
-ghost use Rattle.integrity.specs.{Safe.{IsReached, IsSafe, KeepsNarrowBounds, RefusesOthers}, Shrinks.IsSame};
+ghost use Rattle.integrity.specs.{Acting.{HoldsOfActors, MayAct, Starts}, Apart.{NeverChanges, OnlyTakes}};
+ghost use Rattle.integrity.specs.{Confined.IsConfined, Safe.{IsReached, IsSafe, KeepsNarrowBounds, RefusesOthers}};
+ghost use Rattle.integrity.specs.Shrinks.{IsSame};
 
 use table::boot_states_are_well_formed;
 
-/// The headline over the definitions alone: where a policy is closed and has all authority of a
-/// lawful table's boot state, every run from there is safe.
+/// A law, the headline over the definitions alone: every run of a confined system is safe.
+///
+/// A system is confined where its policy is closed and has all authority of the boot state of its
+/// lawful table. The runs are those from the boot state.
 pub fn confined_systems_are_safe()
     ensures { (t : Layout) (allowed : EdgeTest)
         → IsLawful t
@@ -22,8 +25,7 @@ pub fn confined_systems_are_safe()
     boot_states_are_well_formed();
 }
 
-/// A law: if steps keep to who may act in every run from a table's boot state, they keep labels
-/// apart.
+/// A law: if steps keep to the bounds of who may act in every run from the boot state, they keep labels apart.
 ///
 /// No step of a thread of a label changes, makes or removes an object of a label that it may not
 /// change and may not make smaller. Where it may not change it, each object stays as it is, or
@@ -42,8 +44,7 @@ pub fn bounded_systems_keep_labels_apart()
         → OnlyTakes t a l }
 {}
 
-/// A law: if only labels that may act have calls that aren't refused, only threads of these labels
-/// change objects.
+/// A law: if only labels that may act have calls that aren't refused, only threads of these labels change objects.
 ///
 /// The condition is on every run from a table's boot state. A step that changes an object, makes
 /// one or removes one is then of a thread whose label may act. So a thread of a label that may not
@@ -67,8 +68,7 @@ pub fn changes_are_of_labels_that_act()
         → NeverChanges t a l }
 {}
 
-/// A law: in a closed policy a label may act exactly if it acts from boot on, or a label that does
-/// controls it.
+/// A law: in a closed policy a label may act exactly if it acts from boot on, or a label that does controls it.
 pub fn labels_act_from_boot_or_by_control()
     ensures { (t : Layout) (allowed : EdgeTest) (a : ℕ)
         → IsClosed allowed

@@ -36,8 +36,10 @@ fn running(state: &State, thread: &Tcb) -> Result<Share, Cause>
     }
 }
 
-/// Admits a thread to make a call on a core: it is there, is ready, and runs on a context that is
-/// configured for that core.
+/// Admits a thread to make a call on a core.
+///
+/// The thread is there, is ready, and runs on a context that is configured for that core. The
+/// answer is the context's share.
 ///
 /// # Errors
 ///

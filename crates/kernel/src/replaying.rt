@@ -1,9 +1,10 @@
 //! How a log is replayed.
 ghost use Rattle.std.specs.Prelude.{ℕ, ◌≡◌, All, Bool, Decides, IfErr, IfOk, List, MatchOption, OnErr, take};
 ghost use Rattle.base.specs.Refusals.{out_of_memory};
-ghost use Rattle.machine.specs.{declared.call.Outcome.TheVariants.Refused, Machine.Machine, Step.{MayEnd, takes_memory}};
-ghost use Rattle.machine.specs.WellFormed.{IsWellFormed};
-ghost use Rattle.kernel.specs.Legal.{Entry, Follows, IsLack, IsLeftAt, IsReachedIn, LacksMemoryIn, Leads, MayLack, StopsAt};
+ghost use Rattle.machine.specs.{declared.call.Outcome.TheVariants.Refused, Machine.Machine};
+ghost use Rattle.machine.specs.{Step.{MayEnd, takes_memory}, WellFormed.IsWellFormed};
+ghost use Rattle.kernel.specs.Legal.{Entry, Follows, IsLack, IsLeftAt, IsReachedIn, LacksMemoryIn, Leads, MayLack};
+ghost use Rattle.kernel.specs.Legal.{StopsAt};
 
 use crate::calls::{retype_refusal, step};
 use base::Refusal;
@@ -11,22 +12,24 @@ use machine::{Event, Outcome};
 use objects::State;
 use steps::calls_are_refused_by_conditions;
 
-/// Replays a log, entry after entry, up to the first entry that isn't the step that it tells.
+/// Replays a log, entry after entry, up to the first entry that isn't the step that it claims.
 ///
 /// Returns `None` where all are, and else the index, from 0, of the first that isn't. A retype that
 /// was refused memory is a step that changes nothing, wherever it could be made.
 ///
 /// Where it stops at an entry, the event of that entry was made, and its outcome is another than
-/// the log tells.
+/// the log's.
 ///
 /// # Errors
 ///
-/// 40, where a retype could be done that the log tells otherwise, and is refused memory here. Then
-/// the entries before it were made.
+/// 40, where a retype could be done that has another outcome in the log, and is refused memory
+/// here. Then the entries before it were made.
 pub fn replay(state: &mut State, entries: &[(Event, Outcome)]) -> Result<Option<usize>, Refusal>
     requires { IsWellFormed state.old }
-    ensures found { IfOk result (λ stop. MatchOption stop (Leads state.old entries.now state.new) (StopsAt state.old entries.now)) }
-    ensures ends { IfOk result (λ stop. MatchOption stop (All (λ entry. MayEnd entry.0 entry.1) entries.now) (λ at. All (λ entry. MayEnd entry.0 entry.1) (take at entries.now))) }
+    ensures found { IfOk result
+        (λ stop. MatchOption stop (Leads state.old entries.now state.new) (StopsAt state.old entries.now)) }
+    ensures ends { IfOk result (λ stop. MatchOption stop (All (λ entry. MayEnd entry.0 entry.1) entries.now)
+        (λ at. All (λ entry. MayEnd entry.0 entry.1) (take at entries.now))) }
     ensures left { IsLeftAt state.old entries.now state.new result }
     ensures reached { IsReachedIn state.old entries.now state.new }
     ensures well_formed { IsWellFormed state.new }
@@ -42,7 +45,7 @@ pub fn replay(state: &mut State, entries: &[(Event, Outcome)]) -> Result<Option<
     Ok(None)
 }
 
-// Makes the step of an event, if it comes to this outcome.
+// Makes the step of an event, if that has this outcome.
 fn follow(state: &mut State, event: &Event, outcome: &Outcome) -> Result<bool, Refusal>
     requires { IsWellFormed state.old }
     ensures followed { IfOk result (Follows state.old event.now outcome.now state.new) }
@@ -63,14 +66,14 @@ fn follow(state: &mut State, event: &Event, outcome: &Outcome) -> Result<bool, R
     Ok(false)
 }
 
-// Whether a call that takes memory ended for want of it.
+// Whether a call that takes memory ended for lack of it.
 fn is_lack(event: &Event, outcome: &Outcome) -> bool
     ensures { Decides result (IsLack event.now outcome.now) }
 {
     event.call.takes_memory() && *outcome == Outcome::Refused(Refusal::OUT_OF_MEMORY)
 }
 
-// Whether the call of an event, one that takes memory, can end for want of it: where it could be made.
+// Whether the call of an event, one that takes memory, can end for lack of it: where it could be made.
 fn could_lack(state: &State, event: &Event) -> bool
     requires formed { IsWellFormed state.now }
     requires takes { takes_memory event.now.call ≡ Bool.true }
@@ -81,6 +84,8 @@ fn could_lack(state: &State, event: &Event) -> bool
 
 /// A law: a log that stops at an entry isn't legal, and where it stops there is one such entry.
 pub fn logs_stop_where_they_are_no_run()
-    ensures illegal { (first last : Machine) (entries : List Entry) (at : ℕ) → StopsAt first entries at → ¬ (Leads first entries last) }
-    ensures once { (first : Machine) (entries : List Entry) (at other : ℕ) → StopsAt first entries at → StopsAt first entries other → at ≡ other }
+    ensures illegal { (first last : Machine) (entries : List Entry) (at : ℕ) → StopsAt first entries at
+        → ¬ (Leads first entries last) }
+    ensures once { (first : Machine) (entries : List Entry) (at other : ℕ) → StopsAt first entries at
+        → StopsAt first entries other → at ≡ other }
 {}

@@ -1,6 +1,7 @@
 //! How a script is run.
-ghost use Rattle.std.specs.{List.zip, Prelude.{◌++◌, ◌+◌, ◌≡◌, ◌≤◌, All, IfErr, IsOk, List, OnErr, OnOk, drop, length, vec_capacity}};
-ghost use Rattle.std.specs.Prelude.{vec_len};
+ghost use Rattle.std.specs.List.{zip};
+ghost use Rattle.std.specs.Prelude.{◌++◌, ◌+◌, ◌≡◌, ◌≤◌, All, IfErr, IsOk, List, OnErr, OnOk, drop, length};
+ghost use Rattle.std.specs.Prelude.{vec_capacity, vec_len};
 ghost use Rattle.base.specs.Refusals.{plain};
 ghost use Rattle.machine.specs.{declared.call.Outcome.Outcome as Ended, Run.Run, Step.MayEnd, WellFormed.IsWellFormed};
 
@@ -16,7 +17,7 @@ use steps::calls_are_refused_by_conditions;
 ///
 /// 40, where the list of outcomes can't grow by as many as there are events: then no step was made.
 /// A list with room for them is never refused: a retype that is refused memory is an outcome, and the
-/// run goes on.
+/// run continues.
 pub fn run(state: &mut State, events: &[Event], outcomes: &mut Vec<Outcome>) -> Result<(), Refusal>
     requires { IsWellFormed state.old }
     ensures ran { OnOk result ((made : List Ended)
@@ -24,7 +25,8 @@ pub fn run(state: &mut State, events: &[Event], outcomes: &mut Vec<Outcome>) -> 
         × Run state.old events.now made state.new) }
     ensures counted { OnOk result (length outcomes.new.items ≡ length outcomes.old.items + length events.now) }
     ensures appends { (made : List Ended) × (outcomes.new.items ≡ outcomes.old.items ++ made) }
-    ensures ends { OnOk result (All (λ entry. MayEnd entry.0 entry.1) (zip events.now (drop (length outcomes.old.items) outcomes.new.items))) }
+    ensures ends { OnOk result
+        (All (λ entry. MayEnd entry.0 entry.1) (zip events.now (drop (length outcomes.old.items) outcomes.new.items))) }
     ensures well_formed { IsWellFormed state.new }
     ensures refused { IfErr result (λ refusal. refusal ≡ plain 40) }
     ensures kept { OnErr result ((state.new ≡ state.old) × (outcomes.new.items ≡ outcomes.old.items)) }

@@ -4,8 +4,8 @@ ghost use Rattle.machine.specs.{Machine.object_of, Makes.Makes, Step.Signal.{pen
 
 use base::{Cause, ObjId, Rights};
 use bitflags::Flags;
-use cspace::{find_notification, permit};
-use machine::{Answer, Inbox, Made, Notification, Object, RunState, Tcb};
+use cspace::{find, permit};
+use machine::{Answer, Inbox, Made, Notification, Object, ObjectKind, RunState, Tcb};
 use objects::State;
 use queues::pop_first;
 
@@ -48,19 +48,21 @@ fn notify(state: &mut State, id: ObjId, badge: u64)
     }
 }
 
-/// Signals the notification at an address: the first thread that waits gets the capability's badge,
-/// else the badge joins the notification's word (seL4 manual, "Notifications").
+/// Signals the notification at an address (seL4 manual, "Notifications").
+///
+/// The first thread that waits gets the capability's badge. Where none waits, the badge joins the
+/// notification's word.
 ///
 /// # Errors
 ///
-/// Those of [`find_notification`], and [`Cause::InvalidCapability`] (2) where the right Write is
-/// missing.
+/// Those of [`find`], and [`Cause::InvalidCapability`] (2) where the right Write is missing.
 #[tactic(auto, unfolding(machine::specs::Step::Signal::signal_of))]
 pub fn signal(state: &mut State, caller: ObjId, address: u64) -> Result<Made, Cause>
     ensures { Makes state.old state.new result (signal_of state.old caller address) }
 {
-    let (notification, end) = find_notification(state, caller, address)?;
+    let (_, cap) = find(state, ObjectKind::Notification, caller, address)?;
+    let end = cap.detail.badged();
     permit(end.rights.contains(Rights::WRITE))?;
-    notify(state, notification, end.badge);
+    notify(state, cap.object, end.badge);
     Ok(Made::Done(Answer::Nothing))
 }

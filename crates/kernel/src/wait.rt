@@ -5,25 +5,26 @@ ghost use Rattle.objects.specs.Waiting.{WaitsNowhere};
 use crate::signal::pending;
 use base::{Cause, ObjId, Rights};
 use bitflags::Flags;
-use cspace::{find_notification, permit};
-use machine::{Answer, Made, RunState};
+use cspace::{find, permit};
+use machine::{Answer, Made, ObjectKind, RunState};
 use objects::State;
 use queues::block;
 
-/// Takes the word of the notification at an address; where it has none, the caller waits for one
-/// (seL4 manual, "Notifications").
+/// Takes the word of the notification at an address, or waits for one (seL4 manual, "Notifications").
+///
+/// The caller waits where the notification has no word.
 ///
 /// # Errors
 ///
-/// Those of [`find_notification`], and [`Cause::InvalidCapability`] (2) where the right Read is
-/// missing.
+/// Those of [`find`], and [`Cause::InvalidCapability`] (2) where the right Read is missing.
 #[tactic(auto, unfolding(machine::specs::Step::Wait::wait_of))]
 pub fn wait(state: &mut State, caller: ObjId, address: u64) -> Result<Made, Cause>
     requires { WaitsNowhere state.old caller }
     ensures { Makes state.old state.new result (wait_of state.old caller address) }
 {
-    let (notification, end) = find_notification(state, caller, address)?;
-    permit(end.rights.contains(Rights::READ))?;
+    let (_, cap) = find(state, ObjectKind::Notification, caller, address)?;
+    let notification = cap.object;
+    permit(cap.detail.badged().rights.contains(Rights::READ))?;
     match pending(state, notification) {
         Some(word) => {
             state.set_pending(notification, None);

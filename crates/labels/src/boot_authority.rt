@@ -50,7 +50,8 @@ fn collected(alloc: Global, table: &Table) -> Result<Policy, Refusal>
 // Adds the edges of a slot.
 fn add_slot(found: &mut Policy, alloc: Global, table: &Table, slot: SlotRef) -> Result<(), Refusal>
     ensures ok { OnOk result ((from : ℕ) (kind : KindOf) (to : ℕ)
-        → allows found.new from kind to ≡ (allows found.old from kind to || allows (slot_edges_of table.now slot) from kind to)) }
+        → allows found.new from kind to
+        ≡ (allows found.old from kind to || allows (slot_edges_of table.now slot) from kind to)) }
     ensures err { IfErr result (λ refusal. refusal ≡ out_of_memory) }
 {
     let edges = slot_edges(alloc, table, slot)?;
@@ -63,7 +64,8 @@ fn add_slot(found: &mut Policy, alloc: Global, table: &Table, slot: SlotRef) -> 
 // Adds the edge from a thread to the context that it is bound to.
 fn add_binding(found: &mut Policy, table: &Table, binding: &Binding) -> Result<(), Refusal>
     ensures ok { OnOk result ((from : ℕ) (kind : KindOf) (to : ℕ)
-        → allows found.new from kind to ≡ (allows found.old from kind to || allows (edges_of_binding table.now binding.now) from kind to)) }
+        → allows found.new from kind to
+        ≡ (allows found.old from kind to || allows (edges_of_binding table.now binding.now) from kind to)) }
     ensures err { IfErr result (λ refusal. refusal ≡ out_of_memory) }
 {
     if let Some(edge) = edge_between(table, binding.thread, Kind::Runs, binding.context) {

@@ -1,5 +1,6 @@
 //! The edges of authority that one slot gives.
-ghost use Rattle.std.specs.Prelude.{[], ◌++◌, ◌≡◌, IfErr, IfOk, OnOk, Some, filter, flat_map, if◌then◌else◌, option_to_list};
+ghost use Rattle.std.specs.Prelude.{[], ◌++◌, ◌≡◌, IfErr, IfOk, OnOk, Some, filter, flat_map, if◌then◌else◌};
+ghost use Rattle.std.specs.Prelude.{option_to_list};
 ghost use Rattle.base.specs.declared.kind.TheConstants.Kind as Kinds;
 ghost use Rattle.base.specs.Refusals.{out_of_memory};
 ghost use Rattle.machine.specs.{Capabilities.gives, Layout.{declared_label, initial_parent}};
@@ -65,7 +66,8 @@ fn push_given(
 
 // Adds what the pair of the derivation tree whose child the slot is gives.
 fn push_derived(edges: &mut Vec<Edge>, table: &Table, slot: SlotRef) -> Result<(), Refusal>
-    ensures ok { OnOk result (edges.new.items ≡ edges.old.items ++ pair_edges table.now slot (initial_parent table.now slot)) }
+    ensures ok { OnOk result
+        (edges.new.items ≡ edges.old.items ++ pair_edges table.now slot (initial_parent table.now slot)) }
     ensures err { IfErr result (λ refusal. refusal ≡ out_of_memory) }
 {
     if let Some(parent) = table.parent(slot) {

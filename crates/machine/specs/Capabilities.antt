@@ -3,7 +3,7 @@
 use Rattle.std.specs.{Int.RustNames.bit_and, Prelude.{ℕ, ◌&&◌, ◌==◌, ◌||◌, Bool, false, true}}
 use Rattle.base.specs.declared.{kind.Kind.Kind, rights.Rights.Rights}
 use Rattle.base.specs.declared.kind.Kind.TheVariants as authority
-use Rattle.machine.specs.declared.{cap.Detail.{Detail, Detail as d}, object.ObjectKind.ObjectKind}
+use Rattle.machine.specs.declared.{cap.{Badged.Badged, Detail.{Detail, Detail as d}}, object.ObjectKind.ObjectKind}
 use Rattle.machine.specs.declared.object.ObjectKind.TheVariants as kind
 
 abbrev pub kind_of_detail : Detail → ObjectKind
@@ -22,6 +22,13 @@ abbrev pub badge_of : Detail → ℕ
 badge_of (d.Endpoint end) = end.badge
 badge_of (d.Notification end) = end.badge
 badge_of _ = 0
+
+-- the rights and the badge; a kind without them has none, and badge 0
+abbrev pub badged_of : Detail → Badged
+badged_of (d.Endpoint end) = end
+badged_of (d.Notification end) = end
+badged_of (d.Frame rights) = record { rights = rights; badge = 0 }
+badged_of _ = record { rights = record { 0 = 0 }; badge = 0 }
 
 abbrev pub can_read : Rights → Bool
 can_read rights = bit_and rights.0 1 == 1

@@ -1,12 +1,11 @@
 //! Laws about the authority that capabilities give.
 ghost use Rattle.std.specs.Prelude.{ℕ, ◌≡◌, false, true};
 ghost use Rattle.base.specs.{declared.kind.Kind.Kind, Kinds.is_structural};
-ghost use Rattle.machine.specs.{declared.cap.{Badged.Badged, Detail.Detail, Guard.Guard}, Authority.HasAuthority, Capabilities.gives};
+ghost use Rattle.machine.specs.{declared.cap.{Badged.Badged, Detail.Detail, Guard.Guard}, Authority.HasAuthority};
+ghost use Rattle.machine.specs.{Capabilities.gives, Layout.Layout, Machine.Machine, Narrower.{HasMoreCaps, IsNarrower}};
 ghost use Rattle.machine.specs.declared.cap.Detail.TheVariants as d;
-ghost use Rattle.machine.specs.{Layout.Layout, Machine.Machine, Narrower.{HasMoreCaps, IsNarrower}};
 
-/// A law: a capability with fewer rights gives no kind of authority that one with more doesn't
-/// give.
+/// A law: a capability with fewer rights gives no kind of authority that one with more doesn't give.
 ///
 /// Badges and guards don't matter. Every capability in a CNode gives at least one kind of authority
 /// that isn't structural, and none that is.

@@ -1,12 +1,12 @@
 //! Kernel calls, their events and their outcomes.
 ghost use Rattle.std.specs.Prelude.{◌≡◌};
-ghost use Rattle.machine.specs.{declared.call.Unmade.TheVariants.Refused, Outcomes.{outcome_of, unmade_refusal}, Step.takes_memory};
+ghost use Rattle.machine.specs.{declared.call.Unmade.TheVariants.Refused, Outcomes.{outcome_of, unmade_refusal}};
+ghost use Rattle.machine.specs.Step.{takes_memory};
 
 use crate::{MemoryKind, Message, SlotAddress};
 use base::{Cause, CoreNo, ObjId, Refusal, Rights};
 
-/// A badge or a guard, which a mint gives to the copy (seL4 manual, seL4_CNode_Mint: "badge or
-/// guard").
+/// A badge or a guard, which a mint gives to the copy (seL4 manual, seL4_CNode_Mint: "badge or guard").
 #[derive(Clone, Copy, PartialEq, Eq, Debug)]
 pub enum CapData {
     Badge(u64),
@@ -14,7 +14,9 @@ pub enum CapData {
     Guard { size: u64, value: u64 },
 }
 
-/// A kernel call. Addresses are looked up in the capability space of the thread that calls.
+/// A kernel call.
+///
+/// Addresses are looked up in the capability space of the thread that calls.
 #[derive(Clone, Copy, PartialEq, Eq, Debug)]
 pub enum Call {
     /// Signals the notification at the address (seL4 manual, "Notifications").
@@ -131,7 +133,7 @@ pub enum Call {
     Suspend {
         thread: u64,
     },
-    /// Has the thread at the address go on (seL4 manual, seL4_TCB_Resume).
+    /// Has the thread at the address continue (seL4 manual, seL4_TCB_Resume).
     Resume {
         thread: u64,
     },

@@ -1,13 +1,12 @@
 //! Capabilities, and the authority that they give.
 ghost use Rattle.std.specs.Prelude.{◌<◌, ◌^◌, ◌≡◌, filter};
 ghost use Rattle.base.specs.{declared.kind.{Kind.Kind as KindOf, TheConstants.Kind.ALL}, Kinds.is_among};
-ghost use Rattle.machine.specs.Capabilities.{badge_of, gives, kind_of_detail};
+ghost use Rattle.machine.specs.Capabilities.{badge_of, badged_of, gives, kind_of_detail};
 
 use crate::ObjectKind;
 use base::{Kind, Kinds, ObjId, Rights, kind_names_are_read_back};
 
-/// The bits that an address must begin with: the low `size` bits of `value` (seL4 manual, "CNode
-/// Guards").
+/// The bits that an address must begin with: the low `size` bits of `value` (seL4 manual, "CNode Guards").
 #[derive(Clone, Copy, PartialEq, Eq, Debug)]
 pub struct Guard {
     /// 0 to 64.
@@ -74,6 +73,25 @@ impl Detail {
         }
     }
 
+    /// Returns the rights and the badge; a kind without them has no rights, and badge 0.
+    pub fn badged(&self) -> Badged
+        ensures { result ≡ badged_of self.now }
+    {
+        use bitflags::Flags;
+
+        match self {
+            Detail::Endpoint(end) | Detail::Notification(end) => *end,
+            Detail::Frame(rights) => Badged {
+                rights: *rights,
+                badge: 0,
+            },
+            _ => Badged {
+                rights: Rights::empty(),
+                badge: 0,
+            },
+        }
+    }
+
     /// Returns the kinds of authority that such a capability may give from a slot of a CNode.
     ///
     /// The kinds come in the order of their numbers. The capability's rights say which of them it
@@ -100,8 +118,7 @@ impl Detail {
 }
 
 impl Cap {
-    /// Returns whether the capability, in a slot of a CNode, gives this kind of authority over its
-    /// object.
+    /// Returns whether the capability, in a slot of a CNode, gives this kind of authority over its object.
     pub fn gives(&self, kind: Kind) -> bool
         ensures { result ≡ gives self.now.detail kind }
     {
@@ -131,8 +148,7 @@ impl Cap {
         }
     }
 
-    /// Returns all kinds of authority that the capability, in a slot of a CNode, gives over its
-    /// object.
+    /// Returns all kinds of authority that the capability, in a slot of a CNode, gives over its object.
     pub fn kinds(&self) -> Kinds
         ensures each { (kind : KindOf) → is_among result.0 kind ≡ gives self.now.detail kind }
         ensures alone { result.0 < 2 ^ 17 }

@@ -6,7 +6,9 @@ ghost use Rattle.machine.specs.Layout.{most_labels};
 use crate::{Cap, Object};
 use base::{Label, ObjId, SlotRef};
 
-/// The version of a capability table, which its text begins with. The second has more labels.
+/// The version of a capability table, which its text begins with.
+///
+/// The second has more labels.
 #[derive(Clone, Copy, PartialEq, Eq, Debug)]
 pub enum Version {
     One,
@@ -26,8 +28,7 @@ impl Version {
     }
 }
 
-/// An object that a capability table declares, as it is at boot before threads and contexts are
-/// bound.
+/// An object that a capability table declares, as it is at boot before threads and contexts are bound.
 #[derive(Clone, Copy, PartialEq, Eq, Debug)]
 pub struct Initial {
     pub label: Label,

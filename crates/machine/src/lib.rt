@@ -1,7 +1,9 @@
 //! The kernel's state as plain data: objects, capabilities, threads, calls and what they answer.
 //!
-//! `specs/` has the definitions that every layer above cites: what contracts see of a state, guarded
-//! lookup, the step of each call, runs, well-formedness, and what a capability table says.
+//! `specs/` has the definitions that every layer above cites: what contracts see of a state,
+//! guarded lookup, the step of each call, runs, well-formedness, and what a capability table says.
+//!
+//! The crates of the kernel and of verdicts stand on it, and the texts. It knows no policy.
 #![tactic(auto)]
 
 mod authority_laws;

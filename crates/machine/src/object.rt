@@ -33,8 +33,9 @@ pub enum MemoryKind {
     Frame,
 }
 
-/// A piece of memory from which objects can be made: `2^bits` bytes from `base` on, of which those
-/// below `watermark` are in use.
+/// A piece of memory from which objects can be made.
+///
+/// It is `2^bits` bytes from `base` on, of which those below `watermark` are in use.
 #[derive(Clone, Copy, PartialEq, Eq, Debug)]
 pub struct Untyped {
     pub base: u64,
@@ -83,8 +84,9 @@ pub struct Reply {
     pub state: ReplyState,
 }
 
-/// The share of a core's time that a scheduling context gives: `budget` of every `period`
-/// microseconds, with `1 <= budget <= period <= 3,600,000,000`.
+/// The share of a core's time that a scheduling context gives.
+///
+/// It is `budget` of every `period` microseconds, with `1 <= budget <= period <= 3,600,000,000`.
 #[derive(Clone, Copy, PartialEq, Eq, Debug)]
 pub struct Share {
     pub core: CoreNo,

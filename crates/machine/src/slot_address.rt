@@ -5,8 +5,10 @@ use crate::Cap;
 use base::SlotRef;
 use std::fmt;
 
-/// A slot as a call names it: the address of a CNode's capability, and below it an index, of which
-/// `depth` bits are looked up (seL4 manual, "Capability Address Lookup").
+/// A slot as a call names it (seL4 manual, "Capability Address Lookup").
+///
+/// It is the address of a CNode's capability, and below it an index, of which `depth` bits are
+/// looked up.
 #[derive(Clone, Copy, PartialEq, Eq, Debug)]
 pub struct SlotAddress {
     pub root: u64,

@@ -61,8 +61,7 @@ pub struct Calling {
     pub lent: Option<Lent>,
 }
 
-/// The state of a thread: whether it can run, and what it waits for if it can't (seL4 manual,
-/// "Threads and Execution").
+/// The state of a thread: whether it can run, and what it waits for if it can't (seL4 manual, "Threads and Execution").
 #[derive(Clone, Copy, PartialEq, Eq, Debug)]
 pub enum RunState {
     Inactive,
@@ -75,7 +74,9 @@ pub enum RunState {
     Called(Calling),
 }
 
-/// A thread. Its one slot holds the CNode capability where the lookup of addresses begins.
+/// A thread.
+///
+/// Its one slot holds the CNode capability where the lookup of addresses begins.
 #[derive(Clone, Copy, PartialEq, Eq, Debug)]
 pub struct Tcb {
     pub address: u64,

@@ -1,5 +1,4 @@
-//! What a system description says: regions, domains, virtual machines and channels, each with the
-//! line of its element.
+//! What a system description says: regions, domains, virtual machines and channels, each with its line.
 ghost use Rattle.std.specs.Prelude.{◌<◌, ◌≡◌};
 ghost use Rattle.microkit.specs.Pages.{page_bytes};
 
@@ -51,7 +50,9 @@ impl Page {
     }
 }
 
-/// What the kernel schedules a thread by. Times are in microseconds.
+/// The priority, budget and period by which the kernel schedules a thread.
+///
+/// Times are in microseconds.
 #[derive(Clone, Copy, Debug)]
 pub struct Schedule {
     pub priority: u64,
@@ -105,7 +106,7 @@ pub struct Processor {
     pub line: u64,
 }
 
-/// What a region is mapped into, by its number.
+/// The domain or virtual machine into which a region is mapped, by its number.
 #[derive(Clone, Copy, Debug)]
 pub enum User {
     Domain(usize),

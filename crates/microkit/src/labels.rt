@@ -15,7 +15,7 @@ use crate::names::{MAX_TRIES, candidate, plain_name};
 use std::alloc::{AllocError, Global};
 use words::{Fault, Wrong};
 
-/// What has a label, by its number in the description.
+/// A part of a description that has a label, by its number there.
 #[derive(Clone, Copy, Debug)]
 pub enum Subject {
     Domain(usize),
@@ -25,10 +25,14 @@ pub enum Subject {
     Region(usize),
 }
 
-/// Returns what has a label, in the order of the labels.
+/// Returns the parts of a description that have a label, in the order of the labels.
 ///
 /// These are each domain, each virtual machine, the time of each domain that may call another, and
 /// each region that somebody maps.
+///
+/// # Errors
+///
+/// [`AllocError`] where memory is refused.
 #[tactic(auto, unfolding(crate::specs::Labels::subjects_of))]
 pub fn subjects_of(alloc: Global, description: &Description) -> Result<Vec<Subject>, AllocError>
     ensures { IfOk result (λ subjects. subjects.items ≡ subjects_of (description_of description.now)) }
@@ -173,7 +177,7 @@ fn or_limit(found: Option<Vec<u8>>, line: u64) -> Result<Vec<u8>, Fault>
     }
 }
 
-// The first so many names, or all of them.
+// The first `count` names, or all if there are fewer.
 #[tactic(auto, using(crate::proofs::Items::take_seen))]
 fn first_names(names: &[Vec<u8>], count: usize) -> &[Vec<u8>]
     ensures { bytes_of result.now ≡ take count (bytes_of names.now) }

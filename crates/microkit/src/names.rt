@@ -15,7 +15,7 @@ pub const MAX_LABEL_LENGTH: usize = 24;
 /// The number of names that are tried for a label.
 pub const MAX_TRIES: u64 = 512;
 
-/// What an object is in its label.
+/// The part that an object is in its label.
 #[derive(Clone, Copy, Debug)]
 pub enum Part {
     Space,
@@ -32,7 +32,7 @@ pub enum Part {
 
 /// A law: no two objects have one name.
 ///
-/// The name of an object tells its label and its part.
+/// The name of an object determines its label and its part.
 pub fn objects_have_names_of_their_own()
     ensures { (one other : List ℕ) (part that : Part) → part_number part < 2 ^ 64 → part_number that < 2 ^ 64
         → object_name one part ≡ object_name other that → (one ≡ other) × (part ≡ that) }

@@ -17,7 +17,7 @@ use std::alloc::Global;
 use words::Fault;
 use xml::{Element, read_document};
 
-// What is taken from the elements when they are gone over.
+// The part of a description that is taken from the elements as they are read.
 #[derive(Clone, Copy)]
 enum Phase {
     Forms,
@@ -67,7 +67,7 @@ fn description_at(alloc: Global, elements: &[Element<'_>]) -> Result<Description
 }
 
 impl Draft {
-    // Takes what is to be taken from all elements.
+    // Takes what must be taken from all elements.
     #[tactic(auto, using(crate::proofs::Steps::none_left, crate::proofs::Steps::one_taken, crate::proofs::Steps::one_refused))]
     fn take_all(
         &mut self,

@@ -35,10 +35,10 @@ impl Standing {
     };
 }
 
-/// The place of a slot in the derivation tree: its parent, the first of its children, and the
-/// children of its parent after and before it.
+/// The place of a slot in the derivation tree.
 ///
-/// All four are `None` where the slot is empty, or has neither parent nor children.
+/// It is the slot's parent, the first of its children, and the children of its parent after and
+/// before it. All four are `None` where the slot is empty, or has neither parent nor children.
 #[derive(Clone, Copy)]
 pub struct TreeLinks {
     pub parent: Option<SlotRef>,

@@ -1,6 +1,7 @@
 //! From the number of an object to the place of its entry.
+ghost use Rattle.std.specs.Prelude.{[], ℕ, ◌++◌, ◌+◌, ◌-◌, ◌<◌, ◌≡◌, ◌≢◌, ◌≤◌, None, OnErr, OnOk, Some, length, nat_eq};
+ghost use Rattle.std.specs.Prelude.{replicate, slice_get};
 ghost use Rattle.std.specs.HashMap as hash;
-ghost use Rattle.std.specs.Prelude.{[], ℕ, ◌++◌, ◌+◌, ◌-◌, ◌<◌, ◌≡◌, ◌≢◌, ◌≤◌, None, OnErr, OnOk, Some, length, nat_eq, replicate, slice_get};
 ghost use Rattle.objects.specs.{Edits.edited, Places.places_in};
 
 use base::MAX_OBJECTS;
@@ -137,7 +138,7 @@ pub fn widen(places: &mut Places, number: u64) -> Result<(), AllocError>
     places.early.widen(width_for(len, number as usize))
 }
 
-// How many numbers a table of so many comes to be for, so that it is for the number too.
+// The number of numbers that a table of `len` numbers must have room for, so that it has room for the number too.
 fn width_for(len: usize, number: usize) -> usize
     requires { number < WIDEST }
     ensures { (len ≤ result) × (number < result) }
@@ -161,7 +162,9 @@ pub fn make_room(places: &mut Places, count: usize) -> Result<(), AllocError>
     places.late.reserve(count)
 }
 
-/// Sets the place of a number. There is room for it.
+/// Sets the place of a number.
+///
+/// There is room for it.
 pub fn set_place(places: &mut Places, number: u64, place: usize)
     requires { 1 ≤ hash.spare places.old.late }
     ensures placed { places_in places.new number ≡ Some place }

@@ -1,6 +1,7 @@
 //! Where the entry of an object is kept: from numbers to places, and the entries at these.
 ghost use Rattle.std.specs.Prelude.{ℕ, ◌+◌, ◌-◌, ◌<◌, ◌^◌, ◌≡◌, ◌≤◌, None, OnOk, option_copied, option_map};
-ghost use Rattle.objects.specs.Entries.{caps_in, change_slot_in, replace_in, set_caps_in, set_ends_in, set_standing_in, set_word_in, slot_at};
+ghost use Rattle.objects.specs.Entries.{caps_in, change_slot_in, replace_in, set_caps_in, set_ends_in, set_standing_in};
+ghost use Rattle.objects.specs.Entries.{set_word_in, slot_at};
 ghost use Rattle.objects.specs.Family.{cap_in};
 ghost use Rattle.objects.specs.Places.{AddsEntry, HasRoom, RemovesEntry, SameEntries, placed, places_in, with_placed};
 
@@ -26,7 +27,8 @@ pub fn entry<'a>(places: &Places, entries: &'a Slab<Entry>, id: ObjId) -> Option
 /// Sets what the slot holds, if it is there.
 pub fn set_cap(places: &Places, entries: &mut Slab<Entry>, at: SlotRef, cap: Option<Cap>)
     ensures { entries.new
-        ≡ with_placed (places_in places.now) entries.old at.holder (change_slot_in at.index (λ slot. record slot { cap = cap })) }
+        ≡ with_placed (places_in places.now) entries.old at.holder
+        (change_slot_in at.index (λ slot. record slot { cap = cap })) }
 {
     if let Some(place) = place_of(places, at.holder.0) {
         if let Some(entry) = entries.get_mut(place) {
@@ -38,7 +40,8 @@ pub fn set_cap(places: &Places, entries: &mut Slab<Entry>, at: SlotRef, cap: Opt
 /// Sets the slot's first child, if the slot is there.
 pub fn set_first(places: &Places, entries: &mut Slab<Entry>, at: SlotRef, first: Option<SlotRef>)
     ensures { entries.new
-        ≡ with_placed (places_in places.now) entries.old at.holder (change_slot_in at.index (λ slot. record slot { links = record slot.links { first = first } })) }
+        ≡ with_placed (places_in places.now) entries.old at.holder
+        (change_slot_in at.index (λ slot. record slot { links = record slot.links { first = first } })) }
 {
     if let Some(place) = place_of(places, at.holder.0) {
         if let Some(entry) = entries.get_mut(place) {
@@ -50,7 +53,8 @@ pub fn set_first(places: &Places, entries: &mut Slab<Entry>, at: SlotRef, first:
 /// Sets the sibling that follows the slot, if the slot is there.
 pub fn set_next(places: &Places, entries: &mut Slab<Entry>, at: SlotRef, next: Option<SlotRef>)
     ensures { entries.new
-        ≡ with_placed (places_in places.now) entries.old at.holder (change_slot_in at.index (λ slot. record slot { links = record slot.links { next = next } })) }
+        ≡ with_placed (places_in places.now) entries.old at.holder
+        (change_slot_in at.index (λ slot. record slot { links = record slot.links { next = next } })) }
 {
     if let Some(place) = place_of(places, at.holder.0) {
         if let Some(entry) = entries.get_mut(place) {
@@ -67,7 +71,8 @@ pub fn set_previous(
     previous: Option<SlotRef>,
 )
     ensures { entries.new
-        ≡ with_placed (places_in places.now) entries.old at.holder (change_slot_in at.index (λ slot. record slot { links = record slot.links { previous = previous } })) }
+        ≡ with_placed (places_in places.now) entries.old at.holder
+        (change_slot_in at.index (λ slot. record slot { links = record slot.links { previous = previous } })) }
 {
     if let Some(place) = place_of(places, at.holder.0) {
         if let Some(entry) = entries.get_mut(place) {
@@ -87,7 +92,8 @@ pub fn set_under(
     next: Option<SlotRef>,
 )
     ensures { entries.new
-        ≡ with_placed (places_in places.now) entries.old at.holder (change_slot_in at.index (λ slot. record slot { links = record slot.links { parent = parent; next = next; previous = None } })) }
+        ≡ with_placed (places_in places.now) entries.old at.holder (change_slot_in at.index
+        (λ slot. record slot { links = record slot.links { parent = parent; next = next; previous = None } })) }
 {
     if let Some(place) = place_of(places, at.holder.0) {
         if let Some(entry) = entries.get_mut(place) {
@@ -144,7 +150,8 @@ pub fn set_word(places: &Places, entries: &mut Slab<Entry>, id: ObjId, index: u6
 pub fn count_more(places: &Places, entries: &mut Slab<Entry>, id: ObjId)
     requires { caps_in (placed (places_in places.now) entries.old id) + 1 < 2 ^ 64 }
     ensures { entries.new
-        ≡ with_placed (places_in places.now) entries.old id (set_caps_in (caps_in (placed (places_in places.now) entries.old id) + 1)) }
+        ≡ with_placed (places_in places.now) entries.old id
+        (set_caps_in (caps_in (placed (places_in places.now) entries.old id) + 1)) }
 {
     if let Some(place) = place_of(places, id.0) {
         if let Some(entry) = entries.get_mut(place) {
@@ -157,7 +164,8 @@ pub fn count_more(places: &Places, entries: &mut Slab<Entry>, id: ObjId)
 pub fn count_less(places: &Places, entries: &mut Slab<Entry>, id: ObjId)
     requires { 1 ≤ caps_in (placed (places_in places.now) entries.old id) }
     ensures { entries.new
-        ≡ with_placed (places_in places.now) entries.old id (set_caps_in (caps_in (placed (places_in places.now) entries.old id) - 1)) }
+        ≡ with_placed (places_in places.now) entries.old id
+        (set_caps_in (caps_in (placed (places_in places.now) entries.old id) - 1)) }
 {
     if let Some(place) = place_of(places, id.0) {
         if let Some(entry) = entries.get_mut(place) {
@@ -168,9 +176,11 @@ pub fn count_less(places: &Places, entries: &mut Slab<Entry>, id: ObjId)
 
 /// Empties the slot, if it is there, and returns the object that its capability was for.
 pub fn empty_slot(places: &Places, entries: &mut Slab<Entry>, at: SlotRef) -> Option<ObjId>
-    ensures value { result ≡ option_map (λ cap. cap.object) (cap_in (slot_at (placed (places_in places.now) entries.old) at)) }
+    ensures value { result
+        ≡ option_map (λ cap. cap.object) (cap_in (slot_at (placed (places_in places.now) entries.old) at)) }
     ensures emptied { entries.new
-        ≡ with_placed (places_in places.now) entries.old at.holder (change_slot_in at.index (λ slot. record slot { cap = None })) }
+        ≡ with_placed (places_in places.now) entries.old at.holder
+        (change_slot_in at.index (λ slot. record slot { cap = None })) }
 {
     let place = place_of(places, at.holder.0)?;
     entries.get_mut(place)?.slots.empty_at(at.index)
@@ -197,7 +207,9 @@ pub fn reserve(
     entries.reserve(count)
 }
 
-/// Adds an entry under a number that is not in use. There is room for it.
+/// Adds an entry under a number that is not in use.
+///
+/// There is room for it.
 pub fn add_reserved(places: &mut Places, entries: &mut Slab<Entry>, number: u64, entry: Entry)
     requires { HasRoom places.old entries.old 1 }
     ensures added { AddsEntry (places_in places.old) (places_in places.new) entries.old entries.new number entry }

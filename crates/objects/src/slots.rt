@@ -70,7 +70,8 @@ impl Slots {
 
     /// Sets the first child of the slot at the index, if there is such a slot.
     pub fn set_first(&mut self, index: u64, first: Option<SlotRef>)
-        ensures { self.new ≡ edited (λ slot. record slot { links = record slot.links { first = first } }) self.old index }
+        ensures { self.new
+            ≡ edited (λ slot. record slot { links = record slot.links { first = first } }) self.old index }
     {
         if let Some(slot) = self.items.get_mut(index as usize) {
             slot.links.first = first;
@@ -88,7 +89,8 @@ impl Slots {
 
     /// Sets the sibling that the slot at the index follows, if there is such a slot.
     pub fn set_previous(&mut self, index: u64, previous: Option<SlotRef>)
-        ensures { self.new ≡ edited (λ slot. record slot { links = record slot.links { previous = previous } }) self.old index }
+        ensures { self.new
+            ≡ edited (λ slot. record slot { links = record slot.links { previous = previous } }) self.old index }
     {
         if let Some(slot) = self.items.get_mut(index as usize) {
             slot.links.previous = previous;
@@ -115,8 +117,7 @@ impl Slots {
         Some(self.get(index)?.cap.as_ref()?.object)
     }
 
-    /// Empties the slot at the index, if there is one, and returns the object that its capability
-    /// was for.
+    /// Empties the slot at the index, if there is one, and returns the object that its capability was for.
     pub fn empty_at(&mut self, index: u64) -> Option<ObjId>
         ensures value { result ≡ option_map (λ cap. cap.object) (cap_in (slice_get self.old index)) }
         ensures emptied { self.new ≡ edited (λ slot. record slot { cap = None }) self.old index }

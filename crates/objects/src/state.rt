@@ -41,17 +41,20 @@ impl Model for State {
 }
 
 impl State {
-    ghost use Rattle.std.specs.{List.fold, Prelude.{◌*◌, ◌+◌, ◌<◌, ◌^◌, ◌≡◌, ◌≢◌, ◌≤◌, IfNone, IfOk, IfSome, IsSome, IsTrue, None, OnErr}};
-    ghost use Rattle.std.specs.Prelude.{OnOk, Some, length, option_and_then, option_copied, slice_get};
-    ghost use Rattle.base.specs.declared.{ids.{ObjId.ObjId as Id, SlotRef.SlotRef as Slot}, limits.TheConstants.MAX_RADIX};
-    ghost use Rattle.base.specs.declared.limits.TheConstants.{OBJECT_NUMBERS};
-    ghost use Rattle.machine.specs.{declared.{cap.Cap.Cap, object.CNode.CNode}, Changes.{first_waiting, with_context, with_going}};
+    ghost use Rattle.std.specs.List.{fold};
+    ghost use Rattle.std.specs.Prelude.{◌*◌, ◌+◌, ◌<◌, ◌^◌, ◌≡◌, ◌≢◌, ◌≤◌, IfNone, IfOk, IfSome, IsSome, IsTrue, None};
+    ghost use Rattle.std.specs.Prelude.{OnErr, OnOk, Some, length, option_and_then, option_copied, slice_get};
+    ghost use Rattle.base.specs.declared.ids.{ObjId.ObjId as Id, SlotRef.SlotRef as Slot};
+    ghost use Rattle.base.specs.declared.limits.TheConstants.{MAX_RADIX, OBJECT_NUMBERS};
+    ghost use Rattle.machine.specs.declared.{cap.Cap.Cap, object.CNode.CNode};
+    ghost use Rattle.machine.specs.Changes.{first_waiting, with_context, with_going, with_none_going, with_pending};
+    ghost use Rattle.machine.specs.Changes.{with_reply, with_tcb, with_waiting, with_watermark, with_word};
+    ghost use Rattle.machine.specs.Changes.{without_first, without_object, without_waiting};
+    ghost use Rattle.machine.specs.Counts.{caps_to, objects_in, slots_in, threads_in};
+    ghost use Rattle.machine.specs.Machine.{cap_of, empty_machine, has_slot, object_of, parent_of, with_cap, with_new};
+    ghost use Rattle.machine.specs.Machine.{with_object, with_parent, without_cap, without_parent, words_of};
+    ghost use Rattle.machine.specs.{Objects.{slot_count, thread_count}, Tree.{IsAlone, IsRanked}, WellFormed.Descends};
     ghost use Rattle.machine.specs.declared.object.Object.TheVariants as o;
-    ghost use Rattle.machine.specs.Changes.{with_none_going, with_pending, with_reply, with_tcb, with_waiting, with_watermark, with_word};
-    ghost use Rattle.machine.specs.{Changes.{without_first, without_object, without_waiting}, Counts.{caps_to, objects_in, slots_in}};
-    ghost use Rattle.machine.specs.{Counts.threads_in, Machine.{cap_of, empty_machine, has_slot, object_of, parent_of, with_cap, with_new}};
-    ghost use Rattle.machine.specs.{Machine.{with_object, with_parent, without_cap, without_parent, words_of}, Objects.slot_count};
-    ghost use Rattle.machine.specs.{Objects.thread_count, Tree.{IsAlone, IsRanked}, WellFormed.Descends};
     ghost use Rattle.objects.specs.{Pairs.{AreFilled, AreFilledOrGoing, IsFilledOrGoing, MayEmpty}, Roots.root_cap};
     ghost use Rattle.objects.specs.Waiting.{WaitsNowhere, WaitsThere};
 
@@ -109,7 +112,8 @@ impl State {
 
     /// Shows that each capability is for an object that is there.
     pub fn caps_are_for_objects(&self)
-        ensures { (slot : Slot) (held : Cap) → cap_of self.now slot ≡ Some held → IsSome (object_of self.now held.object) }
+        ensures { (slot : Slot) (held : Cap) → cap_of self.now slot ≡ Some held
+            → IsSome (object_of self.now held.object) }
     {
         // Reading a field makes known what the type keeps.
         let _ = &self.next;
@@ -163,16 +167,16 @@ impl State {
         self.store.held(slot)
     }
 
-    /// Returns the capability in a thread's root slot; none where that slot is empty or the object
-    /// is no thread.
+    /// Returns the capability in a thread's root slot; none where that slot is empty or the object is no thread.
     pub fn root(&self, thread: ObjId) -> Option<&Cap>
         ensures { option_copied result ≡ root_cap self.now thread }
     {
         self.store.root(thread)
     }
 
-    /// Returns the slot whose capability that in this one was derived from, if it was derived (seL4
-    /// manual, "Capability Derivation Tree").
+    /// Returns the slot that this slot's capability was derived from (seL4 manual, "Capability Derivation Tree").
+    ///
+    /// It is `None` where the capability wasn't derived.
     pub fn parent(&self, slot: SlotRef) -> Option<SlotRef>
         ensures { result ≡ parent_of self.now slot }
     {
@@ -189,8 +193,7 @@ impl State {
         }
     }
 
-    /// Returns the object's word at the index; none where the object isn't there or has fewer
-    /// words.
+    /// Returns the object's word at the index; none where the object isn't there or has fewer words.
     pub fn word(&self, id: ObjId, index: u64) -> Option<u64>
         ensures { result ≡ option_and_then (λ words. slice_get words index) (words_of self.now id) }
     {
@@ -269,8 +272,10 @@ impl State {
         self.store.count_more(cap.object);
     }
 
-    /// Empties the slot, which is in no pair of the derivation tree, or whose holder is going: then it keeps
-    /// its place there.
+    /// Empties the slot.
+    ///
+    /// The slot is in no pair of the derivation tree, or its holder is going. In the second case it
+    /// keeps its place in the tree.
     pub fn take_cap(&mut self, slot: SlotRef)
         requires { MayEmpty self.old slot }
         ensures { self.new ≡ without_cap self.old slot }
@@ -289,8 +294,7 @@ impl State {
         at_index(&self.going, index)
     }
 
-    /// Returns the number of objects that have lost their last capability in a removal that is
-    /// under way.
+    /// Returns the number of objects that have lost their last capability in a removal that is under way.
     pub fn going_count(&self) -> u64
         ensures { result ≡ length self.now.going }
     {
@@ -325,11 +329,10 @@ impl State {
         self.store.first_child(slot)
     }
 
-    /// Makes `slot`, which has no parent, a child of `parent` in the derivation tree (seL4 manual,
-    /// "Capability Derivation Tree").
+    /// Makes `slot` a child of `parent` in the derivation tree (seL4 manual, "Capability Derivation Tree").
     ///
-    /// The slot keeps its children, so the parent may not descend from it. Each of the two is
-    /// filled, or its holder is going.
+    /// The slot has no parent before. It keeps its children, so the parent may not descend from it.
+    /// Each of the two is filled, or its holder is going.
     pub fn attach(&mut self, slot: SlotRef, parent: SlotRef)
         requires below { IsTrue (has_slot self.old slot) }
         requires above { IsTrue (has_slot self.old parent) }
@@ -342,20 +345,22 @@ impl State {
         self.store.attach(slot, parent);
     }
 
-    /// Takes the slot away from its parent, if it has one. It keeps its children.
+    /// Takes the slot away from its parent, if it has one.
+    ///
+    /// It keeps its children.
     pub fn detach(&mut self, slot: SlotRef)
         ensures { self.new ≡ without_parent self.old slot }
     {
         self.store.detach(slot);
     }
 
-    /// Shows that pairs of the derivation tree join slots that are there, and that no slot descends
-    /// from itself.
+    /// Shows that pairs of the derivation tree join slots that are there, and that no slot descends from itself.
     ///
     /// Each of these slots is filled, or its holder is going.
     pub fn keeps_a_forest(&self)
         ensures below { (slot parent : Slot) → parent_of self.now slot ≡ Some parent → IsTrue (has_slot self.now slot) }
-        ensures above { (slot parent : Slot) → parent_of self.now slot ≡ Some parent → IsTrue (has_slot self.now parent) }
+        ensures above { (slot parent : Slot) → parent_of self.now slot ≡ Some parent
+            → IsTrue (has_slot self.now parent) }
         ensures paired { AreFilledOrGoing self.now }
         ensures ranked { IsRanked self.now }
         ensures acyclic { (slot : Slot) → ¬ Descends self.now slot slot }
@@ -375,7 +380,9 @@ impl State {
         self.store.replace(id, object);
     }
 
-    /// Sets the watermark of the untyped memory. Does nothing where there is none of that number.
+    /// Sets the watermark of the untyped memory.
+    ///
+    /// Does nothing where there is none of that number.
     #[tactic(auto, unfolding(machine::specs::Changes::with_watermark))]
     pub fn set_watermark(&mut self, id: ObjId, watermark: u64)
         ensures { self.new ≡ with_watermark self.old id watermark }
@@ -389,7 +396,9 @@ impl State {
         }
     }
 
-    /// Sets the word of the notification. Does nothing where there is none of that number.
+    /// Sets the word of the notification.
+    ///
+    /// Does nothing where there is none of that number.
     #[tactic(auto, unfolding(machine::specs::Changes::with_pending))]
     pub fn set_pending(&mut self, id: ObjId, pending: Option<u64>)
         ensures { self.new ≡ with_pending self.old id pending }
@@ -403,7 +412,9 @@ impl State {
         }
     }
 
-    /// Sets the thread. Does nothing where there is none of that number.
+    /// Sets the thread.
+    ///
+    /// Does nothing where there is none of that number.
     #[tactic(auto, unfolding(machine::specs::Changes::with_tcb))]
     pub fn set_tcb(&mut self, id: ObjId, thread: Tcb)
         ensures { self.new ≡ with_tcb self.old id thread }
@@ -413,7 +424,9 @@ impl State {
         }
     }
 
-    /// Sets the reply. Does nothing where there is none of that number.
+    /// Sets the reply.
+    ///
+    /// Does nothing where there is none of that number.
     #[tactic(auto, unfolding(machine::specs::Changes::with_reply))]
     pub fn set_reply(&mut self, id: ObjId, reply: Reply)
         ensures { self.new ≡ with_reply self.old id reply }
@@ -423,7 +436,9 @@ impl State {
         }
     }
 
-    /// Sets the scheduling context. Does nothing where there is none of that number.
+    /// Sets the scheduling context.
+    ///
+    /// Does nothing where there is none of that number.
     #[tactic(auto, unfolding(machine::specs::Changes::with_context))]
     pub fn set_context(&mut self, id: ObjId, context: Context)
         ensures { self.new ≡ with_context self.old id context }

@@ -46,10 +46,12 @@ impl Store {
     ghost use Rattle.std.specs.FinMap as finite;
     ghost use Rattle.std.specs.{List.AllByRecursion, Prelude.{◌+◌, ◌-◌, ◌<◌, ◌^◌, ◌≤◌, length, map, slice_get}};
     ghost use Rattle.base.specs.declared.limits.TheConstants.{OBJECT_NUMBERS};
-    ghost use Rattle.objects.specs.Entries.{caps_in, entry_of, new_entry, replace_in, set_caps_in, set_ends_in, set_standing_in};
-    ghost use Rattle.objects.specs.{Entries.{set_word_in, slot_at, with_entry, with_more}, Family.{attached, cap_in, detached}};
-    ghost use Rattle.objects.specs.{Family.{leaving, links_at, parent_in, with_links, with_slot}, Links.{pushed, quitted, standing_of}};
-    ghost use Rattle.objects.specs.{Links.with_standing, Radices.HasRadix, Roots.root_in};
+    ghost use Rattle.objects.specs.Entries.{caps_in, entry_of, new_entry, replace_in, set_caps_in, set_ends_in};
+    ghost use Rattle.objects.specs.Entries.{set_standing_in, set_word_in, slot_at, with_entry, with_more};
+    ghost use Rattle.objects.specs.Family.{attached, cap_in, detached, leaving, links_at, parent_in, with_links};
+    ghost use Rattle.objects.specs.Family.{with_slot};
+    ghost use Rattle.objects.specs.{Links.{pushed, quitted, standing_of, with_standing}, Radices.HasRadix};
+    ghost use Rattle.objects.specs.Roots.{root_in};
 
     /// Returns a store without entries.
     pub fn new(alloc: Global) -> Store

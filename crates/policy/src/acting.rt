@@ -1,13 +1,15 @@
+//! Laws about what may change and what may shrink where only some labels act.
 ghost use Rattle.std.specs.Prelude.{ℕ, ◌≡◌, ◌⊎◌, true};
 ghost use Rattle.base.specs.declared.kind.Kind.{Kind};
 ghost use Rattle.base.specs.declared.kind.Kind.TheVariants as authority;
-ghost use Rattle.policy.specs.{Change.{ActorTest, MayChange, is_changing}, Closing.IsWithin, Domain.EdgeTest, Full.IsFull};
-ghost use Rattle.policy.specs.NarrowTake.{MaySendTo, MayShrink, is_removed, is_waiting};
+ghost use Rattle.policy.specs.{Change.{ActorTest, MayChange, is_changing}, Closing.IsWithin, Domain.EdgeTest};
+ghost use Rattle.policy.specs.{Full.IsFull, NarrowTake.{MaySendTo, MayShrink, is_removed, is_waiting}};
 ghost use Rattle.policy.specs.Take.{HasNone, MayTake};
 
-/// A law: a label has full authority on each label whose objects it may change, whichever labels act. It
-/// may change no fewer where the policy has more edges or more labels act; and a label that doesn't act
-/// may change nothing.
+/// A law: a label has full authority on each label whose objects it may change, whichever labels act.
+///
+/// It may change no fewer where the policy has more edges or more labels act; and a label that doesn't
+/// act may change nothing.
 pub fn what_may_be_changed_is_within_full_authority()
     ensures full { (test : EdgeTest) (acts : ActorTest) (a l : ℕ) → MayChange test acts a l → IsFull test a l }
     ensures grows { (test other : EdgeTest) (acts more : ActorTest)
@@ -17,12 +19,14 @@ pub fn what_may_be_changed_is_within_full_authority()
     ensures acts { (test : EdgeTest) (acts : ActorTest) (a l : ℕ) → MayChange test acts a l → acts a ≡ true }
 {}
 
-/// A law: where an object of a label may shrink by what another label does, that one may take from it or
-/// has full authority on it, whichever labels act. There is no less of it where the policy has more edges
-/// or more labels act. Nothing shrinks by a label that doesn't act; and by one without an edge of control,
-/// context or reply nothing but the replies of those to whom it may send.
+/// A law: a label may take from each label whose objects may shrink by what it does, or has full authority on it.
+///
+/// This is so whichever labels act. No less may shrink where the policy has more edges or more
+/// labels act. Nothing shrinks by a label that doesn't act. By a label without an edge of control,
+/// context or reply nothing shrinks but the replies of those to whom it may send.
 pub fn what_may_shrink_may_be_taken()
-    ensures take { (test : EdgeTest) (acts : ActorTest) (a l : ℕ) → MayShrink test acts a l → MayTake test a l ⊎ IsFull test a l }
+    ensures take { (test : EdgeTest) (acts : ActorTest) (a l : ℕ) → MayShrink test acts a l
+        → MayTake test a l ⊎ IsFull test a l }
     ensures grows { (test other : EdgeTest) (acts more : ActorTest)
         → IsWithin test other
         → ((x : ℕ) → acts x ≡ true → more x ≡ true)
@@ -41,10 +45,15 @@ pub fn what_may_shrink_may_be_taken()
         → (l : ℕ) → ¬ MayShrink test acts a l }
 {}
 
-/// A law: a label that acts may change its own objects, what it has a capability to that changes it, a
-/// context by its own case, those who wait where it sends, receives or notifies, the replies of those who
-/// receive its calls, where those keep capabilities who receive them from it, and those who called and are
-/// held by a reply of its.
+/// A law: a label that acts may change objects of the labels that it reaches by one of these paths.
+///
+/// - its own label
+/// - a label to which it has an edge of a kind that changes the object
+/// - the label of a context, by a case of its own (`configures`, `binds`, `lends` and `returns`)
+/// - those who wait where it sends, receives or notifies
+/// - the replies of those who receive its calls
+/// - where those keep capabilities who receive them from it
+/// - those who called and are held by one of its replies.
 pub fn changes_follow_paths()
     ensures own { (test : EdgeTest) (acts : ActorTest) (a : ℕ) → acts a ≡ true → MayChange test acts a a }
     ensures modifies { (test : EdgeTest) (acts : ActorTest) (a l : ℕ) (k : Kind)
@@ -117,9 +126,13 @@ pub fn changes_follow_paths()
         → MayChange test acts a l }
 {}
 
-/// A law: by a label that acts may shrink the contexts that it has and those who run on them; who may wait
-/// with a reply of its, and where that one receives; the replies of those who receive from it; and, where it
-/// controls a label, what that label has to do with and who waits for what it may delete.
+/// A law: objects of the labels that a label that acts reaches by one of these paths may shrink by what it does.
+///
+/// - the contexts that it has, and those who run on them
+/// - those who may wait with one of its replies, and where such a label receives
+/// - the replies of those who receive from it
+/// - where it controls a label, what that label has to do with, and who waits for what that label
+///   may delete.
 pub fn shrinks_follow_paths()
     ensures unbinds { (test : EdgeTest) (acts : ActorTest) (a l : ℕ)
         → acts a ≡ true

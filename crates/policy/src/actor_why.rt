@@ -1,6 +1,8 @@
+//! What a label may do to another's objects where only some labels act, and the edges of one reason for it.
 ghost use Rattle.std.specs.Prelude.{◌≡◌, IfErr, IfOk};
 ghost use Rattle.base.specs.{Labels.is_in, Refusals.out_of_memory};
-ghost use Rattle.policy.specs.{ActorReasons.{IsChangeBy, IsShrinkBy, IsWhyAmong}, Policy.allows, Walks.{FindsWalk, GoesAgainst, GoesAlong}};
+ghost use Rattle.policy.specs.{ActorReasons.{IsChangeBy, IsShrinkBy, IsWhyAmong}, Policy.allows};
+ghost use Rattle.policy.specs.Walks.{FindsWalk, GoesAgainst, GoesAlong};
 
 use crate::change::CHANGING;
 use crate::guarded::Turn;
@@ -11,8 +13,9 @@ use base::{Edge, Kind, Label, Labels, Refusal};
 use std::alloc::Global;
 
 impl Policy {
-    /// What `actor` may do to objects of the label `object` where only threads of the labels `actors` act,
-    /// and why.
+    /// Returns what `actor` may do to objects of the label `object`, and why.
+    ///
+    /// Only threads of the labels `actors` act.
     ///
     /// # Errors
     ///

@@ -1,11 +1,12 @@
+//! The first rule of closed policies that a policy breaks, and where.
 pub(crate) mod cells;
 pub(crate) mod rules;
 pub(crate) mod steps;
 
 ghost use Rattle.std.specs.Prelude.{[], ◌%◌, ◌*◌, ◌/◌, ◌<◌, ◌∷◌, ◌≡◌, ◌≤◌, IsTrue};
 ghost use Rattle.base.specs.declared.label.TheConstants.Label as Label;
-ghost use Rattle.policy.specs.{Broken.{IsBrokenAt, broken_place, broken_rule, edge_asked_at}, Places.FindsLeast, Policy.allows};
-ghost use Rattle.policy.specs.{Search.FindsBroken, Sweep.{count_of, place_of, rule_number}};
+ghost use Rattle.policy.specs.{Broken.{IsBrokenAt, broken_place, broken_rule, edge_asked_at}, Places.FindsLeast};
+ghost use Rattle.policy.specs.{Policy.allows, Search.FindsBroken, Sweep.{count_of, place_of, rule_number}};
 
 use crate::Policy;
 use base::{Edge, Kind, Label};
@@ -75,7 +76,7 @@ pub enum Broken {
 }
 
 impl Broken {
-    /// The name of the rule that is broken.
+    /// Returns the name of the rule that is broken.
     pub fn rule(&self) -> &'static str
         ensures { result.now ≡ broken_rule self.now }
     {
@@ -91,8 +92,9 @@ impl Broken {
         }
     }
 
-    /// The edge that the rule asks for, and that the policy lacks; none by P1, which doesn't tell which of
-    /// two labels lacks it.
+    /// Returns the edge that the rule requires and the policy lacks.
+    ///
+    /// There is none by P1, which doesn't say which of two labels lacks it.
     pub fn edge(&self) -> Option<Edge>
         ensures { result ≡ edge_asked_at self.now }
     {
@@ -191,7 +193,8 @@ impl Rule {
             .filter_map(
                 |number: usize| -> Option<Broken>
                     requires { (labels ≤ Label.COUNT) × (number < count_of labels self) }
-                    ensures { FindsBroken (allows policy.entry.now) (rule_number self ∷ place_of labels self number) result }
+                    ensures { FindsBroken (allows policy.entry.now)
+                        (rule_number self ∷ place_of labels self number) result }
                 { self.broken_at(policy, labels, number) },
             )
             .find_first(
@@ -224,8 +227,9 @@ fn pair(labels: usize, number: usize) -> (Label, Label)
     (label(number / labels), label(number % labels))
 }
 
-/// The first rule of closed policies that a policy breaks, and the first place where it does. Pairs of
-/// labels are looked at side by side. It takes no memory.
+/// Returns the first rule of closed policies that a policy breaks, and the first place where it does.
+///
+/// Pairs of labels are looked at side by side. It takes no memory.
 pub fn first_broken(rt: &(impl Threads + Sync), policy: &Policy) -> Option<Broken>
     ensures { FindsLeast broken_place (IsBrokenAt (allows policy.now)) result }
 {

@@ -1,6 +1,8 @@
+//! Whose objects a label may change where only some labels act.
 ghost use Rattle.std.specs.Prelude.{ℕ, ◌↔◌, ◌≡◌, IsTrue, true};
 ghost use Rattle.base.specs.Labels.{is_in};
-ghost use Rattle.policy.specs.{Change.{MayAnswer, MayChange, MayChangeContext, MayHoldCaller}, Policy.allows, Steps.{IsSource, is_joined}};
+ghost use Rattle.policy.specs.{Change.{MayAnswer, MayChange, MayChangeContext, MayHoldCaller}, Policy.allows};
+ghost use Rattle.policy.specs.Steps.{IsSource, is_joined};
 
 use crate::Policy;
 use base::{Kind, Label, Labels};
@@ -17,17 +19,19 @@ pub(crate) const CHANGING: [Kind; 7] = [
 ];
 
 impl Policy {
-    /// Whether threads of the label `actor` may change objects of the label `object`, or move its threads,
-    /// where only threads of the labels `actors` act.
+    /// Returns whether threads of the label `actor` may change objects of the label `object`, or move its threads.
+    ///
+    /// Only threads of the labels `actors` act.
     pub fn may_change(&self, actors: Labels, actor: Label, object: Label) -> bool
         ensures { IsTrue result ↔ MayChange (allows self.now) (is_in actors) actor object }
     {
         self.change_labels(actors, actor).has(object)
     }
 
-    /// The labels whose objects `actor` may change, as [`Policy::may_change`] says of each.
+    /// Returns the labels whose objects `actor` may change, as [`Policy::may_change`] says of each.
     pub fn change_labels(&self, actors: Labels, actor: Label) -> Labels
-        ensures { (object : ℕ) → (is_in result object ≡ true) ↔ MayChange (allows self.now) (is_in actors) actor object }
+        ensures { (object : ℕ)
+            → (is_in result object ≡ true) ↔ MayChange (allows self.now) (is_in actors) actor object }
     {
         if !actors.has(actor) {
             return Labels::none();
@@ -81,7 +85,8 @@ impl Policy {
 
     // The labels whose calls the label may answer.
     fn answered(&self, actors: Labels, actor: Label) -> Labels
-        ensures { (object : ℕ) → (is_in result object ≡ true) ↔ MayAnswer (allows self.now) (is_in actors) actor object }
+        ensures { (object : ℕ)
+            → (is_in result object ≡ true) ↔ MayAnswer (allows self.now) (is_in actors) actor object }
     {
         let replies = self.row(actor, Kind::Reply);
         let mut found = Labels::none();
@@ -97,7 +102,8 @@ impl Policy {
 
     /// The replies that may hold threads of the label since they called.
     pub(crate) fn holding(&self, actors: Labels, caller: Label) -> Labels
-        ensures { (reply : ℕ) → (is_in result reply ≡ true) ↔ MayHoldCaller (allows self.now) (is_in actors) reply caller }
+        ensures { (reply : ℕ)
+            → (is_in result reply ≡ true) ↔ MayHoldCaller (allows self.now) (is_in actors) reply caller }
     {
         if !actors.has(caller) {
             return Labels::none();
@@ -109,7 +115,8 @@ impl Policy {
 
     // The labels of `actors` that this reply holds and that call where it is named.
     fn callers(&self, actors: Labels, reply: Label) -> Labels
-        ensures { (caller : ℕ) → (is_in result caller ≡ true) ↔ MayHoldCaller (allows self.now) (is_in actors) reply caller }
+        ensures { (caller : ℕ)
+            → (is_in result caller ≡ true) ↔ MayHoldCaller (allows self.now) (is_in actors) reply caller }
     {
         let servers = self.waiting(actors, Labels::only(reply), &[Kind::Reply]);
         let endpoints = self.targets(servers, &[Kind::Receive]);

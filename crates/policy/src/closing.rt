@@ -1,7 +1,8 @@
+//! The least closed policy that has the edges of a policy, and some more.
 ghost use Rattle.std.specs.Prelude.{ℕ, ◌++◌, ◌||◌, ◌↔◌, ◌≡◌, IfErr, IfOk, OnOk, false, true};
 ghost use Rattle.base.specs.{declared.kind.Kind.Kind, Labels.is_in, Refusals.out_of_memory};
-ghost use Rattle.policy.specs.{Closed.{ControlGives, IsClosed}, Closing.IsLeastClosed, Policy.allows, Settling.{Grows, IsGiven, IsMissing}};
-ghost use Rattle.policy.specs.Settling.{IsSettled, Joins, Shares};
+ghost use Rattle.policy.specs.{Closed.{ControlGives, IsClosed}, Closing.IsLeastClosed, Policy.allows};
+ghost use Rattle.policy.specs.Settling.{Grows, IsGiven, IsMissing, IsSettled, Joins, Shares};
 
 use crate::Policy;
 use crate::broken::rules::{
@@ -11,8 +12,9 @@ use crate::broken::steps::{domain, subjects};
 use base::{Edge, Kind, Label, Labels, Refusal};
 use std::alloc::Global;
 
-/// The least closed policy that has the edges of a policy, and these: every closed policy that has them
-/// has all of its edges.
+/// Returns the least closed policy that has the edges of a policy, and these.
+///
+/// Every closed policy that has them has all of its edges.
 ///
 /// # Errors
 ///
@@ -71,7 +73,8 @@ fn settle_labels(policy: &mut Policy) -> Result<bool, Refusal>
 // Adds what is missing at a label. Whether anything was.
 fn settle_label(policy: &mut Policy, from: Label) -> Result<bool, Refusal>
     ensures grows { IfOk result (λ changed. Grows policy.old policy.new changed) }
-    ensures settled { IfOk result (λ changed. changed ≡ false → (kind : Kind) → IsSettled (allows policy.new) from kind) }
+    ensures settled { IfOk result
+        (λ changed. changed ≡ false → (kind : Kind) → IsSettled (allows policy.new) from kind) }
     ensures memory { IfErr result (λ refusal. refusal ≡ out_of_memory) }
 {
     let mut sharing = givers(policy, from);

@@ -1,3 +1,4 @@
+//! Cut authority: whose objects may shrink when threads of a label delete capabilities.
 ghost use Rattle.std.specs.Prelude.{ℕ, ◌↔◌, ◌≡◌, IsTrue, true};
 ghost use Rattle.base.specs.Labels.{is_in};
 ghost use Rattle.policy.specs.{Cut.{IsBase, IsCut, IsNear}, Policy.allows, Steps.IsNearSome};
@@ -35,15 +36,14 @@ pub(crate) const LINKS: [Kind; 7] = [
 ];
 
 impl Policy {
-    /// Whether objects of the label `object` may shrink when threads of the label `actor` delete
-    /// capabilities.
+    /// Returns whether objects of the label `object` may shrink when threads of `actor` delete capabilities.
     pub fn cut(&self, actor: Label, object: Label) -> bool
         ensures { IsTrue result ↔ IsCut (allows self.now) actor object }
     {
         self.cut_labels(actor).has(object)
     }
 
-    /// The labels on which `actor` has cut authority, as [`Policy::cut`] says of each.
+    /// Returns the labels on which `actor` has cut authority, as [`Policy::cut`] says of each.
     pub fn cut_labels(&self, actor: Label) -> Labels
         ensures { (object : ℕ) → (is_in result object ≡ true) ↔ IsCut (allows self.now) actor object }
     {

@@ -1,3 +1,4 @@
+//! Full authority: whose objects the acts of a label's threads may change.
 ghost use Rattle.std.specs.Prelude.{ℕ, ◌↔◌, ◌≡◌, IsTrue, true};
 ghost use Rattle.base.specs.Labels.{is_in};
 ghost use Rattle.policy.specs.{Full.IsFull, Policy.allows};
@@ -19,15 +20,14 @@ pub(crate) const MODIFYING: [Kind; 9] = [
 ];
 
 impl Policy {
-    /// Whether the acts of threads of the label `actor` may change objects of the label `object`, or move
-    /// its threads.
+    /// Returns whether the acts of threads of `actor` may change objects of the label `object`, or move its threads.
     pub fn full(&self, actor: Label, object: Label) -> bool
         ensures { IsTrue result ↔ IsFull (allows self.now) actor object }
     {
         self.full_labels(actor).has(object)
     }
 
-    /// The labels on which `actor` has full authority, as [`Policy::full`] says of each.
+    /// Returns the labels on which `actor` has full authority, as [`Policy::full`] says of each.
     pub fn full_labels(&self, actor: Label) -> Labels
         ensures { (object : ℕ) → (is_in result object ≡ true) ↔ IsFull (allows self.now) actor object }
     {

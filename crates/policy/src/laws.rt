@@ -1,12 +1,15 @@
+//! Laws about closed policies, and about from whom a label may take.
 ghost use Rattle.std.specs.Prelude.{ℕ, ◌↔◌, ◌≡◌, ◌⊎◌, true};
 ghost use Rattle.base.specs.declared.kind.Kind.{Kind};
 ghost use Rattle.base.specs.declared.kind.Kind.TheVariants as authority;
-ghost use Rattle.policy.specs.{declared.broken.Broken.Broken as BrokenOf, Broken.IsBrokenAt, Closed.IsClosed, Cut.{IsCut, IsHolding}};
-ghost use Rattle.policy.specs.{Cut.IsNear, Domain.EdgeTest, Needed.{BreaksOnly, Obeys, Rule}, Take.{HasNone, MayTake}};
+ghost use Rattle.policy.specs.{declared.broken.Broken.Broken as BrokenOf, Broken.IsBrokenAt, Closed.IsClosed};
+ghost use Rattle.policy.specs.{Cut.{IsCut, IsHolding, IsNear}, Domain.EdgeTest, Needed.{BreaksOnly, Obeys, Rule}};
+ghost use Rattle.policy.specs.Take.{HasNone, MayTake};
 
-/// A law: the policy with every edge is closed; a closed policy obeys each of the eight rules; and no
-/// rule follows from the others, since for each there is a policy that breaks it alone, and so isn't
-/// closed.
+/// A law: a closed policy obeys each of the eight rules, and no rule follows from the others.
+///
+/// For each rule there is a policy that breaks it alone, and so isn't closed. The policy with every
+/// edge is closed.
 pub fn closed_policies_obey_each_rule()
     ensures full { IsClosed (λ from kind to. true) }
     ensures each { (test : EdgeTest) → IsClosed test → (rule : Rule) → Obeys test rule }
@@ -18,8 +21,9 @@ pub fn closed_policies_are_unbroken()
     ensures { (test : EdgeTest) → IsClosed test ↔ ((broken : BrokenOf) → ¬ IsBrokenAt test broken) }
 {}
 
-/// A law: a label has cut authority on each label from which it may take; and one without an edge of
-/// control, context or reply may take from nobody.
+/// A law: a label has cut authority on each label from which it may take.
+///
+/// A label without an edge of control, context or reply may take from nobody.
 pub fn what_may_be_taken_may_be_cut()
     ensures cut { (test : EdgeTest) (a l : ℕ) → MayTake test a l → IsCut test a l }
     ensures nobody { (test : EdgeTest) (a : ℕ)
@@ -29,10 +33,12 @@ pub fn what_may_be_taken_may_be_cut()
         → (l : ℕ) → ¬ MayTake test a l }
 {}
 
-/// A law: a label may take from a label that runs on a context of its; from one where a label receives
-/// that shares a reply with it; and from each label that it leads to by one control edge, then at most
-/// one derive edge, then at most one edge by which a capability is held, and then at most two steps along
-/// links, either way.
+/// A law: a label may take from each label that it reaches by one of these paths.
+///
+/// - a label that runs on one of its contexts
+/// - a label that another receives from, if that other shares a reply with it
+/// - a label to which one control edge leads, then at most one derive edge, then at most one edge
+///   by which a capability is held, and then at most two steps along links, either way.
 pub fn takes_follow_paths()
     ensures unbinds { (test : EdgeTest) (a l context : ℕ)
         → test a authority.Context context ≡ true

@@ -1,4 +1,6 @@
 //! Policies: the edges of authority that a system may have.
+//!
+//! `labels`, `integrity` and `verdict` stand on it, and the texts of policies. It knows no objects.
 #![tactic(auto)]
 
 mod acting;

@@ -1,3 +1,4 @@
+//! Whose objects may shrink by what a label does where only some labels act.
 ghost use Rattle.std.specs.Prelude.{ℕ, ◌↔◌, ◌≡◌, IsTrue, true};
 ghost use Rattle.base.specs.Labels.{is_in};
 ghost use Rattle.policy.specs.{NarrowTake.{MayHalt, MayHoldReceiver, MayShrink, TakesByControl}, Policy.allows};
@@ -18,17 +19,19 @@ pub(crate) const REMOVED: [Kind; 5] = [
 pub(crate) const WAITING: [Kind; 3] = [Kind::Send, Kind::Receive, Kind::Await];
 
 impl Policy {
-    /// Whether objects of the label `object` may shrink by what threads of the label `actor` do, where only
-    /// threads of the labels `actors` act.
+    /// Returns whether objects of the label `object` may shrink by what threads of the label `actor` do.
+    ///
+    /// Only threads of the labels `actors` act.
     pub fn may_shrink(&self, actors: Labels, actor: Label, object: Label) -> bool
         ensures { IsTrue result ↔ MayShrink (allows self.now) (is_in actors) actor object }
     {
         self.shrink_labels(actors, actor).has(object)
     }
 
-    /// The labels whose objects may shrink by what `actor` does, as [`Policy::may_shrink`] says of each.
+    /// Returns the labels whose objects may shrink by what `actor` does, as [`Policy::may_shrink`] says of each.
     pub fn shrink_labels(&self, actors: Labels, actor: Label) -> Labels
-        ensures { (object : ℕ) → (is_in result object ≡ true) ↔ MayShrink (allows self.now) (is_in actors) actor object }
+        ensures { (object : ℕ)
+            → (is_in result object ≡ true) ↔ MayShrink (allows self.now) (is_in actors) actor object }
     {
         if !actors.has(actor) {
             return Labels::none();
@@ -46,7 +49,8 @@ impl Policy {
 
     // The labels from which the label may take where it controls a label.
     fn taken(&self, actors: Labels, actor: Label) -> Labels
-        ensures { (object : ℕ) → (is_in result object ≡ true) ↔ TakesByControl (allows self.now) (is_in actors) actor object }
+        ensures { (object : ℕ)
+            → (is_in result object ≡ true) ↔ TakesByControl (allows self.now) (is_in actors) actor object }
     {
         let controlled = self.row(actor, Kind::Control);
         let callers = controlled.intersection(actors);
@@ -76,7 +80,8 @@ impl Policy {
 
     // The labels of `actors` that this reply holds and that name it.
     fn holders(&self, actors: Labels, reply: Label) -> Labels
-        ensures { (holder : ℕ) → (is_in result holder ≡ true) ↔ MayHoldReceiver (allows self.now) (is_in actors) reply holder }
+        ensures { (holder : ℕ)
+            → (is_in result holder ≡ true) ↔ MayHoldReceiver (allows self.now) (is_in actors) reply holder }
     {
         self.waiting(actors, Labels::only(reply), &[Kind::Reply])
             .intersection(self.row(reply, Kind::Holds))

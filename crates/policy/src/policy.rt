@@ -1,9 +1,10 @@
-ghost use Rattle.std.specs.Prelude.{[], ℕ, ◌++◌, ◌+◌, ◌<◌, ◌||◌, ◌∷◌, ◌≡◌, ◌≤◌, IfErr, IfOk, IsOk, List, OnErr, OnOk, SomeIff, max, true};
-ghost use Rattle.std.specs.Prelude.{vec_len};
+//! A policy as a set of edges.
+ghost use Rattle.std.specs.Prelude.{[], ℕ, ◌++◌, ◌+◌, ◌<◌, ◌||◌, ◌∷◌, ◌≡◌, ◌≤◌, IfErr, IfOk, IsOk, List, OnErr, OnOk};
+ghost use Rattle.std.specs.Prelude.{SomeIff, max, true, vec_len};
 ghost use Rattle.base.specs.{declared.{edge.Edge.Edge, kind.Kind.Kind}, Labels.is_in, Refusals.out_of_memory};
 ghost use Rattle.base.specs.declared.label.TheConstants.Label as Label;
-ghost use Rattle.policy.specs.{Policy.{IsAboveLast, IsRising, JoinsBelow, JoinsLabels, allows, is_edge, last_edge}, Rows.edge_at};
-ghost use Rattle.policy.specs.Rows.{edge_count, last_with, row_number, row_of};
+ghost use Rattle.policy.specs.Policy.{IsAboveLast, IsRising, JoinsBelow, JoinsLabels, allows, is_edge, last_edge};
+ghost use Rattle.policy.specs.Rows.{edge_at, edge_count, last_with, row_number, row_of};
 
 use base::{Edge, Kind, Label, Labels, Refusal};
 use std::alloc::{AllocError, Global};
@@ -38,7 +39,7 @@ impl Model for Policy {
 }
 
 impl Policy {
-    /// The policy with no edge, which takes no memory.
+    /// Returns the policy with no edge, which takes no memory.
     pub fn new(alloc: Global) -> Policy
         ensures { result ≡ [] }
     {
@@ -73,7 +74,7 @@ impl Policy {
         Ok(())
     }
 
-    /// Whether the edge is in the policy.
+    /// Returns whether the edge is in the policy.
     pub fn has(&self, edge: Edge) -> bool
         ensures { result ≡ allows self.now edge.from edge.kind edge.to }
     {
@@ -97,7 +98,7 @@ impl Policy {
         }
     }
 
-    /// The edges in rising order.
+    /// Returns the edges in rising order.
     ///
     /// # Errors
     ///
@@ -119,7 +120,7 @@ impl Policy {
         Ok(edges)
     }
 
-    /// The greatest edge, if there is one.
+    /// Returns the greatest edge, if there is one.
     pub fn last(&self) -> Option<Edge>
         ensures { result ≡ last_edge self.now }
     {

@@ -1,3 +1,4 @@
+//! The labels to which a label of a set has an edge of some kinds, and those that have one to it.
 ghost use Rattle.std.specs.Prelude.{ℕ, ◌↔◌, ◌≡◌, true};
 ghost use Rattle.base.specs.Labels.{is_in};
 ghost use Rattle.policy.specs.{Policy.allows, Steps.{IsSource, IsTarget, is_joined}};

@@ -1,3 +1,4 @@
+//! From whom a label may take: whose objects may shrink by what its threads do.
 ghost use Rattle.std.specs.Prelude.{ℕ, ◌↔◌, ◌≡◌, IsTrue, true};
 ghost use Rattle.base.specs.Labels.{is_in};
 ghost use Rattle.policy.specs.{Policy.allows, Take.{MayRemoveFrom, MayRemoveNear, MayTake}};
@@ -7,14 +8,14 @@ use crate::cut::HOLDING;
 use base::{Kind, Label, Labels};
 
 impl Policy {
-    /// Whether objects of the label `object` may shrink by what threads of the label `actor` do.
+    /// Returns whether objects of the label `object` may shrink by what threads of the label `actor` do.
     pub fn take(&self, actor: Label, object: Label) -> bool
         ensures { IsTrue result ↔ MayTake (allows self.now) actor object }
     {
         self.take_labels(actor).has(object)
     }
 
-    /// The labels from which `actor` may take, as [`Policy::take`] says of each.
+    /// Returns the labels from which `actor` may take, as [`Policy::take`] says of each.
     pub fn take_labels(&self, actor: Label) -> Labels
         ensures { (object : ℕ) → (is_in result object ≡ true) ↔ MayTake (allows self.now) actor object }
     {
@@ -24,7 +25,7 @@ impl Policy {
         unbound.union(ended).union(self.removing(actor))
     }
 
-    // The labels whose objects go with capabilities that the label removes, or lose links by it.
+    // The labels whose objects are removed with capabilities that the label removes, or lose links by it.
     fn removing(&self, actor: Label) -> Labels
         ensures { (object : ℕ) → (is_in result object ≡ true) ↔ MayRemoveNear (allows self.now) actor object }
     {

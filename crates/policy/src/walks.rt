@@ -1,9 +1,10 @@
-ghost use Rattle.std.specs.{Cmp.Lexicographic.slice_cmp, Ordering.{is_lt, nat_cmp}, Prelude.{ℕ, ◌&&◌, ◌++◌, ◌==◌, ◌↔◌, ◌≡◌, IfErr, IfOk}};
-ghost use Rattle.std.specs.Prelude.{IsTrue, List, OnOk, true};
+//! The least walks along edges of a policy and against them.
+ghost use Rattle.std.specs.{Cmp.Lexicographic.slice_cmp, Ordering.{is_lt, nat_cmp}};
+ghost use Rattle.std.specs.Prelude.{ℕ, ◌&&◌, ◌++◌, ◌==◌, ◌↔◌, ◌≡◌, IfErr, IfOk, IsTrue, List, OnOk, true};
 ghost use Rattle.base.specs.{declared.edge.Edge.Edge, Labels.is_in, Refusals.out_of_memory};
-ghost use Rattle.policy.specs.{declared.walks.Step.Step as StepOf, Policy.allows, Reasons.{edge, reason_place}, Walks.FindsFirst};
-ghost use Rattle.policy.specs.Walks.{FindsLesser, FindsWalk, GoesAgainst, GoesAlong, GoesEitherWay, IsPartOf, IsWalk, Leads, LeadsOf, is_of, lesser_of};
-ghost use Rattle.policy.specs.Walks.{other_end};
+ghost use Rattle.policy.specs.{declared.walks.Step.Step as StepOf, Policy.allows, Reasons.{edge, reason_place}};
+ghost use Rattle.policy.specs.Walks.{FindsFirst, FindsLesser, FindsWalk, GoesAgainst, GoesAlong, GoesEitherWay};
+ghost use Rattle.policy.specs.Walks.{IsPartOf, IsWalk, Leads, LeadsOf, is_of, lesser_of, other_end};
 
 use crate::Policy;
 use crate::broken::cells::first_cell;

@@ -1,3 +1,4 @@
+//! Which authority a label has on another, and the edges of one reason for it.
 ghost use Rattle.std.specs.Prelude.{◌≡◌, IfErr, IfOk};
 ghost use Rattle.base.specs.Refusals.{out_of_memory};
 ghost use Rattle.policy.specs.{Policy.allows, Reasons.{IsFullBy, IsRemoveBy, IsTakeBy, IsWhy}, Walks.FindsWalk};
@@ -9,8 +10,10 @@ use crate::walks::{Step, lesser};
 use base::{Edge, Kind, Label, Refusal};
 use std::alloc::Global;
 
-/// Which authority a label has on another, and the edges of one reason for it: of those with the fewest
-/// edges the least. No edge is a reason where the labels are the same.
+/// The authority that a label has on another, and the edges of one reason for it.
+///
+/// Of the reasons with the fewest edges it is the least. Where the labels are the same, the reason
+/// has no edge.
 #[derive(Drop)]
 pub enum Why {
     /// Full authority: what its threads do may change the other's objects.
@@ -22,7 +25,7 @@ pub enum Why {
 }
 
 impl Policy {
-    /// Which authority `actor` has on objects of the label `object`, and why.
+    /// Returns which authority `actor` has on objects of the label `object`, and why.
     ///
     /// # Errors
     ///

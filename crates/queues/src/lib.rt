@@ -1,11 +1,15 @@
 //! The queues of threads at endpoints and notifications, first in, first out.
+//!
+//! `replies`, `transfer` and `kernel` stand on it. It knows no policy.
 #![tactic(auto)]
 
 ghost use Rattle.std.specs.Prelude.{◌≡◌, IsSome, None, Some};
 ghost use Rattle.base.specs.declared.ids.ObjId.{ObjId as Id};
-ghost use Rattle.machine.specs.{declared.{object.ObjectKind.ObjectKind as Kind, thread.Tcb.Tcb as Thread}, Changes.first_waiting};
-ghost use Rattle.machine.specs.{Changes.{with_waiting, without_first, without_waiting}, Machine.object_of, Releasing.with_blocked};
-ghost use Rattle.machine.specs.WellFormed.{IsAlike, IsIdle, IsReceivingWith, IsThread, IsWellFormed, WaitsAt, WaitsAtKind, kind_of};
+ghost use Rattle.machine.specs.declared.{object.ObjectKind.ObjectKind as Kind, thread.Tcb.Tcb as Thread};
+ghost use Rattle.machine.specs.Changes.{first_waiting, with_waiting, without_first, without_waiting};
+ghost use Rattle.machine.specs.{Machine.object_of, Releasing.with_blocked};
+ghost use Rattle.machine.specs.WellFormed.{IsAlike, IsIdle, IsReceivingWith, IsThread, IsWellFormed, WaitsAt};
+ghost use Rattle.machine.specs.WellFormed.{WaitsAtKind, kind_of};
 ghost use Rattle.objects.specs.Waiting.{WaitsNowhere, WaitsThere};
 
 use base::ObjId;
@@ -13,7 +17,9 @@ use machine::{Object, RunState, Tcb};
 use objects::State;
 use steps::blocks_keep_machines_well_formed;
 
-/// Puts a thread behind those that wait at an object. Does nothing where there is no such object.
+/// Puts a thread behind those that wait at an object.
+///
+/// Does nothing where there is no such object.
 pub fn push_last(state: &mut State, id: ObjId, thread: ObjId)
     requires present { IsSome (object_of state.old thread) }
     requires free { WaitsNowhere state.old thread }
@@ -22,8 +28,7 @@ pub fn push_last(state: &mut State, id: ObjId, thread: ObjId)
     state.push_waiting(id, thread);
 }
 
-/// Has a thread wait at an object in a run state, after those that wait there (seL4 manual,
-/// "Threads and Execution").
+/// Has a thread wait at an object in a run state, after those that wait there (seL4 manual, "Threads and Execution").
 ///
 /// Does nothing where there is no such thread.
 pub fn block(state: &mut State, thread: ObjId, id: ObjId, run: RunState)
@@ -57,8 +62,7 @@ fn wait_at(state: &mut State, thread: ObjId, id: ObjId, run: RunState)
     }
 }
 
-/// Takes the first of the threads that wait at an object, and returns which it was, if there was
-/// one.
+/// Takes the first of the threads that wait at an object, and returns which it was, if there was one.
 ///
 /// The others stay in their order.
 #[tactic(auto, using(machine::proofs::Queues::nobody_leaves))]
@@ -70,7 +74,9 @@ pub fn pop_first(state: &mut State, id: ObjId) -> Option<ObjId>
     state.pop_waiting(id)
 }
 
-/// Takes a thread out of the queue that it waits in. The others stay in their order.
+/// Takes a thread out of the queue that it waits in.
+///
+/// The others stay in their order.
 pub fn take_out(state: &mut State, id: ObjId, thread: ObjId)
     requires { WaitsThere state.old id thread }
     ensures { state.new ≡ without_waiting state.old id thread }

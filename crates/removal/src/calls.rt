@@ -9,13 +9,12 @@ use machine::{Answer, Made, SlotAddress};
 use objects::State;
 use steps::removals_keep_machines_well_formed;
 
-/// Removes the capability in the slot that the caller names, and all that can't stay without it
-/// (seL4 manual, seL4_CNode_Delete).
+/// Removes the capability in a slot, and all that can't stay without it (seL4 manual, seL4_CNode_Delete).
 ///
-/// The slots of CNodes and threads that lose their last capability are removed too, and what these
-/// hold. An empty slot stays as it is.
+/// The caller names the slot by `address`. The slots of CNodes and threads that lose their last
+/// capability are removed too, and what these hold. An empty slot stays as it is.
 ///
-/// It takes time in what goes and in what is linked to that, and no memory.
+/// The call takes time in what is removed and in what is linked to that, and no memory.
 ///
 /// # Errors
 ///
@@ -35,12 +34,12 @@ pub fn delete(state: &mut State, caller: ObjId, address: SlotAddress) -> Result<
     Ok(Made::Done(Answer::Nothing))
 }
 
-/// Removes all that descends from the capability in the slot that the caller names, and what can't
-/// stay without it (seL4 manual, seL4_CNode_Revoke).
+/// Removes all that descends from the capability in a slot (seL4 manual, seL4_CNode_Revoke).
 ///
-/// The capability itself stays, unless its slot is one of those that go.
+/// The caller names the slot by `address`. What can't stay without the descendants is removed too.
+/// The capability itself stays, unless its slot is one of those that are removed.
 ///
-/// It takes time in what goes and in what is linked to that, and no memory.
+/// The call takes time in what is removed and in what is linked to that, and no memory.
 ///
 /// # Errors
 ///

@@ -51,7 +51,7 @@ fn empty_slots_of(state: &mut State, id: ObjId)
     state.caps_are_in_slots();
 }
 
-/// Empties each slot of the objects that are going, also of those that come to be going meanwhile.
+/// Empties each slot of the objects that are going, also of those that begin to go meanwhile.
 pub(crate) fn cascade(state: &mut State)
     requires { AreGoing state.old }
     ensures emptied { (m : Machine) (chosen : Slot → Bool)

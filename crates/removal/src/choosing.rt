@@ -24,8 +24,8 @@ fn take_out(state: &mut State, slot: SlotRef)
     empty_slot(state, slot);
 }
 
-/// Takes a slot out of the derivation tree, and empties it and each slot that goes with it. These others
-/// keep their places in the tree.
+/// Takes a slot out of the derivation tree, and empties it and each slot that is removed with it. These
+/// other slots keep their places in the tree.
 pub(crate) fn empty_all_with(state: &mut State, slot: SlotRef)
     requires { AreFilled state.old }
     ensures emptied { AreEmptied state.old (same_slot slot) state.new }
@@ -38,13 +38,14 @@ pub(crate) fn empty_all_with(state: &mut State, slot: SlotRef)
 }
 
 /// Takes all slots that descend from one out of the derivation tree, and empties them and each slot that
-/// goes with them. These others keep their places in the tree.
+/// is removed with them. These other slots keep their places in the tree.
 ///
 /// Each that descends comes under `above` at most once before it is taken out.
 pub(crate) fn empty_all_below(state: &mut State, above: SlotRef)
     requires { AreFilled state.old }
     ensures emptied { AreEmptied state.old (is_below state.old above) state.new }
-    ensures parents { (q : Slot) → parent_of state.new q ≡ (if is_below state.old above q then None else parent_of state.old q) }
+    ensures parents { (q : Slot)
+        → parent_of state.new q ≡ (if is_below state.old above q then None else parent_of state.old q) }
     ensures going { AreGoing state.new }
 {
     state.clear_going();

@@ -8,10 +8,9 @@ use base::SlotRef;
 use objects::State;
 use steps::removals_keep_machines_well_formed;
 
-/// Empties a slot, and removes all that can't stay without it (seL4 manual, "Deletion, Revocation,
-/// and Recycling").
+/// Empties a slot, and removes all that can't stay without it (seL4 manual, "Deletion, Revocation, and Recycling").
 ///
-/// The call takes time in what goes and what is linked to that.
+/// The call takes time in what is removed and what is linked to that.
 pub fn remove(state: &mut State, slot: SlotRef)
     requires { IsWellFormed state.old }
     ensures changes { state.new ≡ removed state.old (same_slot slot) }
@@ -24,7 +23,7 @@ pub fn remove(state: &mut State, slot: SlotRef)
 }
 
 /// Empties the slots that descend from one, and removes all that can't stay without them. It takes time
-/// in what goes and what is linked to that.
+/// in what is removed and what is linked to that.
 pub(crate) fn remove_below(state: &mut State, above: SlotRef)
     requires { IsWellFormed state.old }
     ensures { state.new ≡ removed state.old (is_below state.old above) }

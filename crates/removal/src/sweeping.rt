@@ -9,8 +9,8 @@ use derivation::leave_tree;
 use finalising::finalise;
 use objects::State;
 
-/// Ends a removal whose slots are all empty: what still is in the derivation tree leaves it, who waited
-/// for what goes is released, and the objects that are going go.
+/// Ends a removal whose slots are all empty. What still is in the derivation tree leaves it. Threads that
+/// waited for objects that are going are released, and these objects are removed.
 pub(crate) fn sweep(state: &mut State)
     requires { (m : Machine) × (chosen : Slot → Bool) × IsFound m chosen state.old }
     ensures { (m : Machine) (chosen : Slot → Bool) → IsFound m chosen state.old → state.new ≡ removed m chosen }

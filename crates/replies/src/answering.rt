@@ -1,12 +1,13 @@
 //! The call Reply, which answers a call.
 ghost use Rattle.std.specs.Prelude.{◌≡◌};
-ghost use Rattle.machine.specs.{Machine.object_of, Makes.Makes, Step.Reply.{answered, caller_in, gives_back, lent_in, reply_of}};
-ghost use Rattle.machine.specs.{Step.Reply.with_returned, WellFormed.IsWellFormed};
+ghost use Rattle.machine.specs.{Machine.object_of, Makes.Makes};
+ghost use Rattle.machine.specs.Step.Reply.{answered, caller_in, gives_back, lent_in, reply_of, with_returned};
+ghost use Rattle.machine.specs.WellFormed.{IsWellFormed};
 
 use crate::release::give;
 use base::{Cause, ObjId};
-use cspace::find_reply;
-use machine::{Answer, Lent, Made, Message, Object, Reply, ReplyState, RunState, Tcb};
+use cspace::find;
+use machine::{Answer, Lent, Made, Message, Object, ObjectKind, Reply, ReplyState, RunState, Tcb};
 use objects::State;
 use schedctl::{context_under, hand_over};
 use steps::calls_keep_machines_well_formed;
@@ -100,23 +101,23 @@ fn make_reply(
     requires { IsWellFormed state.old }
     ensures { Makes state.old state.new result (reply_of state.old caller address words) }
 {
-    let id = find_reply(state, caller, address)?;
-    let called = caller_through(state, id);
+    let (_, cap) = find(state, ObjectKind::Reply, caller, address)?;
+    let called = caller_through(state, cap.object);
     answer(state, caller, called, words);
     Ok(Made::Done(Answer::Nothing))
 }
 
-/// Answers the call that was made through the reply at an address: the thread gets the words and
-/// can run, and the reply is free (seL4 manual, "Reply objects").
+/// Answers the call that was made through the reply at an address (seL4 manual, "Reply objects").
 ///
-/// Where nobody has called through it, nothing changes. No capability goes with an answer.
+/// The thread that called gets the words and can run, and the reply is free. Where nobody has
+/// called through it, nothing changes. No capability is sent with an answer.
 ///
 /// The scheduling context that the thread lent goes back to it, if it was lent to the caller, which
 /// still runs on it, and the thread has got no other meanwhile.
 ///
 /// # Errors
 ///
-/// Those of [`find_reply`].
+/// Those of [`find`].
 pub fn reply(state: &mut State, caller: ObjId, address: u64, words: [u64; 4]) -> Result<Made, Cause>
     requires well_formed { IsWellFormed state.old }
     ensures made { Makes state.old state.new result (reply_of state.old caller address words) }

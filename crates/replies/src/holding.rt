@@ -1,11 +1,12 @@
 //! How threads wait with reply objects.
 ghost use Rattle.std.specs.Prelude.{◌≡◌, Some};
 ghost use Rattle.base.specs.declared.ids.ObjId.{ObjId as Id};
-ghost use Rattle.machine.specs.declared.object.ObjectKind.TheVariants as kind;
-ghost use Rattle.machine.specs.{declared.{object.ReplyState.TheVariants.Waiting, thread.Tcb.Tcb as Thread}, Releasing.IsInItsQueue};
-ghost use Rattle.machine.specs.declared.thread.RunState.TheVariants as run;
-ghost use Rattle.machine.specs.{Releasing.{with_called, with_free, with_holder_halted, with_holding}, Step.Receive.awaiting_message};
+ghost use Rattle.machine.specs.declared.{object.ReplyState.TheVariants.Waiting, thread.Tcb.Tcb as Thread};
+ghost use Rattle.machine.specs.Releasing.{IsInItsQueue, with_called, with_free, with_holder_halted, with_holding};
+ghost use Rattle.machine.specs.Step.Receive.{awaiting_message};
 ghost use Rattle.machine.specs.WellFormed.{IsAlike, IsFree, IsIdle, IsThread, IsWellFormed, kind_of};
+ghost use Rattle.machine.specs.declared.object.ObjectKind.TheVariants as kind;
+ghost use Rattle.machine.specs.declared.thread.RunState.TheVariants as run;
 ghost use Rattle.objects.specs.Waiting.{WaitsNowhere};
 
 use crate::release::halt;
@@ -15,7 +16,7 @@ use objects::State;
 use queues::block;
 use steps::blocks_keep_machines_well_formed;
 
-/// Says whom the reply holds. No thread is changed.
+/// Sets the thread that the reply holds. No thread is changed.
 #[tactic(auto, unfolding(machine::specs::Releasing::with_holding))]
 fn hold(state: &mut State, id: ObjId, holds: ReplyState)
     ensures { state.new ≡ with_holding state.old id holds }
@@ -61,10 +62,12 @@ fn wait_for_message(state: &mut State, thread: ObjId, receiving: Receiving)
     }
 }
 
-/// Has a thread wait at an endpoint for a message, behind those that wait there, and the reply that
-/// it names, if it names one, wait with it (seL4 manual, "Endpoints" and "Reply objects").
+/// Has a thread wait at an endpoint for a message (seL4 manual, "Endpoints" and "Reply objects").
 ///
-/// Whom the reply held before isn't changed: it has to be free, and the thread ready or inactive.
+/// The thread waits behind those that wait there. If it names a reply, that reply waits with it.
+///
+/// The thread that the reply held before isn't changed: the reply has to be free, and the thread
+/// that waits ready or inactive.
 pub fn await_message(state: &mut State, thread: ObjId, receiving: Receiving)
     requires { WaitsNowhere state.old thread }
     ensures awaiting { state.new ≡ awaiting_message state.old thread receiving }
@@ -97,11 +100,10 @@ fn tie(state: &mut State, thread: ObjId, calling: Calling)
     }
 }
 
-/// Has a thread wait for the answer to its call, through a reply that then holds it (seL4 manual,
-/// "Reply objects").
+/// Has a thread wait for the answer to its call, through a reply that then holds it (seL4 manual, "Reply objects").
 ///
-/// Whom the reply held before isn't changed, nor is the queue in which the thread waited: the reply
-/// has to be free, and the thread ready or inactive. Does nothing where there is no such thread.
+/// The thread that the reply held before isn't changed, nor is the queue in which the caller waited:
+/// the reply has to be free, and the caller ready or inactive. Does nothing where there is no such thread.
 pub fn link(state: &mut State, thread: ObjId, calling: Calling)
     ensures called { state.new ≡ with_called state.old thread calling }
     ensures well_formed { (tcb : Thread)
@@ -130,10 +132,9 @@ fn halt_holder(state: &mut State, id: ObjId)
     }
 }
 
-/// Halts the thread that the reply holds, if it holds one; that frees it, so that both ends agree
-/// (seL4 manual, "Reply objects").
+/// Halts the thread that the reply holds, if it holds one (seL4 manual, "Reply objects").
 ///
-/// Does nothing where there is no reply of that number.
+/// That frees the reply, so both ends agree. Does nothing where there is no reply of that number.
 pub fn unlink(state: &mut State, id: ObjId)
     requires { (thread : Id) → IsInItsQueue state.old thread }
     ensures unlinked { state.new ≡ with_holder_halted state.old id }

@@ -1,5 +1,6 @@
-//! Replies: through which one thread that calls is answered by another (seL4 manual, "Endpoints"); and
-//! how a blocked thread leaves its queue and its reply.
+//! Replies, which answer calls (seL4 manual, "Endpoints"); and how a blocked thread leaves its queue and its reply.
+//!
+//! `finalising`, `transfer`, `threads` and `kernel` stand on it. It knows no policy.
 #![tactic(auto)]
 
 mod answering;

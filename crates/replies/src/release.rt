@@ -1,8 +1,9 @@
 //! How a thread leaves its queue and its reply.
 ghost use Rattle.std.specs.Prelude.{◌≡◌, unwrap_or};
 ghost use Rattle.base.specs.declared.ids.ObjId.{ObjId as Id};
-ghost use Rattle.machine.specs.Releasing.{IsInItsQueue, unblocked, with_aborted, with_given, with_halted, with_ready, with_released};
-ghost use Rattle.machine.specs.{Releasing.with_suspended, WellFormed.{IsWellFormed, WaitsAt}};
+ghost use Rattle.machine.specs.Releasing.{IsInItsQueue, unblocked, with_aborted, with_given, with_halted, with_ready};
+ghost use Rattle.machine.specs.Releasing.{with_released, with_suspended};
+ghost use Rattle.machine.specs.WellFormed.{IsWellFormed, WaitsAt};
 ghost use Rattle.objects.specs.Waiting.{WaitsThere};
 
 use crate::holding::free;
@@ -35,7 +36,8 @@ fn unblock(state: &mut State, thread: ObjId, run: RunState)
 #[tactic(auto, unfolding(machine::specs::Releasing::with_released))]
 fn leave(state: &mut State, thread: ObjId, run: RunState, inbox: Option<Inbox>)
     requires { IsInItsQueue state.old thread }
-    ensures { state.new ≡ with_released state.old thread (λ tcb. record tcb { state = run; inbox = unwrap_or inbox tcb.inbox }) }
+    ensures { state.new
+        ≡ with_released state.old thread (λ tcb. record tcb { state = run; inbox = unwrap_or inbox tcb.inbox }) }
 {
     if let Some(&Object::Tcb(tcb)) = state.object(thread) {
         unblock(state, thread, tcb.state);
@@ -48,8 +50,7 @@ fn leave(state: &mut State, thread: ObjId, run: RunState, inbox: Option<Inbox>)
     }
 }
 
-/// Has a thread leave its queue and its reply, and run no more (seL4 manual, "Threads and
-/// Execution").
+/// Has a thread leave its queue and its reply, and run no more (seL4 manual, "Threads and Execution").
 ///
 /// The thread keeps its inbox. Does nothing where there is no such thread.
 pub fn halt(state: &mut State, thread: ObjId)
@@ -60,7 +61,7 @@ pub fn halt(state: &mut State, thread: ObjId)
     leave(state, thread, RunState::Inactive, None);
 }
 
-/// Has a thread leave its queue and its reply, and go on.
+/// Has a thread leave its queue and its reply, and continue.
 ///
 /// The thread's inbox says that what the thread waited for is gone. Does nothing where there is no
 /// such thread.
@@ -72,7 +73,7 @@ pub fn abort(state: &mut State, thread: ObjId)
     leave(state, thread, RunState::Ready, Some(Inbox::Aborted));
 }
 
-/// Has a thread leave its queue and its reply, and go on (seL4 manual, "Threads and Execution").
+/// Has a thread leave its queue and its reply, and continue (seL4 manual, "Threads and Execution").
 ///
 /// The thread keeps its inbox. Does nothing where there is no such thread.
 pub fn resume(state: &mut State, thread: ObjId)
@@ -83,10 +84,10 @@ pub fn resume(state: &mut State, thread: ObjId)
     leave(state, thread, RunState::Ready, None);
 }
 
-/// Has a thread leave its queue and its reply, and run no more until it is resumed (seL4 manual,
-/// "Threads and Execution").
+/// Stops a thread until it is resumed (seL4 manual, "Threads and Execution").
 ///
-/// What was in its inbox is lost. Does nothing where there is no such thread.
+/// The thread leaves its queue and its reply. What was in its inbox is lost. Does nothing where
+/// there is no such thread.
 pub fn suspend(state: &mut State, thread: ObjId)
     requires { IsInItsQueue state.old thread }
     ensures suspended { state.new ≡ with_suspended state.old thread }
@@ -95,7 +96,7 @@ pub fn suspend(state: &mut State, thread: ObjId)
     leave(state, thread, RunState::Inactive, Some(Inbox::Empty));
 }
 
-/// Has a thread leave its queue and its reply, and go on with a message (seL4 manual, "Endpoints").
+/// Has a thread leave its queue and its reply, and continue with a message (seL4 manual, "Endpoints").
 ///
 /// What was in its inbox is lost. Does nothing where there is no such thread.
 pub fn give(state: &mut State, thread: ObjId, message: Message)

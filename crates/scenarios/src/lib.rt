@@ -14,3 +14,5 @@ mod reading;
 mod session;
 #[cfg(test)]
 mod sharing;
+#[cfg(test)]
+mod uncalled;

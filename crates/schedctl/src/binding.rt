@@ -1,12 +1,13 @@
 //! The calls Bind and Unbind, on a thread and the scheduling context that it runs on.
 ghost use Rattle.std.specs.Prelude.{◌≡◌};
-ghost use Rattle.machine.specs.{Machine.object_of, Makes.Makes, Step.Bind.{bind_of, thread_on, unbind_of, unlinked, without_thread}};
+ghost use Rattle.machine.specs.{Machine.object_of, Makes.Makes};
+ghost use Rattle.machine.specs.Step.Bind.{bind_of, thread_on, unbind_of, unlinked, without_thread};
 ghost use Rattle.machine.specs.WellFormed.{IsWellFormed};
 
 use crate::links::{bind_to, context_under, part};
 use base::{Cause, ObjId};
-use cspace::{find_context, find_tcb};
-use machine::{Answer, Made, Object};
+use cspace::find;
+use machine::{Answer, Made, Object, ObjectKind};
 use objects::State;
 use steps::calls_keep_machines_well_formed;
 
@@ -44,22 +45,22 @@ fn unbind_thread(state: &mut State, thread: Option<ObjId>)
 fn make_bind(state: &mut State, caller: ObjId, context: u64, thread: u64) -> Result<Made, Cause>
     ensures { Makes state.old state.new result (bind_of state.old caller context thread) }
 {
-    let id = find_context(state, caller, context)?;
-    let (_, thread) = find_tcb(state, caller, thread)?;
-    unlinked(thread_on(state, id))?;
-    unlinked(context_under(state, thread))?;
-    bind_to(state, id, thread);
+    let (_, context) = find(state, ObjectKind::Context, caller, context)?;
+    let (_, thread) = find(state, ObjectKind::Tcb, caller, thread)?;
+    unlinked(thread_on(state, context.object))?;
+    unlinked(context_under(state, thread.object))?;
+    bind_to(state, context.object, thread.object);
     Ok(Made::Done(Answer::Nothing))
 }
 
-/// Has the thread at the address `thread` run on the scheduling context at the address `context`
-/// (seL4 manual, seL4_SchedContext_Bind).
+/// Has a thread run on a scheduling context (seL4 manual, seL4_SchedContext_Bind).
 ///
-/// The context may not be configured yet.
+/// The thread is at the address `thread`, and the context at the address `context`. The context
+/// needn't be configured yet.
 ///
 /// # Errors
 ///
-/// Those of [`find_context`] and then those of [`find_tcb`]; [`Cause::IllegalOperation`] (3) where
+/// Those of [`find`], for the context and then for the thread; [`Cause::IllegalOperation`] (3) where
 /// a thread runs on the context already, or the thread on a context.
 pub fn bind(state: &mut State, caller: ObjId, context: u64, thread: u64) -> Result<Made, Cause>
     requires well_formed { IsWellFormed state.old }
@@ -76,20 +77,19 @@ pub fn bind(state: &mut State, caller: ObjId, context: u64, thread: u64) -> Resu
 fn make_unbind(state: &mut State, caller: ObjId, address: u64) -> Result<Made, Cause>
     ensures { Makes state.old state.new result (unbind_of state.old caller address) }
 {
-    let id = find_context(state, caller, address)?;
-    let thread = thread_on(state, id);
+    let (_, context) = find(state, ObjectKind::Context, caller, address)?;
+    let thread = thread_on(state, context.object);
     unbind_thread(state, thread);
     Ok(Made::Done(Answer::Nothing))
 }
 
-/// Unbinds the thread that runs on the scheduling context at an address (seL4 manual,
-/// seL4_SchedContext_Unbind).
+/// Unbinds the thread that runs on the scheduling context at an address (seL4 manual, seL4_SchedContext_Unbind).
 ///
 /// Where none does, nothing changes.
 ///
 /// # Errors
 ///
-/// Those of [`find_context`].
+/// Those of [`find`].
 pub fn unbind(state: &mut State, caller: ObjId, address: u64) -> Result<Made, Cause>
     requires well_formed { IsWellFormed state.old }
     ensures made { Makes state.old state.new result (unbind_of state.old caller address) }

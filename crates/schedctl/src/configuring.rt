@@ -1,11 +1,11 @@
 //! The call Configure, which gives a scheduling context a budget and a period.
 ghost use Rattle.std.specs.Prelude.{◌≡◌};
-ghost use Rattle.machine.specs.{Machine.object_of, Makes.Makes, Step.Configure.{configure_of, core_in, in_limits, with_share}};
-ghost use Rattle.machine.specs.WellFormed.{IsWellFormed};
+ghost use Rattle.machine.specs.{Machine.object_of, Makes.Makes};
+ghost use Rattle.machine.specs.{Step.Configure.{configure_of, core_in, in_limits, with_share}, WellFormed.IsWellFormed};
 
 use base::{Cause, CoreNo, MAX_PERIOD, ObjId};
-use cspace::{find_context, find_control};
-use machine::{Answer, Context, Made, Object, Share};
+use cspace::find;
+use machine::{Answer, Context, Made, Object, ObjectKind, Share};
 use objects::State;
 use steps::calls_keep_machines_well_formed;
 
@@ -56,26 +56,27 @@ fn make_configure(
 ) -> Result<Made, Cause>
     ensures { Makes state.old state.new result (configure_of state.old caller control address budget period) }
 {
-    let governs = find_control(state, caller, control)?;
-    let id = find_context(state, caller, address)?;
+    let (_, governs) = find(state, ObjectKind::Control, caller, control)?;
+    let (_, context) = find(state, ObjectKind::Context, caller, address)?;
     in_limits(budget, period)?;
     let share = Share {
-        core: core(state, governs),
+        core: core(state, governs.object),
         budget,
         period,
     };
-    give_share(state, id, share);
+    give_share(state, context.object, share);
     Ok(Made::Done(Answer::Nothing))
 }
 
-/// Gives the scheduling context at an address a budget and a period, in microseconds, on the core
-/// of the control at the address `control` (seL4 manual, seL4_SchedControl_ConfigureFlags).
+/// Gives a scheduling context a budget and a period on a core (seL4 manual, seL4_SchedControl_ConfigureFlags).
 ///
-/// What it had before is lost; the thread that runs on it stays.
+/// The context is at the address `address`. The core is that of the control at the address
+/// `control`. Budget and period are in microseconds. What the context had before is lost; the
+/// thread that runs on it stays.
 ///
 /// # Errors
 ///
-/// Those of [`find_control`] and then those of [`find_context`]; and [`Cause::RangeError`] (4)
+/// Those of [`find`], for the control and then for the context; and [`Cause::RangeError`] (4)
 /// unless `1 <= budget <= period <= MAX_PERIOD`.
 pub fn configure(
     state: &mut State,

@@ -1,8 +1,8 @@
 //! The links between threads and the contexts that they run on.
 ghost use Rattle.std.specs.Prelude.{◌≡◌, ◌≢◌, None, Some};
+ghost use Rattle.machine.specs.{Machine.object_of, Releasing.{with_idle_context, with_unbound}};
+ghost use Rattle.machine.specs.{Step.Bind.{context_under, with_bound, with_handed}, WellFormed.{IsWellFormed, kind_of}};
 ghost use Rattle.machine.specs.declared.object.ObjectKind.TheVariants as kind;
-ghost use Rattle.machine.specs.{Machine.object_of, Releasing.{with_idle_context, with_unbound}, Step.Bind.{context_under, with_bound}};
-ghost use Rattle.machine.specs.{Step.Bind.with_handed, WellFormed.{IsWellFormed, kind_of}};
 
 use base::ObjId;
 use machine::{Context, Object, Tcb};
@@ -92,8 +92,7 @@ fn rebind(state: &mut State, from: ObjId, to: ObjId)
     }
 }
 
-/// Has the thread `to`, which runs on nothing, run on the scheduling context of `from`, which then
-/// runs on nothing.
+/// Has the thread `to`, which runs on nothing, run on the scheduling context of `from`, which then runs on nothing.
 ///
 /// Who waits, and for what, stays as it was, and so does the context's share.
 pub fn hand_over(state: &mut State, from: ObjId, to: ObjId)

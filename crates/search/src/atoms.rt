@@ -1,4 +1,4 @@
-//! Atoms: the single facts of a state by which a search tells what is new in it.
+//! Atoms: the single facts of a state by which a search finds what is new in it.
 use crate::seeming::changes;
 use base::{ObjId, SlotRef};
 use bitflags::Flags;
@@ -81,7 +81,7 @@ struct Two {
     other: usize,
 }
 
-/// What a state has to have to be new.
+/// The atoms that a state must have to be new.
 #[derive(Clone, Copy, PartialEq, Eq, Debug)]
 pub enum News {
     /// An atom that no earlier state had.

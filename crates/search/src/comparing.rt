@@ -20,8 +20,9 @@ pub fn differs(was: &Option<Sight>, is: &Option<Sight>) -> bool
     !are_alike(was, is)
 }
 
-/// Returns whether the object shrank between the first sight of it and the second: it is gone, or has
-/// lost capabilities, waiting threads and links, if anything.
+/// Returns whether the object shrank between the first sight of it and the second.
+///
+/// It shrank if it is gone, or has at most lost capabilities, waiting threads and links.
 pub fn shrinks(was: &Option<Sight>, is: &Option<Sight>) -> bool
     ensures { (m next : Machine) (id : Id) → IsSeen m id was.now → IsSeen next id is.now
         → IsTrue result ↔ Shrinks m next id }

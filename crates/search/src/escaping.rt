@@ -28,7 +28,7 @@ struct Queue<'a> {
     scripts: Vec<Vec<Event>>,
 }
 
-/// Searches for a run of at most [`MOST_CALLS`] calls that leaves a policy, and tries at most so many calls.
+/// Searches for a run of at most [`MOST_CALLS`] calls that leaves a policy, and tries at most `steps` calls.
 ///
 /// A run that is found starts in the table's boot state, no call of it is refused, and its last state lies
 /// outside the policy. That none is found says nothing.
@@ -76,8 +76,10 @@ pub fn find_escape(
     })
 }
 
-/// Returns where the authority after a script first lies outside a policy: nothing if it doesn't, if a call of
-/// the script is refused, or if the script has more than [`MOST_CALLS`] calls.
+/// Returns where the authority after a script first lies outside a policy.
+///
+/// The answer is `None` if it doesn't, if a call of the script is refused, or if the script has
+/// more than [`MOST_CALLS`] calls.
 ///
 /// # Errors
 ///
@@ -129,7 +131,7 @@ fn script_at(
     }
 }
 
-// Tries calls of all threads after a script, but no more than so many, and keeps the scripts that lead to
+// Tries calls of all threads after a script, at most `most` of them, and keeps the scripts that lead to
 // something new.
 fn try_after(
     alloc: Global,
@@ -158,7 +160,7 @@ fn try_after(
     try_all(alloc, table, policy, script, &from, &calls, most, queue)
 }
 
-// Tries calls after a script, but no more than so many.
+// Tries calls after a script, at most `most` of them.
 fn try_all(
     alloc: Global,
     table: &Table,

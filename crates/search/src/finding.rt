@@ -25,7 +25,7 @@ pub struct Found {
     pub steps: u64,
 }
 
-/// The scripts that lead to states which a search goes on from, and what it has seen.
+/// The scripts that lead to states from which a search continues, and what it has seen.
 #[derive(Drop)]
 struct Front<'a> {
     boot: State,
@@ -39,7 +39,7 @@ struct Front<'a> {
     near: usize,
 }
 
-/// A script that leads to a state which a search goes on from.
+/// A script that leads to a state from which a search continues.
 #[derive(Drop)]
 struct Kept {
     script: Vec<Event>,
@@ -49,7 +49,7 @@ struct Kept {
     is_done: bool,
 }
 
-/// Searches for a script that answers a question, and tries at most so many calls.
+/// Searches for a script that answers a question, and tries at most `steps` calls.
 ///
 /// A script that is found answers the question. That none is found says nothing.
 ///
@@ -72,7 +72,7 @@ pub fn find(alloc: Global, table: &Table, question: &Question, steps: u64) -> Re
     })
 }
 
-// Searches with at most so many calls, from states that are new in this sense.
+// Searches with at most a number of calls, from states that are new in this sense.
 fn pass(
     alloc: Global,
     table: &Table,
@@ -134,7 +134,7 @@ fn callers(actor: Label, own: bool) -> Callers {
     }
 }
 
-// A search that goes on from the boot state alone.
+// A search that continues from the boot state alone.
 fn begin<'a>(alloc: Global, table: &'a Table, news: News) -> Result<Option<Front<'a>>, Refusal>
     ensures refused { IfErr result (λ refusal. refusal ≡ plain 40) }
 {
@@ -158,7 +158,7 @@ fn begin<'a>(alloc: Global, table: &'a Table, news: News) -> Result<Option<Front
     }))
 }
 
-// The number of the script to go on from, and whether the actor's calls are tried after it. Its calls come
+// The number of the script to continue from, and whether the actor's calls are tried after it. Its calls come
 // first: two turns of three are theirs. Every other turn of the others is for a script that is near.
 fn next(front: &mut Front<'_>, turn: usize) -> Option<(usize, bool)> {
     let count = front.kept.len();
@@ -221,7 +221,7 @@ pub fn copied(alloc: Global, script: &[Event]) -> Result<Vec<Event>, AllocError>
     Ok(events)
 }
 
-// Tries the calls after the kept script of a number, but no more than so many, and keeps the scripts that lead
+// Tries the calls after the kept script of a number, at most `most` of them, and keeps the scripts that lead
 // to something new.
 fn follow(
     alloc: Global,
@@ -252,7 +252,7 @@ fn follow(
     try_all(alloc, table, question, &script, &from, &calls, most, front)
 }
 
-// Tries calls after a script, but no more than so many.
+// Tries calls after a script, at most `most` of them.
 fn try_all(
     alloc: Global,
     table: &Table,

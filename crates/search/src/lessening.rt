@@ -72,7 +72,7 @@ fn same_inbox(was: &Inbox, is: &Inbox) -> bool
     is == was
 }
 
-// Whether a thread goes on as it was.
+// Whether a thread continues as it was.
 fn goes_on(was: &Tcb, is: &Tcb) -> bool
     ensures { IsTrue result ↔ ((is.now.state ≡ was.now.state) × (is.now.inbox ≡ was.now.inbox)) }
 {
@@ -93,7 +93,7 @@ fn is_halted(was: &Tcb, is: &Tcb) -> bool
     is_blocked(&was.state) && is.state == RunState::Inactive && is.inbox == was.inbox
 }
 
-// Whether a thread goes on as it was, or its wait ended.
+// Whether a thread continues as it was, or its wait ended.
 fn stops(was: &Tcb, is: &Tcb) -> bool
     ensures { IsTrue result ↔ Stops was.now is.now }
 {

@@ -1,5 +1,9 @@
-//! Searches for runs of a system: scripts whose last call, by a thread of one label, changes an object of
-//! another, and scripts that lead out of a policy. Each script that is found is shown to be such a run.
+//! Searches for runs by which a label changes an object of another, and for runs that lead out of a policy.
+//!
+//! The first are scripts whose last call, by a thread of the one label, changes an object of the
+//! other. Each script that is found is shown to be such a run.
+//!
+//! `explain` and `report` stand on it. It knows no text.
 #![tactic(auto)]
 
 mod atoms;

@@ -8,6 +8,6 @@ pub struct Question {
     pub actor: Label,
     /// The label of the object that this call changes.
     pub object: Label,
-    /// Whether the object is to shrink; else it has to change in another way.
+    /// Whether the object must shrink. If not, it must change in another way.
     pub taking: bool,
 }

@@ -13,8 +13,9 @@ use objects::State;
 use std::alloc::Global;
 use table::Table;
 
-/// Returns the state to which a script leads from a table's boot state; `None` exactly where one of its
-/// calls is refused.
+/// Returns the state to which a script leads from a table's boot state.
+///
+/// The answer is `None` exactly where one of the script's calls is refused.
 ///
 /// # Errors
 ///

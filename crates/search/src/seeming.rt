@@ -1,5 +1,6 @@
-//! What a call seems to have changed: a first look by which a search chooses what is to be shown. It
-//! promises nothing, since `showing` decides.
+//! What a call seems to have changed: a first look by which a search chooses what must be shown.
+//!
+//! It promises nothing, since `showing` decides.
 use crate::lessening::lessens;
 use crate::question::Question;
 use base::{Label, ObjId, SlotRef};
@@ -28,8 +29,10 @@ pub fn changes(alloc: Global, old: &State, new: &State) -> Result<Vec<ObjId>, Al
     Ok(ids)
 }
 
-/// Returns an object of the question's label, of those that a call of this thread changed, that it seems to have
-/// changed as the question asks, if the thread is the question's actor's.
+/// Returns an object that a call of this thread seems to have changed as the question asks.
+///
+/// It is of the question's label, and one of those that the call changed. There is none where the
+/// thread isn't the question's actor's.
 pub fn answering(
     table: &Table,
     old: &State,

@@ -18,10 +18,10 @@ use objects::State;
 use std::alloc::Global;
 use table::Table;
 
-/// Returns whether a script answers a question: the calls `before`, and then `last`, by what `last` does
-/// to the object of this number.
+/// Returns whether a script answers a question, by what its last call does to the object of this number.
 ///
-/// The answer is `false` too where one of the calls is refused.
+/// The script is the calls `before`, and then `last`. The answer is `false` too where one of the
+/// calls is refused.
 ///
 /// # Errors
 ///

@@ -10,7 +10,7 @@ use machine::{Cap, Object};
 use objects::State;
 use std::alloc::{AllocError, Global};
 
-/// All that there is of an object in a state.
+/// A sight of an object: all that there is of it in a state.
 #[derive(Debug, Drop)]
 pub struct Sight {
     pub content: Object,
@@ -49,7 +49,7 @@ pub fn look(alloc: Global, state: State, id: ObjId) -> Result<Option<Sight>, Ref
     }))
 }
 
-// The words of an object that has so many.
+// The words of an object that has `count` words.
 fn words(alloc: Global, state: &State, id: ObjId, count: u64) -> Result<Vec<u64>, AllocError>
     ensures { IfOk result (λ read. (words : List ℕ) → words_of state.now id ≡ Some words
         → length words ≡ count → read.items ≡ words) }
@@ -61,7 +61,7 @@ fn words(alloc: Global, state: &State, id: ObjId, count: u64) -> Result<Vec<u64>
     Ok(words)
 }
 
-// What so many slots of an object hold.
+// What the first `count` slots of an object hold.
 fn slots(
     alloc: Global,
     state: &State,

@@ -29,7 +29,7 @@ pub struct Gap {
     pub at: SlotRef,
 }
 
-/// What a thread finds in its capability space.
+/// The capabilities, slots and gaps that a thread finds in its capability space.
 #[derive(Drop)]
 pub struct Space {
     /// One for each object and rights.
@@ -197,7 +197,7 @@ fn name_of(entry: &Entry, guard: Guard, node: &CNode, index: u64) -> SlotAddress
     }
 }
 
-// A word with so many further bits behind it.
+// A word with further bits behind it.
 fn joined(word: u64, bits: u32, further: u64) -> u64 {
     word.checked_shl(bits).unwrap_or(0) | further
 }

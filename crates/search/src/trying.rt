@@ -35,7 +35,7 @@ pub enum Callers {
     NotOf(Label),
 }
 
-/// Whose calls are tried, and how many kinds of them.
+/// The choice of the threads whose calls are tried, and of how many kinds of calls.
 #[derive(Clone, Copy, PartialEq, Eq, Debug)]
 pub struct Choice {
     pub callers: Callers,

@@ -1,4 +1,4 @@
-//! Whether claims rise, and are on two labels each: 50.
+//! Whether claims of version 1 rise, and are on two labels each: 50.
 use crate::declared::Row;
 use crate::edges::{Numbered, label_of};
 use forms::{File, form_of};

@@ -114,8 +114,7 @@ fn form_of_kind(kind: ObjectKind) -> Form {
 impl<'a> Rows<'a> {
     /// Returns whether the table is one of the second version.
     pub fn is_later(self) -> bool {
-        let header = Lines::new(self.text).next_line().map(|line| text_of(line));
-        header == File::Table.later_header()
+        File::Table.is_later(self.text)
     }
 
     /// Returns the first line that is sought, if there is one.

@@ -8,6 +8,7 @@ use crate::limits::{event_flaw, limit_flaw};
 use crate::memory::placed_flaw;
 use crate::names::{known_flaw, twice_flaw};
 use crate::order::order_flaw;
+use crate::stated::stated_flaw;
 use crate::tree::tree_flaw;
 use forms::{
     File, Form, LayoutFlaw, Line, Shown, before_of, bytes_flaw, form_of, formless_flaw,
@@ -44,8 +45,12 @@ pub fn explain_fault(
         Some(line) => {
             let shown = Shown { bytes: line.bytes };
             let declared = declared(file, text, table, fault);
-            let above = line_at(text, number.saturating_sub(1));
-            let flaw = flaw_of(file, declared, fault, line, before_of(above));
+            let before = before_of(line_at(text, number.saturating_sub(1)));
+            let flaw = if number > 1 && file == File::Claims && file.is_later(text) {
+                stated_flaw(text, declared, fault, line, before)
+            } else {
+                flaw_of(file, declared, fault, line, before)
+            };
             format!(in alloc; "{name}:{number}: `{shown}`: {flaw}")
         }
         None => {

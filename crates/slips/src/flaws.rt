@@ -7,6 +7,7 @@ use crate::limits::LimitFlaw;
 use crate::memory::PlacedFlaw;
 use crate::names::{KnownFlaw, TwiceFlaw};
 use crate::order::{OrderFlaw, Ranked};
+use crate::stated::StatedFlaw;
 use crate::tree::TreeFlaw;
 use forms::{File, Form, LayoutFlaw, OfLayout, OutcomeFlaw, WordFlaw};
 use std::fmt::{self, Display};
@@ -22,6 +23,7 @@ pub(crate) enum Flaw<'a> {
     Order(OrderFlaw<'a>),
     Edge(EdgeFlaw<'a>),
     Claim(ClaimFlaw<'a>),
+    Stated(StatedFlaw<'a>),
     Known(KnownFlaw<'a>),
     Twice(TwiceFlaw<'a>),
     Placed(PlacedFlaw<'a>),
@@ -53,6 +55,7 @@ impl fmt::Display for Flaw<'_> {
             Flaw::Order(flaw) => flaw.fmt(f),
             Flaw::Edge(flaw) => flaw.fmt(f),
             Flaw::Claim(flaw) => flaw.fmt(f),
+            Flaw::Stated(flaw) => flaw.fmt(f),
             Flaw::Known(flaw) => flaw.fmt(f),
             Flaw::Twice(flaw) => flaw.fmt(f),
             Flaw::Placed(flaw) => flaw.fmt(f),
@@ -155,6 +158,23 @@ impl fmt::Display for ClaimFlaw<'_> {
                 f.write_str("claims must be in rising order, but the label ")?;
                 write_numbers(f, here, before, line)
             }
+        }
+    }
+}
+
+impl fmt::Display for StatedFlaw<'_> {
+    fn fmt<W: fmt::Write>(&self, f: &mut fmt::Formatter<W>) -> fmt::Result {
+        match *self {
+            StatedFlaw::Others => f.write_str("`*` can only stand in a `none` or a `take` line"),
+            StatedFlaw::OthersTwice => f.write_str(
+                "`*` can stand for one of the two labels, but not for both",
+            ),
+            StatedFlaw::Among(label) => write!(
+                f,
+                "the first label, `{label}`, can't be among those that follow"
+            ),
+            StatedFlaw::LabelTwice(label) => write!(f, "the label `{label}` is given twice"),
+            StatedFlaw::Twice(line) => write!(f, "line {line} has the same claim"),
         }
     }
 }

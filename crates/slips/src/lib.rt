@@ -11,6 +11,7 @@ mod limits;
 mod memory;
 mod names;
 mod order;
+mod stated;
 mod tree;
 
 pub use faults::explain_fault;

@@ -28,6 +28,9 @@ pub(crate) fn known_flaw<'a>(
     form: Form,
     row: Row<'a>,
 ) -> Option<KnownFlaw<'a>> {
+    if form == Form::StatedOnly {
+        return labels_flaw(declared, row.text);
+    }
     let mut at = 1u64;
     for role in roles(form).as_bytes() {
         let flaw = match *role {
@@ -47,8 +50,12 @@ pub(crate) fn known_flaw<'a>(
 fn roles(form: Form) -> &'static str {
     match form {
         Form::Cap | Form::Child | Form::Bind => "OO",
-        Form::Edge => "L-L",
-        Form::ClaimNothing | Form::ClaimTake => "LL",
+        Form::Edge | Form::StatedWithout => "L-L",
+        Form::ClaimNothing
+        | Form::ClaimTake
+        | Form::StatedNothing
+        | Form::StatedTake
+        | Form::StatedApart => "LL",
         Form::CertifiedCap => "OL-L",
         Form::CertifiedSpace => "OLL",
         Form::CertifiedDerive | Form::CertifiedRuns => "OOLL",
@@ -56,8 +63,20 @@ fn roles(form: Form) -> &'static str {
     }
 }
 
+// Of a line that has labels alone behind its first word.
+fn labels_flaw<'a>(declared: Declared<'a>, line: &'a str) -> Option<KnownFlaw<'a>> {
+    for name in line.split(' ').skip(1) {
+        let flaw = label_flaw(declared, name);
+        if flaw.is_some() {
+            return flaw;
+        }
+    }
+    None
+}
+
+// `*` stands for all other labels.
 fn label_flaw<'a>(declared: Declared<'a>, name: &'a str) -> Option<KnownFlaw<'a>> {
-    if declared.label(name).is_some() {
+    if name == "*" || declared.label(name).is_some() {
         return None;
     }
     match declared.object(name) {

@@ -13,7 +13,7 @@ use Rattle.steps.proofs.{ContextRow.{ConfigureDone, UnbindDone, bind_done, confi
 use Rattle.steps.proofs.{ContextsFormed.{configure_formed, unbind_formed}, FetchRow.{FetchDone, fetch_done}, FillsFormed.derives_formed}
 use Rattle.steps.proofs.{MessageFormed.{blocked_formed, released_formed}, MessageRows.{caller_idle, endpoint_call_formed, fetch_formed}}
 use Rattle.steps.proofs.{MessageRows.{receive_formed, reply_formed, send_formed}, MovesFormed.move_formed, NotificationRow.none_sends}
-use Rattle.steps.proofs.{PollRow.{PollDone, poll_done}, ReceiveRow.{ReceiveDone, receive_done}, RemovalLinks.removed_formed}
+use Rattle.steps.proofs.{PollRow.{PollDone, poll_done}, ReceiveRow.{ReceiveDone, receive_done}, RemovalNumbers.removed_formed}
 use Rattle.steps.proofs.{RemovalRows.{RemovalDone, delete_done, revoke_done}, ReplyRow.{ReplyDone, reply_done}, RetypeFormed.retype_formed}
 use Rattle.steps.proofs.{RetypeRow.{RetypeDone, retype_done}, SendRow.{EndpointCallDone, SendDone, endpoint_call_done, send_done}}
 use Rattle.steps.proofs.{SetObject.{other_after, other_before}, SignalRow.{SignalDone, Wakes, marked, roused, signal_done}}

@@ -5,12 +5,12 @@ use Rattle.std.proofs.{Common.{subst, sym, true}, lemmas.Option.{none-some, same
 use Rattle.base.specs.declared.{ids.ObjId.ObjId, refusal.Cause.Cause}
 use Rattle.machine.specs.declared.{cap.{Badged.Badged, Detail.Detail as d}, object.{Endpoint.Endpoint, Object.Object as o}}
 use Rattle.machine.specs.declared.{object.ObjectKind.{ObjectKind, ObjectKind as kind}, thread.{Receiving.Receiving, RunState.RunState}}
-use Rattle.machine.specs.{declared.thread.{Sending.Sending, Tcb.Tcb}, Changes.first_waiting, Machine.{Machine, object_of, queue_of}}
-use Rattle.machine.specs.{Refusing.◌>>=◌, Step.{Deliver.{first_at, receiver_in, sender_in}, Find.{find_endpoint, permitted}}}
-use Rattle.machine.{specs.WellFormed.{IsAlike, IsSending, IsThread, IsWellFormed, WaitsAt, WaitsAtKind, kind_of}, proofs.Queues.first_in}
+use Rattle.machine.specs.{declared.thread.{Sending.Sending, Tcb.Tcb}, Capabilities.badged_of, Changes.first_waiting, Machine.Machine}
+use Rattle.machine.specs.{Machine.{object_of, queue_of}, Refusing.◌>>=◌, Step.{Deliver.{first_at, receiver_in, sender_in}, Find.find}}
+use Rattle.machine.specs.{Step.Find.permitted, WellFormed.{IsAlike, IsSending, IsThread, IsWellFormed, WaitsAt, WaitsAtKind, kind_of}}
+use Rattle.machine.proofs.Queues.{first_in}
 use Rattle.machine.specs.declared.thread.RunState.TheVariants as state
-use Rattle.steps.proofs.{Conditions.both_done, Finding.{FindsObject, found_kind, is_permitted}, FoundObjects.endpoint_of_kind}
-use Rattle.steps.proofs.FoundObjects.{finds_endpoint}
+use Rattle.steps.proofs.{Conditions.both_done, Finding.{FindsObject, finds, found_kind, is_permitted}, FoundObjects.endpoint_of_kind}
 
 -- an endpoint that is found, by a capability with a right
 pub record IsEndOpen (m : Machine) (caller : ObjId) (address : ℕ) (allows : Badged → Bool) : Type 0 where
@@ -40,14 +40,16 @@ pub opens_end :
     {B : Type 0} (m : Machine) (caller : ObjId) (address : ℕ) (allows : Badged → Bool) (then_do : ObjId × Badged → Result B Cause)
     (b : B)
     → IsWellFormed m
-    → ◌>>=◌ (find_endpoint m caller address) (λ found. ◌>>=◌ (permitted (allows found.1)) (λ _. then_do found)) ≡ Ok b
+    → ◌>>=◌ (find kind.Endpoint m caller address)
+    (λ found. ◌>>=◌ (permitted (allows (badged_of found.1.detail))) (λ _. then_do (found.1.object, badged_of found.1.detail)))
+    ≡ Ok b
     → (open_to : IsEndOpen m caller address allows) × (then_do (open_to.id, open_to.end) ≡ Ok b)
 opens_end m caller address allows then_do b formed e =
-    let looked = both_done (find_endpoint m caller address) _ b e in
-    let id = (looked.0).0 in
-    let end = (looked.0).1 in
+    let looked = both_done (find kind.Endpoint m caller address) _ b e in
+    let id = (looked.0).1.object in
+    let end = badged_of (looked.0).1.detail in
     let right = both_done (permitted (allows end)) _ b looked.2 in
-    let finds = finds_endpoint m caller address id end looked.1 in
+    let finds = finds kind.Endpoint m caller address looked.0 looked.1 in
     let there = endpoint_of_kind (object_of m id) (found_kind formed finds) in (
       record {
         id = id;

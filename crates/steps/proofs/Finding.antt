@@ -1,8 +1,10 @@
 -- What a call found at an address: the capability in the slot where the lookup ends.
 use Rattle.std.{specs.Prelude.{None, Ok, Option, Result, Some}, proofs.Common.{ℕ, ◌∙◌, ◌≡◌, Bool, ap, false, refl, sym, true}}
 use Rattle.base.specs.declared.{ids.{ObjId.ObjId, SlotRef.SlotRef}, refusal.Cause.Cause}
-use Rattle.machine.specs.{declared.cap.{Cap.Cap, Detail.Detail}, Capabilities.kind_of_detail, Lookup.lookup_of, Machine.{Machine, cap_of}}
-use Rattle.machine.specs.{Refusing.◌>>=◌, Step.Find.{find_cap, held_in, permitted}, WellFormed.{IsWellFormed, kind_of}}
+use Rattle.machine.specs.declared.{cap.{Cap.Cap, Detail.{Detail, Detail as d}, Guard.Guard}, object.ObjectKind.ObjectKind}
+use Rattle.machine.specs.{declared.object.ObjectKind.ObjectKind as kind, Capabilities.{badged_of, kind_of_detail}, Lookup.lookup_of}
+use Rattle.machine.specs.{Machine.{Machine, cap_of}, Refusing.◌>>=◌, Step.Find.{find, find_cap, held_in, of_kind, permitted}}
+use Rattle.machine.specs.WellFormed.{IsWellFormed, kind_of}
 use Rattle.steps.proofs.Conditions.{both_done, same_ok}
 
 -- the lookup of a thread's address ends at a slot that holds this capability
@@ -39,23 +41,49 @@ pub record FindsObject (m : Machine) (caller : ObjId) (address : ℕ) (id : ObjI
   pub object : held.object ≡ id
   pub detail : held.detail ≡ says
 
--- where a row went past a capability that it found, and what it made of it tells the object and what the capability says
-pub finds_object :
-    {A : Type 0} (m : Machine) (caller : ObjId) (address : ℕ) (id : ObjId) (says : Detail) (then_do : SlotRef × Cap → Result A Cause)
-    (a : A)
-    → ◌>>=◌ (find_cap m caller address) then_do ≡ Ok a
-    → ((found : SlotRef × Cap) → then_do found ≡ Ok a → (found.1.object ≡ id) × (found.1.detail ≡ says))
-    → FindsObject m caller address id says
-finds_object m caller address id says then_do a e tells =
-    let found = both_done (find_cap m caller address) then_do a e in
-    let of = tells found.0 found.2 in
-    record {
-      slot = (found.0).0;
-      held = (found.0).1;
-      finds = finds_cap m caller address (found.0).0 (found.0).1 found.1;
-      object = of.0;
-      detail = of.1;
-    }
+abbrev guard_in : Detail → Guard
+guard_in (d.CNode guard) = guard
+guard_in _ = record { size = 0; value = 0 }
+
+-- what a capability says, where it is to an object of a kind
+abbrev pub as_kind : ObjectKind → Detail → Detail
+as_kind kind.Untyped detail = d.Untyped
+as_kind kind.CNode detail = d.CNode (guard_in detail)
+as_kind kind.Tcb detail = d.Tcb
+as_kind kind.Endpoint detail = d.Endpoint (badged_of detail)
+as_kind kind.Notification detail = d.Notification (badged_of detail)
+as_kind kind.Reply detail = d.Reply
+as_kind kind.Context detail = d.Context
+as_kind kind.Frame detail = d.Frame (badged_of detail).rights
+as_kind kind.Control detail = d.Control
+
+is_of : (wanted : ObjectKind) (detail : Detail) (u : Unit {0}) → of_kind wanted detail ≡ Ok u → detail ≡ as_kind wanted detail
+is_of kind.Untyped d.Untyped u e = refl
+is_of kind.CNode (d.CNode guard) u e = refl
+is_of kind.Tcb d.Tcb u e = refl
+is_of kind.Endpoint (d.Endpoint end) u e = refl
+is_of kind.Notification (d.Notification end) u e = refl
+is_of kind.Reply d.Reply u e = refl
+is_of kind.Context d.Context u e = refl
+is_of kind.Frame (d.Frame rights) u e = refl
+is_of kind.Control d.Control u e = refl
+is_of _ _ u e = cc
+
+-- what a call found is to an object of the kind that it wants
+module _ (wanted : ObjectKind) (m : Machine) (caller : ObjId) (address : ℕ) (found : SlotRef × Cap)
+    (e : find wanted m caller address ≡ Ok found) where
+  pub found_there : FindsCap m caller address found.0 found.1 × (found.1.detail ≡ as_kind wanted found.1.detail)
+  unfolding find
+  found_there =
+      let looked = both_done (find_cap m caller address) _ found e in
+      let of = both_done (of_kind wanted (looked.0).1.detail) _ found looked.2 in
+      let same : looked.0 ≡ found = same_ok of.2 in (
+        finds_cap m caller address found.0 found.1 (looked.1 ∙ ap (λ f. Ok f) same),
+        is_of wanted found.1.detail of.0 (ap (λ f. of_kind wanted f.1.detail) (sym same) ∙ of.1),
+      )
+
+  abbrev pub finds : FindsObject m caller address found.1.object (as_kind wanted found.1.detail)
+  finds = record { slot = found.0; held = found.1; finds = found_there.0; object = refl; detail = found_there.1 }
 
 -- the object is of the kind that the capability says
 pub found_kind :

@@ -3,7 +3,8 @@ use Rattle.std.{specs.Prelude.{AllPairs, Contains, Some}, proofs.Common.{[], ℕ
 use Rattle.std.proofs.{Common.{refl, subst, sym}, lemmas.List.Elements.{Contains-append_left, Contains-get_or, Contains-push}}
 use Rattle.std.proofs.lemmas.{List.{Elements.Contains-push_cases, Quantifiers.all_pairs_push}, Option.same_Some}
 use Rattle.base.specs.declared.ids.ObjId.{ObjId}
-use Rattle.machine.specs.declared.object.{Context.Context, Object.Object as o, ObjectKind.ObjectKind, Reply.Reply, ReplyState.ReplyState}
+use Rattle.machine.specs.declared.object.{Context.Context, Object.{Object, Object as o}, ObjectKind.ObjectKind, Reply.Reply}
+use Rattle.machine.specs.declared.object.ReplyState.{ReplyState}
 use Rattle.machine.specs.{declared.thread.{RunState.RunState, Tcb.Tcb}, Finalising.IsHolding, Machine.{Machine, object_of, queue_of}}
 use Rattle.machine.specs.WellFormed.{IsAlike, IsCallingThrough, IsIdle, IsReceivingWith, IsSending, IsThread, LinksAgree, WaitsAt}
 use Rattle.machine.{specs.WellFormed.{WaitsAtKind, kind_of}, proofs.{Idle.{idle_held_by_none, idle_in_none}, Ids.one_or_two, Leaving.Names}}
@@ -28,90 +29,63 @@ module _ (m next : Machine) (thread : ObjId) (old new : Tcb) (links : LinksAgree
   is_old : (q : ObjId) (tcb : Tcb) → q ≡ thread → IsThread m q tcb → tcb ≡ old
   is_old q tcb here e = one_thread m thread tcb old (ap (object_of m) (sym here) ∙ e) was
 
-  -- another thread is as it was
-  thread_now : (q : ObjId) (tcb : Tcb) → q ≢ thread → IsThread m q tcb → IsThread next q tcb
-  thread_now q tcb apart e = by_name (names_or_not new.state q) where
-    by_name : Names new.state q ⊎ ¬ (Names new.state q) → IsThread next q tcb
+  -- what isn't the thread, and no free reply, is as it was
+  object_now :
+      (q : ObjId) (object : Object) → q ≢ thread → ((address : ℕ) → object ≢ o.Reply (record { address = address; state = reply.Free }))
+      → object_of m q ≡ Some object → object_of next q ≡ Some object
+  object_now q object apart held e = by_name (names_or_not new.state q) where
+    by_name : Names new.state q ⊎ ¬ (Names new.state q) → object_of next q ≡ Some object
     by_name (inl names) =
         let w = joined.named q names in
-        let one : Some (o.Tcb tcb) ≡ Some (o.Reply (record { address = w.0; state = reply.Free })) = sym e ∙ w.1 in cc
+        absurd (held w.0 (same_Some object (o.Reply (record { address = w.0; state = reply.Free })) (sym e ∙ w.1)))
     by_name (inr none) = joined.others q apart none ∙ e
 
-  thread_was : (q : ObjId) (tcb : Tcb) → q ≢ thread → IsThread next q tcb → IsThread m q tcb
-  thread_was q tcb apart e = by_name (names_or_not new.state q) where
-    by_name : Names new.state q ⊎ ¬ (Names new.state q) → IsThread m q tcb
+  -- it was so, or is the reply that the thread names
+  object_was :
+      (q : ObjId) (object : Object) → q ≢ thread → object_of next q ≡ Some object
+      → (object_of m q ≡ Some object)
+      ⊎ ((address : ℕ) × Names new.state q × (object ≡ o.Reply (record { address = address; state = hold_for new.state thread })))
+  object_was q object apart e = by_name (names_or_not new.state q) where
+    by_name :
+        Names new.state q ⊎ ¬ (Names new.state q)
+        → (object_of m q ≡ Some object)
+        ⊎ ((address : ℕ) × Names new.state q × (object ≡ o.Reply (record { address = address; state = hold_for new.state thread })))
     by_name (inl names) =
         let w = joined.named q names in
-        let one : Some (o.Tcb tcb) ≡ Some (o.Reply (record { address = w.0; state = hold_for new.state thread })) = sym e ∙ w.2 in
-        cc
-    by_name (inr none) = sym (joined.others q apart none) ∙ e
+        inr (w.0, names, same_Some object (o.Reply (record { address = w.0; state = hold_for new.state thread })) (sym e ∙ w.2))
+    by_name (inr none) = inl (sym (joined.others q apart none) ∙ e)
+
+  same_was :
+      (q : ObjId) (object : Object) → q ≢ thread → ((holding : Reply) → object ≢ o.Reply holding) → object_of next q ≡ Some object
+      → object_of m q ≡ Some object
+  same_was q object apart differs e = by_case (object_was q object apart e) where
+    by_case :
+        (object_of m q ≡ Some object)
+        ⊎ ((address : ℕ) × Names new.state q × (object ≡ o.Reply (record { address = address; state = hold_for new.state thread })))
+        → object_of m q ≡ Some object
+    by_case (inl was) = was
+    by_case (inr is) = absurd (differs _ is.2)
+
+  thread_now : (q : ObjId) (tcb : Tcb) → q ≢ thread → IsThread m q tcb → IsThread next q tcb
+  thread_now q tcb apart e = object_now q (o.Tcb tcb) apart (λ address same. cc) e
+
+  thread_was : (q : ObjId) (tcb : Tcb) → q ≢ thread → IsThread next q tcb → IsThread m q tcb
+  thread_was q tcb apart e = same_was q (o.Tcb tcb) apart (λ holding same. cc) e
 
   context_now :
       (id : ObjId) (context : Context) → object_of m id ≡ Some (o.Context context) → object_of next id ≡ Some (o.Context context)
-  context_now id context e = by_name (names_or_not new.state id) where
-    by_name : Names new.state id ⊎ ¬ (Names new.state id) → object_of next id ≡ Some (o.Context context)
-    by_name (inl names) =
-        let w = joined.named id names in
-        let one : Some (o.Context context) ≡ Some (o.Reply (record { address = w.0; state = reply.Free })) = sym e ∙ w.1 in cc
-    by_name (inr none) =
-        joined.others id
-        (λ here. let one : Some (o.Tcb old) ≡ Some (o.Context context) = sym was ∙ ap (object_of m) (sym here) ∙ e in cc) none
-        ∙ e
+  context_now id context e =
+      object_now id (o.Context context)
+      (λ here. let one : Some (o.Tcb old) ≡ Some (o.Context context) = sym was ∙ ap (object_of m) (sym here) ∙ e in cc)
+      (λ address same. cc) e
 
   context_was :
       (id : ObjId) (context : Context) → object_of next id ≡ Some (o.Context context) → object_of m id ≡ Some (o.Context context)
-  context_was id context e = by_name (names_or_not new.state id) where
-    by_name : Names new.state id ⊎ ¬ (Names new.state id) → object_of m id ≡ Some (o.Context context)
-    by_name (inl names) =
-        let w = joined.named id names in
-        let one : Some (o.Context context) ≡ Some (o.Reply (record { address = w.0; state = hold_for new.state thread })) =
-        sym e ∙ w.2 in
-        cc
-    by_name (inr none) =
-        sym
-        (joined.others id
-        (λ here.
-        let one : Some (o.Tcb new) ≡ Some (o.Context context) = sym joined.there ∙ ap (object_of next) (sym here) ∙ e in cc) none)
-        ∙ e
-
-  -- a reply that held one does still
-  reply_now :
-      (q other : ObjId) (holding : Reply) → IsHolding holding.state other → object_of m q ≡ Some (o.Reply holding)
-      → object_of next q ≡ Some (o.Reply holding)
-  reply_now q other holding is e = by_name (names_or_not new.state q) where
-    by_name : Names new.state q ⊎ ¬ (Names new.state q) → object_of next q ≡ Some (o.Reply holding)
-    by_name (inl names) =
-        let w = joined.named q names in
-        let one : Some (o.Reply holding) ≡ Some (o.Reply (record { address = w.0; state = reply.Free })) = sym e ∙ w.1 in
-        let same : holding ≡ record { address = w.0; state = reply.Free } = cc in
-        absurd (subst (λ (r : Reply). IsHolding r.state other) same is)
-    by_name (inr none) =
-        joined.others q
-        (λ here. let one : Some (o.Tcb old) ≡ Some (o.Reply holding) = sym was ∙ ap (object_of m) (sym here) ∙ e in cc) none
-        ∙ e
-
-  -- a reply that holds one held it, or is named by the thread
-  reply_was :
-      (q : ObjId) (holding : Reply) → object_of next q ≡ Some (o.Reply holding)
-      → (object_of m q ≡ Some (o.Reply holding)) ⊎ (Names new.state q × (holding.state ≡ hold_for new.state thread))
-  reply_was q holding e = by_name (names_or_not new.state q) where
-    by_name :
-        Names new.state q ⊎ ¬ (Names new.state q)
-        → (object_of m q ≡ Some (o.Reply holding)) ⊎ (Names new.state q × (holding.state ≡ hold_for new.state thread))
-    by_name (inl names) =
-        let w = joined.named q names in
-        let one : Some (o.Reply holding) ≡ Some (o.Reply (record { address = w.0; state = hold_for new.state thread })) =
-        sym e ∙ w.2 in
-        let same : holding ≡ record { address = w.0; state = hold_for new.state thread } = cc in
-        inr (names, ap (λ (r : Reply). r.state) same)
-    by_name (inr none) =
-        inl
-        (sym
-        (joined.others q
-        (λ here.
-        let one : Some (o.Tcb new) ≡ Some (o.Reply holding) = sym joined.there ∙ ap (object_of next) (sym here) ∙ e in cc)
-        none)
-        ∙ e)
+  context_was id context e =
+      same_was id (o.Context context)
+      (λ here.
+      let one : Some (o.Tcb new) ≡ Some (o.Context context) = sym joined.there ∙ ap (object_of next) (sym here) ∙ e in cc)
+      (λ holding same. cc) e
 
   -- who is in a queue was in it, and is another thread, or is the thread, which waits there
   member_was :
@@ -248,72 +222,69 @@ module _ (m next : Machine) (thread : ObjId) (old new : Tcb) (links : LinksAgree
   held_called (state.Called calling) id other names e = (names, cc)
   held_called _ id other names e = absurd names
 
-  receiver_reply_now :
-      (other q : ObjId) (tcb : Tcb) → IsThread next other tcb → IsReceivingWith tcb.state q → (other ≡ thread) ⊎ (other ≢ thread)
-      → (address : ℕ) × (object_of next q ≡ Some (o.Reply (record { address = address; state = reply.Waiting other })))
-  receiver_reply_now other q tcb e receives (inl here) =
-      let is = receiving_held new.state q (subst (λ (t : Tcb). IsReceivingWith t.state q) (is_new other tcb here e) receives) in
-      let w = joined.named q is.0 in (
-        w.0,
-        w.2
-            ∙ ap (λ (s : ReplyState). Some (o.Reply (record { address = w.0; state = s })))
-            (is.1 ∙ ap (λ x. reply.Waiting x) (sym here)),
-      )
-  receiver_reply_now other q tcb e receives (inr apart) =
-      let w = links.receiver_reply other q tcb (thread_was other tcb apart e) receives in
-      (w.0, reply_now q other (record { address = w.0; state = reply.Waiting other }) refl w.1)
+  -- a run state and a reply are linked, if they were before for others and are for the thread
+  module _ (Is : RunState → ObjId → Type 0) (hold : ObjId → ReplyState) (holds : (other : ObjId) → IsHolding (hold other) other)
+      (own : (run : RunState) (id : ObjId) → Is run id → Names run id × (hold_for run thread ≡ hold thread))
+      (back : (run : RunState) (id other : ObjId) → Names run id → hold other ≡ hold_for run thread → Is run id × (other ≡ thread)) where
+    named_now :
+        ((other q : ObjId) (tcb : Tcb) → IsThread m other tcb → Is tcb.state q
+        → (address : ℕ) × (object_of m q ≡ Some (o.Reply (record { address = address; state = hold other }))))
+        → (other q : ObjId) (tcb : Tcb) → IsThread next other tcb → Is tcb.state q
+        → (address : ℕ) × (object_of next q ≡ Some (o.Reply (record { address = address; state = hold other })))
+    named_now before other q tcb e names = by_id (one_or_two other thread) where
+      by_id :
+          (other ≡ thread) ⊎ (other ≢ thread)
+          → (address : ℕ) × (object_of next q ≡ Some (o.Reply (record { address = address; state = hold other })))
+      by_id (inl here) =
+          let is = own new.state q (subst (λ (t : Tcb). Is t.state q) (is_new other tcb here e) names) in
+          let w = joined.named q is.0 in (
+            w.0,
+            w.2 ∙ ap (λ (s : ReplyState). Some (o.Reply (record { address = w.0; state = s }))) (is.1 ∙ ap hold (sym here)),
+          )
+      by_id (inr apart) =
+          let w = before other q tcb (thread_was other tcb apart e) names in (
+            w.0,
+            object_now q (o.Reply (record { address = w.0; state = hold other }))
+                (λ here.
+                let one : Some (o.Tcb old) ≡ Some (o.Reply (record { address = w.0; state = hold other })) =
+                sym was ∙ ap (object_of m) (sym here) ∙ w.1 in
+                cc)
+                (λ address same.
+                let free :
+                ◌≡◌ {A = Reply} (record { address = w.0; state = hold other }) (record { address = address; state = reply.Free }) = cc in
+                subst (λ (r : Reply). IsHolding r.state other) free (holds other))
+                w.1,
+          )
 
-  called_reply_now :
-      (other q : ObjId) (tcb : Tcb) → IsThread next other tcb → IsCallingThrough tcb.state q → (other ≡ thread) ⊎ (other ≢ thread)
-      → (address : ℕ) × (object_of next q ≡ Some (o.Reply (record { address = address; state = reply.Called other })))
-  called_reply_now other q tcb e called (inl here) =
-      let is = called_held new.state q (subst (λ (t : Tcb). IsCallingThrough t.state q) (is_new other tcb here e) called) in
-      let w = joined.named q is.0 in (
-        w.0,
-        w.2
-            ∙ ap (λ (s : ReplyState). Some (o.Reply (record { address = w.0; state = s })))
-            (is.1 ∙ ap (λ x. reply.Called x) (sym here)),
-      )
-  called_reply_now other q tcb e called (inr apart) =
-      let w = links.called_reply other q tcb (thread_was other tcb apart e) called in
-      (w.0, reply_now q other (record { address = w.0; state = reply.Called other }) refl w.1)
-
-  waiting_reply_now :
-      (q other : ObjId) (address : ℕ)
-      → object_of next q ≡ Some (o.Reply (record { address = address; state = reply.Waiting other }))
-      → (tcb : Tcb) × IsThread next other tcb × IsReceivingWith tcb.state q
-  waiting_reply_now q other address e =
-      by_case (reply_was q (record { address = address; state = reply.Waiting other }) e) where
-        by_case :
-            (object_of m q ≡ Some (o.Reply (record { address = address; state = reply.Waiting other })))
-            ⊎ (Names new.state q × (reply.Waiting other ≡ hold_for new.state thread))
-            → (tcb : Tcb) × IsThread next other tcb × IsReceivingWith tcb.state q
-        by_case (inl at) =
-            let w = links.waiting_reply q other address at in
-            let apart =
-            idle_held_by_none m links thread old was idle q (record { address = address; state = reply.Waiting other }) other at
-            refl in
-            (w.0, thread_now other w.0 apart w.1, w.2)
-        by_case (inr held) =
-            let w = held_receiving new.state q other held.0 held.1 in (new, ap (object_of next) w.1 ∙ joined.there, w.0)
-
-  reply_called_now :
-      (q other : ObjId) (address : ℕ)
-      → object_of next q ≡ Some (o.Reply (record { address = address; state = reply.Called other }))
-      → (tcb : Tcb) × IsThread next other tcb × IsCallingThrough tcb.state q
-  reply_called_now q other address e = by_case (reply_was q (record { address = address; state = reply.Called other }) e) where
-    by_case :
-        (object_of m q ≡ Some (o.Reply (record { address = address; state = reply.Called other })))
-        ⊎ (Names new.state q × (reply.Called other ≡ hold_for new.state thread))
-        → (tcb : Tcb) × IsThread next other tcb × IsCallingThrough tcb.state q
-    by_case (inl at) =
-        let w = links.reply_called q other address at in
-        let apart =
-        idle_held_by_none m links thread old was idle q (record { address = address; state = reply.Called other }) other at
-        refl in
-        (w.0, thread_now other w.0 apart w.1, w.2)
-    by_case (inr held) =
-        let w = held_called new.state q other held.0 held.1 in (new, ap (object_of next) w.1 ∙ joined.there, w.0)
+    held_now :
+        ((q other : ObjId) (address : ℕ) → object_of m q ≡ Some (o.Reply (record { address = address; state = hold other }))
+        → (tcb : Tcb) × IsThread m other tcb × Is tcb.state q)
+        → (q other : ObjId) (address : ℕ) → object_of next q ≡ Some (o.Reply (record { address = address; state = hold other }))
+        → (tcb : Tcb) × IsThread next other tcb × Is tcb.state q
+    held_now before q other address e =
+        by_case
+        (object_was q (o.Reply (record { address = address; state = hold other }))
+        (λ here.
+        let one : Some (o.Tcb new) ≡ Some (o.Reply (record { address = address; state = hold other })) =
+        sym joined.there ∙ ap (object_of next) (sym here) ∙ e in
+        cc) e) where
+          by_case :
+              (object_of m q ≡ Some (o.Reply (record { address = address; state = hold other })))
+              ⊎ ((at : ℕ) × Names new.state q
+              × (o.Reply (record { address = address; state = hold other })
+              ≡ o.Reply (record { address = at; state = hold_for new.state thread })))
+              → (tcb : Tcb) × IsThread next other tcb × Is tcb.state q
+          by_case (inl at) =
+              let w = before q other address at in
+              let apart =
+              idle_held_by_none m links thread old was idle q (record { address = address; state = hold other }) other at
+              (holds other) in
+              (w.0, thread_now other w.0 apart w.1, w.2)
+          by_case (inr is) =
+              let one :
+              ◌≡◌ {A = Reply} (record { address = address; state = hold other })
+              (record { address = is.0; state = hold_for new.state thread }) = let same = is.2 in cc in
+              let w = back new.state q other is.1 (ap (λ (r : Reply). r.state) one) in (new, ap (object_of next) w.1 ∙ joined.there, w.0)
 
   thread_context_now :
       (q id : ObjId) (tcb : Tcb) → IsThread next q tcb → tcb.context ≡ Some id → (q ≡ thread) ⊎ (q ≢ thread)
@@ -339,10 +310,12 @@ module _ (m next : Machine) (thread : ObjId) (old new : Tcb) (links : LinksAgree
         waiting = λ other q tcb e waits. waiting_now other q tcb e waits (one_or_two other thread);
         once = once_now;
         one_way = one_way_now;
-        receiver_reply = λ other q tcb e receives. receiver_reply_now other q tcb e receives (one_or_two other thread);
-        called_reply = λ other q tcb e called. called_reply_now other q tcb e called (one_or_two other thread);
-        waiting_reply = waiting_reply_now;
-        reply_called = reply_called_now;
+        receiver_reply =
+            named_now IsReceivingWith (λ other. reply.Waiting other) (λ other. refl) receiving_held held_receiving links.receiver_reply;
+        called_reply = named_now IsCallingThrough (λ other. reply.Called other) (λ other. refl) called_held held_called links.called_reply;
+        waiting_reply =
+            held_now IsReceivingWith (λ other. reply.Waiting other) (λ other. refl) receiving_held held_receiving links.waiting_reply;
+        reply_called = held_now IsCallingThrough (λ other. reply.Called other) (λ other. refl) called_held held_called links.reply_called;
         thread_context = λ other q tcb e bound. thread_context_now other q tcb e bound (one_or_two other thread);
         context_thread =
             λ q other context e bound.

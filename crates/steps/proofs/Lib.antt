@@ -27,11 +27,11 @@ pub mod Threads
 pub mod Steps
 pub mod BelowLemmas
 pub mod RemovalRows
+pub mod LeavingLinks
+pub mod RemovalLinks
 pub mod RemovalSlots
 pub mod RemovalNumbers
-pub mod RemovalLinks
 pub mod Releases
-pub mod ReleasedLinks
 pub mod Joins
 pub mod JoinedLinks
 pub mod MessageFormed

@@ -14,7 +14,7 @@ use Rattle.machine.specs.declared.object.ReplyState.TheVariants as reply
 use Rattle.machine.specs.declared.thread.Inbox.TheVariants as inbox
 use Rattle.machine.specs.declared.thread.RunState.TheVariants as state
 use Rattle.steps.proofs.{JoinedLinks.{FitsIn, links_joined}, Joins.{IsJoined, awaiting_joins, blocked_joins, called_joins, joined_steady}}
-use Rattle.steps.proofs.{Joins.waits_at_one, Outlines.steady_formed, ReleasedLinks.links_released, Releases.{released_is, released_steady}}
+use Rattle.steps.proofs.{Joins.waits_at_one, Outlines.steady_formed, Releases.{links_released, released_is, released_steady}}
 use Rattle.steps.proofs.Releases.{reply_freed}
 
 -- a thread leaves its queue and its reply
@@ -27,7 +27,7 @@ released_formed m thread tcb change formed there address runs idle =
     let released = released_is m thread tcb change formed.links there in
     let steady = released_steady m next thread (change tcb) released tcb there address in
     steady_formed m next steady
-    (links_released m next thread tcb (change tcb) formed.links there runs idle released steady) formed
+    (links_released m next thread (change tcb) released tcb there runs idle formed.links) formed
 
 -- whatever there is of that number
 released_any :

@@ -5,11 +5,10 @@ use Rattle.std.proofs.{Common.{sym, true}, lemmas.Option.same_Some}
 use Rattle.base.specs.declared.{ids.ObjId.ObjId, refusal.Cause.Cause}
 use Rattle.machine.specs.declared.{cap.{Badged.Badged, Detail.Detail as d}, object.{Notification.Notification, Object.Object as o}}
 use Rattle.machine.specs.declared.{object.ObjectKind.ObjectKind as kind, thread.{RunState.{RunState, RunState as state}, Tcb.Tcb}}
-use Rattle.machine.specs.{Changes.with_pending, Machine.{Machine, object_of, queue_of, with_object}, Objects.kind_of_object, Refusing.◌>>=◌}
-use Rattle.machine.specs.{Step.Find.{find_notification, permitted}, WellFormed.{IsAlike, IsSending, IsThread, IsWellFormed, LinksAgree}}
-use Rattle.machine.specs.WellFormed.{WaitsAt, WaitsAtKind}
-use Rattle.steps.proofs.{Conditions.both_done, Finding.{FindsObject, found_kind, is_permitted}, FoundObjects.finds_notification}
-use Rattle.steps.proofs.FoundObjects.{notification_of_kind}
+use Rattle.machine.specs.{Capabilities.badged_of, Changes.with_pending, Machine.{Machine, object_of, queue_of, with_object}}
+use Rattle.machine.specs.{Objects.kind_of_object, Refusing.◌>>=◌, Step.Find.{find, permitted}, WellFormed.{IsAlike, IsSending, IsThread}}
+use Rattle.machine.specs.WellFormed.{IsWellFormed, LinksAgree, WaitsAt, WaitsAtKind}
+use Rattle.steps.proofs.{Conditions.both_done, Finding.{FindsObject, finds, found_kind, is_permitted}, FoundObjects.notification_of_kind}
 
 -- a notification that is found, by a capability with a right
 pub record IsOpen (m : Machine) (caller : ObjId) (address : ℕ) (allows : Badged → Bool) : Type 0 where
@@ -25,14 +24,16 @@ pub opens :
     {B : Type 0} (m : Machine) (caller : ObjId) (address : ℕ) (allows : Badged → Bool) (then_do : ObjId × Badged → Result B Cause)
     (b : B)
     → IsWellFormed m
-    → ◌>>=◌ (find_notification m caller address) (λ found. ◌>>=◌ (permitted (allows found.1)) (λ _. then_do found)) ≡ Ok b
+    → ◌>>=◌ (find kind.Notification m caller address)
+    (λ found. ◌>>=◌ (permitted (allows (badged_of found.1.detail))) (λ _. then_do (found.1.object, badged_of found.1.detail)))
+    ≡ Ok b
     → (open_to : IsOpen m caller address allows) × (then_do (open_to.id, open_to.end) ≡ Ok b)
 opens m caller address allows then_do b formed e =
-    let looked = both_done (find_notification m caller address) _ b e in
-    let id = (looked.0).0 in
-    let end = (looked.0).1 in
+    let looked = both_done (find kind.Notification m caller address) _ b e in
+    let id = (looked.0).1.object in
+    let end = badged_of (looked.0).1.detail in
     let right = both_done (permitted (allows end)) _ b looked.2 in
-    let finds = finds_notification m caller address id end looked.1 in
+    let finds = finds kind.Notification m caller address looked.0 looked.1 in
     let there = notification_of_kind (object_of m id) (found_kind formed finds) in (
       record {
         id = id;

@@ -1,16 +1,17 @@
 -- What a receive does that is made: the thread that the reply held is halted, and the message of the thread that waits first to
 -- send is received; where none does, the caller waits.
-use Rattle.std.{specs.Prelude.{None, Ok, Option, Some, option_map}, proofs.Common.{ℕ, ◌∙◌, ◌≡◌, ◌⊎◌, ap, inl, inr, refl, sym}}
+use Rattle.std.{specs.Prelude.{None, Ok, Option, Some, option_map}, proofs.Common.{ℕ, ◌∙◌, ◌≡◌, ◌⊎◌, ap, inl, inr, refl, subst, sym}}
 use Rattle.std.proofs.lemmas.Option.{none-some, same_Some}
 use Rattle.base.specs.declared.ids.ObjId.{ObjId}
 use Rattle.machine.specs.declared.{call.Made.Made, cap.Detail.Detail as d, object.{Endpoint.Endpoint, Object.Object as o}}
+use Rattle.machine.specs.declared.object.ObjectKind.TheVariants as kind
 use Rattle.machine.specs.declared.{slot_address.SlotAddress.SlotAddress, thread.{Receiving.Receiving, RunState.RunState as state}}
 use Rattle.machine.specs.{declared.thread.Sending.Sending, Capabilities.can_read, Machine.{Machine, object_of}, Objects.kind_of_object}
-use Rattle.machine.specs.{Refusing.◌>>=◌, Step.{Deliver.{arrival_of, first_at, sender_in, sent, with_arrival}, Find.find_reply}}
+use Rattle.machine.specs.{Refusing.◌>>=◌, Step.{Deliver.{arrival_of, first_at, sender_in, sent, with_arrival}, Find.find}}
 use Rattle.machine.specs.Step.Receive.{awaiting_message, find_named_reply, receive_of, received, received_or_waits, with_reply_ended}
 use Rattle.machine.specs.WellFormed.{IsAlike, IsWellFormed}
 use Rattle.steps.proofs.{Beside.{ended_endpoint, ended_formed}, Conditions.{both_done, same_ok}, EndpointRow.{IsEndOpen, IsSender}}
-use Rattle.steps.proofs.{EndpointRow.{no_sender, opens_end, sender_first}, Finding.FindsObject, FoundObjects.finds_reply}
+use Rattle.steps.proofs.{EndpointRow.{no_sender, opens_end, sender_first}, Finding.{FindsObject, finds}}
 
 pub record ReceiveDone (m : Machine) (caller : ObjId) (address : ℕ) (named : Option ℕ) (slot : Option SlotAddress)
     (next : Machine) : Type 0 where
@@ -33,9 +34,9 @@ named_found :
     → (id : ObjId) → reply ≡ Some id → (at : ℕ) × FindsObject m caller at id d.Reply
 named_found m caller None reply e id is = absurd (none-some id (same_ok e ∙ is))
 named_found m caller (Some address) reply e id is =
-    let found = both_done (find_reply m caller address) _ reply e in
-    let same : found.0 ≡ id = same_Some found.0 id (same_ok found.2 ∙ is) in
-    (address, finds_reply m caller address id (found.1 ∙ ap (λ (x : ObjId). Ok x) same))
+    let found = both_done (find kind.Reply m caller address) _ reply e in
+    let same : (found.0).1.object ≡ id = same_Some (found.0).1.object id (same_ok found.2 ∙ is) in
+    (address, subst (λ (x : ObjId). FindsObject m caller address x d.Reply) same (finds kind.Reply m caller address found.0 found.1))
 
 -- a sender's message is received, or the receiver waits
 module _ (m : Machine) (caller : ObjId) (receiving : Receiving) (endpoint : Endpoint) (formed : IsWellFormed m)

@@ -1,19 +1,20 @@
 -- What changes where a thread leaves its queue and its reply: read off the machine as it was, object by object and queue by
--- queue.
+-- queue; and links agree where it is idle then.
 use Rattle.std.specs.FinMap as map
-use Rattle.std.{specs.Prelude.{Contains, None, Option, Some, if◌then◌else◌, is_some, length, option_map}, proofs.Common.{ℕ, ◌∙◌, ◌≡◌, ◌≢◌}}
-use Rattle.std.proofs.{Common.{◌⊎◌, Bool, List, ap, cond, false, inl, inr, not, refl, subst, sym, true}, lemmas.List.Elements.All-contains}
-use Rattle.std.proofs.lemmas.{List.Elements.filter_passes, Option.{none-some, same_Some}}
+use Rattle.std.{specs.Prelude.{None, Option, Some, if◌then◌else◌, is_some, length, option_map}, proofs.Common.{◌∙◌, ◌≡◌, ◌≢◌}}
+use Rattle.std.proofs.{Common.{◌⊎◌, Bool, List, ap, cond, false, inl, inr, refl, subst, sym, true}}
+use Rattle.std.proofs.lemmas.Bool.{false≢true}
+use Rattle.machine.proofs.{LookUps.one_id, RemovalTable.one_thread}
 use Rattle.base.specs.declared.ids.{ObjId.ObjId, SlotRef.SlotRef}
 use Rattle.machine.specs.declared.{object.{Object.{Object, Object as o}, Reply.Reply, ReplyState.ReplyState}, thread.Tcb.Tcb}
-use Rattle.machine.specs.{Finalising.IsHolding, Machine.{Machine, cap_of, object_of, parent_of, queue_of, same_id, words_of}}
-use Rattle.machine.{specs.{Releasing.{SameRest, reply_by, with_released}, WellFormed.{IsThread, LinksAgree}}, proofs.HeldThreads.links_of}
-use Rattle.machine.proofs.{Ids.{at_itself, at_other, one_or_two, two_ids}, Leaving.{apart_ids, freed, held_freed, others_kept}}
-use Rattle.machine.proofs.{Leaving.{released_objects, released_queues, released_rest, released_there, without}, RoundLemmas.not_passes}
+use Rattle.machine.specs.{Finalising.{IsHolding}, Machine.{Machine, cap_of, object_of, parent_of, queue_of, same_id, words_of}}
+use Rattle.machine.{specs.{Releasing.{SameRest, with_released}, WellFormed.{IsIdle, IsThread, LinksAgree}}, proofs.HeldThreads.links_of}
+use Rattle.machine.proofs.{Ids.{at_itself, at_other, one_or_two}, Leaving.{freed, held_freed, others_kept}}
+use Rattle.machine.proofs.{Leaving.{released_objects, released_queues, released_rest, released_there, without}}
 use Rattle.machine.specs.declared.object.ReplyState.TheVariants as reply
 use Rattle.machine.specs.declared.thread.Inbox.TheVariants as inbox
 use Rattle.machine.specs.declared.thread.RunState.TheVariants as state
-use Rattle.steps.proofs.{Outlines.{Steady, outline}, RemovalLinks.{in_whole, into_part}}
+use Rattle.steps.proofs.{LeavingLinks.{Becomes, Leavers, link_itself, links_left, object_left}, Outlines.{Steady, outline}}
 
 pub record IsReleased (m : Machine) (thread : ObjId) (new : Tcb) (next : Machine) : Type 0 where
   pub objects :
@@ -44,40 +45,10 @@ pub rest_parents : (m next : Machine) → SameRest m next → (slot : SlotRef) �
 unfolding parent_of
 rest_parents m next same slot = ap (λ parents. map.get parents slot) same.parents
 
--- a reply holds one thread at most
-pub holds_one : (run : ReplyState) (a b : ObjId) → IsHolding run a → IsHolding run b → a ≡ b
-holds_one (reply.Waiting held) a b p q = sym p ∙ q
-holds_one (reply.Called held) a b p q = sym p ∙ q
-holds_one reply.Free a b p q = absurd p
-
 -- an object that is no reply is the same where a thread leaves
 freed_same : (thread : ObjId) (object : Object) → ((holding : Reply) → object ≢ o.Reply holding) → freed thread object ≡ object
 freed_same thread (o.Reply holding) differs = absurd (differs holding refl)
 freed_same thread _ differs = refl
-
-freed_was :
-    (thread : ObjId) (old object : Object) → ((holding : Reply) → object ≢ o.Reply holding) → freed thread old ≡ object
-    → old ≡ object
-freed_was thread (o.Reply holding) object differs e = absurd (differs _ (sym e))
-freed_was thread _ object differs e = e
-
--- a reply that holds one still held it, and it is another thread
-still_held :
-    (thread : ObjId) (run : ReplyState) (other : ObjId) → IsHolding (reply_by (λ held. same_id held thread) run) other
-    → (reply_by (λ held. same_id held thread) run ≡ run) × (other ≢ thread)
-still_held thread (reply.Waiting held) other = by_tie (same_id held thread) refl where
-  by_tie :
-      (tie : Bool) → same_id held thread ≡ tie → IsHolding (cond tie reply.Free (reply.Waiting held)) other
-      → (cond tie reply.Free (reply.Waiting held) ≡ reply.Waiting held) × (other ≢ thread)
-  by_tie true e is = absurd is
-  by_tie false e is = (refl, λ same. two_ids held thread e (is ∙ same))
-still_held thread (reply.Called held) other = by_tie (same_id held thread) refl where
-  by_tie :
-      (tie : Bool) → same_id held thread ≡ tie → IsHolding (cond tie reply.Free (reply.Called held)) other
-      → (cond tie reply.Free (reply.Called held) ≡ reply.Called held) × (other ≢ thread)
-  by_tie true e is = absurd is
-  by_tie false e is = (refl, λ same. two_ids held thread e (is ∙ same))
-still_held thread reply.Free other = λ is. absurd is
 
 module _ (m next : Machine) (thread : ObjId) (new : Tcb) (released : IsReleased m thread new next) where
   pub released_thread : IsThread next thread new
@@ -93,16 +64,6 @@ module _ (m next : Machine) (thread : ObjId) (new : Tcb) (released : IsReleased 
       → object_of next q ≡ Some object
   other_now q object apart differs e =
       released_elsewhere q apart ∙ ap (option_map (freed thread)) e ∙ ap (λ x. Some x) (freed_same thread object differs)
-
-  pub other_was :
-      (q : ObjId) (object : Object) → q ≢ thread → ((holding : Reply) → object ≢ o.Reply holding) → object_of next q ≡ Some object
-      → object_of m q ≡ Some object
-  other_was q object apart differs e = by_object (object_of m q) refl (sym (released_elsewhere q apart) ∙ e) where
-    by_object :
-        (was : Option Object) → object_of m q ≡ was → option_map (freed thread) was ≡ Some object → object_of m q ≡ Some object
-    by_object None at same = absurd (none-some object same)
-    by_object (Some old) at same =
-        at ∙ ap (λ x. Some x) (freed_was thread old object differs (same_Some (freed thread old) object same))
 
   -- a reply that held the thread is free
   pub reply_freed :
@@ -120,67 +81,60 @@ module _ (m next : Machine) (thread : ObjId) (new : Tcb) (released : IsReleased 
       released_elsewhere q apart ∙ ap (option_map (freed thread)) e
       ∙ ap (λ (s : ReplyState). Some (o.Reply (record holding { state = s }))) (others_kept thread holding.state differs)
 
-  -- a reply that holds one held it, and it is another thread
-  pub reply_was :
-      (q other : ObjId) (address : ℕ) (run : ReplyState) → IsHolding run other
-      → object_of next q ≡ Some (o.Reply (record { address = address; state = run }))
-      → (object_of m q ≡ Some (o.Reply (record { address = address; state = run }))) × (other ≢ thread)
-  reply_was q other address run is e = by_object (object_of m q) refl (sym (released_elsewhere q apart) ∙ e) where
-    apart : q ≢ thread
-    apart same =
-        let one : Some (o.Tcb new) ≡ Some (o.Reply (record { address = address; state = run })) =
-        sym released_thread ∙ ap (object_of next) (sym same) ∙ e in
-        cc
+  module _ (old : Tcb) (was : IsThread m thread old) (runs : new.context ≡ old.context) (idle : IsIdle new.state) where
+    -- it is the one that leaves
+    abbrev leaver : Leavers
+    leaver =
+        record {
+          goes = λ _. false;
+          leaves = λ q. same_id q thread;
+          unbinds = λ _. false;
+          becomes = λ q tcb. if same_id q thread then new else tcb;
+        }
 
-    by_object :
-        (was : Option Object) → object_of m q ≡ was
-        → option_map (freed thread) was ≡ Some (o.Reply (record { address = address; state = run }))
-        → (object_of m q ≡ Some (o.Reply (record { address = address; state = run }))) × (other ≢ thread)
-    by_object None at same = absurd (none-some (o.Reply (record { address = address; state = run })) same)
-    by_object (Some (o.Reply was)) at same =
-        let now :
-        record was { state = reply_by (λ held. same_id held thread) was.state } ≡ record { address = address; state = run } = cc in
-        let state_now : reply_by (λ held. same_id held thread) was.state ≡ run = ap (λ (r : Reply). r.state) now in
-        let w = still_held thread was.state other (subst (λ (s : ReplyState). IsHolding s other) (sym state_now) is) in (
-          at ∙ ap (λ (s : ReplyState). Some (o.Reply (record was { state = s }))) (sym w.0)
-              ∙ ap (λ (r : Reply). Some (o.Reply r)) now,
-          w.1,
-        )
-    by_object (Some (o.Tcb was)) at same = cc
-    by_object (Some (o.Context was)) at same = cc
-    by_object (Some _) at same = cc
+    becomes_new : (q : ObjId) (tcb : Tcb) → IsThread m q tcb → Becomes leaver q tcb
+    becomes_new q tcb there =
+        record {
+          stays = λ apart. ap (λ b. (cond b new tcb).state) apart;
+          idle = λ here. subst (λ b. IsIdle (cond b new tcb).state) (sym here) idle;
+          context = by_tie (same_id q thread) refl ∙ sym (link_itself tcb.context);
+        } where
+          by_tie : (tie : Bool) → same_id q thread ≡ tie → (cond tie new tcb).context ≡ tcb.context
+          by_tie true e =
+              runs ∙ ap (λ (t : Tcb). t.context) (one_thread m thread old tcb was (ap (object_of m) (sym (one_id q thread e)) ∙ there))
+          by_tie false e = refl
 
-  -- who is in a queue was in it, and is another thread
-  pub member_was :
-      (q : ObjId) (threads : List ObjId) (other : ObjId) → queue_of next q ≡ Some threads → Contains threads other
-      → (all : List ObjId) × (queue_of m q ≡ Some all) × Contains all other × (other ≢ thread) × (without thread all ≡ threads)
-  member_was q threads other e within = by_queue (queue_of m q) refl (sym (released.queues q) ∙ e) where
-    by_queue :
-        (queue : Option (List ObjId)) → queue_of m q ≡ queue → option_map (without thread) queue ≡ Some threads
-        → (all : List ObjId) × (queue_of m q ≡ Some all) × Contains all other × (other ≢ thread) × (without thread all ≡ threads)
-    by_queue None was same = absurd (none-some threads same)
-    by_queue (Some all) was same =
-        let is = same_Some (without thread all) threads same in
-        let inside : Contains (without thread all) other = subst (λ (ts : List ObjId). Contains ts other) (sym is) within in (
-          all,
-          was,
-          in_whole (λ t. not (same_id t thread)) all other inside,
-          two_ids other thread
-              (not_passes (same_id other thread)
-              (All-contains (λ t. not (same_id t thread) ≡ true) (without thread all) other
-              (filter_passes (λ t. not (same_id t thread)) all) inside)),
-          is,
-        )
+    objects_left : (q : ObjId) → object_of next q ≡ option_map (object_left leaver q) (object_of m q)
+    objects_left q = released.objects q ∙ by_tie (same_id q thread) refl where
+      by_object :
+          same_id q thread ≡ false → (object : Option Object)
+          → option_map (freed thread) object ≡ option_map (object_left leaver q) object
+      by_object e None = refl
+      by_object e (Some (o.Tcb tcb)) = ap (λ b. Some (o.Tcb (cond b new tcb))) (sym e)
+      by_object e (Some (o.Reply holding)) = refl
+      by_object e (Some (o.Context context)) =
+          ap (λ (link : Option ObjId). Some (o.Context (record context { thread = link }))) (sym (link_itself context.thread))
+      by_object e (Some _) = refl
 
-  -- another thread that was in a queue is in it
-  pub member_now :
-      (q : ObjId) (all : List ObjId) (other : ObjId) → queue_of m q ≡ Some all → Contains all other → other ≢ thread
-      → (threads : List ObjId) × (queue_of next q ≡ Some threads) × Contains threads other
-  member_now q all other e within apart = (
-    without thread all,
-    released.queues q ∙ ap (option_map (without thread)) e,
-    into_part (λ t. not (same_id t thread)) all other within (ap not (apart_ids other thread apart)),
-  )
+      by_tie :
+          (tie : Bool) → same_id q thread ≡ tie
+          → cond tie (Some (o.Tcb new)) (option_map (freed thread) (object_of m q)) ≡ option_map (object_left leaver q) (object_of m q)
+      by_tie true e =
+          ap (λ b. Some (o.Tcb (cond b new old))) (sym e)
+          ∙ ap (option_map (object_left leaver q)) (sym was ∙ ap (object_of m) (sym (one_id q thread e)))
+      by_tie false e = by_object e (object_of m q)
+
+    pub links_released : LinksAgree m → LinksAgree next
+    links_released =
+        links_left m next leaver
+        (record {
+          objects = objects_left;
+          queues = released.queues;
+          becomes = λ q tcb there stays. becomes_new q tcb there;
+          goes = λ q gone. absurd (false≢true gone);
+          waits = λ q id tcb there waits gone. absurd (false≢true gone);
+          names = λ q id tcb there names gone. absurd (false≢true gone);
+        })
 
   module _ (old : Tcb) (was : IsThread m thread old) (same_address : new.address ≡ old.address) where
     outline_kept : (object : Option Object) → option_map outline (option_map (freed thread) object) ≡ option_map outline object

@@ -1,10 +1,12 @@
--- Numbers and ranges of a well-formed machine fit after a removal.
+-- Numbers and ranges of a well-formed machine fit after a removal, so that it stays well formed.
 use Rattle.std.{specs.Prelude.Some, proofs.Common.{◌<◌, ◌∙◌, ◌≡◌, ◌≤◌, Bool, ap, false, subst, sym}}
 use Rattle.base.specs.declared.ids.{ObjId.ObjId, SlotRef.SlotRef}
 use Rattle.machine.specs.{declared.object.{Object.{Object, Object as o}, Untyped.Untyped}, Finalising.finalised, Machine.Machine}
 use Rattle.machine.specs.{Machine.object_of, Objects.{address_of, end_of}, Removal.{removed, vanishes}, WellFormed.{IsRanged, IsWellFormed}}
-use Rattle.machine.{specs.WellFormed.{LiesIn, Meets, NumbersFit}, proofs.{RemovalLooks.next-removed, RemovalStays.{cap_stays, cap_was}}}
-use Rattle.machine.proofs.RemovalStays.{descends_now, like_finalised, object_was, untyped_was}
+use Rattle.machine.specs.WellFormed.{LiesIn, Meets, NumbersFit}
+use Rattle.machine.proofs.{RemovalLooks.{going-removed, next-removed}, RemovalStays.cap_stays}
+use Rattle.machine.proofs.RemovalStays.{cap_was, descends_now, like_finalised, object_was, untyped_was}
+use Rattle.steps.proofs.{LeavingLinks.links_left, RemovalLinks.{have_left, leavers}, RemovalSlots.{parts_fit, slots_fit}}
 
 module _ (m : Machine) (chosen : SlotRef → Bool) (formed : IsWellFormed m) where
   abbrev after : Machine
@@ -47,7 +49,7 @@ module _ (m : Machine) (chosen : SlotRef → Bool) (formed : IsWellFormed m) whe
     subst (λ n. address_of two.old < n) one.end (subst (λ n. n < end_of first) two.address meets.1),
   )
 
-  pub numbers_fit : NumbersFit (removed m chosen)
+  numbers_fit : NumbersFit (removed m chosen)
   numbers_fit =
       record {
         below_next = λ id object e.
@@ -87,4 +89,14 @@ module _ (m : Machine) (chosen : SlotRef → Bool) (formed : IsWellFormed m) whe
             let w = formed.numbers.has_cap low high one.old two.old less one.there two.there (met low high first second one two meets) in
             let now = cap_stays m chosen w.0 w.1 w.2 (ap vanished w.3 ∙ two.stays) in
             (now.0, now.1, now.2, now.3 ∙ w.3);
+      }
+
+  pub removed_formed : IsWellFormed (removed m chosen)
+  removed_formed =
+      record {
+        slots = slots_fit m chosen formed;
+        parts = parts_fit m chosen formed;
+        links = links_left m (removed m chosen) (leavers m chosen) (have_left m chosen) formed.links;
+        numbers = numbers_fit;
+        settled = going-removed m chosen;
       }

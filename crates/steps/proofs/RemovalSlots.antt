@@ -1,14 +1,14 @@
 -- Slots, the parts of objects, and numbers and ranges of a well-formed machine fit after a removal.
-use Rattle.std.{specs.Prelude.{ℕ, None, Option, Some, option_map}, proofs.Common.{◌<◌, ◌∙◌, ◌≡◌, Bool, List, ap, arith, cond}}
+use Rattle.std.{specs.Prelude.{ℕ, None, Some}, proofs.Common.{◌<◌, ◌∙◌, ◌≡◌, Bool, List, ap, arith, cond}}
 use Rattle.std.proofs.{Common.{false, inl, inr, refl, subst, sym, true}, lemmas.Option.{none-some, same_Some}}
 use Rattle.base.specs.declared.ids.{ObjId.ObjId, SlotRef.SlotRef}
 use Rattle.machine.specs.{declared.{cap.Cap.Cap, object.{Object.{Object, Object as o}, Untyped.Untyped}}, Finalising.finalised}
-use Rattle.machine.specs.{Finalising.staying_in, Machine.{Machine, cap_of, object_of, queue_of, words_of}, Objects.kind_of_object}
+use Rattle.machine.specs.{Finalising.staying_in, Machine.{Machine, cap_of, object_of, words_of}}
 use Rattle.machine.specs.{Objects.{slot_count, word_count}, Removal.{removed, vanishes}, WellFormed.{Descends, IsWellFormed, LiesIn}}
-use Rattle.machine.{specs.WellFormed.{PartsFit, SlotsFit, child, further, kind_of}, proofs.RemovalLooks.queue_of-removed}
+use Rattle.machine.{specs.WellFormed.{PartsFit, SlotsFit, child, further, kind_of}}
 use Rattle.machine.proofs.{RemovalLooks.words_of-removed, RemovalStays.{cap_now, cap_was, descends_was, holder_stays, like_finalised}}
 use Rattle.machine.proofs.{RemovalStays.{object_stays, object_was, parent_was}, RemovalTable.finalised_there}
-use Rattle.steps.proofs.SameObjects.{Kin}
+use Rattle.steps.proofs.{LeavingLinks.{kind_now, queue_now, queue_was}, RemovalLinks.{have_left, leavers}, SameObjects.Kin}
 
 -- what lies in memory that lies in other memory lies there
 lies_through : (outer inner : Untyped) (object : Object) → LiesIn outer (o.Untyped inner) → LiesIn inner object → LiesIn outer object
@@ -39,17 +39,8 @@ module _ (m : Machine) (chosen : SlotRef → Bool) (formed : IsWellFormed m) whe
   abbrev vanished : ObjId → Bool
   vanished = vanishes m chosen
 
-  pub kind_now : (id : ObjId) → vanished id ≡ false → kind_of after id ≡ kind_of m id
-  kind_now id stays = by_object (object_of m id) refl where
-    by_object : (found : Option Object) → object_of m id ≡ found → kind_of after id ≡ kind_of m id
-    by_object (Some object) is =
-        ap (option_map kind_of_object) (finalised_there m chosen id object is stays)
-        ∙ ap Some (like_finalised m vanished object).kind ∙ sym (ap (option_map kind_of_object) is)
-    by_object None is = by_after (object_of after id) refl where
-      by_after : (found : Option Object) → object_of after id ≡ found → kind_of after id ≡ kind_of m id
-      by_after None none = ap (option_map kind_of_object) none ∙ sym (ap (option_map kind_of_object) is)
-      by_after (Some object) some =
-          let was = object_was m chosen id object some in absurd (none-some was.0 (sym is ∙ was.1))
+  kinds : (id : ObjId) → vanished id ≡ false → kind_of after id ≡ kind_of m id
+  kinds = kind_now m after (leavers m chosen) (have_left m chosen)
 
   kin_now :
       (low high : ObjId) → vanished low ≡ false → vanished high ≡ false → Kin m low high → Kin after low high
@@ -80,12 +71,12 @@ module _ (m : Machine) (chosen : SlotRef → Bool) (formed : IsWellFormed m) whe
         holder = holder_now;
         object = λ slot held e.
             let was = cap_was m chosen slot held e in
-            kind_now held.object (object_stays m chosen slot held was.0 was.1) ∙ formed.slots.object slot held was.1;
+            kinds held.object (object_stays m chosen slot held was.0 was.1) ∙ formed.slots.object slot held was.1;
         root = λ slot held e is_root.
             let was = cap_was m chosen slot held e in
             let w = formed.slots.holder slot held was.1 in
             formed.slots.root slot held was.1
-            (sym (kind_now slot.holder (holder_stays m chosen slot w.0 was.0 w.1 w.2)) ∙ is_root);
+            (sym (kinds slot.holder (holder_stays m chosen slot w.0 was.0 w.1 w.2)) ∙ is_root);
         child_filled = λ slot parent e.
             let was = parent_was m chosen formed.slots.acyclic slot parent e in
             let w = low_filled was.1 in (w.0, cap_now m chosen slot w.0 was.0 w.1);
@@ -109,18 +100,6 @@ module _ (m : Machine) (chosen : SlotRef → Bool) (formed : IsWellFormed m) whe
         high_filled (child is) = formed.slots.parent_filled _ _ is
         high_filled (further is d) = high_filled d
 
-  pub queue_was :
-      (id : ObjId) (threads : List ObjId) → queue_of after id ≡ Some threads
-      → (old : List ObjId) × (queue_of m id ≡ Some old) × (vanished id ≡ false) × (staying_in m vanished old ≡ threads)
-  queue_was id threads e = by_cases (vanished id) (queue_of m id) refl refl (sym (queue_of-removed m chosen id) ∙ e) where
-    by_cases :
-        (b : Bool) (found : Option (List ObjId)) → vanished id ≡ b → queue_of m id ≡ found
-        → cond b None (option_map (staying_in m vanished) found) ≡ Some threads
-        → (old : List ObjId) × (queue_of m id ≡ Some old) × (vanished id ≡ false) × (staying_in m vanished old ≡ threads)
-    by_cases true found v is same = absurd (none-some threads same)
-    by_cases false None v is same = absurd (none-some threads same)
-    by_cases false (Some old) v is same = (old, is, v, same_Some (staying_in m vanished old) threads same)
-
   words_were :
       (id : ObjId) (words : List ℕ) → words_of after id ≡ Some words → (vanished id ≡ false) × (words_of m id ≡ Some words)
   words_were id words e = by_vanished (vanished id) refl (sym (words_of-removed m chosen id) ∙ e) where
@@ -136,8 +115,7 @@ module _ (m : Machine) (chosen : SlotRef → Bool) (formed : IsWellFormed m) whe
             let was = object_was m chosen id object e in
             let w = formed.parts.queue id was.0 was.1 in (
               staying_in m vanished w.0,
-              queue_of-removed m chosen id ∙ ap (λ b. cond b None (option_map (staying_in m vanished) (queue_of m id))) was.2
-                  ∙ ap (option_map (staying_in m vanished)) w.1,
+              queue_now m after (leavers m chosen) (have_left m chosen) id w.0 was.2 w.1,
             );
         words = λ id object e.
             let was = object_was m chosen id object e in
@@ -147,7 +125,7 @@ module _ (m : Machine) (chosen : SlotRef → Bool) (formed : IsWellFormed m) whe
               w.2 ∙ sym (like_finalised m vanished was.0).words ∙ ap word_count was.3,
             );
         queue_of_object = λ id threads e.
-            let was = queue_was id threads e in
+            let was = queue_was m after (leavers m chosen) (have_left m chosen) id threads e in
             let w = formed.parts.queue_of_object id was.0 was.1 in
             (finalised m vanished w.0, finalised_there m chosen id w.0 w.1 was.2);
         words_of_object = λ id words e.

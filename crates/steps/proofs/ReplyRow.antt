@@ -3,10 +3,11 @@
 use Rattle.std.{specs.Prelude.{Ok, Option, Some}, proofs.Common.{ℕ, ◌∙◌, ◌≡◌, ◌⊎◌, List, ap, false, inl, inr, refl, sym}}
 use Rattle.base.specs.declared.ids.ObjId.{ObjId}
 use Rattle.machine.specs.declared.{call.Made.Made, cap.Detail.Detail as d, object.{Object.{Object, Object as o}, ReplyState.ReplyState}}
-use Rattle.machine.specs.{Machine.{Machine, object_of}, Releasing.with_given, Step.{Find.find_reply, Reply.{answered, caller_in, reply_of}}}
+use Rattle.machine.specs.{Machine.{Machine, object_of}, Releasing.with_given, Step.{Find.find, Reply.{answered, caller_in, reply_of}}}
 use Rattle.machine.specs.Step.Reply.{with_returned}
+use Rattle.machine.specs.declared.object.ObjectKind.TheVariants as kind
 use Rattle.machine.specs.declared.object.ReplyState.TheVariants as reply
-use Rattle.steps.proofs.{Conditions.{both_done, same_ok}, Finding.FindsObject, FoundObjects.finds_reply}
+use Rattle.steps.proofs.{Conditions.{both_done, same_ok}, Finding.{FindsObject, finds}}
 
 -- a thread that has called through a reply is answered, where one has
 abbrev pub Answers : Machine → ObjId → ObjId → List ℕ → Machine → Type 0
@@ -43,9 +44,9 @@ pub reply_done :
     → reply_of m caller address words ≡ Ok (made, next) → ReplyDone m caller address words next
 unfolding reply_of
 reply_done m caller address words made next e =
-    let found = both_done (find_reply m caller address) _ (made, next) e in
+    let found = both_done (find kind.Reply m caller address) _ (made, next) e in
     record {
-      id = found.0;
-      finds = finds_reply m caller address found.0 found.1;
-      changes = answers m caller found.0 words next (ap (λ p. p.1) (same_ok found.2));
+      id = (found.0).1.object;
+      finds = finds kind.Reply m caller address found.0 found.1;
+      changes = answers m caller (found.0).1.object words next (ap (λ p. p.1) (same_ok found.2));
     }

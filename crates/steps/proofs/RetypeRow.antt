@@ -2,13 +2,14 @@
 use Rattle.std.{specs.Prelude.{Err, None, Ok, Option, Some, nat_le, nat_lt}, proofs.Common.{ℕ, ◌+◌, ◌^◌, ◌≡◌, ◌≤◌, Bool, ap, false}}
 use Rattle.std.proofs.Common.{leb-true, ltb-false, refl, subst, sym, true}
 use Rattle.base.specs.declared.{ids.{ObjId.ObjId, SlotRef.SlotRef}, limits.TheConstants.MAX_RADIX, refusal.Cause.Cause as cause}
-use Rattle.machine.specs.declared.{call.Made.Made, cap.{Cap.Cap, Detail.{Detail, Detail as d}}, object.MemoryKind.MemoryKind}
+use Rattle.machine.specs.declared.{call.Made.Made, cap.{Cap.Cap, Detail.Detail as d}, object.MemoryKind.MemoryKind}
 use Rattle.machine.specs.{declared.object.{Object.{Object, Object as o}, Untyped.Untyped}, Lookup.{Level, level_at, lookup_of}}
 use Rattle.machine.specs.{Machine.{Machine, object_of}, Memory.{Source, all_taken, begun, new_object, new_size, with_all_made}}
-use Rattle.machine.specs.{Objects.end_of, Step.{Find.find_cap, Retype.{a_few, all_vacant, between, find_taker, find_untyped, in_node}}}
-use Rattle.machine.specs.Step.Retype.{memory_in, of_untyped, retype_of, roomy, sized, taker, window, within_limits}
+use Rattle.machine.specs.{Objects.end_of, Step.{Find.find, Retype.{a_few, all_vacant, between, find_taker, find_untyped, in_node}}}
+use Rattle.machine.specs.Step.Retype.{memory_in, retype_of, roomy, sized, taker, window, within_limits}
 use Rattle.machine.specs.declared.object.MemoryKind.TheVariants as kind
-use Rattle.steps.proofs.{Conditions.{both_done, same_ok}, Finding.{FindsCap, finds_cap}}
+use Rattle.machine.specs.declared.object.ObjectKind.TheVariants as object_kind
+use Rattle.steps.proofs.{Conditions.{both_done, same_ok}, Finding.{FindsCap, finds}}
 
 -- a size that may be asked for
 abbrev pub IsSized : MemoryKind → ℕ → Type 0
@@ -45,10 +46,6 @@ pub record RetypeDone (m : Machine) (caller : ObjId) (untyped : ℕ) (kind : Mem
   pub limits : within_limits m (new_object kind bits 0) count ≡ Ok tt
   pub changes : next ≡ with_all_made m (begun m source) kind bits (window node.node offset count)
 
-is_untyped : (detail : Detail) (u : Unit {0}) → of_untyped detail ≡ Ok u → detail ≡ d.Untyped
-is_untyped d.Untyped u e = refl
-is_untyped _ u e = cc
-
 is_memory : (object : Option Object) (memory : Untyped) → memory_in object ≡ Ok memory → object ≡ Some (o.Untyped memory)
 is_memory (Some (o.Untyped other)) memory e = ap (λ u. Some (o.Untyped u)) (same_ok e)
 is_memory _ memory e = cc
@@ -58,14 +55,14 @@ pub untyped_found :
     → FindsUntyped m caller address source
 unfolding find_untyped
 untyped_found m caller address source e =
-    let found = both_done (find_cap m caller address) _ source e in
-    let of = both_done (of_untyped (found.0).1.detail) _ source found.2 in
-    let memory = both_done (memory_in (object_of m (found.0).1.object)) _ source of.2 in
+    let found = both_done (find object_kind.Untyped m caller address) _ source e in
+    let there = finds object_kind.Untyped m caller address found.0 found.1 in
+    let memory = both_done (memory_in (object_of m (found.0).1.object)) _ source found.2 in
     subst (λ (s : Source). FindsUntyped m caller address s) (same_ok memory.2)
     (record {
       held = (found.0).1;
-      finds = finds_cap m caller address (found.0).0 (found.0).1 found.1;
-      untyped = is_untyped (found.0).1.detail of.0 of.1;
+      finds = there.finds;
+      untyped = there.detail;
       object = refl;
       there = is_memory (object_of m (found.0).1.object) memory.0 memory.1;
     })

@@ -6,13 +6,13 @@ use Rattle.machine.specs.declared.{call.{CapData.CapData, Made.Made}, cap.{Cap.C
 use Rattle.machine.specs.{declared.slot_address.SlotAddress.SlotAddress, Bits.bits, Capabilities.kind_of_detail, Lookup.{Level, counted}}
 use Rattle.machine.specs.{Lookup.{level_at, lookup_of, walk}, Machine.{Machine, cap_of, object_of, parent_of, queue_of, same_slot}}
 use Rattle.machine.specs.{Machine.{with_cap, with_parent, without_cap, words_of}, Narrower.IsNarrower, Step.Copy.{copy_of, copyable}}
-use Rattle.machine.specs.Step.{Copy.masked, Find.find_cap, Mint.{mint_of, minted}, Move.move_of, Target.{ends_of, exactly, filled}}
-use Rattle.machine.specs.{Step.Target.{in_depth, lookup_target_of, of_cnode, rooted, source_of, target_of, vacant}, Tree.copied}
+use Rattle.machine.specs.Step.{Copy.masked, Find.find, Mint.{mint_of, minted}, Move.move_of, Target.{ends_of, exactly, filled}}
+use Rattle.machine.specs.{Step.Target.{in_depth, lookup_target_of, rooted, source_of, target_of, vacant}, Tree.copied}
 use Rattle.machine.specs.{Tree.{parent_of_copy, under, with_copy, with_exchanged, with_moved}, WellFormed.IsWellFormed}
 use Rattle.machine.proofs.{Exchange.parent_of-with_exchanged, LookUps.{cap_of-with_cap, cap_of-with_parent, one_slot, parent_of-with_cap}}
 use Rattle.machine.proofs.{LookUps.{parent_of-with_parent, slot_total}, SlotChanges.{Fills, Moves}}
 use Rattle.machine.specs.declared.object.ObjectKind.TheVariants as kind
-use Rattle.steps.proofs.{Conditions.{both_done, same_ok}, Copies.{is_copyable, masked_narrower, minted_narrower}, Finding.finds_cap}
+use Rattle.steps.proofs.{Conditions.{both_done, same_ok}, Copies.{is_copyable, masked_narrower, minted_narrower}, Finding.finds}
 
 -- a slot address leads to a slot: an ordinary lookup to that of a CNode's capability, and a target lookup on from there
 pub record LeadsTo (m : Machine) (caller : ObjId) (address : SlotAddress) (slot : SlotRef) : Type 0 where
@@ -92,10 +92,9 @@ pub target_leads :
     → LeadsTo m caller address slot
 unfolding target_of
 target_leads m caller address slot e =
-    let found = both_done (find_cap m caller address.root) _ slot e in
-    let of = both_done (of_cnode (found.0).1.detail) _ slot found.2 in
-    let finds = finds_cap m caller address.root (found.0).0 (found.0).1 found.1 in
-    leads m caller address (found.0).0 finds.left slot finds.ends of.2
+    let found = both_done (find kind.CNode m caller address.root) _ slot e in
+    let there = (finds kind.CNode m caller address.root found.0 found.1).finds in
+    leads m caller address (found.0).0 there.left slot there.ends found.2
 
 pub is_vacant : (filling : Option Cap) (u : Unit {0}) → vacant filling ≡ Ok u → filling ≡ None
 is_vacant None u e = refl

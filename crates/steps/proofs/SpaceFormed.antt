@@ -6,7 +6,8 @@ use Rattle.machine.specs.declared.{cap.{Cap.Cap, Detail.{Detail, Detail as d}}, 
 use Rattle.machine.specs.{Capabilities.kind_of_detail, Lookup.root_of, Machine.{Machine, cap_of, has_slot, object_of, same_slot}}
 use Rattle.machine.specs.{Step.{Delete.deleted, Space.{with_root, without_root}}, Tree.{copied, with_copy}, WellFormed.IsWellFormed}
 use Rattle.machine.{specs.WellFormed.kind_of, proofs.{Exchange.slot_itself, RemovalStays.cap_was}}
-use Rattle.steps.proofs.{FillsFormed.{Takes, fills_formed}, FoundObjects.tcb_of_kind, RemovalLinks.removed_formed, RemovalRows.chosen_empty}
+use Rattle.steps.proofs.{FillsFormed.{Takes, fills_formed}, FoundObjects.tcb_of_kind, RemovalNumbers.removed_formed}
+use Rattle.steps.proofs.RemovalRows.{chosen_empty}
 use Rattle.steps.proofs.{SlotRows.with_copy_fills, SpaceRow.{ClearDone, RootFilled, SetDone, root_filled}}
 
 -- a root slot that is cleared

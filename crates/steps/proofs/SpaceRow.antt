@@ -1,10 +1,11 @@
 -- What a clearspace and a setspace do that are made: the thread that they found, the CNode's capability, and the machine after it.
 use Rattle.std.{specs.Prelude.{None, Ok, Option, Some}, proofs.Common.{ℕ, ◌∙◌, ◌≡◌, ◌⊎◌, ap, inl, inr, refl, sym}}
 use Rattle.base.specs.declared.ids.{ObjId.ObjId, SlotRef.SlotRef}
-use Rattle.machine.specs.{declared.{call.Made.Made, cap.{Cap.Cap, Detail.{Detail, Detail as d}, Guard.Guard}}, Lookup.root_of}
-use Rattle.machine.specs.{Machine.{Machine, cap_of}, Step.{Find.{find_cap, find_tcb}, Space.{clear_space_of, find_node, set_space_of}}}
-use Rattle.machine.specs.{Step.{Space.{with_root, without_root}, Target.of_cnode}, Tree.with_copy}
-use Rattle.steps.proofs.{Conditions.{both_done, same_ok}, Finding.{FindsCap, FindsObject, finds_cap}, FoundObjects.finds_thread}
+use Rattle.machine.specs.{declared.{call.Made.Made, cap.{Cap.Cap, Detail.Detail as d, Guard.Guard}}, Lookup.root_of}
+use Rattle.machine.specs.{Machine.{Machine, cap_of}, Step.{Find.find, Space.{clear_space_of, set_space_of}}}
+use Rattle.machine.specs.declared.object.ObjectKind.TheVariants as kind
+use Rattle.machine.specs.{Step.Space.{with_root, without_root}, Tree.with_copy}
+use Rattle.steps.proofs.{Conditions.{both_done, same_ok}, Finding.{FindsCap, FindsObject, finds}}
 
 pub record ClearDone (m : Machine) (caller : ObjId) (address : ℕ) (next : Machine) : Type 0 where
   pub thread : ObjId
@@ -16,37 +17,11 @@ pub clear_done :
     → clear_space_of m caller address ≡ Ok (made, next) → ClearDone m caller address next
 unfolding clear_space_of
 clear_done m caller address made next e =
-    let found = both_done (find_tcb m caller address) _ (made, next) e in
+    let found = both_done (find kind.Tcb m caller address) _ (made, next) e in
     record {
-      thread = (found.0).1;
-      finds = (finds_thread m caller address (found.0).0 (found.0).1 found.1).0;
+      thread = (found.0).1.object;
+      finds = finds kind.Tcb m caller address found.0 found.1;
       changes = sym (ap (λ p. p.1) (same_ok found.2));
-    }
-
--- the address leads to a slot with a CNode's capability
-pub record FindsNode (m : Machine) (caller : ObjId) (address : ℕ) (node : SlotRef) : Type 0 where
-  pub held : Cap
-  pub guard : Guard
-  pub finds : FindsCap m caller address node held
-  pub detail : held.detail ≡ d.CNode guard
-
-is_cnode : (detail : Detail) (u : Unit {0}) → of_cnode detail ≡ Ok u → (guard : Guard) × (detail ≡ d.CNode guard)
-is_cnode (d.CNode guard) u e = (guard, refl)
-is_cnode _ u e = cc
-
-pub finds_node :
-    (m : Machine) (caller : ObjId) (address : ℕ) (node : SlotRef) → find_node m caller address ≡ Ok node
-    → FindsNode m caller address node
-unfolding find_node
-finds_node m caller address node e =
-    let found = both_done (find_cap m caller address) _ node e in
-    let of = both_done (of_cnode (found.0).1.detail) _ node found.2 in
-    let is = is_cnode (found.0).1.detail of.0 of.1 in
-    record {
-      held = (found.0).1;
-      guard = is.0;
-      finds = finds_cap m caller address node (found.0).1 (found.1 ∙ ap (λ (s : SlotRef). Ok (s, (found.0).1)) (same_ok of.2));
-      detail = is.1;
     }
 
 pub record SetDone (m : Machine) (caller : ObjId) (address space : ℕ) (next : Machine) : Type 0 where
@@ -64,21 +39,18 @@ pub set_done :
     → set_space_of m caller address space ≡ Ok (made, next) → SetDone m caller address space next
 unfolding set_space_of
 set_done m caller address space made next e =
-    let found = both_done (find_tcb m caller address) _ (made, next) e in
-    let of = both_done (find_node m caller space) _ (made, next) found.2 in
-    let thread = finds_thread m caller address (found.0).0 (found.0).1 found.1 in
-    let node = finds_node m caller space of.0 of.1 in
+    let found = both_done (find kind.Tcb m caller address) _ (made, next) e in
+    let of = both_done (find kind.CNode m caller space) _ (made, next) found.2 in
+    let node = finds kind.CNode m caller space of.0 of.1 in
     record {
-      thread = (found.0).1;
-      finds = thread.0;
-      node = of.0;
+      thread = (found.0).1.object;
+      finds = finds kind.Tcb m caller address found.0 found.1;
+      node = node.slot;
       held = node.held;
-      guard = node.guard;
+      guard = _;
       finds_node = node.finds;
       detail = node.detail;
-      changes =
-          sym (ap (λ p. p.1) (same_ok of.2))
-          ∙ ap (λ (s : SlotRef). with_root (without_root m (found.0).1) (found.0).1 s of.0) (sym thread.1);
+      changes = sym (ap (λ p. p.1) (same_ok of.2));
     }
 
 -- a thread's root slot got a copy of what a slot holds

@@ -1,9 +1,10 @@
 -- What a suspend and a resume do that are made: the thread that they found, and the machine after it.
 use Rattle.std.{specs.Prelude.Ok, proofs.Common.{ℕ, ◌≡◌, ap, sym}}
 use Rattle.base.specs.declared.ids.ObjId.{ObjId}
-use Rattle.machine.specs.{declared.{call.Made.Made, cap.Detail.Detail as d}, Machine.Machine, Releasing.with_suspended, Step.Find.find_tcb}
+use Rattle.machine.specs.{declared.{call.Made.Made, cap.Detail.Detail as d}, Machine.Machine, Releasing.with_suspended, Step.Find.find}
+use Rattle.machine.specs.declared.object.ObjectKind.TheVariants as kind
 use Rattle.machine.specs.Step.Suspend.{resume_of, suspend_of, with_resumed}
-use Rattle.steps.proofs.{Conditions.{both_done, same_ok}, Finding.FindsObject, FoundObjects.finds_thread}
+use Rattle.steps.proofs.{Conditions.{both_done, same_ok}, Finding.{FindsObject, finds}}
 
 pub record SuspendDone (m : Machine) (caller : ObjId) (address : ℕ) (next : Machine) : Type 0 where
   pub thread : ObjId
@@ -15,10 +16,10 @@ pub suspend_done :
     → SuspendDone m caller address next
 unfolding suspend_of
 suspend_done m caller address made next e =
-    let found = both_done (find_tcb m caller address) _ (made, next) e in
+    let found = both_done (find kind.Tcb m caller address) _ (made, next) e in
     record {
-      thread = (found.0).1;
-      finds = (finds_thread m caller address (found.0).0 (found.0).1 found.1).0;
+      thread = (found.0).1.object;
+      finds = finds kind.Tcb m caller address found.0 found.1;
       changes = sym (ap (λ p. p.1) (same_ok found.2));
     }
 
@@ -32,9 +33,9 @@ pub resume_done :
     → ResumeDone m caller address next
 unfolding resume_of
 resume_done m caller address made next e =
-    let found = both_done (find_tcb m caller address) _ (made, next) e in
+    let found = both_done (find kind.Tcb m caller address) _ (made, next) e in
     record {
-      thread = (found.0).1;
-      finds = (finds_thread m caller address (found.0).0 (found.0).1 found.1).0;
+      thread = (found.0).1.object;
+      finds = finds kind.Tcb m caller address found.0 found.1;
       changes = sym (ap (λ p. p.1) (same_ok found.2));
     }

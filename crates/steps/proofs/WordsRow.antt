@@ -2,9 +2,10 @@
 use Rattle.std.{specs.Prelude.{Ok, nat_lt}, proofs.Common.{ℕ, ◌<◌, ◌≡◌, Bool, ap, arith, false, refl, sym, true}}
 use Rattle.std.proofs.lemmas.Bool.Decides.{nat_tests}
 use Rattle.base.specs.declared.{ids.ObjId.ObjId, rights.Rights.Rights}
-use Rattle.machine.specs.{declared.{call.Made.Made, cap.Detail.Detail as d}, Capabilities.{can_read, can_write}, Changes.with_word}
-use Rattle.machine.specs.{Machine.Machine, Step.{Find.{find_frame, permitted}, Words.{in_frame, read_of, write_of}}}
-use Rattle.steps.proofs.{Conditions.{both_done, same_ok}, Finding.{FindsObject, is_permitted}, FoundObjects.finds_frame}
+use Rattle.machine.specs.{declared.{call.Made.Made, cap.Detail.Detail as d}, Capabilities.{badged_of, can_read, can_write}}
+use Rattle.machine.specs.declared.object.ObjectKind.TheVariants as kind
+use Rattle.machine.specs.{Changes.with_word, Machine.Machine, Step.{Find.{find, permitted}, Words.{in_frame, read_of, write_of}}}
+use Rattle.steps.proofs.{Conditions.{both_done, same_ok}, Finding.{FindsObject, finds, is_permitted}}
 
 pub record WriteDone (m : Machine) (caller : ObjId) (address index word : ℕ) (next : Machine) : Type 0 where
   pub id : ObjId
@@ -25,8 +26,8 @@ pub read_done :
     → read_of m caller address index ≡ Ok (made, next) → next ≡ m
 unfolding read_of
 read_done m caller address index made next e =
-    let found = both_done (find_frame m caller address) _ (made, next) e in
-    let right = both_done (permitted (can_read (found.0).1)) _ (made, next) found.2 in
+    let found = both_done (find kind.Frame m caller address) _ (made, next) e in
+    let right = both_done (permitted (can_read (badged_of (found.0).1.detail).rights)) _ (made, next) found.2 in
     let place = both_done (in_frame index) _ (made, next) right.2 in
     sym (ap (λ p. p.1) (same_ok place.2))
 
@@ -35,14 +36,14 @@ pub write_done :
     → write_of m caller address index word ≡ Ok (made, next) → WriteDone m caller address index word next
 unfolding write_of
 write_done m caller address index word made next e =
-    let found = both_done (find_frame m caller address) _ (made, next) e in
-    let right = both_done (permitted (can_write (found.0).1)) _ (made, next) found.2 in
+    let found = both_done (find kind.Frame m caller address) _ (made, next) e in
+    let right = both_done (permitted (can_write (badged_of (found.0).1.detail).rights)) _ (made, next) found.2 in
     let place = both_done (in_frame index) _ (made, next) right.2 in
     record {
-      id = (found.0).0;
-      rights = (found.0).1;
-      finds = finds_frame m caller address (found.0).0 (found.0).1 found.1;
-      allowed = is_permitted (can_write (found.0).1) right.0 right.1;
+      id = (found.0).1.object;
+      rights = (badged_of (found.0).1.detail).rights;
+      finds = finds kind.Frame m caller address found.0 found.1;
+      allowed = is_permitted (can_write (badged_of (found.0).1.detail).rights) right.0 right.1;
       within = is_in_frame index place.0 place.1;
       changes = sym (ap (λ p. p.1) (same_ok place.2));
     }

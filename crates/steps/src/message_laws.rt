@@ -1,24 +1,29 @@
 //! Laws about steps that pass messages: machines stay well formed, and loans come back.
 ghost use Rattle.std.specs.Prelude.{ℕ, ◌≡◌, ◌≢◌, List, Option, Some};
 ghost use Rattle.base.specs.declared.ids.ObjId.{ObjId as Number};
-ghost use Rattle.machine.specs.declared.object.Object.TheVariants as o;
 ghost use Rattle.machine.specs.declared.object.{ObjectKind.ObjectKind as Kind, Reply.Reply as Holding};
+ghost use Rattle.machine.specs.declared.slot_address.SlotAddress.{SlotAddress as Slot};
+ghost use Rattle.machine.specs.declared.thread.{Calling.Calling as Calls, Message.Message as Given};
+ghost use Rattle.machine.specs.declared.thread.{Receiving.Receiving as Receives, RunState.RunState as State};
+ghost use Rattle.machine.specs.declared.thread.{Sending.Sending as Sends, Tcb.Tcb as Thread};
+ghost use Rattle.machine.specs.Machine.{Machine, object_of};
+ghost use Rattle.machine.specs.Releasing.{with_aborted, with_blocked, with_called, with_given, with_halted};
+ghost use Rattle.machine.specs.Releasing.{with_holder_halted, with_ready};
+ghost use Rattle.machine.specs.Step.{Bind.context_under, Deliver.{arrival_of, with_arrival}, Fetch.emptied};
+ghost use Rattle.machine.specs.Step.{Receive.awaiting_message, Reply.answered, Send.called_through};
+ghost use Rattle.machine.specs.WellFormed.{IsAlike, IsFree, IsIdle, IsReceivingWith, IsThread, IsWellFormed, WaitsAt};
+ghost use Rattle.machine.specs.WellFormed.{WaitsAtKind, kind_of};
+ghost use Rattle.machine.specs.declared.object.Object.TheVariants as o;
 ghost use Rattle.machine.specs.declared.object.ObjectKind.TheVariants as kind;
-ghost use Rattle.machine.specs.declared.{slot_address.SlotAddress.SlotAddress as Slot, thread.Calling.Calling as Calls};
-ghost use Rattle.machine.specs.declared.thread.{Message.Message as Given, Receiving.Receiving as Receives, RunState.RunState as State};
 ghost use Rattle.machine.specs.declared.thread.RunState.TheVariants as state;
-ghost use Rattle.machine.specs.{declared.thread.{Sending.Sending as Sends, Tcb.Tcb as Thread}, Machine.{Machine, object_of}};
-ghost use Rattle.machine.specs.Releasing.{with_aborted, with_blocked, with_called, with_given, with_halted, with_holder_halted, with_ready};
-ghost use Rattle.machine.specs.Step.{Bind.context_under, Deliver.{arrival_of, with_arrival}, Fetch.emptied, Receive.awaiting_message};
-ghost use Rattle.machine.specs.{Step.{Reply.answered, Send.called_through}, WellFormed.{IsAlike, IsFree, IsIdle, IsReceivingWith}};
-ghost use Rattle.machine.specs.WellFormed.{IsThread, IsWellFormed, WaitsAt, WaitsAtKind, kind_of};
 
 /// A law: a thread that leaves its queue and its reply keeps a well-formed machine well formed.
 ///
 /// The law holds whether the thread is then ready, halted or aborted, or has a message. A reply
 /// whose thread is halted is free. The inbox of a thread that isn't blocked may become empty.
 pub fn releases_keep_machines_well_formed()
-    ensures given { (m : Machine) (thread : Number) (message : Given) → IsWellFormed m → IsWellFormed (with_given m thread message) }
+    ensures given { (m : Machine) (thread : Number) (message : Given) → IsWellFormed m
+        → IsWellFormed (with_given m thread message) }
     ensures ready { (m : Machine) (thread : Number) → IsWellFormed m → IsWellFormed (with_ready m thread) }
     ensures halted { (m : Machine) (thread : Number) → IsWellFormed m → IsWellFormed (with_halted m thread) }
     ensures aborted { (m : Machine) (thread : Number) → IsWellFormed m → IsWellFormed (with_aborted m thread) }
@@ -82,6 +87,7 @@ pub fn answers_return_what_calls_lent()
         → caller ≢ receiver
         → IsFree m id
         → (thread : Number)
-        → context_under (object_of (answered (called_through m caller receiver (Some id)) receiver (Some caller) words) thread)
+        → context_under
+        (object_of (answered (called_through m caller receiver (Some id)) receiver (Some caller) words) thread)
         ≡ context_under (object_of m thread) }
 {}

@@ -1,25 +1,33 @@
 //! Laws about removals: what is removed, and what stays.
-ghost use Rattle.std.specs.{Bool.Decides, Prelude.{[], ◌↔◌, ◌≡◌, ◌≢◌, ◌≤◌, Bool, Contains, List, None, Ok, Some, false, if◌then◌else◌}};
+ghost use Rattle.std.specs.Bool.{Decides};
+ghost use Rattle.std.specs.Prelude.{[], ◌↔◌, ◌≡◌, ◌≢◌, ◌≤◌, Bool, Contains, List, None, Ok, Some, false, if◌then◌else◌};
 ghost use Rattle.std.specs.Prelude.{true};
 ghost use Rattle.base.specs.declared.ids.{ObjId.ObjId as Id, SlotRef.SlotRef as Slot};
-ghost use Rattle.machine.specs.declared.{call.Made.Made as Comes, cap.Cap.Cap as Held, object.Context.Context as Bound};
-ghost use Rattle.machine.specs.declared.object.{Object.Object as Thing, Reply.Reply as Holding};
+ghost use Rattle.machine.specs.declared.{call.Made.Made as Comes, cap.Cap.Cap as Held};
+ghost use Rattle.machine.specs.declared.object.{Context.Context as Bound, Object.Object as Thing};
+ghost use Rattle.machine.specs.declared.object.Reply.{Reply as Holding};
+ghost use Rattle.machine.specs.declared.{slot_address.SlotAddress.SlotAddress as Place, thread.Tcb.Tcb as Thread};
+ghost use Rattle.machine.specs.{Below.is_below, Counts.caps_to};
+ghost use Rattle.machine.specs.Finalising.{IsHolding, aborted, halted, has_links, is_aborted, is_halted, leads_nowhere};
+ghost use Rattle.machine.specs.Finalising.{leaves, unbound};
+ghost use Rattle.machine.specs.Gone.{IsGone, IsLeastSet, LosesAll, gone_of};
+ghost use Rattle.machine.specs.Machine.{Machine, cap_of, object_of, parent_of, queue_of, same_slot, words_of};
+ghost use Rattle.machine.specs.Orphans.{Nearest};
+ghost use Rattle.machine.specs.Removal.{cap_after, object_after, parent_after, queue_after, removed, vanishes};
+ghost use Rattle.machine.specs.Removal.{words_after};
+ghost use Rattle.machine.specs.Step.{Delete.delete_of, Revoke.revoke_of, Target.target_of};
+ghost use Rattle.machine.specs.WellFormed.{Descends, IsThread, IsWellFormed};
 ghost use Rattle.machine.specs.declared.object.Object.TheVariants as o;
 ghost use Rattle.machine.specs.declared.object.ReplyState.TheVariants as reply;
-ghost use Rattle.machine.specs.{declared.{slot_address.SlotAddress.SlotAddress as Place, thread.Tcb.Tcb as Thread}, Below.is_below};
-ghost use Rattle.machine.specs.{Counts.caps_to, Finalising.{IsHolding, aborted, halted, has_links, is_aborted, is_halted, leads_nowhere}};
-ghost use Rattle.machine.specs.{Finalising.{leaves, unbound}, Gone.{IsGone, IsLeastSet, LosesAll, gone_of}, Machine.{Machine, cap_of}};
-ghost use Rattle.machine.specs.{Machine.{object_of, parent_of, queue_of, same_slot, words_of}, Orphans.Nearest, Removal.cap_after};
-ghost use Rattle.machine.specs.{Removal.{object_after, parent_after, queue_after, removed, vanishes, words_after}, Step.Delete.delete_of};
-ghost use Rattle.machine.specs.{Step.{Revoke.revoke_of, Target.target_of}, WellFormed.{Descends, IsThread, IsWellFormed}};
 
 /// A law: the test whether a slot descends from another decides it, in every machine.
 pub fn descending_is_decided()
     ensures { (m : Machine) (above slot : Slot) → Decides (is_below m above slot) (Descends m slot above) }
 {}
 
-/// A law: the slot that a delete names is empty once it is made, and from the slot that a revoke names
-/// nothing descends.
+/// A law: a delete empties the slot that it names, and a revoke leaves nothing that descends from the slot it names.
+///
+/// This is so for calls that are made, and for a revoke in a well-formed machine.
 pub fn deletes_and_revokes_leave_nothing()
     ensures delete { (m : Machine) (caller : Id) (address : Place) (made : Comes) (next : Machine)
         → delete_of m caller address ≡ Ok (made, next)
@@ -37,11 +45,13 @@ pub fn deletes_and_revokes_leave_nothing()
 /// capability, and all that it had are removed.
 pub fn what_goes_is_the_least_closed_set()
     ensures least { (m : Machine) (chosen : Slot → Bool) → IsLeastSet m chosen (gone_of m chosen) }
-    ensures reasons { (m : Machine) (chosen : Slot → Bool) (slot : Slot) → Decides (gone_of m chosen slot) (IsGone m chosen slot) }
-    ensures vanishing { (m : Machine) (chosen : Slot → Bool) (id : Id) → Decides (vanishes m chosen id) (LosesAll m (gone_of m chosen) id) }
+    ensures reasons { (m : Machine) (chosen : Slot → Bool) (slot : Slot)
+        → Decides (gone_of m chosen slot) (IsGone m chosen slot) }
+    ensures vanishing { (m : Machine) (chosen : Slot → Bool) (id : Id)
+        → Decides (vanishes m chosen id) (LosesAll m (gone_of m chosen) id) }
 {}
 
-/// A law: the number of capabilities for an object tells which is the last.
+/// A law: the number of capabilities for an object decides which is the last.
 ///
 /// The number is 0 exactly where no slot holds one, and 1 exactly where a slot that holds one holds
 /// all. An object vanishes in a removal exactly if there are some before it and none after.
@@ -55,8 +65,7 @@ pub fn counts_tell_the_last_capability()
         → Decides (vanishes m chosen id) ((1 ≤ caps_to m id) × (caps_to (removed m chosen) id ≡ 0)) }
 {}
 
-/// A law: after a removal, the parent of each slot that stays is its nearest ancestor that stays,
-/// if it has one.
+/// A law: after a removal, the parent of each slot that stays is its nearest ancestor that stays, if it has one.
 ///
 /// A slot that is removed has no parent.
 pub fn orphans_come_to_their_nearest_ancestor()
@@ -70,13 +79,18 @@ pub fn orphans_come_to_their_nearest_ancestor()
         → parent_of (removed m chosen) slot ≡ None }
 {}
 
-/// A law: the machine before a removal tells what each look-up answers after it.
+/// A law: the machine before a removal determines what each look-up answers after it.
 pub fn a_removal_is_told_by_its_look_ups()
-    ensures objects { (m : Machine) (chosen : Slot → Bool) (id : Id) → object_of (removed m chosen) id ≡ object_after m (vanishes m chosen) id }
-    ensures queues { (m : Machine) (chosen : Slot → Bool) (id : Id) → queue_of (removed m chosen) id ≡ queue_after m (vanishes m chosen) id }
-    ensures words { (m : Machine) (chosen : Slot → Bool) (id : Id) → words_of (removed m chosen) id ≡ words_after m (vanishes m chosen) id }
-    ensures caps { (m : Machine) (chosen : Slot → Bool) (slot : Slot) → cap_of (removed m chosen) slot ≡ cap_after m (gone_of m chosen) slot }
-    ensures parents { (m : Machine) (chosen : Slot → Bool) (slot : Slot) → parent_of (removed m chosen) slot ≡ parent_after m (gone_of m chosen) slot }
+    ensures objects { (m : Machine) (chosen : Slot → Bool) (id : Id)
+        → object_of (removed m chosen) id ≡ object_after m (vanishes m chosen) id }
+    ensures queues { (m : Machine) (chosen : Slot → Bool) (id : Id)
+        → queue_of (removed m chosen) id ≡ queue_after m (vanishes m chosen) id }
+    ensures words { (m : Machine) (chosen : Slot → Bool) (id : Id)
+        → words_of (removed m chosen) id ≡ words_after m (vanishes m chosen) id }
+    ensures caps { (m : Machine) (chosen : Slot → Bool) (slot : Slot)
+        → cap_of (removed m chosen) slot ≡ cap_after m (gone_of m chosen) slot }
+    ensures parents { (m : Machine) (chosen : Slot → Bool) (slot : Slot)
+        → parent_of (removed m chosen) slot ≡ parent_after m (gone_of m chosen) slot }
     ensures next { (m : Machine) (chosen : Slot → Bool) → (removed m chosen).next ≡ m.next }
     ensures going { (m : Machine) (chosen : Slot → Bool) → (removed m chosen).going ≡ [] }
 {}
@@ -127,7 +141,8 @@ pub fn vanished_objects_are_finalised()
         → IsHolding holding.state thread
         → vanishes m chosen id ≡ false
         → object_of (removed m chosen) id
-        ≡ Some (o.Reply (record holding { state = if leaves m (vanishes m chosen) thread then reply.Free else holding.state })) }
+        ≡ Some (o.Reply
+        (record holding { state = if leaves m (vanishes m chosen) thread then reply.Free else holding.state })) }
     // its context is unbound
     ensures contexts { (m : Machine) (chosen : Slot → Bool) (id thread : Id) (context : Bound)
         → object_of m id ≡ Some (o.Context context)

@@ -2,10 +2,12 @@
 ghost use Rattle.std.specs.{List.zip, Prelude.{ℕ, ◌≡◌, ◌≢◌, ◌⊎◌, All, List, Ok, Result}};
 ghost use Rattle.base.specs.declared.{ids.ObjId.ObjId as Number, refusal.{Cause.Cause as Why, Misuse.Misuse as Wrong}};
 ghost use Rattle.base.specs.Refusals.{misuse_refusal};
-ghost use Rattle.machine.specs.declared.call.{Call.Call as Calls, Event.Event as Occurs, Made.Made as Comes, Outcome.Outcome as Ended};
-ghost use Rattle.machine.specs.{declared.{call.Outcome.TheVariants.Refused, object.MemoryKind.MemoryKind as Kind}, Machine.Machine};
-ghost use Rattle.machine.specs.{Makes.Makes, Outcomes.IsRefused, Run.Run, Step.{ChangesCaller, LacksMemory, MayEnd, Step, call_of}};
-ghost use Rattle.machine.specs.{Step.Retype.retype_of, WellFormed.{IsCaller, IsWellFormed}};
+ghost use Rattle.machine.specs.declared.call.{Call.Call as Calls, Event.Event as Occurs, Made.Made as Comes};
+ghost use Rattle.machine.specs.declared.call.Outcome.{Outcome as Ended, TheVariants.Refused};
+ghost use Rattle.machine.specs.declared.object.MemoryKind.{MemoryKind as Kind};
+ghost use Rattle.machine.specs.{Machine.Machine, Makes.Makes, Outcomes.IsRefused, Run.Run};
+ghost use Rattle.machine.specs.Step.{ChangesCaller, LacksMemory, MayEnd, Step, call_of, Retype.retype_of};
+ghost use Rattle.machine.specs.WellFormed.{IsCaller, IsWellFormed};
 
 /// A law: two steps of one event from one machine agree, unless one of them lacked memory.
 ///
@@ -21,12 +23,13 @@ pub fn steps_of_one_event_agree()
         → next ≡ m }
 {}
 
-/// A law: a call is refused by a condition of its own, or for want of memory if it takes some.
+/// A law: a call is refused by a condition of its own, or for lack of memory if it takes some.
 ///
 /// A retype takes memory. Only a failed lookup has a detail. Each call of a run is refused so too,
 /// and no step is refused as what isn't begun.
 pub fn calls_are_refused_by_conditions()
-    ensures step { (m : Machine) (event : Occurs) (outcome : Ended) (next : Machine) → Step m event outcome next → MayEnd event outcome }
+    ensures step { (m : Machine) (event : Occurs) (outcome : Ended) (next : Machine) → Step m event outcome next
+        → MayEnd event outcome }
     ensures run { (first : Machine) (events : List Occurs) (outcomes : List Ended) (last : Machine)
         → Run first events outcomes last
         → All (λ entry. MayEnd entry.0 entry.1) (zip events outcomes) }
@@ -48,8 +51,7 @@ pub fn steps_keep_machines_well_formed()
         → IsWellFormed last }
 {}
 
-/// A law: a call keeps a well-formed machine well formed, also by itself, before its thread is
-/// admitted.
+/// A law: a call keeps a well-formed machine well formed, also by itself, before its thread is admitted.
 ///
 /// A call that has its thread wait, or that empties its inbox, does so where the thread is ready.
 pub fn calls_keep_machines_well_formed()
@@ -62,7 +64,8 @@ pub fn calls_keep_machines_well_formed()
 
 /// A law: a retype that is made keeps a well-formed machine well formed.
 pub fn retypes_keep_machines_well_formed()
-    ensures { (m : Machine) (caller : Number) (untyped : ℕ) (kind : Kind) (bits to offset count : ℕ) (made : Comes) (next : Machine)
+    ensures { (m : Machine) (caller : Number) (untyped : ℕ) (kind : Kind) (bits to offset count : ℕ) (made : Comes)
+        (next : Machine)
         → IsWellFormed m
         → retype_of m caller untyped kind bits to offset count ≡ Ok (made, next)
         → IsWellFormed next }

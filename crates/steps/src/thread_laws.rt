@@ -1,9 +1,9 @@
 //! A law about the root slots of threads.
 ghost use Rattle.std.specs.Prelude.{◌≡◌, IsTrue, None, Some};
 ghost use Rattle.base.specs.declared.ids.{ObjId.ObjId as Number, SlotRef.SlotRef as Slot};
-ghost use Rattle.machine.specs.{declared.cap.Cap.Cap as Held, Lookup.root_of, Machine.{Machine, cap_of, has_slot}, Step.Space.without_root};
+ghost use Rattle.machine.specs.{declared.cap.Cap.Cap as Held, Lookup.root_of, Machine.{Machine, cap_of, has_slot}};
+ghost use Rattle.machine.specs.{Step.Space.without_root, WellFormed.IsWellFormed};
 ghost use Rattle.machine.specs.declared.cap.Detail.TheVariants as d;
-ghost use Rattle.machine.specs.WellFormed.{IsWellFormed};
 
 /// A law: where a root slot is cleared, the machine stays well formed.
 ///

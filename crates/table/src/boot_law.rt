@@ -1,8 +1,8 @@
 //! A law about the boot state of a capability table.
 ghost use Rattle.std.specs.Prelude.{◌≡◌, Some};
 ghost use Rattle.base.specs.declared.ids.SlotRef.{SlotRef};
-ghost use Rattle.machine.specs.{Boot.{IsBoot, IsFresh}, Layout.{Layout, initial_parent}, Machine.{Machine, parent_of}, Tree.IsRanked};
-ghost use Rattle.machine.specs.WellFormed.{IsWellFormed};
+ghost use Rattle.machine.specs.{Boot.{IsBoot, IsFresh}, Layout.{Layout, initial_parent}, Machine.{Machine, parent_of}};
+ghost use Rattle.machine.specs.{Tree.IsRanked, WellFormed.IsWellFormed};
 ghost use Rattle.table.specs.Rules.{IsLawful};
 
 /// A law: the boot state of a lawful capability table is well formed, and is as the boot rule says.

@@ -1,14 +1,18 @@
 //! A capability table that is being built up, item by item.
-ghost use Rattle.std.specs.{List.list_any, Option.option_copied, Prelude.{◌<◌, ◌≡◌, ◌≤◌, IfErr, IfOk, IfSome, None, OnErr, OnOk, Some}};
-ghost use Rattle.std.specs.Prelude.{is_some, length, slice_get};
+ghost use Rattle.std.specs.{List.list_any, Option.option_copied};
+ghost use Rattle.std.specs.Prelude.{◌<◌, ◌≡◌, ◌≤◌, IfErr, IfOk, IfSome, None, OnErr, OnOk, Some, is_some, length};
+ghost use Rattle.std.specs.Prelude.{slice_get};
 ghost use Rattle.base.specs.declared.label.TheConstants.Label as LabelLimits;
 ghost use Rattle.base.specs.declared.limits.TheConstants.{MAX_OBJECTS};
-ghost use Rattle.machine.specs.{Authority.label_at, Layout.{bound_thread, empty_layout, initial_of, most_labels, upgraded}, Objects.end_of};
-ghost use Rattle.table.specs.Building.{AdmitsBinding, AdmitsCap, AdmitsLabel, AdmitsObject, AdmitsPair, declares_slot, fits, has_cap_to};
-ghost use Rattle.table.specs.Building.{has_control, has_room, is_above_bindings, is_above_caps, is_above_pairs, is_badged, is_bound};
-ghost use Rattle.table.specs.Building.{is_fitting, is_free, last_binding, last_cap, may_hold, with_binding, with_filled, with_initial};
-ghost use Rattle.table.specs.{Building.{with_label, with_pair}, Names.{label_named, object_named}, Rules.{IsLawful, is_control_of}};
-ghost use Rattle.table.specs.{Rules.kind_at, Tree.{tree_fault, with_originals}};
+ghost use Rattle.machine.specs.Authority.{label_at};
+ghost use Rattle.machine.specs.{Layout.{bound_thread, empty_layout, initial_of, most_labels, upgraded}, Objects.end_of};
+ghost use Rattle.table.specs.Building.{AdmitsBinding, AdmitsCap, AdmitsLabel, AdmitsObject, AdmitsPair, declares_slot};
+ghost use Rattle.table.specs.Building.{fits, has_cap_to, has_control, has_room, is_above_bindings, is_above_caps};
+ghost use Rattle.table.specs.Building.{is_above_pairs, is_badged, is_bound, is_fitting, is_free, last_binding};
+ghost use Rattle.table.specs.Building.{last_cap, may_hold, with_binding, with_filled, with_initial, with_label};
+ghost use Rattle.table.specs.Building.{with_pair};
+ghost use Rattle.table.specs.{Names.{label_named, object_named}, Rules.{IsLawful, is_control_of, kind_at}};
+ghost use Rattle.table.specs.Tree.{tree_fault, with_originals};
 
 use crate::bindings::Bindings;
 use crate::caps::Caps;
@@ -241,8 +245,7 @@ impl Draft {
         }
     }
 
-    /// Returns whether a slot of this holder may have such a capability: a thread's root slot takes
-    /// only a CNode's.
+    /// Returns whether a slot of this holder may have such a capability: a thread's root slot takes only a CNode's.
     pub fn may_hold(&self, holder: ObjId, detail: &Detail) -> bool
         ensures { result ≡ may_hold (initial_of self.now holder) detail.now }
     {
@@ -253,8 +256,9 @@ impl Draft {
         }
     }
 
-    /// Returns whether the table has a capability's object, and the capability is of the object's
-    /// kind, with rights and a guard that fit it.
+    /// Returns whether the table has a capability's object, and the capability fits the object.
+    ///
+    /// The capability fits if it is of the object's kind, with rights and a guard that fit it.
     #[tactic(auto, unfolding(crate::specs::Building::is_fitting))]
     pub fn is_fitting(&self, cap: &Cap) -> bool
         ensures { result ≡ is_fitting self.now cap.now }

@@ -1,6 +1,7 @@
 //! The addresses at which objects lie: which objects overlap, and which holds an address.
-ghost use Rattle.std.specs.{List.{All, Contains, list_any, Sorted.{IsPartitionPoint, IsPermutation}}, Prelude.{⊤, ◌<◌, ◌∷◌, ◌≡◌, ◌≤◌}};
-ghost use Rattle.std.specs.{Prelude.{MatchOption, Some, false, length, nat_le, true, vec_len}, Vec.vec_capacity};
+ghost use Rattle.std.specs.List.{All, Contains, list_any, Sorted.{IsPartitionPoint, IsPermutation}};
+ghost use Rattle.std.specs.Prelude.{⊤, ◌<◌, ◌∷◌, ◌≡◌, ◌≤◌, MatchOption, Some, false, length, nat_le, true, vec_len};
+ghost use Rattle.std.specs.Vec.{vec_capacity};
 ghost use Rattle.machine.specs.Objects.{address_of, end_of, size_bits};
 ghost use Rattle.table.specs.Placement.{AreApart, holds, touches};
 ghost use Rattle.table.specs.Placement as placement;
@@ -87,7 +88,8 @@ pub fn holder(rising: &[Extent], address: u64) -> Option<Extent>
 fn count_up_to(rising: &[Extent], address: u64) -> usize
     requires { AreApart rising.now }
     ensures bound { result ≤ length rising.now }
-    ensures parted { IsPartitionPoint (λ other. other.start ≤ address) (λ other. address < other.start) rising.now result }
+    ensures parted { IsPartitionPoint (λ other. other.start ≤ address)
+        (λ other. address < other.start) rising.now result }
 {
     rising.partition_point(|other| other.start <= address)
 }
@@ -96,7 +98,8 @@ fn count_up_to(rising: &[Extent], address: u64) -> usize
 fn count_below(rising: &[Extent], address: u64) -> usize
     requires { AreApart rising.now }
     ensures bound { result ≤ length rising.now }
-    ensures parted { IsPartitionPoint (λ other. other.start < address) (λ other. address ≤ other.start) rising.now result }
+    ensures parted { IsPartitionPoint (λ other. other.start < address)
+        (λ other. address ≤ other.start) rising.now result }
 {
     rising.partition_point(|other| other.start < address)
 }

@@ -1,9 +1,10 @@
-//! Capability tables: which labels, objects, capabilities, derivation tree and
-//! bindings a system starts with.
+//! Capability tables: which labels, objects, capabilities, derivation tree and bindings a system starts with.
 //!
-//! A [`Draft`] is built up item by item, and keeps the rules of capability tables from the first item
-//! on, but for those of the derivation tree. These are tested when it becomes a [`Table`]. A contract
-//! sees either as a `Layout`.
+//! A [`Draft`] is built up item by item, and keeps the rules of capability tables from the first
+//! item on, but for those of the derivation tree. These are tested when it becomes a [`Table`]. A
+//! contract sees either as a `Layout`.
+//!
+//! `kernel`, the crates of verdicts and the texts stand on it. It knows no policy.
 #![tactic(auto)]
 
 mod bindings;

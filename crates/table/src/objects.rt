@@ -1,7 +1,8 @@
 //! The objects of a capability table, with their names and addresses.
-ghost use Rattle.std.specs.{List.list_any, Option.option_copied, Prelude.{[], ◌++◌, ◌+◌, ◌<◌, ◌∷◌, ◌≡◌, ◌≤◌, OnErr, OnOk, false, find}};
-ghost use Rattle.std.specs.{Prelude.{if◌then◌else◌, is_some, length, not, option_map, position, slice_get, true, vec_len}, Str.bytes_eq};
-ghost use Rattle.std.specs.Vec.{vec_capacity};
+ghost use Rattle.std.specs.{List.list_any, Option.option_copied};
+ghost use Rattle.std.specs.Prelude.{[], ◌++◌, ◌+◌, ◌<◌, ◌∷◌, ◌≡◌, ◌≤◌, OnErr, OnOk, false, find, if◌then◌else◌};
+ghost use Rattle.std.specs.Prelude.{is_some, length, not, option_map, position, slice_get, true, vec_len};
+ghost use Rattle.std.specs.{Str.bytes_eq, Vec.vec_capacity};
 ghost use Rattle.base.specs.declared.limits.TheConstants.{ADDRESS_END, MAX_SLOTS, MAX_THREADS};
 ghost use Rattle.machine.specs.{Authority.has_memory_at, Objects.{end_of, slot_count}};
 ghost use Rattle.table.specs.{Placement.meets, Rules.{is_tcb, slots_in, threads_in}};
@@ -26,7 +27,8 @@ pub struct Objects {
 
 impl Model for Objects {
     ghost use Rattle.std.specs.{List.Sorted.IsPermutation, Prelude.{◌≡◌, length}};
-    ghost use Rattle.table.specs.{Inventory.{Inventory, extents_from}, Placement.AreApart, Rules.{slots_in, threads_in}};
+    ghost use Rattle.table.specs.{Inventory.{Inventory, extents_from}, Placement.AreApart};
+    ghost use Rattle.table.specs.Rules.{slots_in, threads_in};
 
     ghost Value = { Inventory };
 

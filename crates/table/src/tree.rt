@@ -1,6 +1,6 @@
 //! The derivation tree of a capability table, and the rules that it keeps.
-ghost use Rattle.std.specs.{declared.cmp.Ordering.TheVariants.Less, List.find, Prelude.{[], ℕ, ◌+◌, ◌≡◌, IsTrue, None, Some, option_map}};
-ghost use Rattle.std.specs.Prelude.{slice_get};
+ghost use Rattle.std.specs.{declared.cmp.Ordering.TheVariants.Less, List.find};
+ghost use Rattle.std.specs.Prelude.{[], ℕ, ◌+◌, ◌≡◌, IsTrue, None, Some, option_map, slice_get};
 ghost use Rattle.machine.specs.{declared.layout.Pair.Pair as Edge, Machine.{same_slot, slot_cmp}};
 ghost use Rattle.table.specs.{Rules.{Rises, RisesByChild}, Tree.{tree_of, with_originals}};
 ghost use Rattle.table.specs.Tree as tree;

@@ -1,8 +1,9 @@
-//! Threads: calls that suspend and resume them, and that clear and set the roots of their capability
-//! spaces.
+//! Threads: calls that suspend and resume them, and that clear and set the roots of their capability spaces.
 //!
-//! Each call does its whole row of the kernel's step, from the row's first condition on, or leaves the
-//! state as it was. No memory is taken.
+//! Each call does its whole row of the kernel's step, from the row's first condition on, or leaves
+//! the state as it was. No memory is taken.
+//!
+//! `kernel` stands on it. It knows no policy.
 #![tactic(auto)]
 
 mod running;

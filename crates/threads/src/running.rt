@@ -1,11 +1,11 @@
 //! The calls Suspend and Resume, which stop a thread and let it run again.
 ghost use Rattle.std.specs.Prelude.{◌≡◌};
-ghost use Rattle.machine.specs.{Makes.Makes, Releasing.IsInItsQueue, Step.Suspend.{resume_of, suspend_of, with_resumed}};
-ghost use Rattle.machine.specs.WellFormed.{IsWellFormed};
+ghost use Rattle.machine.specs.{Makes.Makes, Releasing.IsInItsQueue};
+ghost use Rattle.machine.specs.{Step.Suspend.{resume_of, suspend_of, with_resumed}, WellFormed.IsWellFormed};
 
 use base::{Cause, ObjId};
-use cspace::find_tcb;
-use machine::{Answer, Made, Object, RunState};
+use cspace::find;
+use machine::{Answer, Made, Object, ObjectKind, RunState};
 use objects::State;
 use replies::abort;
 use steps::calls_keep_machines_well_formed;
@@ -31,17 +31,19 @@ fn make_suspend(state: &mut State, caller: ObjId, address: u64) -> Result<Made, 
     requires { IsWellFormed state.old }
     ensures { Makes state.old state.new result (suspend_of state.old caller address) }
 {
-    let (_, thread) = find_tcb(state, caller, address)?;
-    replies::suspend(state, thread);
+    let (_, tcb) = find(state, ObjectKind::Tcb, caller, address)?;
+    replies::suspend(state, tcb.object);
     Ok(Made::Done(Answer::Nothing))
 }
 
-/// Suspends the thread at an address: it leaves its queue and its reply, can't run until it is resumed,
-/// and has nothing to fetch (seL4 manual, seL4_TCB_Suspend).
+/// Suspends the thread at an address (seL4 manual, seL4_TCB_Suspend).
+///
+/// The thread leaves its queue and its reply, can't run until it is resumed, and has nothing to
+/// fetch.
 ///
 /// # Errors
 ///
-/// Those of [`find_tcb`].
+/// Those of [`find`].
 pub fn suspend(state: &mut State, caller: ObjId, address: u64) -> Result<Made, Cause>
     requires well_formed { IsWellFormed state.old }
     ensures made { Makes state.old state.new result (suspend_of state.old caller address) }
@@ -58,8 +60,8 @@ fn make_resume(state: &mut State, caller: ObjId, address: u64) -> Result<Made, C
     requires { IsWellFormed state.old }
     ensures { Makes state.old state.new result (resume_of state.old caller address) }
 {
-    let (_, thread) = find_tcb(state, caller, address)?;
-    let_run(state, thread);
+    let (_, tcb) = find(state, ObjectKind::Tcb, caller, address)?;
+    let_run(state, tcb.object);
     Ok(Made::Done(Answer::Nothing))
 }
 
@@ -70,7 +72,7 @@ fn make_resume(state: &mut State, caller: ObjId, address: u64) -> Result<Made, C
 ///
 /// # Errors
 ///
-/// Those of [`find_tcb`].
+/// Those of [`find`].
 pub fn resume(state: &mut State, caller: ObjId, address: u64) -> Result<Made, Cause>
     requires well_formed { IsWellFormed state.old }
     ensures made { Makes state.old state.new result (resume_of state.old caller address) }

@@ -1,12 +1,13 @@
 //! The calls ClearSpace and SetSpace, on the root of a thread's capability space.
 ghost use Rattle.std.specs.Prelude.{◌≡◌, IsTrue, None, Some};
 ghost use Rattle.machine.specs.{declared.cap.Cap.Cap as Held, Lookup.root_of, Machine.{cap_of, has_slot}, Makes.Makes};
-ghost use Rattle.machine.specs.{Step.Space.{clear_space_of, find_node, set_space_of, with_root, without_root}, WellFormed.IsWellFormed};
+ghost use Rattle.machine.specs.Step.Space.{clear_space_of, set_space_of, with_root, without_root};
+ghost use Rattle.machine.specs.WellFormed.{IsWellFormed};
 
 use base::{Cause, ObjId, SlotRef};
 use cnodeops::derive;
-use cspace::{find_cap, find_tcb};
-use machine::{Answer, Detail, Ends, Made};
+use cspace::find;
+use machine::{Answer, Ends, Made, ObjectKind};
 use objects::State;
 use removal::remove;
 use steps::{calls_keep_machines_well_formed, cleared_root_slots_can_be_filled};
@@ -18,18 +19,6 @@ fn root_of(thread: ObjId) -> SlotRef
     SlotRef {
         holder: thread,
         index: 0,
-    }
-}
-
-/// The slot with the CNode's capability at an address.
-#[tactic(auto, unfolding(machine::specs::Step::Space::find_node))]
-fn find_node(state: &State, caller: ObjId, address: u64) -> Result<SlotRef, Cause>
-    ensures { result ≡ find_node state.now caller address }
-{
-    let (slot, cap) = find_cap(state, caller, address)?;
-    match cap.detail {
-        Detail::CNode(_) => Ok(slot),
-        _ => Err(Cause::InvalidCapability),
     }
 }
 
@@ -77,19 +66,19 @@ fn make_clear_space(state: &mut State, caller: ObjId, address: u64) -> Result<Ma
     requires { IsWellFormed state.old }
     ensures { Makes state.old state.new result (clear_space_of state.old caller address) }
 {
-    let (_, thread) = find_tcb(state, caller, address)?;
-    clear_root(state, thread);
+    let (_, tcb) = find(state, ObjectKind::Tcb, caller, address)?;
+    clear_root(state, tcb.object);
     Ok(Made::Done(Answer::Nothing))
 }
 
-/// Removes the capability in the root slot of the thread at an address, if it is filled, and all
-/// that can't stay without it (confine's own, a part of seL4's seL4_TCB_SetSpace).
+/// Empties the root slot of the thread at an address (confine's own, a part of seL4's seL4_TCB_SetSpace).
 ///
-/// The thread's look-ups fail from then on.
+/// If the slot is filled, its capability is removed, and all that can't stay without it. The
+/// thread's look-ups fail from then on.
 ///
 /// # Errors
 ///
-/// Those of [`find_tcb`].
+/// Those of [`find`].
 pub fn clear_space(state: &mut State, caller: ObjId, address: u64) -> Result<Made, Cause>
     requires well_formed { IsWellFormed state.old }
     ensures made { Makes state.old state.new result (clear_space_of state.old caller address) }
@@ -108,24 +97,22 @@ fn make_set_space(state: &mut State, caller: ObjId, address: u64, space: u64) ->
 {
     // A law, so that the root slot can be filled.
     cleared_root_slots_can_be_filled();
-    let (tcb, thread) = find_tcb(state, caller, address)?;
-    let node = find_node(state, caller, space)?;
-    clear_root(state, thread);
-    fill_root(state, thread, tcb, node);
+    let (slot, tcb) = find(state, ObjectKind::Tcb, caller, address)?;
+    let (node, _) = find(state, ObjectKind::CNode, caller, space)?;
+    clear_root(state, tcb.object);
+    fill_root(state, tcb.object, slot, node);
     Ok(Made::Done(Answer::Nothing))
 }
 
-/// Gives the thread at an address another root for its capability space: a copy of the CNode's
-/// capability at the address `space` (seL4 manual, seL4_TCB_SetSpace).
+/// Gives the thread at an address another root for its capability space (seL4 manual, seL4_TCB_SetSpace).
 ///
-/// The old one is removed first, as by [`clear_space`]; where that empties the slot of the thread's
-/// or of the CNode's capability, or takes the thread itself, the call is done and the root slot
-/// stays empty.
+/// The new root is a copy of the CNode's capability at the address `space`. The old one is removed
+/// first, as by [`clear_space`]. Where that empties the slot of the thread's or of the CNode's
+/// capability, or takes the thread itself, the call is done and the root slot stays empty.
 ///
 /// # Errors
 ///
-/// Those of [`find_tcb`] and then those of [`find_cap`]; and [`Cause::InvalidCapability`] (2) where
-/// that at `space` is no CNode's.
+/// Those of [`find`], for the thread and then for the CNode.
 pub fn set_space(state: &mut State, caller: ObjId, address: u64, space: u64) -> Result<Made, Cause>
     requires well_formed { IsWellFormed state.old }
     ensures made { Makes state.old state.new result (set_space_of state.old caller address space) }

@@ -8,7 +8,7 @@ use Rattle.machine.specs.{Machine.{same_id, with_queue}, Releasing.{unblocked, w
 use Rattle.machine.proofs.LookUps.{queue_of-with_object, queue_of-with_queue}
 use Rattle.machine.specs.declared.object.ReplyState.TheVariants as reply
 use Rattle.machine.specs.declared.thread.RunState.TheVariants as state
-use Rattle.steps.proofs.RemovalLinks.{in_whole}
+use Rattle.steps.proofs.LeavingLinks.{in_whole}
 use Rattle.objects.specs.Waiting.{WaitsNowhere}
 
 -- the same queues

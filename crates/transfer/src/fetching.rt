@@ -1,7 +1,7 @@
 //! The call Fetch, which takes what a thread was given and has not fetched yet.
 ghost use Rattle.std.specs.Prelude.{◌≡◌};
-ghost use Rattle.machine.specs.{Machine.object_of, Makes.Makes, Step.Fetch.{emptied, fetch_of, fetched, fetched_in}, WellFormed.IsCaller};
-ghost use Rattle.machine.specs.WellFormed.{IsWellFormed};
+ghost use Rattle.machine.specs.{Machine.object_of, Makes.Makes, Step.Fetch.{emptied, fetch_of, fetched, fetched_in}};
+ghost use Rattle.machine.specs.WellFormed.{IsCaller, IsWellFormed};
 
 use base::{Cause, ObjId};
 use machine::{Answer, Inbox, Made, Object, Tcb};
@@ -56,7 +56,7 @@ fn make_fetch(state: &mut State, caller: ObjId) -> Result<Made, Cause>
 
 /// Takes what the caller was given while it waited and has not fetched yet.
 ///
-/// The thing is a message, the word of a notification, or that what it waited for is gone. Its
+/// This is a message, the word of a notification, or the news that what it waited for is gone. Its
 /// inbox is empty then. (confine's own: seL4 puts these into the thread's registers.)
 ///
 /// # Errors

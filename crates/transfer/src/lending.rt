@@ -1,8 +1,9 @@
 //! The context that a caller lends to its receiver.
 ghost use Rattle.std.specs.Prelude.{◌≡◌, ◌≢◌, Some};
 ghost use Rattle.base.specs.declared.ids.ObjId.{ObjId as Id};
+ghost use Rattle.machine.specs.{Machine.object_of, Step.Send.{called_through, lent_by}};
+ghost use Rattle.machine.specs.WellFormed.{IsFree, IsWellFormed, kind_of};
 ghost use Rattle.machine.specs.declared.object.ObjectKind.TheVariants as kind;
-ghost use Rattle.machine.specs.{Machine.object_of, Step.Send.{called_through, lent_by}, WellFormed.{IsFree, IsWellFormed, kind_of}};
 
 use base::ObjId;
 use machine::{Calling, Lent};
@@ -42,8 +43,7 @@ fn wait_and_lend(state: &mut State, caller: ObjId, receiver: ObjId, id: ObjId)
     }
 }
 
-/// Has a caller wait for its answer through a reply, and lends the context that it runs on to the
-/// receiver.
+/// Has a caller wait for its answer through a reply, and lends the context that it runs on to the receiver.
 ///
 /// The call was delivered to the receiver, and the reply holds nobody. The scheduling context is
 /// lent where the receiver has none. Where there is no reply for an answer, the caller is halted.

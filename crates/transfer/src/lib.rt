@@ -1,7 +1,9 @@
 //! Messages: calls that send, call, receive and fetch.
 //!
-//! Each call does its whole row of the kernel's step, from the row's first condition on, or leaves the
-//! state as it was. No memory is taken.
+//! Each call does its whole row of the kernel's step, from the row's first condition on, or leaves
+//! the state as it was. No memory is taken.
+//!
+//! `kernel` stands on it. It knows no policy.
 #![tactic(auto)]
 
 mod arrivals;

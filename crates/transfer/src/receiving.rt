@@ -1,8 +1,8 @@
 //! The call Receive, which takes a message or waits for one.
 ghost use Rattle.std.specs.Prelude.{◌≡◌};
 ghost use Rattle.base.specs.declared.ids.ObjId.{ObjId as Id};
-ghost use Rattle.machine.specs.{Makes.Makes, Step.Receive.{find_named_reply, receive_of, received, with_reply_ended}, WellFormed.IsCaller};
-ghost use Rattle.machine.specs.WellFormed.{IsWellFormed};
+ghost use Rattle.machine.specs.{Makes.Makes, Step.Receive.{find_named_reply, receive_of, received, with_reply_ended}};
+ghost use Rattle.machine.specs.WellFormed.{IsCaller, IsWellFormed};
 ghost use Rattle.objects.specs.Waiting.{WaitsNowhere};
 
 use crate::arrivals::{arrive, message};
@@ -10,8 +10,8 @@ use crate::firsts::first_sender;
 use crate::releases::release;
 use base::{Cause, ObjId, Rights};
 use bitflags::Flags;
-use cspace::{find_endpoint, find_reply, permit};
-use machine::{Answer, Made, Receiving, SlotAddress};
+use cspace::{find, permit};
+use machine::{Answer, Made, ObjectKind, Receiving, SlotAddress};
 use objects::State;
 use replies::{await_message, unlink};
 use steps::{calls_keep_machines_well_formed, releases_keep_machines_well_formed};
@@ -27,8 +27,8 @@ fn find_named_reply(
     match named {
         None => Ok(None),
         Some(address) => {
-            let id = find_reply(state, caller, address)?;
-            Ok(Some(id))
+            let (_, cap) = find(state, ObjectKind::Reply, caller, address)?;
+            Ok(Some(cap.object))
         }
     }
 }
@@ -79,31 +79,32 @@ fn make_receive(
     requires free { WaitsNowhere state.old caller }
     ensures { Makes state.old state.new result (receive_of state.old caller address reply slot) }
 {
-    let (endpoint, end) = find_endpoint(state, caller, address)?;
-    permit(end.rights.contains(Rights::READ))?;
+    let (_, cap) = find(state, ObjectKind::Endpoint, caller, address)?;
+    permit(cap.detail.badged().rights.contains(Rights::READ))?;
     let reply = find_named_reply(state, caller, reply)?;
     end_reply(state, reply);
     let receiving = Receiving {
-        endpoint,
+        endpoint: cap.object,
         reply,
         slot,
     };
     Ok(receive_or_wait(state, caller, receiving))
 }
 
-/// Receives a message through the endpoint at an address: that of the thread that waits first to
-/// send; where none does, the caller waits for one (seL4 manual, "Endpoints", "Reply objects" and
-/// seL4_Recv).
+/// Receives a message through the endpoint at an address (seL4 manual, "Endpoints", "Reply objects" and seL4_Recv).
 ///
-/// Through the reply at the address `reply`, if one is given, a call is answered; the thread that
-/// it held until then is halted first. The message's capability, if one arrives, is put into
-/// `slot`, an empty one; where none is given, or it isn't there or is filled, the message comes
-/// without it.
+/// The message is that of the thread that waits first to send. Where none does, the caller waits
+/// for one.
+///
+/// Through the reply at the address `reply`, if one is given, a call is answered. The thread that
+/// the reply held until then is halted first. The message's capability, if one arrives, is put into
+/// `slot`, an empty one. Where no slot is given, or the slot isn't there or is filled, the message
+/// comes without it.
 ///
 /// # Errors
 ///
-/// Those of [`find_endpoint`], [`Cause::InvalidCapability`] (2) where the right Read is missing,
-/// and then those of [`find_reply`].
+/// Those of [`find`], [`Cause::InvalidCapability`] (2) where the right Read is missing, and then
+/// those of [`find`] for the reply.
 pub fn receive(
     state: &mut State,
     caller: ObjId,

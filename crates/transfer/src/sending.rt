@@ -1,7 +1,9 @@
 //! The calls Send and Call, which send a message.
 ghost use Rattle.std.specs.Prelude.{◌≡◌};
-ghost use Rattle.machine.specs.{Makes.Makes, Step.{Deliver.{first_at, receiver_in, sending_by}, Send.{called_or_waits, endpoint_call_of}}};
-ghost use Rattle.machine.specs.{Step.Send.{send_of, sent_or_waits}, WellFormed.{IsCaller, IsWellFormed}};
+ghost use Rattle.machine.specs.Makes.{Makes};
+ghost use Rattle.machine.specs.Step.Deliver.{first_at, receiver_in, sending_by};
+ghost use Rattle.machine.specs.Step.Send.{called_or_waits, endpoint_call_of, send_of, sent_or_waits};
+ghost use Rattle.machine.specs.WellFormed.{IsCaller, IsWellFormed};
 ghost use Rattle.objects.specs.Waiting.{WaitsNowhere};
 
 use crate::arrivals::deliver;
@@ -10,8 +12,8 @@ use crate::lending::call_through;
 use crate::releases::answer_through;
 use base::{Cause, ObjId, Rights};
 use bitflags::Flags;
-use cspace::{find_endpoint, permit};
-use machine::{Answer, Badged, Made, RunState, Sending};
+use cspace::{find, permit};
+use machine::{Answer, Badged, Made, ObjectKind, RunState, Sending};
 use objects::State;
 use queues::block;
 use steps::calls_keep_machines_well_formed;
@@ -70,23 +72,25 @@ fn make_send(
     requires free { WaitsNowhere state.old caller }
     ensures { Makes state.old state.new result (send_of state.old caller address words capability) }
 {
-    let (endpoint, end) = find_endpoint(state, caller, address)?;
+    let (_, cap) = find(state, ObjectKind::Endpoint, caller, address)?;
+    let end = cap.detail.badged();
     permit(end.rights.contains(Rights::WRITE))?;
-    let sending = sending_by(endpoint, end, false, words, capability);
+    let sending = sending_by(cap.object, end, false, words, capability);
     Ok(send_or_wait(state, caller, sending))
 }
 
-/// Sends a message through the endpoint at an address: the thread that waits first to receive gets
-/// it; where none does, the caller waits for one (seL4 manual, "Endpoints" and seL4_Send).
+/// Sends a message through the endpoint at an address (seL4 manual, "Endpoints" and seL4_Send).
 ///
-/// At most one capability goes with it, that at the address `capability` when the message is
-/// received: it arrives where the capability to the endpoint has the right Grant, it isn't untyped
-/// memory's, and the receiver gave an empty slot. The message goes without it otherwise.
+/// The thread that waits first to receive gets the message. Where none does, the caller waits for
+/// one.
+///
+/// At most one capability is sent with it, that at the address `capability` when the message is
+/// received. It arrives where the capability to the endpoint has the right Grant, it isn't untyped
+/// memory's, and the receiver gave an empty slot. The message is sent without it otherwise.
 ///
 /// # Errors
 ///
-/// Those of [`find_endpoint`], and [`Cause::InvalidCapability`] (2) where the right Write is
-/// missing.
+/// Those of [`find`], and [`Cause::InvalidCapability`] (2) where the right Write is missing.
 pub fn send(
     state: &mut State,
     caller: ObjId,
@@ -139,19 +143,21 @@ fn make_call(
     requires caller { IsCaller state.old caller }
     ensures { Makes state.old state.new result (endpoint_call_of state.old caller address words capability) }
 {
-    let (endpoint, end) = find_endpoint(state, caller, address)?;
+    let (_, cap) = find(state, ObjectKind::Endpoint, caller, address)?;
+    let end = cap.detail.badged();
     permit(end.rights.contains(Rights::WRITE))?;
-    let sending = sending_by(endpoint, end, true, words, capability);
+    let sending = sending_by(cap.object, end, true, words, capability);
     call_or_wait(state, caller, sending);
     Ok(Made::Blocked)
 }
 
-/// Sends a message as [`send`] does, and has the caller wait for the answer, through the reply that the
-/// receiver named (seL4 manual, "Endpoints", "Reply objects" and seL4_Call).
+/// Sends a message, and has the caller wait for the answer (seL4 manual, "Endpoints", "Reply objects" and seL4_Call).
+///
+/// It sends as [`send`] does. The answer comes through the reply that the receiver named.
 ///
 /// Where the receiver named none, or the capability to the endpoint has neither the right Grant nor
-/// GrantReply, the caller is halted once its message is received. Otherwise, if the receiver was there
-/// first and runs on no scheduling context, it runs on the caller's until it answers.
+/// GrantReply, the caller is halted once its message is received. Otherwise, if the receiver was
+/// there first and runs on no scheduling context, it runs on the caller's until it answers.
 ///
 /// # Errors
 ///

@@ -31,8 +31,10 @@ fn fill_below(state: &mut State, slot: SlotRef, cap: Cap, parent: SlotRef)
     insert_child(state, slot, parent);
 }
 
-/// Fills the slots of a window with the capabilities of new objects, which have numbers from `first`
-/// on, as children of that in another slot.
+/// Fills the slots of a window with the capabilities of new objects.
+///
+/// The objects have numbers from `first` on. The capabilities become children of that in the slot
+/// `parent`.
 pub fn fill(state: &mut State, window: Window, first: u64, kind: MemoryKind, parent: SlotRef)
     requires ends { window.offset + window.count < 2 ^ 64 }
     requires numbers { first + window.count ≤ OBJECT_NUMBERS }

@@ -1,11 +1,11 @@
 //! The untyped memory and the CNode that a retype names.
 ghost use Rattle.std.specs.Prelude.{◌≡◌};
-ghost use Rattle.machine.specs.Step.Retype.{find_taker, find_untyped, memory_in, of_untyped};
+ghost use Rattle.machine.specs.Step.Retype.{find_taker, find_untyped, memory_in};
 ghost use Rattle.untyped.specs.Shown.{found_shown, taker_shown};
 
 use base::{Cause, LookupFailure, ObjId, SlotRef};
-use cspace::{Level, find_cap, level_at, resolve};
-use machine::{Detail, Object, Untyped};
+use cspace::{Level, find, level_at, resolve};
+use machine::{Object, ObjectKind, Untyped};
 use objects::State;
 
 /// A piece of untyped memory that objects are made from, with the slot of its capability.
@@ -14,16 +14,6 @@ pub struct Source {
     pub slot: SlotRef,
     pub id: ObjId,
     pub memory: Untyped,
-}
-
-/// Refuses what is no untyped memory's capability.
-fn of_untyped(detail: &Detail) -> Result<(), Cause>
-    ensures { result ≡ of_untyped detail.now }
-{
-    match detail {
-        Detail::Untyped => Ok(()),
-        _ => Err(Cause::InvalidCapability),
-    }
 }
 
 /// The object as untyped memory.
@@ -40,14 +30,12 @@ fn memory_in(object: Option<Object>) -> Result<Untyped, Cause>
 ///
 /// # Errors
 ///
-/// Those of [`find_cap`], and [`Cause::InvalidCapability`] (2) where the capability is of another
-/// kind.
+/// Those of [`find`].
 #[tactic(auto, unfolding(machine::specs::Step::Retype::find_untyped))]
 pub fn find_untyped(state: &State, caller: ObjId, address: u64) -> Result<Source, Cause>
     ensures { found_shown result ≡ find_untyped state.now caller address }
 {
-    let (slot, cap) = find_cap(state, caller, address)?;
-    of_untyped(&cap.detail)?;
+    let (slot, cap) = find(state, ObjectKind::Untyped, caller, address)?;
     let memory = memory_in(state.object(cap.object).copied())?;
     Ok(Source {
         slot,

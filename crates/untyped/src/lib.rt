@@ -1,6 +1,8 @@
-//! Untyped memory becomes objects.
+//! The call Retype: untyped memory becomes objects.
 //!
 //! Each condition of the call is a function of its own, and says what the kernel's step says of it.
+//!
+//! `kernel` stands on it. It knows no policy.
 #![tactic(auto)]
 
 mod conditions;

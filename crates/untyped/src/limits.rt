@@ -7,7 +7,7 @@ use base::{Cause, MAX_PRESENT, MAX_SLOTS, MAX_THREADS, OBJECT_NUMBERS};
 use machine::Object;
 use objects::State;
 
-/// Refuses to make so many objects that a kernel would have too much.
+/// Refuses to make more objects than the limits of a kernel allow.
 ///
 /// # Errors
 ///

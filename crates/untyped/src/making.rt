@@ -11,8 +11,7 @@ use machine::{
     Object, Radix, Reply, ReplyState, RunState, Tcb, Untyped,
 };
 
-/// The plan of a call: it makes objects of a kind, as many as its window has slots, from a place in
-/// its memory on.
+/// The plan of a call: it makes objects of a kind, as many as its window has slots, from a place in its memory on.
 #[derive(Clone, Copy)]
 pub struct Making {
     pub source: Source,

@@ -76,8 +76,7 @@ fn make(state: &mut State, making: Making) -> Result<(), AllocError>
     Ok(())
 }
 
-/// Makes `count` objects of a kind from the untyped memory that the caller names (seL4 manual,
-/// seL4_Untyped_Retype).
+/// Makes `count` objects of a kind from the untyped memory that the caller names (seL4 manual, seL4_Untyped_Retype).
 ///
 /// The objects' capabilities are put into as many slots, from `offset` on, of the CNode that the
 /// caller names as `to`. `bits` is the size of untyped memory and the radix of a CNode. Where
@@ -111,7 +110,8 @@ pub fn retype(
     count: u64,
 ) -> Result<Made, Unmade>
     requires well_formed { IsWellFormed state.old }
-    ensures row { MakesWithMemory state.old state.new result (retype_of state.old caller untyped kind bits to offset count) }
+    ensures row { MakesWithMemory state.old state.new result
+        (retype_of state.old caller untyped kind bits to offset count) }
     ensures well_formed { IsWellFormed state.new }
 {
     // A law, so that the state stays well formed.

@@ -12,23 +12,23 @@ use Rattle.table.{specs.{Rules.IsLawful, Tree.IsPairOf}, proofs.Lookups.{filled_
 use Rattle.labels.specs.SlotEdges.{edges_with}
 use Rattle.verdict.specs.{declared.denial.Denial.Denial, Rules.{a1, a2, a3, a4}, Slots.{BreaksSlots, denial_by, is_missing, missing_edge}}
 use Rattle.verdict.specs.declared.denial.Denial.TheVariants as denial
-use Rattle.verdict.{specs.{Slots.{rule_of, slot_rule}, Verdict.place_of}, proofs.RuleOrder.{before_by_rule, never_both}}
+use Rattle.verdict.{specs.Verdict.{place_of, rule_number}, proofs.{LeastByRule.LooksFurther, RuleOrder.{before_by_rule, never_both}}}
 use Rattle.verdict.proofs.SlotPlaces.{BreaksAt, IsAt, slot_least}
 
 -- a denial of a slot has the number of its rule first
-rule_is : (d : Denial) → slot_rule d < a4 → get_or (place_of d) 0 0 ≡ slot_rule d
+rule_is : (d : Denial) → rule_number (Some d) < a4 → get_or (place_of d) 0 0 ≡ rule_number (Some d)
 rule_is (denial.Capability _ _ _) slots = refl
 rule_is (denial.Root _ _) slots = refl
 rule_is (denial.Pair _ _) slots = refl
 rule_is _ slots = absurd (omega (arith, slots))
 
-at_a_slot : (slot : SlotRef) (d : Denial) → IsAt slot d → slot_rule d < a4
+at_a_slot : (slot : SlotRef) (d : Denial) → IsAt slot d → rule_number (Some d) < a4
 at_a_slot slot (denial.Capability _ _ _) at = omega arith
 at_a_slot slot (denial.Root _ _) at = omega arith
 at_a_slot slot (denial.Pair _ _) at = omega arith
 at_a_slot slot _ at = absurd at
 
-by_rule : (one other : Denial) → slot_rule one < a4 → slot_rule other < a4 → slot_rule one < slot_rule other → ComesBefore (place_of one) (place_of other)
+by_rule : (one other : Denial) → rule_number (Some one) < a4 → rule_number (Some other) < a4 → rule_number (Some one) < rule_number (Some other) → ComesBefore (place_of one) (place_of other)
 by_rule one other of_one of_other lt =
     before_by_rule (place_of one) (place_of other)
     (let one_is = rule_is one of_one in let other_is = rule_is other of_other in omega (arith, lt, one_is, other_is))
@@ -40,7 +40,7 @@ before_by_slot :
 before_by_slot rule one other xs ys less = grind (arith, less)
 
 slots_apart :
-    (one other : SlotRef) (d e : Denial) → IsAt one d → IsAt other e → slot_rule d ≡ slot_rule e → slot_cmp one other ≡ Less
+    (one other : SlotRef) (d e : Denial) → IsAt one d → IsAt other e → rule_number (Some d) ≡ rule_number (Some e) → slot_cmp one other ≡ Less
     → ComesBefore (place_of d) (place_of e)
 slots_apart one other (denial.Capability s k l) (denial.Capability s' k' l') at_d at_e same less =
     before_by_slot a1 s s' (kind_number k ∷ l ∷ []) (kind_number k' ∷ l' ∷ []) ((λ i. slot_cmp (at_d i) (at_e i)) ∙ less)
@@ -50,16 +50,6 @@ slots_apart one other (denial.Pair s p) (denial.Pair s' p') at_d at_e same less 
     before_by_slot a3 s s' (p.holder.0 ∷ p.index ∷ []) (p'.holder.0 ∷ p'.index ∷ []) ((λ i. slot_cmp (at_d i) (at_e i)) ∙ less)
 slots_apart one other d e at_d at_e same less =
     let of_d = at_a_slot one d at_d in let of_e = at_a_slot other e at_e in absurd (omega (arith, of_d, of_e, same))
-
--- what doesn't come first is of no lesser rule
-rule_after :
-    (one other : Denial) → slot_rule one < a4 → slot_rule other < a4 → (ComesBefore (place_of one) (place_of other) → ⊥)
-    → slot_rule other ≤ slot_rule one
-rule_after one other of_one of_other not_before = elim (cases_order (slot_rule one) (slot_rule other)) [
-  | inl same ↦ omega (arith, same)
-  | inr (inl below) ↦ absurd (not_before (by_rule one other of_one of_other below))
-  | inr (inr above) ↦ omega (arith, above)
-]
 
 module _ (t : Layout) (allowed : EdgeTest) where
   -- a filled slot holds its capability
@@ -107,54 +97,34 @@ module _ (t : Layout) (allowed : EdgeTest) where
     this : (d : Denial) → BreaksAt t allowed filled.slot d → BrokenAmong (n + 1) d
     this d h = record { at = n; within = omega arith; filled = filled; here = here; broken = h }
 
-    -- a lesser rule comes first
-    pub least_new :
-        (first next : Option Denial) → FindsLeast place_of (BreaksAt t allowed filled.slot) next
-        → FindsLeast place_of (BrokenAmong n) first → rule_of next < rule_of first → FindsLeast place_of (BrokenAmong (n + 1)) next
-    least_new None None least none lt = absurd (omega (arith, lt))
-    least_new (Some d) None least first lt = absurd (let of_d = at_a_slot _ d first.has.broken.0 in omega (arith, lt, of_d))
-    least_new None (Some e) least none lt = record {
-      has = this e least.has;
-      first = λ other h before. elim (at_this other h) [ inl h ↦ none other h | inr h ↦ least.first other h before ];
-    }
-    least_new (Some d) (Some e) least first lt = record {
-      has = this e least.has;
-      first = λ other h before. elim (at_this other h) [
-        | inl h ↦
-            let of_d = at_a_slot first.has.filled.slot d first.has.broken.0 in
-            let of_e = at_a_slot filled.slot e least.has.0 in
-            first.first other h (nat_list_cmp_total.trans (place_of other) (place_of e) (place_of d) before (by_rule e d of_e of_d lt))
-        | inr h ↦ least.first other h before
-      ];
-    }
+    pub looks : LooksFurther (BrokenAmong n) (BreaksAt t allowed filled.slot) (BrokenAmong (n + 1))
+    looks = record {
+      split = at_this;
+      more = more;
+      this = this;
+      by_rule = λ d e of_d of_e. by_rule d e (of_slots d of_d) (of_slots e of_e);
+      not_later = not_later;
+      most = λ d of. let slots = of_slots d of in omega (arith, slots);
+    } where
+      of_slots : (d : Denial) → BrokenAmong (n + 1) d → rule_number (Some d) < a4
+      of_slots d h = at_a_slot h.filled.slot d h.broken.0
 
-    -- and a greater one, or the same one, after
-    pub least_kept :
-        (first next : Option Denial) → FindsLeast place_of (BreaksAt t allowed filled.slot) next
-        → FindsLeast place_of (BrokenAmong n) first → rule_of first ≤ rule_of next → FindsLeast place_of (BrokenAmong (n + 1)) first
-    least_kept None None least none le = λ other h. elim (at_this other h) [ inl h ↦ none other h | inr h ↦ least other h ]
-    least_kept None (Some e) least none le = absurd (let of_e = at_a_slot filled.slot e least.has.0 in omega (arith, le, of_e))
-    least_kept (Some d) None least first le = record {
-      has = more d first.has;
-      first = λ other h before. elim (at_this other h) [ inl h ↦ first.first other h before | inr h ↦ least other h ];
-    }
-    least_kept (Some d) (Some e) least first le = record {
-      has = more d first.has;
-      first = λ other h before. elim (at_this other h) [
-        | inl h ↦ first.first other h before
-        | inr h ↦
-            let f = first.has in
-            let of_d = at_a_slot f.filled.slot d f.broken.0 in
-            let of_e = at_a_slot filled.slot e least.has.0 in
-            let of_other = at_a_slot filled.slot other h.0 in
-            let below = rule_after d other of_d of_other (λ after. never_both (place_of d) (place_of other) after before) in
-            let above = rule_after other e of_other of_e (least.first other h) in
-            never_both (place_of d) (place_of other)
-            (slots_apart f.filled.slot filled.slot d other f.broken.0 h.0 (omega (arith, le, below, above))
-            (pair_at (λ (one two : Filled). slot_cmp one.slot two.slot ≡ Less) t.caps f.at n f.filled filled lawful.draft.caps.rise f.within f.here here))
-            before
-      ];
-    }
+      not_later :
+          (d e : Denial) → BrokenAmong n d → BreaksAt t allowed filled.slot e → rule_number (Some d) ≤ rule_number (Some e)
+          → ComesBefore (place_of e) (place_of d) → ⊥
+      not_later d e at_d at_e le before =
+          let of_d = of_slots d (more d at_d) in
+          let of_e = of_slots e (this e at_e) in
+          elim (cases_order (rule_number (Some d)) (rule_number (Some e))) [
+            | inl same ↦
+                never_both (place_of d) (place_of e)
+                (slots_apart at_d.filled.slot filled.slot d e at_d.broken.0 at_e.0 same
+                (pair_at (λ (one two : Filled). slot_cmp one.slot two.slot ≡ Less) t.caps at_d.at n at_d.filled filled
+                lawful.draft.caps.rise at_d.within at_d.here here))
+                before
+            | inr (inl below) ↦ never_both (place_of d) (place_of e) (by_rule d e of_d of_e below) before
+            | inr (inr above) ↦ absurd (omega (arith, le, above))
+          ]
 
   module _ (n : ℕ) (all : length t.caps ≤ n) where
     of_slot :

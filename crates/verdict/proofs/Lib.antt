@@ -1,4 +1,5 @@
 pub mod RuleOrder
+pub mod LeastByRule
 pub mod OneVerdict
 pub mod SlotPlaces
 pub mod BindingPlaces

@@ -4,10 +4,11 @@ use Rattle.std.proofs.{Common.{is_some, refl, subst, sym}, lemmas.{Bool.cases_or
 use Rattle.base.specs.{declared.ids.ObjId.ObjId, Kinds.kind_number}
 use Rattle.machine.specs.{declared.object.Object.Object, Authority.label_of, Layout.Layout, Machine.{Machine, object_of}}
 use Rattle.policy.{specs.{Domain.EdgeTest, Places.{ComesBefore, FindsLeast, IsLeast, IsNone}}, proofs.Places.decided}
-use Rattle.verdict.specs.{declared.denial.Denial.Denial, Outside.{LiesAt, LiesOutside, outside_rule}, Rules.{Exceeds, Excess, binding, c1}}
+use Rattle.verdict.specs.{declared.denial.Denial.Denial, Outside.{LiesAt, LiesOutside}, Rules.{Exceeds, Excess, binding, c1}}
 use Rattle.verdict.specs.declared.denial.Denial.TheVariants as denial
 use Rattle.verdict.specs.{Rules.{capability, excess_place, holding, pair, recorded, root}, Sources.of_machine, Verdict.IsOutside}
-use Rattle.verdict.{specs.Verdict.{excess_of, place_of}, proofs.{OneVerdict.same_id, RuleOrder.before_by_rule}}
+use Rattle.verdict.specs.Verdict.{excess_of, place_of, rule_number}
+use Rattle.verdict.proofs.{LeastByRule.LooksFurther, OneVerdict.same_id, RuleOrder.before_by_rule}
 
 -- the object that a place names first
 abbrev pub object_in : Denial → ℕ
@@ -25,8 +26,8 @@ module _ (t : Layout) (allowed : EdgeTest) (m : Machine) where
   -- a place begins with its rule and its object
   record Stands (d : Denial) : Type 0 where
     rest : List ℕ
-    is : place_of d ≡ outside_rule (Some d) ∷ object_in d ∷ rest
-    most : outside_rule (Some d) < c1
+    is : place_of d ≡ rule_number (Some d) ∷ object_in d ∷ rest
+    most : rule_number (Some d) < c1
 
   stands : (d : Denial) → LiesOutside t allowed m d → Stands d
   stands (denial.Policy b) out = absurd out
@@ -38,23 +39,23 @@ module _ (t : Layout) (allowed : EdgeTest) (m : Machine) where
   stands (denial.Recorded thread k l) out = record { rest = kind_number k ∷ l ∷ []; is = refl; most = omega arith }
   stands (denial.Certificate line) out = absurd out
 
-  rule_is : (d : Denial) → LiesOutside t allowed m d → get_or (place_of d) 0 0 ≡ outside_rule (Some d)
+  rule_is : (d : Denial) → LiesOutside t allowed m d → get_or (place_of d) 0 0 ≡ rule_number (Some d)
   rule_is d out = ap (λ place. get_or place 0 0) (stands d out).is
 
   by_rule :
-      (d e : Denial) → LiesOutside t allowed m d → LiesOutside t allowed m e → outside_rule (Some d) < outside_rule (Some e)
+      (d e : Denial) → LiesOutside t allowed m d → LiesOutside t allowed m e → rule_number (Some d) < rule_number (Some e)
       → ComesBefore (place_of d) (place_of e)
   by_rule d e of_d of_e lt =
       before_by_rule (place_of d) (place_of e) (let one = rule_is d of_d in let other = rule_is e of_e in omega (arith, lt, one, other))
 
   not_later :
-      (d e : Denial) → LiesOutside t allowed m d → LiesOutside t allowed m e → outside_rule (Some d) ≤ outside_rule (Some e)
+      (d e : Denial) → LiesOutside t allowed m d → LiesOutside t allowed m e → rule_number (Some d) ≤ rule_number (Some e)
       → object_in d < object_in e → ComesBefore (place_of e) (place_of d) → ⊥
   not_later d e of_d of_e le lt before =
       let one = stands d of_d in
       let other = stands e of_e in
-      later_object (outside_rule (Some d)) (outside_rule (Some e)) (object_in d) (object_in e) one.rest other.rest le lt
-      (subst (ComesBefore (outside_rule (Some e) ∷ object_in e ∷ other.rest)) one.is (subst (λ place. ComesBefore place (place_of d)) other.is before))
+      later_object (rule_number (Some d)) (rule_number (Some e)) (object_in d) (object_in e) one.rest other.rest le lt
+      (subst (ComesBefore (rule_number (Some e) ∷ object_in e ∷ other.rest)) one.is (subst (λ place. ComesBefore place (place_of d)) other.is before))
 
   -- an object without a label has no authority
 
@@ -76,7 +77,7 @@ module _ (t : Layout) (allowed : EdgeTest) (m : Machine) where
   abbrev pub LiesBelow : ℕ → Denial → Type 0
   LiesBelow n d = LiesOutside t allowed m d × (object_in d < n)
 
-  module _ (n : ℕ) (next : Option Denial) (here : FindsLeast place_of (LiesAt t allowed m (record { 0 = n })) next) where
+  module _ (n : ℕ) where
     at_this : (d : Denial) → LiesBelow (n + 1) d → LiesBelow n d ⊎ LiesAt t allowed m (record { 0 = n }) d
     at_this d h = let within = h.1 in elim (cases_order (object_in d) n) [
       | inl same ↦ inr (same, h.0)
@@ -90,60 +91,15 @@ module _ (t : Layout) (allowed : EdgeTest) (m : Machine) where
     this : (d : Denial) → LiesAt t allowed m (record { 0 = n }) d → LiesBelow (n + 1) d
     this d h = (h.1, let at = h.0 in omega (arith, at))
 
-    -- a lesser rule comes first
-    pub least_new :
-        (first : Option Denial) → FindsLeast place_of (LiesBelow n) first → outside_rule next < outside_rule first
-        → FindsLeast place_of (LiesBelow (n + 1)) next
-    least_new first before lt = by first next before here lt where
-      by :
-          (first next : Option Denial) → FindsLeast place_of (LiesBelow n) first
-          → FindsLeast place_of (LiesAt t allowed m (record { 0 = n })) next → outside_rule next < outside_rule first
-          → FindsLeast place_of (LiesBelow (n + 1)) next
-      by None None none least lt = absurd (omega (arith, lt))
-      by (Some d) None first none lt = absurd (let most = (stands d first.has.0).most in omega (arith, lt, most))
-      by None (Some e) none least lt = record {
-        has = this e least.has;
-        first = λ other h before. elim (at_this other h) [ inl h ↦ none other h | inr h ↦ least.first other h before ];
-      }
-      by (Some d) (Some e) first least lt = record {
-        has = this e least.has;
-        first = λ other h before. elim (at_this other h) [
-          | inl h ↦
-              first.first other h
-              (nat_list_cmp_total.trans (place_of other) (place_of e) (place_of d) before (by_rule e d least.has.1 first.has.0 lt))
-          | inr h ↦ least.first other h before
-        ];
-      }
-
-    -- and a greater one, or the same one, after
-    pub least_kept :
-        (first : Option Denial) → FindsLeast place_of (LiesBelow n) first → outside_rule first ≤ outside_rule next
-        → FindsLeast place_of (LiesBelow (n + 1)) first
-    least_kept first before le = by first next before here le where
-      by :
-          (first next : Option Denial) → FindsLeast place_of (LiesBelow n) first
-          → FindsLeast place_of (LiesAt t allowed m (record { 0 = n })) next → outside_rule first ≤ outside_rule next
-          → FindsLeast place_of (LiesBelow (n + 1)) first
-      by None None none least le = λ other h. elim (at_this other h) [ inl h ↦ none other h | inr h ↦ least other h ]
-      by None (Some e) none least le = absurd (let most = (stands e least.has.1).most in omega (arith, le, most))
-      by (Some d) None first none le = record {
-        has = more d first.has;
-        first = λ other h before. elim (at_this other h) [ inl h ↦ first.first other h before | inr h ↦ none other h ];
-      }
-      by (Some d) (Some e) first least le = record {
-        has = more d first.has;
-        first = λ other h before. elim (at_this other h) [
-          | inl h ↦ first.first other h before
-          | inr h ↦
-              let within = first.has.1 in
-              let at = h.0 in
-              elim (cases_order (outside_rule (Some other)) (outside_rule (Some e))) [
-                | inl same ↦ not_later d other first.has.0 h.1 (omega (arith, le, same)) (omega (arith, within, at)) before
-                | inr (inl below) ↦ least.first other h (by_rule other e h.1 least.has.1 below)
-                | inr (inr above) ↦ not_later d other first.has.0 h.1 (omega (arith, le, above)) (omega (arith, within, at)) before
-              ]
-        ];
-      }
+    pub looks : LooksFurther (LiesBelow n) (LiesAt t allowed m (record { 0 = n })) (LiesBelow (n + 1))
+    looks = record {
+      split = at_this;
+      more = more;
+      this = this;
+      by_rule = λ d e of_d of_e. by_rule d e of_d.0 of_e.0;
+      not_later = λ d e of_d at_e le. not_later d e of_d.0 at_e.1 le (let within = of_d.1 in let at = at_e.0 in omega (arith, within, at));
+      most = λ d of. (stands d of.0).most;
+    }
 
   -- all objects
   pub least_of_all_objects :

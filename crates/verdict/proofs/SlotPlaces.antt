@@ -13,7 +13,7 @@ use Rattle.table.{specs.Rules.kind_at, proofs.Lookups.{FoundAt, found_at, none_f
 use Rattle.labels.specs.SlotEdges.{cap_edges, edge_between, kinds_in, pair_edges}
 use Rattle.verdict.specs.{declared.denial.Denial.Denial, Rules.{CapabilityExceeds, PairExceeds, RootExceeds, a1, a3}, Slots.denial_by}
 use Rattle.verdict.specs.declared.denial.Denial.TheVariants as denial
-use Rattle.verdict.specs.{Slots.{is_missing, slot_denial, slot_rule}, Sources.of_table, Verdict.{Breaks, place_of}}
+use Rattle.verdict.specs.{Slots.{is_missing, slot_denial}, Sources.of_table, Verdict.{Breaks, place_of, rule_number}}
 use Rattle.verdict.proofs.RuleOrder.{not_before_by_rule}
 use mathlib.Core.Bool.{false≢true}
 
@@ -104,7 +104,7 @@ module _ (t : Layout) (allowed : EdgeTest) (slot : SlotRef) where
 
   -- only the pair may be broken
   abbrev PairOnly : Type 0
-  PairOnly = (d : Denial) → BreaksAt t allowed slot d → a3 ≤ slot_rule d
+  PairOnly = (d : Denial) → BreaksAt t allowed slot d → a3 ≤ rule_number (Some d)
 
   -- the first missing edge of the capability is the least place
   abbrev CapFound : Option Edge → Type 0
@@ -115,7 +115,7 @@ module _ (t : Layout) (allowed : EdgeTest) (slot : SlotRef) where
   pair_only :
       ((k : Kind) (l : ℕ) → CapabilityExceeds (of_table t) allowed slot k l → ⊥)
       → ((l : ℕ) → RootExceeds (of_table t) allowed slot l → ⊥) → PairOnly
-  pair_only no_cap no_root = each (λ d. a3 ≤ slot_rule d) (λ k l x. absurd (no_cap k l x)) (λ l x. absurd (no_root l x)) (λ p x. omega arith)
+  pair_only no_cap no_root = each (λ d. a3 ≤ rule_number (Some d)) (λ k l x. absurd (no_cap k l x)) (λ l x. absurd (no_root l x)) (λ p x. omega arith)
 
   by_use : (k : Kind) (l : ℕ) → is_structural k ≡ false → denial_by t slot k l ≡ Some (denial.Capability slot k l)
   by_use Space l is = cc
@@ -247,7 +247,7 @@ module _ (t : Layout) (allowed : EdgeTest) (slot : SlotRef) where
   -- only a pair may be broken, and isn't
   nothing : PairOnly → ((p : SlotRef) → PairExceeds (of_table t) allowed slot p → ⊥) → IsNone (BreaksAt t allowed slot)
   nothing only no_pair d h =
-      each (λ e. a3 ≤ slot_rule e → ⊥) (λ k l x le. omega (arith, le)) (λ l x le. omega (arith, le)) (λ p x le. no_pair p x) d h (only d h)
+      each (λ e. a3 ≤ rule_number (Some e) → ⊥) (λ k l x le. omega (arith, le)) (λ l x le. omega (arith, le)) (λ p x le. no_pair p x) d h (only d h)
 
   abbrev denied : Option Edge → Option Denial
   denied = option_and_then (λ edge. denial_by t slot edge.kind edge.to)
@@ -278,7 +278,7 @@ module _ (t : Layout) (allowed : EdgeTest) (slot : SlotRef) where
           refl,
           record { from = from; to = to; derived = derived; source = source; target = target; missing = missing },
         ) (λ d h.
-        each (λ e. a3 ≤ slot_rule e → e ≡ denial.Pair slot parent) (λ k l x le. absurd (omega (arith, le)))
+        each (λ e. a3 ≤ rule_number (Some e) → e ≡ denial.Pair slot parent) (λ k l x le. absurd (omega (arith, le)))
         (λ l x le. absurd (omega (arith, le))) (λ p x le. ap (denial.Pair slot) (parent_is p x)) d h (only d h)))
 
     by :

@@ -1,10 +1,10 @@
--- What is denied at a filled slot, and by which rules slots are denied (confine's own).
-use Rattle.std.specs.{List.find, Option.option_and_then, Prelude.{ℕ, ◌<◌, Bool, None, Option, Some, not, option_map}}
+-- What is denied at a filled slot (confine's own).
+use Rattle.std.specs.{List.find, Option.option_and_then, Prelude.{ℕ, ◌<◌, Bool, Option, Some, not, option_map}}
 use Rattle.base.specs.declared.{edge.Edge.Edge, ids.SlotRef.SlotRef, kind.Kind.{Kind, TheVariants.{Derive, Space}}}
 use Rattle.machine.specs.{declared.layout.Filled.Filled, Layout.{Layout, initial_parent}}
 use Rattle.policy.specs.Domain.{EdgeTest}
 use Rattle.labels.specs.SlotEdges.{edges_with, slot_edges_of}
-use Rattle.verdict.specs.{declared.denial.Denial.{Denial, Denial as denial}, Rules.{a1, a2, a3, a4, a5}, Verdict.Breaks}
+use Rattle.verdict.specs.{declared.denial.Denial.{Denial, Denial as denial}, Rules.a4, Verdict.{Breaks, rule_number}}
 
 abbrev pub is_missing : EdgeTest → Edge → Bool
 is_missing allowed edge = not (allowed edge.from edge.kind edge.to)
@@ -24,19 +24,6 @@ slot_denial t allowed slot =
 abbrev pub missing_edge : Layout → EdgeTest → Filled → Option Edge
 missing_edge t allowed filled = find (is_missing allowed) (edges_with t filled.slot (Some filled.cap))
 
--- the number of the rule by which a slot is denied
-abbrev pub slot_rule : Denial → ℕ
-slot_rule (denial.Capability _ _ _) = a1
-slot_rule (denial.Root _ _) = a2
-slot_rule (denial.Pair _ _) = a3
--- no other rule speaks of slots
-slot_rule _ = a4
-
--- and a greater one where it isn't denied
-abbrev pub rule_of : Option Denial → ℕ
-rule_of (Some denied) = slot_rule denied
-rule_of None = a5
-
 -- a rule that speaks of slots is broken at a place
 abbrev pub BreaksSlots : Layout → EdgeTest → Denial → Type 0
-BreaksSlots t allowed d = (slot_rule d < a4) × Breaks t allowed d
+BreaksSlots t allowed d = (rule_number (Some d) < a4) × Breaks t allowed d

@@ -4,9 +4,9 @@ use Rattle.std.specs.{Option.{option_and_then, option_map_or}, Prelude.{[], ℕ,
 use Rattle.base.specs.declared.edge.Edge.{Edge}
 use Rattle.machine.specs.{Layout.Layout, Machine.Machine}
 use Rattle.policy.specs.{Broken.{IsBrokenAt, broken_place, broken_rule, edge_asked_at}, Domain.EdgeTest, Places.{IsLeast, IsNone, IsUnder}}
-use Rattle.verdict.specs.{declared.denial.Denial.Denial, Rules.{Exceeds, Excess, binding, c1, capability, edge_needed_at, excess_place}}
+use Rattle.verdict.specs.{declared.denial.Denial.Denial, Rules.{Exceeds, Excess, a1, a2, a3, a4, a5, a6, binding, c1, capability}}
 use Rattle.verdict.specs.declared.denial.Denial.TheVariants as denial
-use Rattle.verdict.specs.{Rules.{holding, pair, recorded, root}, Sources.{Sources, of_machine, of_table}}
+use Rattle.verdict.specs.{Rules.{edge_needed_at, excess_place, holding, pair, recorded, root}, Sources.{Sources, of_machine, of_table}}
 
 -- where a denial by A1 to A6 says that authority lies outside
 abbrev pub excess_of : Denial → Option Excess
@@ -33,6 +33,16 @@ abbrev pub place_of : Denial → List ℕ
 place_of (denial.Policy broken) = broken_place broken
 place_of (denial.Certificate line) = c1 ∷ line ∷ []
 place_of d = option_map_or excess_place (excess_of d) []
+
+-- the number of the rule of authority, A1 to A6, by which something is denied, and a greater one where it is denied by none of them
+abbrev pub rule_number : Option Denial → ℕ
+rule_number (Some (denial.Capability _ _ _)) = a1
+rule_number (Some (denial.Root _ _)) = a2
+rule_number (Some (denial.Pair _ _)) = a3
+rule_number (Some (denial.Binding _ _)) = a4
+rule_number (Some (denial.Holding _ _)) = a5
+rule_number (Some (denial.Recorded _ _ _)) = a6
+rule_number _ = c1
 
 -- the edge that a denial asks a policy for, if one edge would mend it: none by P1, and none for a certificate
 abbrev pub edge_asked : Layout → Denial → Option Edge

@@ -1,3 +1,4 @@
+//! A capability table and a policy that are accepted.
 ghost use Rattle.std.specs.Prelude.{◌≡◌};
 ghost use Rattle.policy.specs.Policy.{allows};
 ghost use Rattle.integrity.specs.Safe.{IsSafe};
@@ -8,10 +9,10 @@ use policy::Policy;
 use std::marker::Model;
 use table::Table;
 
-/// A capability table and a policy that are accepted: no rule is broken, and every run from the table's
-/// boot state is safe.
+/// A capability table and a policy that are accepted.
 ///
-/// [`judge`](crate::judge) makes one of what it accepts.
+/// No rule is broken, and every run from the table's boot state is safe. [`judge`](crate::judge)
+/// makes one of what it accepts.
 #[derive(Drop)]
 pub struct Accepted<'a> {
     table: &'a Table,
@@ -38,7 +39,7 @@ fn are_safe(table: &Table, policy: &Policy)
 }
 
 impl<'a> Accepted<'a> {
-    /// These two, which are accepted.
+    /// Returns the system of a table and a policy that are accepted.
     pub fn of(table: &'a Table, policy: &'a Policy) -> Accepted<'a>
         requires { IsAccepted table.now (allows policy.now) }
         ensures system { result ≡ record { table = table.now; policy = policy.now } }
@@ -48,7 +49,7 @@ impl<'a> Accepted<'a> {
         Accepted { table, policy }
     }
 
-    /// The table.
+    /// Returns the table.
     pub fn table(&self) -> &'a Table
         ensures table { result.now ≡ self.now.table }
         ensures accepted { IsAcceptedSystem self.now }
@@ -56,7 +57,7 @@ impl<'a> Accepted<'a> {
         self.table
     }
 
-    /// The policy.
+    /// Returns the policy.
     pub fn policy(&self) -> &'a Policy
         ensures policy { result.now ≡ self.now.policy }
         ensures accepted { IsAcceptedSystem self.now }

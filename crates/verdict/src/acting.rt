@@ -1,3 +1,4 @@
+//! Which labels may act in runs of a system, and whose threads may make calls.
 ghost use Rattle.std.specs.Prelude.{ℕ, ◌↔◌, ◌≡◌, false, true};
 ghost use Rattle.base.specs.Labels.{is_in};
 ghost use Rattle.policy.specs.{Closed.IsClosed, Policy.allows};
@@ -13,8 +14,7 @@ use policy::Policy;
 use table::Table;
 
 impl Accepted<'_> {
-    /// Returns the labels that may act: those with a thread that can run at boot, and those that such a
-    /// label controls.
+    /// Returns the labels that may act: those with a thread that can run at boot, and those that such a label controls.
     ///
     /// In every run each call by a thread of another label is refused. So such a thread never changes,
     /// makes or removes an object.
@@ -28,17 +28,20 @@ impl Accepted<'_> {
     }
 }
 
-/// Returns the labels whose threads may make calls in runs of a table by a closed policy: they may act, and
-/// have threads in the table, or memory of which threads can be made.
+/// Returns the labels whose threads may make calls in runs of a table by a closed policy.
+///
+/// These labels may act, and have threads in the table, or memory of which threads can be made.
 pub fn actors(table: &Table, policy: &Policy) -> Labels
-    ensures { IsClosed (allows policy.now) → (a : ℕ) → (is_in result a ≡ true) ↔ IsActor table.now (allows policy.now) a }
+    ensures { IsClosed (allows policy.now) → (a : ℕ)
+        → (is_in result a ≡ true) ↔ IsActor table.now (allows policy.now) a }
 {
     labels_that_act(table, policy).intersection(with_threads(table))
 }
 
 // The labels that may act by a closed policy.
 fn labels_that_act(table: &Table, policy: &Policy) -> Labels
-    ensures { IsClosed (allows policy.now) → (a : ℕ) → (is_in result a ≡ true) ↔ MayAct table.now (allows policy.now) a }
+    ensures { IsClosed (allows policy.now) → (a : ℕ)
+        → (is_in result a ≡ true) ↔ MayAct table.now (allows policy.now) a }
 {
     labels_act_from_boot_or_by_control();
     let starting = starting(table);

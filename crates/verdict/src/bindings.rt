@@ -1,3 +1,4 @@
+//! The least place where the bindings of a table break A4.
 ghost use Rattle.std.specs.Prelude.{[], ◌∷◌, ◌≡◌, Some};
 ghost use Rattle.machine.specs.Layout.{bound_context};
 ghost use Rattle.policy.specs.{Places.FindsLeast, Policy.allows};
@@ -10,8 +11,9 @@ use machine::Binding;
 use policy::Policy;
 use table::Table;
 
-/// The least place where A4 is broken: threads have runs edges to the contexts that they are bound
-/// to.
+/// Returns the least place where A4 is broken.
+///
+/// By A4 threads have runs edges to the contexts that they are bound to.
 pub fn first_binding(table: &Table, policy: &Policy) -> Option<Denial>
     ensures { FindsLeast place_of (BreaksUnder table.now (allows policy.now) (a4 ∷ [])) result }
 {

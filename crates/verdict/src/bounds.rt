@@ -1,3 +1,4 @@
+//! The bounds of an accepted system: what threads of a label may do to objects of another.
 ghost use Rattle.std.specs.Prelude.{ℕ, ◌↔◌, ◌≡◌, IfErr, IfOk, true};
 ghost use Rattle.base.specs.{Labels.is_in, Refusals.out_of_memory};
 ghost use Rattle.policy.specs.{ActorReasons.IsWhyAmong, Policy.allows};
@@ -11,8 +12,10 @@ use std::alloc::Global;
 use std::marker::Model;
 use table::Table;
 
-/// The bounds of an accepted system: which labels have threads that may make calls, and what these may
-/// do to objects of which labels. No run goes beyond them.
+/// The bounds of an accepted system, beyond which no run goes.
+///
+/// They are which labels have threads that may make calls, and what these may do to objects of
+/// which labels.
 #[derive(Drop)]
 pub struct Bounds<'a> {
     table: &'a Table,
@@ -67,8 +70,9 @@ impl<'a> Bounds<'a> {
         self.policy
     }
 
-    /// Returns the labels with threads that may make calls: they may act, and have threads in the table, or
-    /// memory of which threads can be made.
+    /// Returns the labels with threads that may make calls.
+    ///
+    /// These labels may act, and have threads in the table, or memory of which threads can be made.
     pub fn actors(&self) -> Labels
         ensures actors { result ≡ self.now.actors }
         ensures acting { IsActingSystem self.now }
@@ -113,7 +117,8 @@ impl<'a> Bounds<'a> {
     ///
     /// 40 where memory is refused.
     pub fn why(&self, alloc: Global, actor: Label, object: Label) -> Result<Why, Refusal>
-        ensures why { IfOk result (λ why. IsWhyAmong (allows self.now.system.policy) (is_in self.now.actors) actor object why) }
+        ensures why { IfOk result
+            (λ why. IsWhyAmong (allows self.now.system.policy) (is_in self.now.actors) actor object why) }
         ensures memory { IfErr result (λ refusal. refusal ≡ out_of_memory) }
     {
         self.policy().why_among(alloc, self.actors(), actor, object)

@@ -1,8 +1,9 @@
+//! The check of a capability table and a policy, with what it promises of those that it accepts.
 ghost use Rattle.std.specs.Prelude.{ℕ, ◌<◌, ◌≡◌, ◌≤◌, IfErr, IfOk};
 ghost use Rattle.base.specs.Refusals.{out_of_memory};
 ghost use Rattle.policy.specs.Policy.{allows};
-ghost use Rattle.integrity.specs.Safe.{GuardsBudgets, KeepsBounds, KeepsIntegrity, KeepsNarrowBounds, LabelsObjects, RefusesOthers};
-ghost use Rattle.integrity.specs.Safe.{StaysConfined};
+ghost use Rattle.integrity.specs.Safe.{GuardsBudgets, KeepsBounds, KeepsIntegrity, KeepsNarrowBounds, LabelsObjects};
+ghost use Rattle.integrity.specs.Safe.{RefusesOthers, StaysConfined};
 ghost use Rattle.verdict.specs.System.{IsVerdict};
 
 use crate::bindings::first_binding;
@@ -15,17 +16,22 @@ use std::alloc::Global;
 use std::thread::Threads;
 use table::Table;
 
-/// The verdict on a capability table and a policy, by the rules P1 to P8 and A1 to A4: accepted, or
-/// denied with the first of these rules that is broken and the first place where it is. The slots of
-/// the table are shared out among 1 to 16 workers, each of which arrives at the gate first; the verdict
-/// is the same for every number of them.
+/// Returns the verdict on a capability table and a policy, by the rules P1 to P8 and A1 to A4.
 ///
-/// Where it accepts them, then after every list of kernel calls by any threads in any interleaving
-/// every capability lies within the policy; no step changes an object of a label on which its caller's
-/// label has no modifying authority, nor one of a label from which it may not take but by full
-/// authority; and a context's configured budget or period changes only by a caller whose label has the
-/// policy's SchedControl edge. Each object that is there then has a label, so that no authority goes
-/// unseen.
+/// They are accepted, or denied with the first of these rules that is broken and the first place
+/// where it is. The slots of the table are shared out among 1 to 16 workers, each of which arrives
+/// at the gate first. The verdict is the same for every number of workers.
+///
+/// Where they are accepted, this holds after every list of kernel calls by any threads in any
+/// interleaving:
+///
+/// - every capability lies within the policy
+/// - no step changes an object of a label on which its caller's label has no modifying authority
+/// - no step changes an object of a label from which its caller's label may not take, but by full
+///   authority
+/// - a context's configured budget or period changes only by a caller whose label has the policy's
+///   SchedControl edge
+/// - each object that is there has a label, so that no authority is unseen.
 ///
 /// # Errors
 ///
@@ -47,7 +53,8 @@ pub fn judge<'a, R: Threads + Sync, G: Gate + Sync>(
     ensures narrow { IfOk result (λ answer. IfOk answer (λ accepted. KeepsNarrowBounds table.now (allows policy.now))) }
     ensures budgets { IfOk result (λ answer. IfOk answer (λ accepted. GuardsBudgets table.now (allows policy.now))) }
     ensures acting { IfOk result (λ answer. IfOk answer (λ accepted. RefusesOthers table.now (allows policy.now))) }
-    ensures arrived { IfOk result (λ answer. IfOk answer (λ accepted. (worker : ℕ) → worker < workers → G.HasArrived gate.now worker)) }
+    ensures arrived { IfOk result
+        (λ answer. IfOk answer (λ accepted. (worker : ℕ) → worker < workers → G.HasArrived gate.now worker)) }
     ensures memory { IfErr result (λ refusal. refusal ≡ out_of_memory) }
 {
     if let Some(broken) = first_broken(rt, policy) {

@@ -1,9 +1,11 @@
+//! Denials: the rule that is broken, and where.
 ghost use Rattle.std.specs.Prelude.{◌≡◌};
+ghost use Rattle.verdict.specs.Verdict.{rule_number};
 
 use base::{Kind, Label, ObjId, SlotRef};
 use policy::Broken;
 
-/// Why a system is denied: the rule that is broken, and where.
+/// The reason why a system is denied: the rule that is broken, and where.
 ///
 /// Denials are ordered by rule, and then by what they name, from left to right.
 #[derive(Clone, Copy, PartialEq, Eq, Debug)]
@@ -58,7 +60,7 @@ pub enum Denial {
 impl Denial {
     ghost use Rattle.verdict.specs.Verdict.{rule_name};
 
-    /// The name of the rule that is broken.
+    /// Returns the name of the rule that is broken.
     pub fn rule(&self) -> &'static str
         ensures { result.now ≡ rule_name self.now }
     {
@@ -72,5 +74,36 @@ impl Denial {
             Denial::Recorded { .. } => "A6",
             Denial::Certificate { .. } => "C1",
         }
+    }
+}
+
+// The numbers of the rules of authority, as places have them. P1 to P8 have the numbers 1 to 8.
+const A1: u64 = 9;
+
+const A2: u64 = 10;
+
+const A3: u64 = 11;
+
+const A4: u64 = 12;
+
+const A5: u64 = 13;
+
+const A6: u64 = 14;
+
+const LAST: u64 = 15;
+
+/// The number of the rule of authority, A1 to A6, by which something is denied; the last number where
+/// it is denied by none of them.
+pub(crate) fn rule_number(denial: &Option<Denial>) -> u64
+    ensures { result ≡ rule_number denial.now }
+{
+    match denial {
+        Some(Denial::Capability { .. }) => A1,
+        Some(Denial::Root { .. }) => A2,
+        Some(Denial::Pair { .. }) => A3,
+        Some(Denial::Binding { .. }) => A4,
+        Some(Denial::Holding { .. }) => A5,
+        Some(Denial::Recorded { .. }) => A6,
+        Some(_) | None => LAST,
     }
 }

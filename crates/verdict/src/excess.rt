@@ -1,13 +1,16 @@
+//! The first place where a state's authority lies outside a policy.
 ghost use Rattle.std.specs.Prelude.{◌≡◌, IfNone, IfSome, Some};
 ghost use Rattle.machine.specs.Machine.{object_of};
 ghost use Rattle.policy.specs.{Places.FindsLeast, Policy.allows};
 ghost use Rattle.integrity.specs.Confined.{IsConfined};
-ghost use Rattle.verdict.specs.{Outside.{LiesAt, LiesOutside, outside_rule}, Rules.Excess, Verdict.{IsOutside, excess_of, place_of}};
+ghost use Rattle.verdict.specs.{Outside.{LiesAt, LiesOutside}, Rules.Excess};
+ghost use Rattle.verdict.specs.Verdict.{IsOutside, excess_of, place_of};
 
 mod links;
 mod slots;
 
-use crate::{Denial, confined_states_have_nothing_outside};
+use crate::confined_states_have_nothing_outside;
+use crate::denial::{Denial, rule_number};
 use base::ObjId;
 use labels::label_of;
 use links::{binding_at, first_record, holding_at};
@@ -16,8 +19,10 @@ use policy::Policy;
 use slots::{first_capability, first_pair, root_at};
 use table::Table;
 
-/// The first place where a state's authority lies outside the policy, by the rules A1 to A6; none
-/// exactly if all of it lies within. The table says the labels of objects. It takes no memory.
+/// Returns the first place where a state's authority lies outside the policy, by the rules A1 to A6.
+///
+/// There is none exactly if all of it lies within. The table says the labels of objects. It takes
+/// no memory.
 pub fn outside(table: &Table, policy: &Policy, state: &State) -> Option<Denial>
     ensures within { IfNone result (IsConfined table.now (allows policy.now) state.now) }
     ensures first { IfSome result (λ denial. (place : Excess) × (excess_of denial ≡ Some place)
@@ -36,7 +41,7 @@ fn first_outside(table: &Table, policy: &Policy, state: &State) -> Option<Denial
     let mut first = None;
     for number in 0..state.next_id() {
         let next = first_at(table, policy, state, ObjId(number));
-        if rule_of(&next) < rule_of(&first) {
+        if rule_number(&next) < rule_number(&first) {
             first = next;
         }
     }
@@ -64,19 +69,4 @@ fn first_at(table: &Table, policy: &Policy, state: &State, id: ObjId) -> Option<
         return Some(denial);
     }
     first_record(table, policy, state, id, label)
-}
-
-// The number of the rule by which authority lies outside, and a greater one where it doesn't.
-fn rule_of(denial: &Option<Denial>) -> u64
-    ensures { result ≡ outside_rule denial.now }
-{
-    match denial {
-        Some(Denial::Capability { .. }) => 9,
-        Some(Denial::Root { .. }) => 10,
-        Some(Denial::Pair { .. }) => 11,
-        Some(Denial::Binding { .. }) => 12,
-        Some(Denial::Holding { .. }) => 13,
-        Some(Denial::Recorded { .. }) => 14,
-        Some(_) | None => 15,
-    }
 }

@@ -1,23 +1,26 @@
+//! Laws about verdicts, and about what lies outside a policy.
 ghost use Rattle.std.specs.Prelude.{◌↔◌, ◌≡◌, List, Result, Some};
 ghost use Rattle.base.specs.declared.edge.Edge.{Edge};
 ghost use Rattle.machine.specs.{Boot.IsBoot, Layout.Layout, Machine.Machine};
 ghost use Rattle.policy.specs.{Closed.IsClosed, Domain.EdgeTest, Policy.allows};
 ghost use Rattle.table.specs.Rules.{IsLawful};
 ghost use Rattle.integrity.specs.Confined.{IsConfined};
-ghost use Rattle.verdict.specs.{declared.denial.Denial.Denial, Rules.{Exceeds, Excess}, Sources.of_machine, System.{IsVerdict, System}};
+ghost use Rattle.verdict.specs.{declared.denial.Denial.Denial, Rules.{Exceeds, Excess}, Sources.of_machine};
+ghost use Rattle.verdict.specs.System.{IsVerdict, System};
 ghost use Rattle.verdict.specs.Verdict.{Breaks, IsAccepted, IsLeastBroken, IsOutside, excess_of};
 
-/// A law: a state is confined exactly where no authority lies outside the policy at any place of the
-/// rules A1 to A6.
+/// A law: a state is confined exactly where no authority lies outside the policy at any place of the rules A1 to A6.
 pub fn confined_states_have_nothing_outside()
     ensures { (t : Layout) (allowed : EdgeTest) (m : Machine)
         → IsConfined t allowed m ↔ ((place : Excess) → ¬ Exceeds (of_machine t m) allowed place) }
 {}
 
-/// A law: the verdict on a table is one on its boot state. A rule is broken at a place exactly where
-/// the boot state's authority lies outside the policy there, and each place where it does has its
-/// denial. That denial is the verdict exactly if the policy is closed and the place is the first. A table
-/// and a policy are accepted exactly if the policy is closed and the boot state is confined.
+/// A law: the verdict on a table is one on its boot state.
+///
+/// A rule is broken at a place exactly where the boot state's authority lies outside the policy there,
+/// and each place where it does has its denial. That denial is the verdict exactly if the policy is
+/// closed and the place is the first. A table and a policy are accepted exactly if the policy is closed
+/// and the boot state is confined.
 pub fn a_verdict_is_on_the_boot_state()
     ensures place { (t : Layout) (allowed : EdgeTest) (boot : Machine) (denial : Denial) (place : Excess)
         → IsLawful t
@@ -40,8 +43,9 @@ pub fn a_verdict_is_on_the_boot_state()
         ↔ (IsClosed (allows edges) × ((boot : Machine) → IsBoot t boot → IsConfined t (allows edges) boot)) }
 {}
 
-/// A law: a table and a policy have one verdict. They aren't both accepted and denied, nor denied with
-/// two places.
+/// A law: a table and a policy have one verdict.
+///
+/// They aren't both accepted and denied, nor denied with two places.
 pub fn a_system_has_one_verdict()
     ensures one { (t : Layout) (edges : List Edge) (verdict other : Result System Denial)
         → IsVerdict t edges verdict

@@ -1,3 +1,4 @@
+//! The headline as laws about accepted systems.
 ghost use Rattle.std.specs.Prelude.{ℕ, List};
 ghost use Rattle.base.specs.declared.edge.Edge.{Edge};
 ghost use Rattle.machine.specs.Layout.{Layout};
@@ -8,11 +9,14 @@ ghost use Rattle.verdict.specs.Verdict.{IsAccepted};
 
 use integrity::{bounded_systems_keep_labels_apart, confined_systems_are_safe};
 
-/// The headline as a law: where a capability table and a policy are accepted, then after every list
-/// of kernel calls by any threads in any interleaving every capability lies within the policy; no
-/// step changes an object of a label on which its caller's label has no modifying authority; and a
-/// context's configured budget or period changes only by a caller whose label has the policy's SchedControl
-/// edge.
+/// A law, the headline: every run of a capability table and a policy that are accepted is safe.
+///
+/// After every list of kernel calls by any threads in any interleaving:
+///
+/// - every capability lies within the policy
+/// - no step changes an object of a label on which its caller's label has no modifying authority
+/// - a context's configured budget or period changes only by a caller whose label has the policy's
+///   SchedControl edge.
 pub fn accepted_systems_are_safe()
     ensures { (t : Layout) (edges : List Edge)
         → IsLawful t
@@ -22,9 +26,11 @@ pub fn accepted_systems_are_safe()
     confined_systems_are_safe();
 }
 
-/// A law: where a capability table and a policy are accepted, then in every run from the boot state no
-/// step of a thread of a label changes, makes or removes an object of a label that it may not change and
-/// may not make smaller; and where it may not change it, each object stays as it is, or shrinks.
+/// A law: in runs of an accepted system threads change only objects of labels that they may change or shrink.
+///
+/// In every run from the boot state no step of a thread of a label changes, makes or removes an
+/// object of a label that it may not change and may not make smaller. Where it may not change that
+/// label, each object of it stays as it is, or shrinks.
 ///
 /// This is so for each test of labels that holds of all that may act and may have threads.
 pub fn accepted_systems_keep_labels_apart()

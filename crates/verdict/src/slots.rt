@@ -1,9 +1,10 @@
+//! The first of the filled slots of a table where one of the rules A1 to A3 is broken.
 ghost use Rattle.std.specs.{List.find, Option.option_and_then, Prelude.{ℕ, ◌<◌, ◌≡◌, ◌≤◌, IfErr, IfOk, map}};
 ghost use Rattle.base.specs.Refusals.{out_of_memory};
 ghost use Rattle.policy.specs.{Places.FindsLeast, Policy.allows};
-ghost use Rattle.verdict.specs.{Slots.{BreaksSlots, denial_by, is_missing, missing_edge, rule_of}, Verdict.place_of};
+ghost use Rattle.verdict.specs.{Slots.{BreaksSlots, denial_by, is_missing, missing_edge}, Verdict.place_of};
 
-use crate::Denial;
+use crate::denial::{Denial, rule_number};
 use base::{Edge, Kind, Refusal, SlotRef};
 use deal::{Gate, Work, shares};
 use labels::filled_edges;
@@ -13,8 +14,13 @@ use std::alloc::Global;
 use std::thread::Threads;
 use table::Table;
 
-/// The first of the rules A1 to A3 that is broken, and the first place where it is. The slots are shared
-/// out among the workers.
+/// Returns the first of the rules A1 to A3 that is broken, and the first place where it is.
+///
+/// The slots are shared out among the workers.
+///
+/// # Errors
+///
+/// 40 where memory is refused.
 pub fn first_at_slots<R: Threads + Sync, G: Gate + Sync>(
     rt: &R,
     alloc: Global,
@@ -48,14 +54,15 @@ struct SlotCheck<'a> {
 impl SlotCheck<'_> {
     // The first denial of the least rule, where these are the edges that are missing at the filled slots.
     fn first_denial(&self, missing: &[Option<Edge>]) -> Option<Denial>
-        requires { missing.now ≡ map (missing_edge self.now.table.now (allows self.now.policy.now)) self.now.table.now.caps }
+        requires { missing.now
+            ≡ map (missing_edge self.now.table.now (allows self.now.policy.now)) self.now.table.now.caps }
         ensures { FindsLeast place_of (BreaksSlots self.now.table.now (allows self.now.policy.now)) result }
     {
         let caps = self.table.caps();
         let mut first = None;
         for index in 0..caps.len() {
             let denial = denial_of(self.table, &caps[index], missing[index]);
-            if rule_of(&denial) < rule_of(&first) {
+            if rule_number(&denial) < rule_number(&first) {
                 first = denial;
             }
         }
@@ -101,18 +108,5 @@ fn denial_of(table: &Table, filled: &Filled, missing: Option<Edge>) -> Option<De
             kind,
             label: edge.to,
         }),
-    }
-}
-
-// The number of the rule by which a slot is denied, and a greater one where it isn't.
-fn rule_of(denial: &Option<Denial>) -> u64
-    ensures { result ≡ rule_of denial.now }
-{
-    match denial {
-        Some(Denial::Capability { .. }) => 9,
-        Some(Denial::Root { .. }) => 10,
-        Some(Denial::Pair { .. }) => 11,
-        Some(_) => 12,
-        None => 13,
     }
 }

@@ -1,13 +1,14 @@
 //! The faults for which a text is refused.
 ghost use Rattle.std.specs.Prelude.{◌≡◌};
-ghost use Rattle.words.specs.{declared.faults.LineError.TheVariants.{Memory, Text}, Fault.{fault_at, no_memory, number_of}};
+ghost use Rattle.words.specs.declared.faults.LineError.TheVariants.{Memory, Text};
+ghost use Rattle.words.specs.Fault.{fault_at, no_memory, number_of};
 
 use std::alloc::{AllocError, AllocFailed};
 use thiserror::Error;
 
 /// The fault of a line of a text.
 ///
-/// Within a line, faults are told in the order `Syntax`, `UnknownName`, `Double`, `WrongKind`,
+/// Within a line, faults are reported in the order `Syntax`, `UnknownName`, `Double`, `WrongKind`,
 /// `Limit`, `Misplaced`. `Tree` is found once the text ended.
 #[derive(Clone, Copy, Debug, PartialEq, Eq, Error)]
 pub enum Wrong {
@@ -28,7 +29,7 @@ pub enum Wrong {
 }
 
 impl Wrong {
-    /// The number by which reports tell it, 50 to 56.
+    /// The number by which reports name the fault, 50 to 56.
     pub(crate) fn number(self) -> u64
         ensures { result ≡ number_of self }
     {

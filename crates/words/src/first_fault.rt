@@ -1,7 +1,9 @@
 //! Laws about the first fault of a text.
-ghost use Rattle.std.specs.{List.count_by, Prelude.{ℕ, ◌++◌, ◌+◌, ◌<◌, ◌==◌, ◌↔◌, ◌≡◌, ◌⊎◌, Err, List, Ok, Result, length}};
-ghost use Rattle.words.specs.{declared.faults.Wrong.{Wrong, TheVariants.Syntax}, Fault.fault_at, FirstFault.{IsFirstFault, IsText}};
-ghost use Rattle.words.specs.{FirstFault.TextLines, Reading.{Format, read_format}, Text.lines_of};
+ghost use Rattle.std.specs.List.{count_by};
+ghost use Rattle.std.specs.Prelude.{ℕ, ◌++◌, ◌+◌, ◌<◌, ◌==◌, ◌↔◌, ◌≡◌, ◌⊎◌, Err, List, Ok, Result, length};
+ghost use Rattle.words.specs.{declared.faults.Wrong.{Wrong, TheVariants.Syntax}, Fault.fault_at};
+ghost use Rattle.words.specs.{FirstFault.{IsFirstFault, IsText, TextLines}, Reading.{Format, read_format}};
+ghost use Rattle.words.specs.Text.{lines_of};
 
 /// A law: a text is refused for its first fault, by the fault's line and by what is wrong there.
 ///
@@ -30,8 +32,9 @@ pub fn a_text_is_refused_for_its_first_fault<S, T>()
         → (line ≡ other) × (wrong ≡ that) }
 {}
 
-/// A law: of a text that is read, each beginning but the whole is refused for its form, at the line
-/// after its last line feed.
+/// A law: of a text that is read, each beginning but the whole is refused for its form.
+///
+/// The fault is at the line after the beginning's last line feed.
 pub fn a_text_that_is_cut_is_refused<S, T>()
     ensures { (f : Format S T) (value : T)
         (beginning rest : List ℕ)

@@ -1,7 +1,7 @@
 //! The words of a line, taken one after another.
 ghost use Rattle.std.specs.Prelude.{[], ◌∷◌, ◌≡◌, IfOk, IfSome, MatchOption, Ok, drop, true};
-ghost use Rattle.words.specs.{Name.{is_name, name_at}, Number.{hex_at, number_at}, Reading.{Gives, ended_at, word_at}, Text.line_is};
-ghost use Rattle.words.specs.Text.{words_of};
+ghost use Rattle.words.specs.{Name.{is_name, name_at}, Number.{hex_at, number_at}, Reading.{Gives, ended_at, word_at}};
+ghost use Rattle.words.specs.Text.{line_is, words_of};
 
 use crate::faults::Wrong;
 use crate::names::name_of;
@@ -9,7 +9,9 @@ use crate::numbers::{decimal_of, hexadecimal_of};
 use crate::split::split_first_at;
 use std::marker::Model;
 
-/// The words of a line, taken one after another. It takes no memory.
+/// The words of a line, taken one after another.
+///
+/// It takes no memory.
 ///
 /// A word is taken also where it isn't what was asked for.
 #[derive(Drop)]

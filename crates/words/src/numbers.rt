@@ -1,7 +1,7 @@
 //! Decimal and hexadecimal numbers: how they are spelled and read.
 ghost use Rattle.std.specs.{Fmt.decimal, List.list_all, Prelude.{ℕ, ◌*◌, ◌+◌, ◌<◌, ◌^◌, ◌↔◌, ◌≡◌, ◌≢◌, List, Some}};
-ghost use Rattle.words.specs.Number.{below_limit, dec_of, has_no_leading_zero, hex_digits_of, hex_of, hexadecimal, is_hex_digit};
-ghost use Rattle.words.specs.Number.{is_hexadecimal};
+ghost use Rattle.words.specs.Number.{below_limit, dec_of, has_no_leading_zero, hex_digits_of, hex_of, hexadecimal};
+ghost use Rattle.words.specs.Number.{is_hex_digit, is_hexadecimal};
 
 use std::str;
 

@@ -1,7 +1,7 @@
 //! How a whole text is read, a line at a time.
 ghost use Rattle.std.specs.Prelude.{ℕ, ◌≡◌, List, OnOk, Result};
-ghost use Rattle.words.specs.{declared.faults.Wrong.Wrong, Reading.{GivesOrStops, Reads, as_read, judged, read_text}, Text.lines_of};
-ghost use Rattle.words.specs.Text.{words_of};
+ghost use Rattle.words.specs.{declared.faults.Wrong.Wrong, Reading.{GivesOrStops, Reads, as_read, judged, read_text}};
+ghost use Rattle.words.specs.Text.{lines_of, words_of};
 
 use crate::faults::{Fault, LineError, Wrong};
 use crate::line::Words;

@@ -1,14 +1,16 @@
 //! The lines of a text, taken one after another.
 ghost use Rattle.std.specs.{List.AllByRecursion, Prelude.{ℕ, ◌+◌, ◌∷◌, ◌≡◌, List, MatchOption, map}};
-ghost use Rattle.words.specs.{Fault.{fault_at, fault_of}, Reading.{Gives, after_line, end_at, header_at}, Text.{IsOver, IsPlainLine}};
-ghost use Rattle.words.specs.Text.{lines_of, text_of, words_of};
+ghost use Rattle.words.specs.{Fault.{fault_at, fault_of}, Reading.{Gives, after_line, end_at, header_at}};
+ghost use Rattle.words.specs.Text.{IsOver, IsPlainLine, lines_of, text_of, words_of};
 
 use crate::faults::{Fault, LineError, Wrong};
 use crate::line::Words;
 use crate::split::split_line;
 use std::marker::Model;
 
-/// The lines of a text, taken one after another. It takes no memory.
+/// The lines of a text, taken one after another.
+///
+/// It takes no memory.
 #[derive(Drop)]
 pub struct Lines<'a> {
     rest: &'a [u8],

@@ -1,8 +1,7 @@
 //! Which bytes may stand where, and how many of them stand at the front.
 ghost use Rattle.std.specs.{List.prefix_len, Prelude.{◌≡◌, ◌≤◌, length}};
-ghost use Rattle.xml.specs.Characters.{begins_with, comment_length, in_comment, is_comment_byte, is_name_byte, is_name_start};
-ghost use Rattle.xml.specs.Characters.{is_printable, is_space};
-ghost use Rattle.xml.specs.Characters.{is_value_byte, name_length};
+ghost use Rattle.xml.specs.Characters.{begins_with, comment_length, in_comment, is_comment_byte, is_name_byte};
+ghost use Rattle.xml.specs.Characters.{is_name_start, is_printable, is_space, is_value_byte, name_length};
 
 fn is_space(byte: u8) -> bool
     ensures { result ≡ is_space byte }
@@ -79,7 +78,7 @@ pub(crate) fn name_length(bytes: &[u8]) -> usize
     }
 }
 
-// Whether a comment goes on by one byte.
+// Whether a comment continues by one byte.
 #[tactic(auto, unfolding(crate::specs::Characters::in_comment))]
 fn in_comment(bytes: &[u8]) -> bool
     ensures { result ≡ in_comment bytes.now }

@@ -57,7 +57,7 @@ impl<'a> Cursor<'a> {
         Fault::at(wrong, self.line)
     }
 
-    /// Takes so many bytes, each line feed of which ends a line.
+    /// Takes `count` bytes, each line feed of which ends a line.
     #[tactic(auto, unfolding(crate::specs::Place::after))]
     pub(crate) fn advance(&mut self, count: usize) -> &'a [u8]
         requires { count ≤ length self.old.rest }

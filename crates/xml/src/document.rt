@@ -2,10 +2,10 @@
 ghost use Rattle.std.specs.{List.list_any, Prelude.{[], ℕ, ◌+◌, ◌≡◌, IfOk, List, OnOk, codes, length, map, reverse}};
 ghost use Rattle.std.specs.{Str.bytes_eq};
 ghost use Rattle.words.specs.Reading.{Gives, Reads};
-ghost use Rattle.xml.specs.Document.{begin_at, closed_at, comment_at, declaration_at, declared_at, document_of, encoding_at};
-ghost use Rattle.xml.specs.Document.{end_at};
-ghost use Rattle.xml.specs.Document.{finished_at, is_whole, is_one_of, item_at, items_at, no_nodes, room_at, with_node};
-ghost use Rattle.xml.specs.{Characters.begins_with, Grammar.IsDocument, Limits.{AreLimited}, Lines.{AreAtLines}};
+ghost use Rattle.xml.specs.Document.{begin_at, closed_at, comment_at, declaration_at, declared_at, document_of};
+ghost use Rattle.xml.specs.Document.{encoding_at, end_at, finished_at, is_whole, is_one_of, item_at, items_at};
+ghost use Rattle.xml.specs.Document.{no_nodes, room_at, with_node};
+ghost use Rattle.xml.specs.{Characters.begins_with, Grammar.IsDocument, Limits.AreLimited, Lines.AreAtLines};
 ghost use Rattle.xml.specs.{Place.after_spaces, View.{nodes_of, pairs_of}};
 
 use crate::characters::{begins_with, comment_length, space_length};
@@ -84,7 +84,7 @@ impl<'a> Draft<'a> {
         }
     }
 
-    // Takes the comments and tags up to the end of the text, at most so many.
+    // Takes the comments and tags up to the end of the text, at most a given number.
     #[tactic(auto, using(crate::proofs::Loops::items_end, crate::proofs::Loops::items_more, crate::proofs::Loops::items_over))]
     fn take_items(
         &mut self,

@@ -3,8 +3,8 @@
 use Rattle.std.specs.Prelude.{ℕ, Err, None, Ok, Option, Result, Some}
 use Rattle.base.specs.declared.{ids.ObjId.ObjId, refusal.Cause.{Cause, Cause as cause}}
 use Rattle.machine.specs.declared.{call.{Answer.Answer as answer, Made.{Made, TheVariants.Done}}, object.{Object.Object}}
-use Rattle.machine.specs.{declared.{object.Object.Object as o}, Changes.{with_context, with_tcb}, Machine.Machine}
-use Rattle.machine.specs.{Machine.object_of, Refusing.◌>>=◌, Releasing.with_unbound, Step.Find.{find_context, find_tcb}}
+use Rattle.machine.specs.{declared.{object.{Object.Object as o, ObjectKind.ObjectKind as kind}}, Changes.{with_context, with_tcb}}
+use Rattle.machine.specs.{Machine.{Machine, object_of}, Refusing.◌>>=◌, Releasing.with_unbound, Step.Find.find}
 
 -- the thread that runs on a scheduling context
 abbrev pub thread_on : Option Object → Option ObjId
@@ -38,11 +38,11 @@ with_handed m from to = by_context (context_under (object_of m from)) where
 
 unfoldable pub bind_of : Machine → ObjId → ℕ → ℕ → Result (Made × Machine) Cause
 bind_of m caller context address = do
-  id ← find_context m caller context
-  found ← find_tcb m caller address
-  _ ← unlinked (thread_on (object_of m id))
-  _ ← unlinked (context_under (object_of m found.1))
-  Ok (Done answer.Nothing, with_bound m id found.1)
+  context ← find kind.Context m caller context
+  found ← find kind.Tcb m caller address
+  _ ← unlinked (thread_on (object_of m context.1.object))
+  _ ← unlinked (context_under (object_of m found.1.object))
+  Ok (Done answer.Nothing, with_bound m context.1.object found.1.object)
 
 -- nothing runs on a scheduling context
 abbrev pub without_thread : Machine → Option ObjId → Machine
@@ -51,5 +51,5 @@ without_thread m (Some thread) = with_unbound m thread
 
 unfoldable pub unbind_of : Machine → ObjId → ℕ → Result (Made × Machine) Cause
 unbind_of m caller address = do
-  id ← find_context m caller address
-  Ok (Done answer.Nothing, without_thread m (thread_on (object_of m id)))
+  found ← find kind.Context m caller address
+  Ok (Done answer.Nothing, without_thread m (thread_on (object_of m found.1.object)))

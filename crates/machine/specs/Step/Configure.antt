@@ -2,8 +2,8 @@
 use Rattle.std.specs.Prelude.{ℕ, ◌&&◌, Err, Ok, Option, Result, Some, if◌then◌else◌, nat_le}
 use Rattle.base.specs.declared.{ids.ObjId.ObjId, limits.TheConstants.MAX_PERIOD, refusal.Cause.{Cause, Cause as cause}}
 use Rattle.machine.specs.declared.{call.{Answer.Answer as answer, Made.{Made, TheVariants.Done}}, object.Object.{Object, Object as o}}
-use Rattle.machine.specs.{declared.object.Share.Share, Changes.with_context, Machine.{Machine, object_of}, Refusing.◌>>=◌}
-use Rattle.machine.specs.Step.Find.{find_context, find_control}
+use Rattle.machine.specs.{declared.object.{ObjectKind.ObjectKind as kind, Share.Share}, Changes.with_context, Machine.{Machine, object_of}}
+use Rattle.machine.specs.{Refusing.◌>>=◌, Step.Find.find}
 
 -- a budget is at least 1, and at most its period, which has a limit
 abbrev pub in_limits : ℕ → ℕ → Result (Unit {0}) Cause
@@ -24,10 +24,10 @@ with_share m id share = by_content (object_of m id) where
 
 unfoldable pub configure_of : Machine → ObjId → ℕ → ℕ → ℕ → ℕ → Result (Made × Machine) Cause
 configure_of m caller control address budget period = do
-  governs ← find_control m caller control
-  id ← find_context m caller address
+  governs ← find kind.Control m caller control
+  found ← find kind.Context m caller address
   _ ← in_limits budget period
   Ok (
     Done answer.Nothing,
-    with_share m id (record { core = core_in (object_of m governs); budget = budget; period = period }),
+    with_share m found.1.object (record { core = core_in (object_of m governs.1.object); budget = budget; period = period }),
   )

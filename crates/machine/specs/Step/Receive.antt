@@ -3,18 +3,19 @@
 use Rattle.std.specs.Prelude.{ℕ, None, Ok, Option, Result, Some, is_ok}
 use Rattle.base.specs.declared.{ids.ObjId.ObjId, refusal.Cause.Cause}
 use Rattle.machine.specs.declared.{call.{Answer.Answer as answer, Made.{Made, TheVariants.{Blocked, Done}}}, slot_address.Ends.Ends}
-use Rattle.machine.specs.declared.object.ReplyState.TheVariants as reply
 use Rattle.machine.specs.declared.{slot_address.SlotAddress.SlotAddress, thread.{Receiving.Receiving, RunState.RunState as state}}
-use Rattle.machine.specs.{declared.thread.Sending.Sending, Capabilities.can_read, Machine.Machine, Refusing.◌>>=◌, Releasing.with_blocked}
-use Rattle.machine.specs.{Releasing.{with_holder_halted, with_named}, Step.Deliver.{arrival_of, first_at, message_of, sender_in, sent}}
-use Rattle.machine.specs.Step.{Deliver.with_arrival, Find.{find_endpoint, find_reply, permitted}}
+use Rattle.machine.specs.{declared.thread.Sending.Sending, Capabilities.{badged_of, can_read}, Machine.Machine, Refusing.◌>>=◌}
+use Rattle.machine.specs.{Releasing.{with_blocked, with_holder_halted, with_named}, Step.Deliver.{arrival_of, first_at, message_of}}
+use Rattle.machine.specs.Step.{Deliver.{sender_in, sent, with_arrival}, Find.{find, permitted}}
+use Rattle.machine.specs.declared.object.ObjectKind.TheVariants as kind
+use Rattle.machine.specs.declared.object.ReplyState.TheVariants as reply
 
 -- the reply at an address, if one is given
 abbrev pub find_named_reply : Machine → ObjId → Option ℕ → Result (Option ObjId) Cause
 find_named_reply m caller None = Ok None
 find_named_reply m caller (Some address) = do
-  id ← find_reply m caller address
-  Ok (Some id)
+  found ← find kind.Reply m caller address
+  Ok (Some found.1.object)
 
 -- the reply that is named, if one is, holds nobody
 abbrev pub with_reply_ended : Machine → Option ObjId → Machine
@@ -43,7 +44,7 @@ received m caller receiving = received_or_waits m caller receiving (sender_in (f
 
 unfoldable pub receive_of : Machine → ObjId → ℕ → Option ℕ → Option SlotAddress → Result (Made × Machine) Cause
 receive_of m caller address named slot = do
-  found ← find_endpoint m caller address
-  _ ← permitted (can_read found.1.rights)
+  found ← find kind.Endpoint m caller address
+  _ ← permitted (can_read (badged_of found.1.detail).rights)
   id ← find_named_reply m caller named
-  Ok (received (with_reply_ended m id) caller (record { endpoint = found.0; reply = id; slot = slot }))
+  Ok (received (with_reply_ended m id) caller (record { endpoint = found.1.object; reply = id; slot = slot }))

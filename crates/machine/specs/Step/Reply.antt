@@ -4,9 +4,10 @@ use Rattle.std.specs.Prelude.{ℕ, ◌&&◌, Bool, List, None, Ok, Option, Resul
 use Rattle.base.specs.declared.{ids.ObjId.ObjId, refusal.Cause.Cause}
 use Rattle.machine.specs.declared.call.Answer.TheVariants as answer
 use Rattle.machine.specs.declared.{call.Made.{Made, TheVariants.Done}, object.{Object.{Object, Object as o}, ReplyState.ReplyState}}
+use Rattle.machine.specs.declared.{object.ObjectKind.ObjectKind as kind, thread.{Lent.Lent, RunState.{RunState, RunState as state}}}
+use Rattle.machine.specs.{Machine.{Machine, object_of, same_id}, Refusing.◌>>=◌, Releasing.with_given, Step.Bind.context_under}
+use Rattle.machine.specs.Step.{Bind.with_handed, Find.find}
 use Rattle.machine.specs.declared.object.ReplyState.TheVariants as reply
-use Rattle.machine.specs.{declared.thread.{Lent.Lent, RunState.{RunState, RunState as state}}, Machine.{Machine, object_of, same_id}}
-use Rattle.machine.specs.{Refusing.◌>>=◌, Releasing.with_given, Step.{Bind.{context_under, with_handed}, Find.find_reply}}
 
 -- the thread that has called through a reply
 abbrev pub caller_in : Option Object → Option ObjId
@@ -46,5 +47,5 @@ answered m invoker (Some called) words =
 
 unfoldable pub reply_of : Machine → ObjId → ℕ → List ℕ → Result (Made × Machine) Cause
 reply_of m caller address words = do
-  id ← find_reply m caller address
-  Ok (Done answer.Nothing, answered m caller (caller_in (object_of m id)) words)
+  found ← find kind.Reply m caller address
+  Ok (Done answer.Nothing, answered m caller (caller_in (object_of m found.1.object)) words)

@@ -5,17 +5,13 @@ use Rattle.std.specs.Prelude.{if◌then◌else◌, map, nat_le, nat_lt}
 use Rattle.base.specs.declared.{ids.{ObjId.ObjId, SlotRef.SlotRef}, limits.TheConstants.{MAX_MADE, MAX_PRESENT, MAX_RADIX, MAX_SLOTS}}
 use Rattle.base.specs.declared.{limits.TheConstants.{MAX_THREADS, OBJECT_NUMBERS}, refusal.Cause.{Cause, Cause as cause}}
 use Rattle.base.specs.declared.refusal.LookupFailure.TheVariants.{MissingCapability}
-use Rattle.machine.specs.declared.{call.{Answer.Answer as answer, Made.{Made, TheVariants.Done}}, cap.Detail.{Detail, Detail as d}}
+use Rattle.machine.specs.declared.{call.{Answer.Answer as answer, Made.{Made, TheVariants.Done}}}
 use Rattle.machine.specs.{declared.object.{MemoryKind.MemoryKind, Object.{Object, Object as o}, Untyped.Untyped}, Counts.objects_in}
 use Rattle.machine.specs.declared.object.MemoryKind.TheVariants as kind
+use Rattle.machine.specs.declared.object.ObjectKind.TheVariants as object_kind
 use Rattle.machine.specs.{Counts.{slots_in, threads_in}, Lookup.{Level, level_at, lookup_of}, Machine.{Machine, cap_of, object_of}}
 use Rattle.machine.specs.{Memory.{Source, all_taken, begun, new_object, new_size, with_all_made}, Objects.{end_of, slot_count}}
-use Rattle.machine.specs.{Objects.thread_count, Refusing.◌>>=◌, Step.{Find.find_cap, Target.vacant}}
-
--- a capability that has to be an untyped's
-abbrev pub of_untyped : Detail → Result (Unit {0}) Cause
-of_untyped d.Untyped = Ok tt
-of_untyped _ = Err cause.InvalidCapability
+use Rattle.machine.specs.{Objects.thread_count, Refusing.◌>>=◌, Step.{Find.find, Target.vacant}}
 
 abbrev pub memory_in : Option Object → Result Untyped Cause
 memory_in (Some (o.Untyped memory)) = Ok memory
@@ -24,8 +20,7 @@ memory_in _ = Err cause.InvalidCapability
 -- the untyped memory at an address
 unfoldable pub find_untyped : Machine → ObjId → ℕ → Result Source Cause
 find_untyped m caller address = do
-  found ← find_cap m caller address
-  _ ← of_untyped found.1.detail
+  found ← find object_kind.Untyped m caller address
   memory ← memory_in (object_of m found.1.object)
   Ok (record { slot = found.0; id = found.1.object; memory = memory })
 

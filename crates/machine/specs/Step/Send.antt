@@ -5,10 +5,11 @@ use Rattle.std.specs.Prelude.{ℕ, Bool, List, None, Ok, Option, Result, Some}
 use Rattle.base.specs.declared.{ids.ObjId.ObjId, refusal.Cause.Cause}
 use Rattle.machine.specs.declared.call.Answer.TheVariants as answer
 use Rattle.machine.specs.declared.{call.Made.{Made, TheVariants.{Blocked, Done}}, thread.{Lent.Lent, Receiving.Receiving}}
-use Rattle.machine.specs.{declared.thread.{RunState.RunState as state, Sending.Sending}, Capabilities.can_write, Machine.Machine}
-use Rattle.machine.specs.{Machine.object_of, Refusing.◌>>=◌, Releasing.{with_blocked, with_called, with_halted}, Step.Bind.context_under}
-use Rattle.machine.specs.Step.{Bind.with_handed, Deliver.{answer_through, delivered, first_at, receiver_in, sending_by}, Find.find_endpoint}
-use Rattle.machine.specs.Step.Find.{permitted}
+use Rattle.machine.specs.{declared.thread.{RunState.RunState as state, Sending.Sending}, Capabilities.{badged_of, can_write}}
+use Rattle.machine.specs.{Machine.{Machine, object_of}, Refusing.◌>>=◌, Releasing.{with_blocked, with_called, with_halted}}
+use Rattle.machine.specs.Step.{Bind.{context_under, with_handed}, Deliver.{answer_through, delivered, first_at, receiver_in, sending_by}}
+use Rattle.machine.specs.Step.Find.{find, permitted}
+use Rattle.machine.specs.declared.object.ObjectKind.TheVariants as kind
 
 -- a message goes to a receiver, or its sender waits
 abbrev pub sent_or_waits : Machine → ObjId → Sending → Option (ObjId × Receiving) → Made × Machine
@@ -18,9 +19,11 @@ sent_or_waits m caller sending None = (Blocked, with_blocked m caller sending.en
 
 unfoldable pub send_of : Machine → ObjId → ℕ → List ℕ → Option ℕ → Result (Made × Machine) Cause
 send_of m caller address words capability = do
-  found ← find_endpoint m caller address
-  _ ← permitted (can_write found.1.rights)
-  Ok (sent_or_waits m caller (sending_by found.0 found.1 Bool.false words capability) (receiver_in (first_at m found.0)))
+  found ← find kind.Endpoint m caller address
+  _ ← permitted (can_write (badged_of found.1.detail).rights)
+  Ok
+      (sent_or_waits m caller (sending_by found.1.object (badged_of found.1.detail) Bool.false words capability)
+      (receiver_in (first_at m found.1.object)))
 
 -- what goes as a loan from a thread's context to a borrower that has none
 abbrev pub loan : Option ObjId → Option ObjId → ObjId → Option Lent
@@ -51,9 +54,10 @@ called_or_waits m caller sending None = with_blocked m caller sending.endpoint (
 
 unfoldable pub endpoint_call_of : Machine → ObjId → ℕ → List ℕ → Option ℕ → Result (Made × Machine) Cause
 endpoint_call_of m caller address words capability = do
-  found ← find_endpoint m caller address
-  _ ← permitted (can_write found.1.rights)
+  found ← find kind.Endpoint m caller address
+  _ ← permitted (can_write (badged_of found.1.detail).rights)
   Ok (
     Blocked,
-    called_or_waits m caller (sending_by found.0 found.1 Bool.true words capability) (receiver_in (first_at m found.0)),
+    called_or_waits m caller (sending_by found.1.object (badged_of found.1.detail) Bool.true words capability)
+        (receiver_in (first_at m found.1.object)),
   )

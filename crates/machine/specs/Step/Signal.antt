@@ -2,10 +2,11 @@
 use Rattle.std.specs.{Int.RustNames.bit_or, Prelude.{ℕ, None, Ok, Option, Result, Some, unwrap_or}}
 use Rattle.base.specs.declared.{ids.ObjId.ObjId, refusal.Cause.Cause}
 use Rattle.machine.specs.declared.{call.{Answer.Answer as answer, Made.{Made, TheVariants.Done}}, object.Object.{Object, Object as o}}
+use Rattle.machine.specs.declared.object.ObjectKind.TheVariants as kind
 use Rattle.machine.specs.declared.thread.Inbox.TheVariants as inbox
 use Rattle.machine.specs.declared.thread.RunState.TheVariants as state
-use Rattle.machine.specs.{Capabilities.can_write, Changes.{first_waiting, with_pending, with_tcb, without_first}, Machine.Machine}
-use Rattle.machine.specs.{Machine.object_of, Refusing.◌>>=◌, Step.Find.{find_notification, permitted}}
+use Rattle.machine.specs.{Capabilities.{badged_of, can_write}, Changes.{first_waiting, with_pending, with_tcb, without_first}}
+use Rattle.machine.specs.{Machine.{Machine, object_of}, Refusing.◌>>=◌, Step.Find.{find, permitted}}
 
 -- the word of a notification, if it has one
 abbrev pub pending_in : Option Object → Option ℕ
@@ -28,6 +29,6 @@ signalled m id badge = by_first (first_waiting m id) where
 
 unfoldable pub signal_of : Machine → ObjId → ℕ → Result (Made × Machine) Cause
 signal_of m caller address = do
-  found ← find_notification m caller address
-  _ ← permitted (can_write found.1.rights)
-  Ok (Done answer.Nothing, signalled m found.0 found.1.badge)
+  found ← find kind.Notification m caller address
+  _ ← permitted (can_write (badged_of found.1.detail).rights)
+  Ok (Done answer.Nothing, signalled m found.1.object (badged_of found.1.detail).badge)

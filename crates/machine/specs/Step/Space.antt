@@ -2,9 +2,9 @@
 -- space, or loses the one that it has.
 use Rattle.std.specs.Prelude.{ℕ, Ok, Option, Result, Some}
 use Rattle.base.specs.declared.{ids.{ObjId.ObjId, SlotRef.SlotRef}, refusal.Cause.Cause}
-use Rattle.machine.specs.{declared.{call.{Answer.Answer as answer, Made.{Made, TheVariants.Done}}, cap.Cap.Cap}, Lookup.root_of}
-use Rattle.machine.specs.{Machine.{Machine, cap_of}, Refusing.◌>>=◌, Step.{Delete.deleted, Find.{find_cap, find_tcb}, Target.of_cnode}}
-use Rattle.machine.specs.Tree.{with_copy}
+use Rattle.machine.specs.declared.{call.{Answer.Answer as answer, Made.{Made, TheVariants.Done}}, cap.Cap.Cap}
+use Rattle.machine.specs.{declared.object.ObjectKind.ObjectKind as kind, Lookup.root_of, Machine.{Machine, cap_of}, Refusing.◌>>=◌}
+use Rattle.machine.specs.{Step.{Delete.deleted, Find.find}, Tree.with_copy}
 
 -- a thread's root slot loses its capability, and what can't stay without it goes too
 abbrev pub without_root : Machine → ObjId → Machine
@@ -12,15 +12,8 @@ without_root m thread = deleted m (root_of thread) (cap_of m (root_of thread))
 
 unfoldable pub clear_space_of : Machine → ObjId → ℕ → Result (Made × Machine) Cause
 clear_space_of m caller address = do
-  found ← find_tcb m caller address
-  Ok (Done answer.Nothing, without_root m found.1)
-
--- the slot with the CNode's capability at an address
-unfoldable pub find_node : Machine → ObjId → ℕ → Result SlotRef Cause
-find_node m caller address = do
-  found ← find_cap m caller address
-  _ ← of_cnode found.1.detail
-  Ok found.0
+  found ← find kind.Tcb m caller address
+  Ok (Done answer.Nothing, without_root m found.1.object)
 
 -- a thread's root slot gets a copy of what a slot holds, if that slot and the one with the thread's capability are still filled
 unfoldable pub with_root : Machine → ObjId → SlotRef → SlotRef → Machine
@@ -31,6 +24,6 @@ with_root m thread tcb node = by_caps (cap_of m tcb) (cap_of m node) where
 
 unfoldable pub set_space_of : Machine → ObjId → ℕ → ℕ → Result (Made × Machine) Cause
 set_space_of m caller address space = do
-  found ← find_tcb m caller address
-  node ← find_node m caller space
-  Ok (Done answer.Nothing, with_root (without_root m found.1) found.1 found.0 node)
+  found ← find kind.Tcb m caller address
+  node ← find kind.CNode m caller space
+  Ok (Done answer.Nothing, with_root (without_root m found.1.object) found.1.object found.0 node.0)

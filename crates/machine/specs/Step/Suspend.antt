@@ -3,13 +3,13 @@
 use Rattle.std.specs.Prelude.{ℕ, Ok, Option, Result, Some}
 use Rattle.base.specs.declared.{ids.ObjId.ObjId, refusal.Cause.Cause}
 use Rattle.machine.specs.declared.{call.{Answer.Answer as answer, Made.{Made, TheVariants.Done}}, object.Object.{Object, Object as o}}
-use Rattle.machine.specs.{declared.thread.RunState.{RunState, RunState as state}, Machine.{Machine, object_of}, Refusing.◌>>=◌}
-use Rattle.machine.specs.{Releasing.{with_aborted, with_ready, with_suspended}, Step.Find.find_tcb}
+use Rattle.machine.specs.{declared.{object.ObjectKind.ObjectKind as kind, thread.RunState.{RunState, RunState as state}}, Machine.Machine}
+use Rattle.machine.specs.{Machine.object_of, Refusing.◌>>=◌, Releasing.{with_aborted, with_ready, with_suspended}, Step.Find.find}
 
 unfoldable pub suspend_of : Machine → ObjId → ℕ → Result (Made × Machine) Cause
 suspend_of m caller address = do
-  found ← find_tcb m caller address
-  Ok (Done answer.Nothing, with_suspended m found.1)
+  found ← find kind.Tcb m caller address
+  Ok (Done answer.Nothing, with_suspended m found.1.object)
 
 -- a thread that is inactive can run, one that is blocked is aborted, and one that is ready stays so
 unfoldable pub with_resumed : Machine → ObjId → Machine
@@ -25,5 +25,5 @@ with_resumed m thread = by_content (object_of m thread) where
 
 unfoldable pub resume_of : Machine → ObjId → ℕ → Result (Made × Machine) Cause
 resume_of m caller address = do
-  found ← find_tcb m caller address
-  Ok (Done answer.Nothing, with_resumed m found.1)
+  found ← find kind.Tcb m caller address
+  Ok (Done answer.Nothing, with_resumed m found.1.object)

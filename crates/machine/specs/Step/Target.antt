@@ -3,9 +3,9 @@
 use Rattle.std.specs.Prelude.{ℕ, ◌&&◌, ◌==◌, Err, None, Ok, Option, Result, Some, if◌then◌else◌, nat_le}
 use Rattle.base.specs.declared.{ids.{ObjId.ObjId, SlotRef.SlotRef}, refusal.Cause.{Cause, Cause as cause}}
 use Rattle.base.specs.declared.refusal.LookupFailure.TheVariants.{DepthMismatch, InvalidRoot, MissingCapability}
-use Rattle.machine.specs.declared.{cap.{Cap.Cap, Detail.{Detail, Detail as d}}, slot_address.{Ends.Ends, SlotAddress.SlotAddress}}
+use Rattle.machine.specs.declared.{cap.Cap.Cap, object.ObjectKind.ObjectKind as kind, slot_address.{Ends.Ends, SlotAddress.SlotAddress}}
 use Rattle.machine.specs.{Bits.bits, Lookup.{Level, counted, level_at, lookup_of, walk}, Machine.{Machine, cap_of}, Refusing.◌>>=◌}
-use Rattle.machine.specs.Step.Find.{find_cap}
+use Rattle.machine.specs.Step.Find.{find}
 
 -- a lookup begins at a CNode
 abbrev pub rooted : Option Level → Result Level Cause
@@ -28,16 +28,10 @@ lookup_target_of m from index depth = do
   place ← counted (walk 65 m level (bits depth index))
   exactly place
 
--- a capability that has to be a CNode's
-abbrev pub of_cnode : Detail → Result (Unit {0}) Cause
-of_cnode (d.CNode _) = Ok tt
-of_cnode _ = Err cause.InvalidCapability
-
 -- the slot that a call names as its target
 unfoldable pub target_of : Machine → ObjId → SlotAddress → Result SlotRef Cause
 target_of m caller address = do
-  found ← find_cap m caller address.root
-  _ ← of_cnode found.1.detail
+  found ← find kind.CNode m caller address.root
   lookup_target_of m found.0 address.index address.depth
 
 -- a slot that has to be empty

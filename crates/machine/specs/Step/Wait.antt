@@ -3,9 +3,10 @@
 use Rattle.std.specs.Prelude.{ℕ, None, Ok, Option, Result, Some}
 use Rattle.base.specs.declared.{ids.ObjId.ObjId, refusal.Cause.Cause}
 use Rattle.machine.specs.declared.call.{Answer.Answer as answer, Made.{Made, TheVariants.{Blocked, Done}}}
-use Rattle.machine.specs.{declared.thread.RunState.RunState as state, Capabilities.can_read, Changes.with_pending, Machine.Machine}
-use Rattle.machine.specs.{Machine.object_of, Refusing.◌>>=◌, Releasing.with_blocked, Step.Find.{find_notification, permitted}}
+use Rattle.machine.specs.{declared.thread.RunState.RunState as state, Capabilities.{badged_of, can_read}, Changes.with_pending}
+use Rattle.machine.specs.{Machine.{Machine, object_of}, Refusing.◌>>=◌, Releasing.with_blocked, Step.Find.{find, permitted}}
 use Rattle.machine.specs.Step.Signal.{pending_in}
+use Rattle.machine.specs.declared.object.ObjectKind.TheVariants as kind
 
 -- the word is taken, or the caller waits
 abbrev pub taken_or_awaited : Machine → ObjId → ObjId → Option ℕ → Made × Machine
@@ -14,6 +15,6 @@ taken_or_awaited m caller id None = (Blocked, with_blocked m caller id (state.Wa
 
 unfoldable pub wait_of : Machine → ObjId → ℕ → Result (Made × Machine) Cause
 wait_of m caller address = do
-  found ← find_notification m caller address
-  _ ← permitted (can_read found.1.rights)
-  Ok (taken_or_awaited m caller found.0 (pending_in (object_of m found.0)))
+  found ← find kind.Notification m caller address
+  _ ← permitted (can_read (badged_of found.1.detail).rights)
+  Ok (taken_or_awaited m caller found.1.object (pending_in (object_of m found.1.object)))

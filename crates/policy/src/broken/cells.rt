@@ -1,3 +1,4 @@
+//! The first kind at which there are labels, and the least of these.
 ghost use Rattle.std.specs.Prelude.{ℕ, ◌≡◌};
 ghost use Rattle.policy.specs.Search.{FindsCell};
 

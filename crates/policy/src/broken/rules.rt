@@ -1,6 +1,8 @@
+//! Where each of the rules P1 to P8 is broken, at a label or at a pair of labels.
 ghost use Rattle.std.specs.Prelude.{[], ℕ, ◌↔◌, ◌∷◌, ◌≡◌, ◌≢◌, IsTrue, false, true};
 ghost use Rattle.base.specs.{Kinds.is_structural, Labels.is_in};
-ghost use Rattle.policy.specs.{Broken.{IsBrokenAt, p1, p2, p3, p4, p5, p6, p7, p8}, Closed.IsGivenByControl, Policy.allows, Search.FindsBroken};
+ghost use Rattle.policy.specs.{Broken.{IsBrokenAt, p1, p2, p3, p4, p5, p6, p7, p8}, Closed.IsGivenByControl};
+ghost use Rattle.policy.specs.{Policy.allows, Search.FindsBroken};
 ghost use Rattle.policy.specs.declared.broken.Broken.TheVariants as broken;
 
 use super::Broken;
@@ -19,7 +21,8 @@ pub(crate) fn subjects_disagree(policy: &Policy, subject: Label, other: Label) -
     let (kind, target) = first_cell(
         |kind: Kind| -> Labels
             ensures { (target : ℕ) → (is_in result target ≡ true)
-                ↔ ((is_structural kind ≡ false) × (allows policy.entry.now subject kind target ≢ allows policy.entry.now other kind target)) }
+                ↔ ((is_structural kind ≡ false)
+                × (allows policy.entry.now subject kind target ≢ allows policy.entry.now other kind target)) }
         {
             if kind.is_structural() {
                 return Labels::none();
@@ -43,7 +46,8 @@ pub(crate) fn control_lacks(policy: &Policy, subject: Label) -> Option<Broken>
 {
     let (kind, object) = first_cell(
         |kind: Kind| -> Labels
-            ensures { (object : ℕ) → (is_in result object ≡ true) ↔ IsBrokenAt (allows policy.entry.now) (broken.ControlLacks subject kind object) }
+            ensures { (object : ℕ) → (is_in result object ≡ true)
+                ↔ IsBrokenAt (allows policy.entry.now) (broken.ControlLacks subject kind object) }
         {
             if is_given_by_control(kind) {
                 policy
@@ -82,7 +86,8 @@ pub(crate) fn grant_lacks(policy: &Policy, giver: Label, taker: Label) -> Option
     let (kind, target) = first_cell(
         |kind: Kind| -> Labels
             ensures { (target : ℕ) → (is_in result target ≡ true)
-                ↔ ((is_structural kind ≡ false) × (allows policy.entry.now giver kind target ≡ true) × (allows policy.entry.now taker kind target ≡ false)) }
+                ↔ ((is_structural kind ≡ false) × (allows policy.entry.now giver kind target ≡ true)
+                × (allows policy.entry.now taker kind target ≡ false)) }
         {
             if kind.is_structural() {
                 return Labels::none();
@@ -108,7 +113,8 @@ pub(crate) fn domain_lacks(policy: &Policy, parent: Label) -> Option<Broken>
 
 /// The labels at which P4 is broken with this parent.
 pub(crate) fn not_derived_in_domain(policy: &Policy, parent: Label) -> Labels
-    ensures { (child : ℕ) → (is_in result child ≡ true) ↔ IsBrokenAt (allows policy.now) (broken.DomainLacks parent child) }
+    ensures { (child : ℕ)
+        → (is_in result child ≡ true) ↔ IsBrokenAt (allows policy.now) (broken.DomainLacks parent child) }
 {
     domain(policy, subjects(policy, parent)).difference(policy.row(parent, Kind::Derive))
 }
@@ -123,7 +129,8 @@ pub(crate) fn derive_lacks(policy: &Policy, parent: Label) -> Option<Broken>
 
 /// The labels at which P5 is broken with this parent.
 pub(crate) fn not_derived(policy: &Policy, parent: Label) -> Labels
-    ensures { (child : ℕ) → (is_in result child ≡ true) ↔ IsBrokenAt (allows policy.now) (broken.DeriveLacks parent child) }
+    ensures { (child : ℕ)
+        → (is_in result child ≡ true) ↔ IsBrokenAt (allows policy.now) (broken.DeriveLacks parent child) }
 {
     let endpoints = policy.targets(subjects(policy, parent), &[Kind::Grant]);
     let granted = domain(policy, policy.sources(endpoints, &[Kind::Receive]));
@@ -154,7 +161,8 @@ pub(crate) fn reply_lacks(policy: &Policy, reply: Label) -> Option<Broken>
 
 /// The labels at which P7 is broken with this reply.
 pub(crate) fn not_held(policy: &Policy, reply: Label) -> Labels
-    ensures { (thread : ℕ) → (is_in result thread ≡ true) ↔ IsBrokenAt (allows policy.now) (broken.ReplyLacks reply thread) }
+    ensures { (thread : ℕ)
+        → (is_in result thread ≡ true) ↔ IsBrokenAt (allows policy.now) (broken.ReplyLacks reply thread) }
 {
     let servers = policy.sources(Labels::only(reply), &[Kind::Reply]);
     let endpoints = policy.targets(servers, &[Kind::Receive]);
@@ -174,7 +182,8 @@ pub(crate) fn lent_lacks(policy: &Policy, borrower: Label) -> Option<Broken>
 
 /// The labels at which P8 is broken with this borrower.
 pub(crate) fn not_lent(policy: &Policy, borrower: Label) -> Labels
-    ensures { (context : ℕ) → (is_in result context ≡ true) ↔ IsBrokenAt (allows policy.now) (broken.LentLacks borrower context) }
+    ensures { (context : ℕ)
+        → (is_in result context ≡ true) ↔ IsBrokenAt (allows policy.now) (broken.LentLacks borrower context) }
 {
     let endpoints = policy.row(borrower, Kind::Receive);
     let lenders = policy.sources(endpoints, &[Kind::Call]);

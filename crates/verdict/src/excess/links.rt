@@ -1,10 +1,11 @@
+//! Where the links of a thread or a reply lie outside a policy, by the rules A4 to A6.
 ghost use Rattle.std.specs.Prelude.{[], ℕ, ◌↔◌, ◌∷◌, ◌≡◌, ◌≤◌, ◌⊎◌, Some, false, true};
 ghost use Rattle.base.specs.{declared.ids.ObjId.ObjId as Id, Kinds.kind_number};
 ghost use Rattle.base.specs.declared.kind.Kind.TheVariants as authority;
 ghost use Rattle.machine.specs.{Authority.{label_of, lent_of, state_links}, Machine.object_of};
 ghost use Rattle.policy.specs.{Places.FindsLeast, Policy.allows};
-ghost use Rattle.verdict.specs.{Outside.LiesUnder, Rules.{a4, a5, a6}, Sources.{context_in, holds_in, keeps_in, lends_in}};
-ghost use Rattle.verdict.specs.Verdict.{place_of};
+ghost use Rattle.verdict.specs.{Outside.LiesUnder, Rules.{a4, a5, a6}};
+ghost use Rattle.verdict.specs.{Sources.{context_in, holds_in, keeps_in, lends_in}, Verdict.place_of};
 
 use crate::Denial;
 use base::{Edge, Kind, Label, ObjId};
@@ -53,7 +54,8 @@ fn lacking(
 // Of two contexts the one with the lesser number.
 fn lesser(one: Option<ObjId>, other: Option<ObjId>) -> Option<ObjId>
     ensures is_one { (id : Id) → result ≡ Some id → (one ≡ Some id) ⊎ (other ≡ Some id) }
-    ensures is_lesser { (id : Id) → (one ≡ Some id) ⊎ (other ≡ Some id) → (least : Id) × (result ≡ Some least) × (least.0 ≤ id.0) }
+    ensures is_lesser { (id : Id) → (one ≡ Some id) ⊎ (other ≡ Some id)
+        → (least : Id) × (result ≡ Some least) × (least.0 ≤ id.0) }
 {
     match (one, other) {
         (Some(first), Some(second)) if second.0 < first.0 => other,
@@ -107,7 +109,8 @@ fn record_at(
     kind: Kind,
 ) -> Option<Denial>
     requires { label_of table.now state.now thread ≡ Some from }
-    ensures { FindsLeast place_of (LiesUnder table.now (allows policy.now) state.now (a6 ∷ thread.0 ∷ kind_number kind ∷ [])) result }
+    ensures { FindsLeast place_of
+        (LiesUnder table.now (allows policy.now) state.now (a6 ∷ thread.0 ∷ kind_number kind ∷ [])) result }
 {
     let end = kept_by(state, thread, kind)?;
     let label = missing_label(table, policy, state, from, kind, end)?;

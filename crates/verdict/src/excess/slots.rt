@@ -1,3 +1,4 @@
+//! Where the slots of an object lie outside a policy, by the rules A1 to A3.
 ghost use Rattle.std.specs.Prelude.{[], ◌∷◌, ◌≡◌, Some};
 ghost use Rattle.base.specs.Kinds.{kind_number};
 ghost use Rattle.machine.specs.declared.object.ObjectKind.TheVariants as kinds;
@@ -48,7 +49,8 @@ fn first_kind(
 ) -> Option<Denial>
     requires node { kind_of state.now slot.holder ≡ Some kinds.CNode }
     requires from { label_of table.now state.now slot.holder ≡ Some from }
-    ensures { FindsLeast place_of (LiesUnder table.now (allows policy.now) state.now (a1 ∷ slot.holder.0 ∷ slot.index ∷ [])) result }
+    ensures { FindsLeast place_of
+        (LiesUnder table.now (allows policy.now) state.now (a1 ∷ slot.holder.0 ∷ slot.index ∷ [])) result }
 {
     let held = state.cap(slot)?;
     for kind in Kind::ALL {
@@ -73,7 +75,8 @@ fn capability_at(
     requires from { label_of table.now state.now slot.holder ≡ Some from }
     requires held { cap_of state.now slot ≡ Some held.now }
     ensures { FindsLeast place_of
-        (LiesUnder table.now (allows policy.now) state.now (a1 ∷ slot.holder.0 ∷ slot.index ∷ kind_number kind ∷ [])) result }
+        (LiesUnder table.now (allows policy.now) state.now
+        (a1 ∷ slot.holder.0 ∷ slot.index ∷ kind_number kind ∷ [])) result }
 {
     if !held.gives(kind) {
         return None;
@@ -133,7 +136,8 @@ fn pair_at(
     to: Label,
 ) -> Option<Denial>
     requires { label_of table.now state.now child.holder ≡ Some to }
-    ensures { FindsLeast place_of (LiesUnder table.now (allows policy.now) state.now (a3 ∷ child.holder.0 ∷ child.index ∷ [])) result }
+    ensures { FindsLeast place_of
+        (LiesUnder table.now (allows policy.now) state.now (a3 ∷ child.holder.0 ∷ child.index ∷ [])) result }
 {
     let parent = state.parent(child)?;
     let from = label_of(table, state, parent.holder)?;

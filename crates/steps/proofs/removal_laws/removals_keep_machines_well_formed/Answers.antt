@@ -1,4 +1,4 @@
-use Rattle.steps.proofs.RemovalLinks.{removed_formed}
+use Rattle.steps.proofs.RemovalNumbers.{removed_formed}
 use Rattle.steps.proofs.removal_laws.removals_keep_machines_well_formed.Goals as goal
 
 pub returns : goal.returns

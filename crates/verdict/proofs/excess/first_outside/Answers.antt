@@ -1,8 +1,8 @@
 -- one object more
 use Rattle.std.proofs.Common.{◌+◌, arith, subst, sym}
 use Rattle.policy.specs.{Places.FindsLeast, Policy.allows}
-use Rattle.verdict.{specs.Verdict.place_of, proofs.OutsideObjects.{LiesBelow, least_kept, least_new, least_of_all_objects}}
-use Rattle.verdict.proofs.excess.first_outside.Goals.{else-rule_of, then-rule_of}
+use Rattle.verdict.{specs.Verdict.place_of, proofs.{LeastByRule.{least_kept, least_new}, OutsideObjects.{LiesBelow, least_of_all_objects, looks}}}
+use Rattle.verdict.proofs.excess.first_outside.Goals.{else-rule_number, then-rule_number}
 use Rattle.verdict.proofs.excess.first_outside.Goals as goal
 
 pub loop-number-preserved : goal.loop-number-preserved
@@ -13,13 +13,13 @@ loop-number-preserved c =
     let n = c.loop-number.number in
     let next = c.first_at-next.result in
     let first = c.loop-number.first in
-    elim c.if-rule_of.branch [
-      | then-rule_of w ↦
+    elim c.if-rule_number.branch [
+      | then-rule_number w ↦
           subst (FindsLeast place_of (LiesBelow t allowed m (n + 1))) (sym w.first-is)
-          (least_new t allowed m n next c.first_at-next.ensures first c.loop-number.invariant (let lt = w.if-rule_of.true in omega (arith, lt)))
-      | else-rule_of w ↦
+          (least_new _ _ _ (looks t allowed m n) first next c.first_at-next.ensures c.loop-number.invariant (let lt = w.if-rule_number.true in omega (arith, lt)))
+      | else-rule_number w ↦
           subst (FindsLeast place_of (LiesBelow t allowed m (n + 1))) (sym w.first-is)
-          (least_kept t allowed m n next c.first_at-next.ensures first c.loop-number.invariant (let le = w.if-rule_of.false in omega (arith, le)))
+          (least_kept _ _ _ (looks t allowed m n) first next c.first_at-next.ensures c.loop-number.invariant (let le = w.if-rule_number.false in omega (arith, le)))
     ]
 
 pub returns : goal.returns

@@ -3,8 +3,8 @@ use Rattle.std.proofs.Common.{◌+◌, ◌<◌, ◌∙◌, ◌≡◌, ◌≤◌,
 use Rattle.std.proofs.lemmas.Option.{slice_get-get_or}
 use Rattle.machine.specs.declared.layout.Filled.{Filled}
 use Rattle.policy.specs.{Places.FindsLeast, Policy.allows}
-use Rattle.verdict.{specs.Verdict.place_of, proofs.LeastOfSlots.{BrokenAmong, least_at, least_kept, least_new, least_of_all_slots}}
-use Rattle.verdict.proofs.{SlotPlaces.BreaksAt, slots.SlotCheck.first_denial.Goals.{else-rule_of, then-rule_of}}
+use Rattle.verdict.{specs.Verdict.place_of, proofs.{LeastByRule.{least_kept, least_new}, LeastOfSlots.{BrokenAmong, least_at, least_of_all_slots, looks}}}
+use Rattle.verdict.proofs.{SlotPlaces.BreaksAt, slots.SlotCheck.first_denial.Goals.{else-rule_number, then-rule_number}}
 use Rattle.verdict.proofs.slots.SlotCheck.first_denial.Goals as goal
 
 pub loop-index-preserved : goal.loop-index-preserved
@@ -25,13 +25,13 @@ loop-index-preserved c =
     subst (FindsLeast place_of (BreaksAt t allowed filled.slot)) (sym c.denial_of-denial.ensures)
     (least_at t allowed c.caps-caps.ensures.lawful c.args.missing.now c.requires n filled here edge c.index-missing-index.is) in
     let lawful = c.caps-caps.ensures.lawful in
-    elim c.if-rule_of.branch [
-      | then-rule_of w ↦
+    elim c.if-rule_number.branch [
+      | then-rule_number w ↦
           subst (FindsLeast place_of (BrokenAmong t allowed (n + 1))) (sym w.first-is)
-          (least_new t allowed lawful n filled here first next least c.loop-index.invariant (let lt = w.if-rule_of.true in omega (arith, lt)))
-      | else-rule_of w ↦
+          (least_new _ _ _ (looks t allowed lawful n filled here) first next least c.loop-index.invariant (let lt = w.if-rule_number.true in omega (arith, lt)))
+      | else-rule_number w ↦
           subst (FindsLeast place_of (BrokenAmong t allowed (n + 1))) (sym w.first-is)
-          (least_kept t allowed lawful n filled here first next least c.loop-index.invariant (let le = w.if-rule_of.false in omega (arith, le)))
+          (least_kept _ _ _ (looks t allowed lawful n filled here) first next least c.loop-index.invariant (let le = w.if-rule_number.false in omega (arith, le)))
     ]
 
 pub returns : goal.returns

@@ -1,12 +1,13 @@
 -- What a machine is where some of its threads were halted, some aborted and some unbound from their scheduling contexts, in whatever
 -- order: read off the machine as it was, object by object and queue by queue (seL4 manual, "Threads and Execution", "Endpoints",
 -- "Notifications" and "Scheduling Contexts").
-use Rattle.std.specs.Prelude.{◌||◌, ◌≡◌, Bool, List, None, false, filter, if◌then◌else◌, not, option_map}
+use Rattle.std.specs.Prelude.{◌||◌, ◌≡◌, Bool, List, None, false, if◌then◌else◌, option_map}
 use Rattle.base.specs.declared.ids.ObjId.{ObjId}
-use Rattle.machine.specs.{declared.{object.Object.{Object, Object as o}, thread.{RunState.RunState, Tcb.Tcb}}, Finalising.link_after}
+use Rattle.machine.specs.declared.{object.Object.Object, thread.{RunState.RunState, Tcb.Tcb}}
 use Rattle.machine.specs.declared.thread.Inbox.TheVariants as inbox
 use Rattle.machine.specs.declared.thread.RunState.TheVariants as state
-use Rattle.machine.specs.{Machine.{Machine, object_of, queue_of, same_id}, Releasing.{SameRest, reply_by}}
+use Rattle.machine.specs.{Machine.{Machine, object_of, queue_of, same_id}, Releasing.SameRest}
+use Rattle.steps.proofs.LeavingLinks.{Leavers, object_left, queue_left}
 
 -- which threads were halted, aborted and unbound
 pub record Reach : Type 0 where
@@ -43,15 +44,21 @@ tcb_by halts aborts unbinds tcb =
       context = if unbinds then None else tcb.context;
     }
 
+abbrev pub leavers : Reach → Leavers
+leavers reach =
+    record {
+      goes = λ _. false;
+      leaves = has_left reach;
+      unbinds = reach.unbinds;
+      becomes = λ id. tcb_by (reach.halts id) (reach.aborts id) (reach.unbinds id);
+    }
+
 abbrev pub object_by : Reach → ObjId → Object → Object
-object_by reach id (o.Tcb tcb) = o.Tcb (tcb_by (reach.halts id) (reach.aborts id) (reach.unbinds id) tcb)
-object_by reach id (o.Reply holding) = o.Reply (record holding { state = reply_by (has_left reach) holding.state })
-object_by reach id (o.Context context) = o.Context (record context { thread = link_after reach.unbinds context.thread })
-object_by reach id object = object
+object_by reach = object_left (leavers reach)
 
 -- those of a queue who left no queue
 abbrev pub queue_by : Reach → List ObjId → List ObjId
-queue_by reach threads = filter (λ thread. not (has_left reach thread)) threads
+queue_by reach = queue_left (leavers reach)
 
 pub record IsReached (old : Machine) (reach : Reach) (now : Machine) : Type 0 where
   pub objects : (id : ObjId) → object_of now id ≡ option_map (object_by reach id) (object_of old id)
