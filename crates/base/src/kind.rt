@@ -1,9 +1,8 @@
 //! The kinds of authority, their names, and sets of them.
-ghost use Rattle.std.specs.Int.RustNames.{bit_and};
-ghost use Rattle.std.specs.Prelude.{[], ℕ, ⊤, ◌<◌, ◌==◌, ◌^◌, ◌↔◌, ◌∷◌, ◌≡◌, Bool, List, None, Some, codes, length};
-ghost use Rattle.std.specs.Prelude.{slice_get};
-ghost use Rattle.base.specs.declared.kind.Kind.{Kind as KindOf};
-ghost use Rattle.base.specs.Kinds.{is_among, is_structural, kind_bit, kind_name, kind_named, kind_number};
+ghost use Rattle.std.specs.{Int.RustNames.bit_and, Prelude.{[], ℕ, ⊤, ◌<◌, ◌==◌, ◌^◌, ◌↔◌, ◌∷◌, ◌≡◌, Bool, List, None}};
+ghost use Rattle.std.specs.Prelude.{Some, codes, length, slice_get};
+ghost use Rattle.base.specs.{declared.kind.Kind.Kind as KindOf, Kinds.{is_among, is_structural, kind_bit, kind_name}};
+ghost use Rattle.base.specs.Kinds.{kind_named, kind_number};
 
 use bitflags::{Flag, Flags, bitflag_items};
 use std::fmt;

@@ -1,21 +1,20 @@
 -- The line of a filled slot that the table takes next is read, and its words are plain.
-use Rattle.std.{specs.List.AllByRecursion, proofs.Common.{ℕ, ◌+◌, ◌<◌, ◌^◌, ◌∙◌, ◌∷◌, ◌≡◌, ◌≤◌, List, None, Ok, Option}}
-use Rattle.std.proofs.{Common.{Some, ap, arith, codes, false, length, option_map, refl, subst, sym, true}, Math.Pow.pow_mono}
-use Rattle.std.proofs.lemmas.{Bool.{and_from, and_parts, cond-true, false≢true, leb-true, ltb-true}, Option.get_or_from_slice_get}
-use Rattle.std.proofs.lemmas.Option.{slice_get_within}
+use Rattle.std.{specs.List.AllByRecursion, proofs.Common.{ℕ, ◌+◌, ◌<◌, ◌^◌, ◌∙◌, ◌∷◌, ◌≡◌, ◌≤◌, List, None, Ok, Option, Some, ap, arith}}
+use Rattle.std.proofs.{Common.{codes, false, length, option_map, refl, subst, sym, true}, Math.Pow.pow_mono, lemmas.Bool.and_from}
+use Rattle.std.proofs.lemmas.{Bool.{and_parts, cond-true, false≢true, leb-true, ltb-true}, Option.{get_or_from_slice_get, slice_get_within}}
 use Rattle.base.specs.{declared.{ids.{ObjId.ObjId, SlotRef.SlotRef}, limits.TheConstants.MAX_RADIX, rights.Rights.Rights}, Rights.IsRights}
+use Rattle.words.{specs.{Name.is_name, Reading.bind, Text.{IsPlainLine, IsPlainWord}}, proofs.{Parts.last_again, WordLaws.plain_bytes}}
 use Rattle.machine.specs.declared.{cap.{Detail.{Detail, Detail as d}, Guard.Guard}, layout.{Filled.Filled, Initial.Initial}}
 use Rattle.machine.specs.declared.{object.{Object.{Object, Object as o}, ObjectKind.{ObjectKind, ObjectKind as kind}}, thread.Tcb.Tcb}
 use Rattle.machine.specs.{Capabilities.kind_of_detail, Layout.{Layout, initial_of}, Objects.{kind_of_object, slot_count}}
-use Rattle.words.{specs.{Name.is_name, Reading.bind, Text.{IsPlainLine, IsPlainWord}}, proofs.{Parts.last_again, WordLaws.plain_bytes}}
 use Rattle.table.specs.Building.{AdmitsCap, declares_slot, fits, fits_target, has_index, is_above_caps, is_fitting, may_hold, with_filled}
 use Rattle.table.specs.{Items.BeforePairs, Names.object_named, Rules.{IsBlank, IsDraft, kind_at}}
 use Rattle.captext.specs.{declared.shapes.{Place.Place, Term.{Term, Term as term}}, Spelling.{AreTerms, IsPlace}, TableText.cap_words}
-use Rattle.captext.specs.declared.shapes.Place.TheVariants as place
 use Rattle.captext.specs.{TableText.{detail_words, object_name, place_in, slot_name}, Tables.{NamedCap, cap_line, capability, capped}}
 use Rattle.captext.specs.Tables.{detail_for, detail_of, filled, fits_holder, fits_place, is_claimed, is_plain, may_fill, slot_in}
 use Rattle.captext.{specs.Tables.takes_caps, proofs.{Admits.claims, CapLines.{HasCap, cap_part}, LineLaws.caps_again}}
 use Rattle.captext.proofs.{NameLaws.{is_object_name, object_again}, TermLaws.terms_words}
+use Rattle.captext.specs.declared.shapes.Place.TheVariants as place
 
 abbrev terms_of : Detail → Option Term × Option Term
 terms_of (d.CNode guard) = (Some (term.Decimal guard.size), Some (term.Hexadecimal guard.value))

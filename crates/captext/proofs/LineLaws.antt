@@ -1,8 +1,7 @@
 -- What the steps of a table's line say where it was read: the words it has, the tests it passed, and the item it adds.
-use Rattle.std.proofs.Common.{[], ℕ, ◌∷◌, ◌≡◌, List, None, Ok, Option, Result, Some, ap, refl, true}
-use Rattle.std.proofs.lemmas.Bool.{and_from, and_parts}
-use Rattle.machine.specs.Layout.{Layout}
+use Rattle.std.proofs.{Common.{[], ℕ, ◌∷◌, ◌≡◌, List, None, Ok, Option, Result, Some, ap, refl, true}, lemmas.Bool.{and_from, and_parts}}
 use Rattle.words.specs.{declared.faults.Wrong.Wrong, Reading.{bind, or_syntax}}
+use Rattle.machine.specs.Layout.{Layout}
 use Rattle.table.specs.Items.{BeforeBindings, BeforeCaps, BeforeObjects, BeforePairs, Item}
 use Rattle.captext.specs.{TableText.IsLineOf, Tables.{is_nil, takes_caps, takes_labels, takes_objects, takes_pairs}}
 

@@ -1,4 +1,7 @@
 //! The texts of capability tables and policies.
+//!
+//! `certificate`, `claims`, `summary` and `remarks` stand on it. It knows no verdict, and nothing
+//! of `evtext`.
 #![tactic(auto)]
 
 mod caps;

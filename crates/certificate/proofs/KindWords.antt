@@ -6,13 +6,12 @@ use Rattle.std.proofs.lemmas.{Bool.{and_parts, ne_eqb}, List.{append-nil, map-ap
 use Rattle.base.specs.{declared.kind.{Kind.{Kind, TheVariants.Control}, Kinds.Kinds}, Kinds.{kind_bit, kind_name, kind_named}}
 use Rattle.base.proofs.KindNames.{kind_again, kind_is_named}
 use Rattle.words.specs.{declared.faults.Wrong.Wrong, Parts.IsPart, Reading.{bind, or_syntax, word_at}, Text.IsPlainWord}
-use Rattle.words.specs.declared.faults.Wrong.TheVariants as wrong
 use Rattle.words.proofs.{Splits.{parts_some, split_nowhere, split_round}, TextLaws.{both, each, first_part, one_part}, WordLaws.bind_ok}
+use Rattle.words.specs.declared.faults.Wrong.TheVariants as wrong
 use Rattle.captext.proofs.{LineLaws.{same_ok, spelled_then}, StepLaws.demand_then}
 use Rattle.certificate.specs.Kinds.{IsKinds, kinds_at, kinds_of, kinds_word, members, set_of, with_kind, with_name, with_names}
 use Rattle.certificate.proofs.Bits.{Joins, all_joined, members_join, members_more, one_joins, with_kind_small}
-use denote.Shadow.{shadow}
-use denote.Text.{Utf8}
+use denote.{Shadow.shadow, Text.Utf8}
 
 abbrev comma : ℕ → Bool
 comma b = b == 44

@@ -2,21 +2,19 @@
 use Rattle.std.specs.{declared.cmp.Ordering.{Ordering, TheVariants.{Equal, Greater, Less}}, Bool.{⊤, Decides}}
 use Rattle.std.specs.{List.Sorted.IsStrictlySortedBy, Ordering.{is_lt, nat_cmp, ordering_then}, Prelude.{bytes_eq, if◌then◌else◌}}
 use Rattle.std.proofs.Common.{[], ℕ, ◌++◌, ◌==◌, ◌↔◌, ◌∙◌, ◌∷◌, ◌≡◌, ◌≢◌, Bool, IfSome, List, None, Ok, Option, Some, ap, arith, codes}
-use Rattle.std.proofs.{Common.{false, nat_le, not, refl, subst, sym, true}, lemmas.Bool.Decides.nat_tests}
-use Rattle.std.proofs.lemmas.Slice.Eq.{bytes_eq-Decides}
+use Rattle.std.proofs.{Common.{false, nat_le, not, refl, subst, sym, true}, lemmas.{Bool.Decides.nat_tests, Slice.Eq.bytes_eq-Decides}}
+use Rattle.words.specs.{declared.faults.Wrong.Wrong as wrong, Name.is_name, Parts.IsPart, Reading.{IsNotLast, bind}, Text.IsPlainLine}
+use Rattle.words.proofs.{ListLaws.{IsListFormat, all_front, all_last, list_again, list_once, list_takes}, Parts.{alone_again, alone_takes}}
+use Rattle.words.proofs.{Parts.{both_parts, name_part, word_part}, TextLaws.both, WordLaws.{plain_bytes, plain_name}}
 use Rattle.machine.specs.Layout.{Layout}
-use Rattle.words.specs.{declared.faults.Wrong.Wrong as wrong, Name.{is_name}, Parts.{IsPart}, Reading.{IsNotLast, bind}}
-use Rattle.words.{specs.{Text.IsPlainLine}, proofs.ListLaws.{IsListFormat, all_front, all_last, list_again}}
-use Rattle.words.proofs.{ListLaws.{list_once, list_takes}, Parts.{alone_again, alone_takes, both_parts, name_part, word_part}}
-use Rattle.words.proofs.{TextLaws.both, WordLaws.{plain_bytes, plain_name}}
 use Rattle.table.specs.{Names.label_named, Rules.IsLawful}
 use Rattle.captext.{specs.PolicyText.label_name, proofs.{NameLaws.{is_label_name, label_again, label_takes}, StepLaws.demand_then}}
 use Rattle.captext.proofs.StepLaws.{value_then}
-use Rattle.claims.specs.{declared.claim.{Claim.Claim, Most.Most}, Claims.{AreClaimsOf, IsClaimOf, claim_cmp, last_claim}}
-use Rattle.claims.specs.declared.claim.Most.TheVariants as most
-use Rattle.claims.specs.{Claims.{most_named, most_word}, ClaimsText.{claim_words, claims_header, claims_text}, Reading.claim_line}
-use Rattle.claims.specs.Reading.{follows, labelled_claim, may_follow, most_at, named_claim_at, read_claims_of, with_claim}
+use Rattle.claims.specs.{declared.claim.{Claim.Claim, Most.Most}, Claims.{AreClaimsOf, IsClaimOf, claim_cmp, last_claim, most_named}}
+use Rattle.claims.specs.{Claims.most_word, ClaimsText.{claim_words, claims_header, claims_text}, Reading.{claim_line, follows}}
+use Rattle.claims.specs.Reading.{labelled_claim, may_follow, most_at, named_claim_at, read_claims_of, with_claim}
 use Rattle.claims.proofs.Order.{rising_appended, rising_front, rising_last}
+use Rattle.claims.specs.declared.claim.Most.TheVariants as most
 
 -- the words of a line
 

@@ -1,16 +1,10 @@
 -- Claims that hold, by how far an authority goes, and that what they claim is kept.
-use Rattle.std.specs.Prelude.{IfNone}
-use Rattle.std.proofs.Common.{ℕ, ◌≡◌, All, List, None, Option, Some, false, true}
-use Rattle.std.proofs.lemmas.List.Elements.{All-weaker}
+use Rattle.std.{specs.Prelude.IfNone, proofs.{Common.{ℕ, ◌≡◌, All, List, None, Option, Some, false, true}, lemmas.List.Elements.All-weaker}}
 use Rattle.machine.specs.Layout.{Layout}
-use Rattle.verdict.specs.declared.extent.Extent.{Extent}
-use Rattle.verdict.specs.declared.extent.Extent.{Extent as extent}
-use Rattle.verdict.specs.Extents.{GoesTo, Reach, ActingSystem, IsActingSystem, reach_of}
-use Rattle.claims.specs.declared.claim.Claim.{Claim}
-use Rattle.claims.specs.declared.claim.Most.{Most}
-use Rattle.claims.specs.declared.claim.Most.{Most as most}
-use Rattle.claims.specs.Holding.{HasAtMost, Holds, IsKept, KeepsAtMost, is_within}
-use Rattle.verdict.proofs.Extents.{apart, takes}
+use Rattle.verdict.specs.{declared.extent.Extent.{Extent, Extent as extent}, Extents.{ActingSystem, GoesTo, IsActingSystem, Reach}}
+use Rattle.verdict.{specs.Extents.reach_of, proofs.Extents.{apart, takes}}
+use Rattle.claims.specs.{declared.claim.{Claim.Claim, Most.{Most, Most as most}}, Holding.{HasAtMost, Holds, IsKept, KeepsAtMost}}
+use Rattle.claims.specs.Holding.{is_within}
 
 module _ (reach : Reach) (a l : ℕ) where
   pub within_holds : (m : Most) (e : Extent) → GoesTo reach a l e → is_within m e ≡ true → HasAtMost reach a l m

@@ -1,14 +1,9 @@
 -- Of claims that don't all hold one is the first broken.
-use Rattle.std.specs.Prelude.{slice_get}
-use Rattle.std.proofs.Common.{ℕ, ◌+◌, ◌∙◌, ◌≡◌, All, List, ap, inl, inr, refl, subst, sym}
-use Rattle.std.proofs.lemmas.Bool.{cases_order}
-use Rattle.std.proofs.lemmas.Option.{get_or_from_slice_get, same_Some, slice_get_within}
-use Rattle.verdict.specs.declared.extent.Extent.{Extent}
+use Rattle.std.{specs.Prelude.slice_get, proofs.Common.{ℕ, ◌+◌, ◌∙◌, ◌≡◌, All, List, ap, inl, inr, refl, subst, sym}}
+use Rattle.std.proofs.lemmas.{Bool.cases_order, Option.{get_or_from_slice_get, same_Some, slice_get_within}}
+use Rattle.verdict.specs.{declared.extent.Extent.Extent, Extents.{GoesTo, Reach}}
 use Rattle.verdict.specs.declared.extent.Extent.TheVariants as extent
-use Rattle.verdict.specs.Extents.{GoesTo, Reach}
-use Rattle.claims.specs.declared.claim.Claim.{Claim}
-use Rattle.claims.specs.declared.holding.BrokenClaim.{BrokenClaim}
-use Rattle.claims.specs.Holding.{Holds, IsFirstBroken}
+use Rattle.claims.specs.{declared.{claim.Claim.Claim, holding.BrokenClaim.BrokenClaim}, Holding.{Holds, IsFirstBroken}}
 
 -- an authority goes so far, and no other way
 

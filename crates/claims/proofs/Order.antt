@@ -1,10 +1,9 @@
 -- The order of claims: it is that of their labels' numbers, and a claim above the last joins claims that rise.
-use Rattle.std.specs.{declared.cmp.Ordering.{TheVariants.{Less}}, Cmp.{IsTotalOrder, nat_cmp_total}}
-use Rattle.std.{specs.{List.Sorted.IsStrictlySortedBy, Ordering.{is_lt, nat_cmp, ordering_then}, Prelude.IfSome}, proofs.Common.{[], ℕ}}
-use Rattle.std.proofs.Common.{◌&&◌, ◌++◌, ◌+◌, ◌-◌, ◌==◌, ◌||◌, ◌∙◌, ◌∷◌, ◌≡◌, List, ap, arith, get_or, inl}
-use Rattle.std.proofs.{Common.{inr, length, nat_lt, refl, subst}, Math.Seq.get_or-append_seam, lemmas.Bool.cases_lt}
-use Rattle.std.proofs.lemmas.{Bool.Decides.nat_tests, Cmp.{on_total, then_total}, List.{get_or_append_left, get_or_push, length_push}}
-use Rattle.std.proofs.lemmas.{Map.Keys.{Less-from_sorted, sorted_from_all_adjacent}, Option.slice_get-get_or}
+use Rattle.std.specs.{declared.cmp.Ordering.TheVariants.Less, Cmp.{IsTotalOrder, nat_cmp_total}, List.Sorted.IsStrictlySortedBy}
+use Rattle.std.{specs.{Ordering.{is_lt, nat_cmp, ordering_then}, Prelude.IfSome}, proofs.Common.{[], ℕ, ◌&&◌, ◌++◌, ◌+◌, ◌-◌, ◌==◌, ◌||◌}}
+use Rattle.std.proofs.{Common.{◌∙◌, ◌∷◌, ◌≡◌, List, ap, arith, get_or, inl, inr, length, nat_lt, refl, subst}, Math.Seq.get_or-append_seam}
+use Rattle.std.proofs.lemmas.{Bool.{cases_lt, Decides.nat_tests}, Cmp.{on_total, then_total}, List.{get_or_append_left, get_or_push}}
+use Rattle.std.proofs.lemmas.{List.length_push, Map.Keys.{Less-from_sorted, sorted_from_all_adjacent}, Option.slice_get-get_or}
 use Rattle.words.proofs.ListLaws.{all_front}
 use Rattle.claims.specs.{declared.claim.Claim.Claim, Claims.{IsAboveLast, IsRising, claim_cmp}}
 

@@ -5,14 +5,8 @@ use Rattle.std.specs.Prelude.{ℕ, ◌+◌, ◌<◌, ◌↔◌, ◌≡◌, ◌�
 use Rattle.base.specs.Labels.{is_in}
 use Rattle.machine.specs.Layout.{Layout}
 use Rattle.integrity.specs.Apart.{NeverChanges, OnlyTakes}
-use Rattle.verdict.specs.declared.extent.Extent.{Extent}
-use Rattle.verdict.specs.declared.extent.Extent.{Extent as extent}
-use Rattle.verdict.specs.Extents.{GoesTo, Reach, MayChangeIn, MayShrinkIn}
-use Rattle.claims.specs.declared.claim.Claim.{Claim}
-use Rattle.claims.specs.declared.claim.Most.{Most}
-use Rattle.claims.specs.declared.claim.Most.{Most as most}
-use Rattle.claims.specs.declared.extents.Extents.{Extents}
-use Rattle.claims.specs.declared.holding.BrokenClaim.{BrokenClaim}
+use Rattle.verdict.specs.{declared.extent.Extent.{Extent, Extent as extent}, Extents.{GoesTo, MayChangeIn, MayShrinkIn, Reach}}
+use Rattle.claims.specs.declared.{claim.{Claim.Claim, Most.{Most, Most as most}}, extents.Extents.Extents, holding.BrokenClaim.BrokenClaim}
 
 -- a label has no more authority on another than this
 abbrev pub HasAtMost : Reach → ℕ → ℕ → Most → Type 0

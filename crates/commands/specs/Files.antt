@@ -1,15 +1,12 @@
 -- What the files of a command hold, as far as their bytes are known, and why they couldn't be loaded (confine's own).
-use Rattle.std.specs.Prelude.{[], ℕ, ◌≡◌, ◌∷◌, Bool, Err, List, None, Ok, Option, Result, Some, false, true}
-use Rattle.base.specs.declared.edge.Edge.{Edge}
-use Rattle.machine.specs.Layout.{Layout}
-use Rattle.words.specs.declared.faults.Fault.{Fault}
-use Rattle.words.specs.Reading.{◌>>=◌}
-use Rattle.captext.specs.{Policies.read_policy_of, Tables.read_table_of}
-use Rattle.microkit.specs.Reading.{description_of_text}
-use Rattle.importing.specs.{Tables.table_at, declared.pieces.{Children.{Children}, Minting.{Minting}}}
+use Rattle.std.specs.Prelude.{[], ℕ, ◌∷◌, ◌≡◌, Bool, Err, List, None, Ok, Option, Result, Some, false, true}
+use Rattle.words.specs.{declared.faults.Fault.Fault, Reading.◌>>=◌}
 use Rattle.forms.specs.declared.file.File.{File, TheVariants.{Description, Policy, Table}}
-use Rattle.commands.specs.Described.{Described}
-use Rattle.commands.specs.declared.{end.Asked.Asked, load.{Stop.{Stop, Stop as stop}, System.System, Three.Three}}
+use Rattle.microkit.specs.Reading.{description_of_text}
+use Rattle.machine.specs.Layout.{Layout}
+use Rattle.captext.specs.{Policies.read_policy_of, Tables.read_table_of}
+use Rattle.importing.specs.{declared.pieces.{Children.Children, Minting.Minting}, Tables.table_at}
+use Rattle.commands.specs.{declared.{end.Asked.Asked, load.{Stop.{Stop, Stop as stop}, System.System, Three.Three}}, Described.Described}
 
 -- what the files hold; or the first file that isn't a text of its kind, with its fault; or nothing is known, since a file's bytes aren't
 pub data Contents (X : Type 0) : Type 0 where

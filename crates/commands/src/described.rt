@@ -1,10 +1,9 @@
 //! A system description, and how it is loaded with the table that it becomes.
-ghost use Rattle.std.specs.Prelude.{◌≡◌, ◌∷◌, [], IfErr, None, Some, false};
+ghost use Rattle.std.specs.Prelude.{[], ◌∷◌, ◌≡◌, IfErr, None, Some, false};
 ghost use Rattle.words.specs.Reading.{Reads};
 ghost use Rattle.forms.specs.declared.file.File.TheVariants as file;
-ghost use Rattle.commands.specs.Files.{Gives, IsStopOf, described_contents, described_of, first_failed};
-ghost use Rattle.commands.specs.Files.{lacking_of, unread_of};
-ghost use Rattle.commands.specs.Hearing.{HearsFault, answered, hearing_of};
+ghost use Rattle.commands.specs.Files.{Gives, IsStopOf, described_contents, described_of, first_failed, lacking_of};
+ghost use Rattle.commands.specs.{Files.unread_of, Hearing.{HearsFault, answered, hearing_of}};
 
 use crate::load::{read_file, stopped};
 use crate::{Answer, File, Heard, Held, Listener, Source, Stop};

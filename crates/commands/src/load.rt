@@ -1,15 +1,14 @@
 //! How the files of a command are loaded one after another, and why a command has no answer.
-ghost use Rattle.std.specs.Prelude.{◌≡◌, ◌≢◌, ◌⊎◌, ◌∷◌, [], Err, IfErr, IfOk, IfSome, None, Ok, Some, false};
+ghost use Rattle.std.specs.Prelude.{[], ◌∷◌, ◌≡◌, ◌≢◌, ◌⊎◌, Err, IfErr, IfOk, IfSome, None, Ok, Some, false};
 ghost use Rattle.std.specs.Prelude.{option_copied};
-ghost use Rattle.machine.specs.Layout.{Layout};
 ghost use Rattle.words.specs.Fault.{no_memory};
-ghost use Rattle.captext.specs.Tables.{read_table_of};
 ghost use Rattle.forms.specs.declared.file.File.TheVariants as file;
-ghost use Rattle.commands.specs.Commands.{HasPolicy, HasTable, input};
-ghost use Rattle.commands.specs.Files.{Gives, IsDeviceStop, IsStopOf, LoadsAs, first_failed, is_unread, lacking_of};
-ghost use Rattle.commands.specs.Files.{system_contents, table_contents, three_contents, unread_of};
-ghost use Rattle.commands.specs.Hearing.{Hearing, HearsFault, HearsStop, answered, hearing_of};
-ghost use Rattle.commands.specs.declared.{answer.Answer.Answer, load.Stop.Stop};
+ghost use Rattle.machine.specs.Layout.{Layout};
+ghost use Rattle.captext.specs.Tables.{read_table_of};
+ghost use Rattle.commands.specs.{declared.{answer.Answer.Answer, load.Stop.Stop}, Commands.{HasPolicy, HasTable}};
+ghost use Rattle.commands.specs.{Commands.input, Files.{Gives, IsDeviceStop, IsStopOf, LoadsAs, first_failed}};
+ghost use Rattle.commands.specs.Files.{is_unread, lacking_of, system_contents, table_contents, three_contents};
+ghost use Rattle.commands.specs.{Files.unread_of, Hearing.{Hearing, HearsFault, HearsStop, answered, hearing_of}};
 
 use crate::later::LaterFile;
 use crate::{Answer, Asked, File, Heard, Listener, ReadError, Source};

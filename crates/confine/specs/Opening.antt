@@ -1,16 +1,15 @@
 -- What is done with files that were opened by the names that a request gives (confine's own).
-use Rattle.std.specs.{declared.io.Error.Error, Borrow.Bor, Prelude.{ℕ, ◌≡◌, List, Option, Result, Some, false}}
-use Rattle.either.specs.declared.Either.{Either}
+use Rattle.std.specs.{declared.io.Error.Error, Borrow.Bor, Prelude.{ℕ, ◌≡◌, List, Option, Result, false}}
 use Rattle.devices.specs.{declared.{opened.Unopened.Unopened, watched.Watched.Watched}, Opened.{bytes_left, opened}, Watched.device_of}
 use Rattle.devices.specs.Watched.{failed_of, is_flushed_of}
 use Rattle.commands.specs.{declared.end.End.End, Commands.{Input, Output, input, output}, Ends.status_of}
-use Rattle.report.specs.{Answers.{IsChecked, IsRun, IsRunSplit, IsVerifiedWith}, Claimed.{AreJudged, AreWritten}}
-use Rattle.report.specs.{Closings.{IsClosedOver, IsStarted}, Imports.IsImported, Questions.{IsDrawn, IsListed, IsTold}, Replays.IsReplayed}
-use Rattle.report.specs.{Shows.IsShownTo, Summaries.AreSummed}
+use Rattle.report.specs.{Answers.{IsChecked, IsRun, IsRunSplit, IsVerifiedWith}, Claimed.{AreJudged, AreWritten}, Closings.IsClosedOver}
+use Rattle.report.specs.{Closings.IsStarted, Imports.IsImported, Questions.{IsDrawn, IsListed, IsTold}, Replays.IsReplayed, Shows.IsShownTo}
+use Rattle.report.specs.Summaries.{AreSummed}
 use Rattle.invocation.specs.declared.request.OfSystem.{OfSystem, TheVariants.{Check, Close, Draw, Show, Strongest, Summary, Why}}
-use Rattle.invocation.specs.declared.request.{OfTable.{OfTable, OfTable as of_table}, OfThree.OfThree, Request.Request}
-use Rattle.invocation.specs.declared.request.OfThree.TheVariants.{Claims, Replay, Run, Verify}
-use Rattle.invocation.specs.{declared.request.Request.Request as request, Requests.OnEach}
+use Rattle.invocation.specs.declared.request.{OfTable.{OfTable, OfTable as of_table}, OfThree.{OfThree, TheVariants.{Claims, Replay, Run}}}
+use Rattle.invocation.specs.{declared.request.{OfThree.TheVariants.Verify, Request.{Request, Request as request}}, Requests.OnEach}
+use Rattle.either.specs.declared.Either.{Either}
 
 -- what is written to, before and after
 abbrev pub written : {W : Type 0} → (W → Option (List ℕ)) → Watched W → Watched W → Output (Watched W)

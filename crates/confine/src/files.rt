@@ -1,9 +1,8 @@
 //! How the files of a request are opened.
 ghost use Rattle.std.specs.{Fn.FnReturnsAt, Prelude.{◌≡◌, IfOk, Some, false}};
 ghost use Rattle.devices.specs.{Bounded.bytes_allowed, Watched.failed_of};
-ghost use Rattle.confine.specs.declared.files.TheConstants.{MOST_BYTES};
-ghost use Rattle.confine.specs.Opening.{AreOpenedBy, AreSound, IsOpenedBy};
 ghost use Rattle.invocation.specs.Requests.{IsWithinLimits};
+ghost use Rattle.confine.specs.{declared.files.TheConstants.MOST_BYTES, Opening.{AreOpenedBy, AreSound, IsOpenedBy}};
 
 use devices::Bounded;
 use either::Either;

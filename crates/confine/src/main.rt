@@ -1,4 +1,6 @@
 //! The program `confine`: its command line, its files and its exit status.
+//!
+//! No crate stands on it. It knows no code of the kernel.
 #![tactic(auto)]
 
 ghost use Rattle.std.specs.{Fn.FnReturnsAt, Prelude.{◌≡◌, ◌≤◌, IfOk, IsErr, OnErr, false}};

@@ -7,9 +7,8 @@ use Rattle.base.specs.declared.core_number.TheConstants.CoreNo as CoreNo
 use Rattle.machine.specs.{declared.call.Event.Event, Machine.{Machine, empty_machine}}
 use Rattle.kernel.specs.Legal.{Entry, Leads}
 use Rattle.cores.specs.{declared.view.Noted.Noted, History.{OnCores, log_of, own}, Rule.about, Seats.{AreNew, Closes, IsOf, Known, Looks}}
-use Rattle.cores.specs.Seats.{Ticket, new_seat, no_table}
-use Rattle.cores.{specs.{SplitRun.{IsSplitRun, on_core}, Workers.{AreAllCores, IsFresh, Worked, events_of}}, proofs.Counting.part}
-use Rattle.cores.proofs.Counting.{parts_most, parts_whole, total, total_less, total_same}
+use Rattle.cores.specs.{Seats.{Ticket, new_seat, no_table}, SplitRun.{IsSplitRun, on_core}, Workers.{AreAllCores, IsFresh, Worked}}
+use Rattle.cores.{specs.Workers.events_of, proofs.Counting.{part, parts_most, parts_whole, total, total_less, total_same}}
 
 pub chosen : (b : Bool) (noted : Noted) (events : List Event) (rest : List Noted) → events ≡ events_of rest
     → cond b (noted.event ∷ events) events ≡ events_of (cond b (noted ∷ rest) rest)

@@ -1,7 +1,7 @@
 -- Which cores the script has events on, and the number that a core's worker has at the gate.
-use Rattle.std.{specs.{List.list_any, Prelude.{Bool, false, if◌then◌else◌, slice_get, slice_set, true}}, proofs.Common.{[], ℕ, ◌+◌, ◌<◌, ◌==◌, ◌||◌}}
-use Rattle.std.proofs.Common.{◌∙◌, ◌∷◌, ◌≡◌, ◌≢◌, List, Some, add-one, ap, arith, cond, eq-eqb, get_or, inl, inr, length, ne_eqb, refl, subst, suc, sym}
-use Rattle.std.proofs.{Common.take, lemmas.{Bool.cases_order, List.{Folds.list_any_more, get_or-set_other, get_or-set_same, length-set}}}
+use Rattle.std.{specs.Prelude.{Bool, false, if◌then◌else◌, slice_set, true}, proofs.Common.{[], ℕ, ◌+◌, ◌<◌, ◌==◌, ◌||◌, ◌∙◌, ◌∷◌, ◌≡◌}}
+use Rattle.std.proofs.Common.{◌≢◌, List, Some, add-one, ap, arith, cond, eq-eqb, get_or, inl, inr, length, ne_eqb, refl, subst, sym, take}
+use Rattle.std.proofs.lemmas.{Bool.cases_order, List.{get_or-set_other, get_or-set_same, length-set, Folds.list_any_more}}
 use Rattle.std.proofs.lemmas.Option.{get_or_from_slice_get, slice_get-get_or, slice_get_within}
 use Rattle.base.specs.declared.core_number.TheConstants.CoreNo as CoreNo
 use Rattle.machine.specs.declared.call.Event.{Event}

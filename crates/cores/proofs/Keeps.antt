@@ -2,16 +2,15 @@
 use Rattle.std.{specs.Prelude.{IfSome, None, Option, Some, slice_index, slice_set}, proofs.Common.{[], ℕ, ◌%◌, ◌*◌, ◌++◌, ◌+◌, ◌<◌, ◌==◌}}
 use Rattle.std.proofs.Common.{◌^◌, ◌∙◌, ◌∷◌, ◌≡◌, ◌≢◌, List, ap, arith, cond, inl, inr, length, length-append, length-set, mod-eq_of_lt}
 use Rattle.std.proofs.{Common.{refl, subst, suc, sym, zero}, lemmas.Option.same_Some}
-use Rattle.atomic_table.{specs.Table.{Allows, Joins, Me, Splits, State as Table, keeps, opening}, proofs.Lists.{at_set, set_else}}
 use Rattle.machine.specs.Machine.{Machine}
 use Rattle.cores.specs.{declared.view.{About.About, Hand.Hand, Keeping.Keeping, Noted.Noted, View.View}, History.{IsLegal, own}}
 use Rattle.cores.specs.Moves.{Records, Sees, Shows, after_deal, after_record, blank, guest_as_hand, hand_as_guest, newcomer, with_guest}
 use Rattle.cores.specs.{Moves.{with_hand, with_seen, without_guest, without_hand}, Rule.{Fits, Kept, Knows, about, first_view}}
 use Rattle.cores.{specs.Tokens.CanRecord, proofs.Lists.{at_end, at_inside, changed, if_is, if_map, if_some, own_grows, own_stays}}
 use Rattle.cores.proofs.{Lists.{prefix_longer, prefix_same, prefix_self, unchanged}, Seating.none_legal}
+use Rattle.atomic_table.{specs.Table.{Allows, Joins, Me, Splits, State as Table, keeps, opening}, proofs.Lists.{at_set, set_else}}
 use lib.ListN.{get_elem?}
-use mathlib.Core.List.{IsPrefix}
-use mathlib.Core.Option.{some, some-injective, some-ne-none}
+use mathlib.Core.{List.IsPrefix, Option.{some, some-injective, some-ne-none}}
 
 -- the numbers that stood at one place stand at another
 abbrev moved : ℕ → ℕ → (ℕ → ℕ) → ℕ → ℕ

@@ -4,8 +4,7 @@ use Rattle.std.proofs.Common.{List, ap, append_assoc, arith, cond, eq-eqb, inl, 
 use Rattle.std.proofs.lemmas.List.{append-nil, map_push, Elements.filter-append}
 use Rattle.cores.specs.{declared.view.Noted.Noted, History.{log_of, own}}
 use lib.ListN.{get_elem?}
-use mathlib.Core.List.{IsPrefix}
-use mathlib.Core.Option.{some, some-injective, some-ne-none}
+use mathlib.Core.{List.IsPrefix, Option.{some, some-injective, some-ne-none}}
 
 -- each list begins with itself
 pub prefix_self : {A : Type 0} (xs : List A) → IsPrefix xs xs

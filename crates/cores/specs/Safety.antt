@@ -1,24 +1,14 @@
 -- A history that stays within a policy, state by state and step by step ('seL4 Enforces Integrity', sections 4 and 5, authority confinement
 -- and integrity, of a history in place of a run).
-use Rattle.std.specs.Prelude.{ℕ, ◌++◌, ◌∷◌, ◌≡◌, List, Some, ◌⊎◌}
+use Rattle.std.specs.Prelude.{ℕ, ◌++◌, ◌∷◌, ◌≡◌, ◌⊎◌, List, Some}
 use Rattle.base.specs.declared.ids.ObjId.{ObjId}
-use Rattle.machine.specs.declared.object.Object.{Object}
-use Rattle.machine.specs.Authority.{label_of}
-use Rattle.machine.specs.Layout.{Layout}
-use Rattle.machine.specs.Machine.{Machine, object_of}
-use Rattle.machine.specs.Step.{Step}
-use Rattle.policy.specs.Domain.{EdgeTest}
+use Rattle.machine.specs.{declared.object.Object.Object, Authority.label_of, Layout.Layout, Machine.{Machine, object_of}}
+use Rattle.machine.specs.{Outcomes.IsRefused, Step.Step}
 use Rattle.kernel.specs.Legal.{Leads}
-use Rattle.integrity.specs.Allowed.{IsAllowedStep}
-use Rattle.integrity.specs.Bounded.{IsBoundedStep}
-use Rattle.integrity.specs.Budgets.{KeepsBudgets}
-use Rattle.integrity.specs.Confined.{IsConfined}
-use Rattle.cores.specs.declared.view.Noted.{Noted}
-use Rattle.cores.specs.History.{log_of}
-use Rattle.policy.specs.Change.{ActorTest}
-use Rattle.integrity.specs.Acting.{HoldsOfActors, MayAct}
-use Rattle.integrity.specs.Altered.{IsNarrowStep}
-use Rattle.machine.specs.Outcomes.{IsRefused}
+use Rattle.policy.specs.{Change.ActorTest, Domain.EdgeTest}
+use Rattle.integrity.specs.{Acting.{HoldsOfActors, MayAct}, Allowed.IsAllowedStep, Altered.IsNarrowStep, Bounded.IsBoundedStep}
+use Rattle.integrity.specs.{Budgets.KeepsBudgets, Confined.IsConfined}
+use Rattle.cores.specs.{declared.view.Noted.Noted, History.log_of}
 
 -- each state on it, after any of its beginnings, is confined, and its objects have labels; each step on it is allowed, keeps to the
 -- bounds and the budgets, and is refused or is of a thread whose label may act

@@ -1,15 +1,13 @@
 -- Policies of few labels: they obey the rules of closed policies that pass a test at each of the labels.
 use Rattle.std.{specs.List.list_all, proofs.Common.{[], ℕ, ◌&&◌, ◌<◌, ◌==◌, ◌||◌, ◌∙◌, ◌∷◌, ◌≡◌, ◌≢◌, ◌≤◌, Bool, List, ap, arith, false}}
-use Rattle.std.proofs.Common.{get_or, inl, inr, lit<, nat_lt, not, refl, suc, sym, true, zero}
-use Rattle.std.proofs.lemmas.Bool.{and_parts, cases_eq, eqb-true, false≢true, ltb-true, or_cases, or_left, or_right}
-use Rattle.std.proofs.lemmas.List.Sums.{AllPass-from_list_all}
+use Rattle.std.proofs.{Common.{get_or, inl, inr, lit<, nat_lt, not, refl, suc, sym, true, zero}, lemmas.Bool.{and_parts, cases_eq}}
+use Rattle.std.proofs.lemmas.{Bool.{eqb-true, false≢true, ltb-true, or_cases, or_left, or_right}, List.Sums.AllPass-from_list_all}
 use Rattle.base.specs.declared.kind.Kind.{Kind, TheVariants.{Call, Context, Control, Derive, Grant, Holds, Receive, Reply, Runs}}
 use Rattle.base.specs.{declared.kind.Kind.TheVariants.{SchedControl, Space}, Kinds.is_structural}
 use Rattle.base.specs.declared.label.TheConstants.Label as Label
-use Rattle.policy.specs.Closed.{IsGivenByControl, MayBeGranted, caller, derived, granted, server}
-use Rattle.policy.specs.{Domain.{EdgeTest, IsInDomain}, Needed.{Obeys, Rule, context_runs, control_gives_all, derive_by_grant}}
-use Rattle.policy.specs.Needed.{derive_in_domain, grant_shares, lent_runs, reply_holds, subjects_agree}
-use Rattle.policy.proofs.KindNumbers.{all_kinds, each_kind}
+use Rattle.policy.specs.{Closed.{IsGivenByControl, MayBeGranted, caller, derived, granted, server}, Domain.{EdgeTest, IsInDomain}}
+use Rattle.policy.specs.Needed.{Obeys, Rule, context_runs, control_gives_all, derive_by_grant, derive_in_domain, grant_shares, lent_runs}
+use Rattle.policy.{specs.Needed.{reply_holds, subjects_agree}, proofs.KindNumbers.{all_kinds, each_kind}}
 use Rattle.counterexamples.proofs.TestPolicies.{IsWithin}
 
 -- the edges of a test between the first labels

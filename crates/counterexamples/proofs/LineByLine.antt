@@ -71,25 +71,27 @@ module _ (t : Layout) (allowed : EdgeTest) where
     none_outside : (place : Excess) → Exceeds (of_table t) allowed place → ⊥
     unfolding is_within
     none_outside (capability slot k label) out =
-        none_missing slot.holder out.held.object k out.from label
-        (filled_has slot out.held k out.filled (ap (λ x. claims x out.held.detail k) out.holder ∙ out.given)) out.source out.target out.missing
+        none_missing slot.holder out.there.0.object k out.from out.to
+        (filled_has slot out.there.0 k out.there.1 (ap (λ x. claims x out.there.0.detail k) out.there.2 ∙ out.there.4)) out.source
+        (out.there.3 ∙ out.target) out.missing
     none_outside (root slot label) out =
-        none_missing slot.holder out.held.object Space out.from label
-        (filled_has slot out.held Space out.filled (ap (λ x. claims x out.held.detail Space) out.holder)) out.source out.target out.missing
+        none_missing slot.holder out.there.0.object Space out.from out.to
+        (filled_has slot out.there.0 Space out.there.1 (ap (λ x. claims x out.there.0.detail Space) out.there.2)) out.source
+        (out.there.3 ∙ out.target) out.missing
     none_outside (pair child parent) out =
-        let at = parent_at t child parent out.derived in
+        let at = parent_at t child parent out.there in
         let passes = passes_at (λ (line : Pair). has line.parent.holder Derive line.child.holder) t.pairs at.at at.element (and_parts _ _ (and_parts _ _ e).1).0 at.here in
         none_missing parent.holder child.holder Derive out.from out.to
         (subst (λ (x : SlotRef). has parent.holder Derive x.holder ≡ true) at.key_is
         (subst (λ (x : SlotRef). has x.holder Derive at.element.child.holder ≡ true) at.value_is passes)) out.source out.target out.missing
     none_outside (binding thread context) out =
-        let at = bound_at t thread context (declared_bound t thread context out.runs) in
+        let at = bound_at t thread context (declared_bound t thread context out.there) in
         let passes = passes_at (λ (line : Binding). has line.thread Runs line.context) t.bindings at.at at.element (and_parts _ _ (and_parts _ _ e).1).1 at.here in
         none_missing thread context Runs out.from out.to
         (subst (λ x. has thread Runs x ≡ true) at.value_is (subst (λ x. has x Runs at.element.context ≡ true) at.key_is passes))
         out.source out.target out.missing
-    none_outside (holding reply thread) out = false≢true out.holds
-    none_outside (recorded thread k label) out = false≢true out.kept
+    none_outside (holding reply thread) out = false≢true out.there
+    none_outside (recorded thread k label) out = false≢true out.there.1
 
   pub confined_by_lines : is_within ≡ true → IsLawful t → (m : Machine) → IsBoot t m → IsConfined t allowed m
   confined_by_lines e lawful m boot =

@@ -3,12 +3,11 @@ use Rattle.std.proofs.Common.{[], ◌∷◌, ◌≡◌, List, None, Ok, Option, 
 use Rattle.base.specs.declared.ids.ObjId.{ObjId}
 use Rattle.machine.specs.declared.call.{Call.TheVariants.Receive, Event.Event, Made.TheVariants.Blocked, Outcome.Outcome as outcome}
 use Rattle.machine.specs.declared.{object.Object.Object as o, thread.{Inbox.Inbox as inbox, Receiving.Receiving}}
+use Rattle.machine.specs.{declared.thread.{RunState.RunState as state, Tcb.Tcb}, Boot.IsBoot, Changes.{first_waiting, with_reply, with_tcb}}
+use Rattle.machine.specs.{Changes.with_waiting, Machine.Machine, Releasing.{with_blocked, with_holder_halted, with_holding}, Step.step_of}
+use Rattle.machine.{specs.Step.{Deliver.first_at, Find.find, Receive.receive_of}, proofs.LookUps.queue_of-with_object}
 use Rattle.machine.specs.declared.object.ObjectKind.TheVariants as kind
 use Rattle.machine.specs.declared.object.ReplyState.TheVariants as reply
-use Rattle.machine.specs.{declared.thread.{RunState.RunState as state, Tcb.Tcb}, Boot.IsBoot}
-use Rattle.machine.specs.{Changes.{first_waiting, with_reply, with_tcb, with_waiting}, Machine.Machine, Releasing.with_blocked}
-use Rattle.machine.specs.{Releasing.{with_holder_halted, with_holding}, Step.{step_of, Deliver.first_at, Find.find}}
-use Rattle.machine.{specs.Step.Receive.receive_of, proofs.LookUps.queue_of-with_object}
 use Rattle.counterexamples.proofs.{BootChanges.{Change, becomes, changing, object_now, waits, with_changes}, ReplySystem.{answers, end_cap}}
 use Rattle.counterexamples.proofs.{ReplySystem.{receiver, reply_cap, serving}, SmallSystem.{finding, id, reading, slot, stepping}}
 

@@ -2,14 +2,13 @@
 -- CNode holds capabilities for an endpoint, to send and to receive, for a reply, and for the receiver's context.
 use Rattle.std.{specs.Prelude.codes, proofs.Common.{[], ℕ, ◌∷◌, None, Option, Some, true}}
 use Rattle.base.specs.declared.ids.ObjId.{ObjId}
-use Rattle.machine.specs.declared.{cap.{Badged.Badged, Cap.Cap}, object.Context.Context}
+use Rattle.machine.specs.declared.{cap.{Badged.Badged, Cap.Cap}, object.{Context.Context, Object.{Object, Object as o}}}
+use Rattle.machine.specs.{declared.{object.ReplyState.ReplyState, thread.{Inbox.Inbox, RunState.RunState, Tcb.Tcb}}, Layout.Layout}
 use Rattle.machine.specs.declared.cap.Detail.TheVariants as d
 use Rattle.machine.specs.declared.layout.Version.TheVariants as version
-use Rattle.machine.specs.declared.{object.{Object.{Object, Object as o}, ReplyState.ReplyState}, thread.{Inbox.Inbox, RunState.RunState}}
 use Rattle.machine.specs.declared.object.ReplyState.TheVariants as reply
 use Rattle.machine.specs.declared.thread.Inbox.TheVariants as inbox
 use Rattle.machine.specs.declared.thread.RunState.TheVariants as state
-use Rattle.machine.specs.{declared.thread.Tcb.Tcb, Layout.Layout}
 use Rattle.counterexamples.proofs.SmallSystem.{endpoint, filled, id, labelled, slot}
 
 abbrev pub space : Object

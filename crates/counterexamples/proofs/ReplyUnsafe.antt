@@ -2,10 +2,9 @@
 -- which then waits with it.
 use Rattle.std.proofs.Common.{Some, false, lit≤, refl, true}
 use Rattle.base.specs.declared.kind.Kind.TheVariants.{Holds}
-use Rattle.machine.specs.declared.{object.Object.Object as o, thread.Inbox.Inbox as inbox}
+use Rattle.machine.specs.declared.{object.Object.Object as o, thread.{Inbox.Inbox as inbox, RunState.RunState as state}}
+use Rattle.machine.specs.{Authority.{HasAuthority, HasAuthority.by_link}, Boot.IsBoot, Machine.Machine}
 use Rattle.machine.specs.declared.object.ReplyState.TheVariants as reply
-use Rattle.machine.specs.{declared.thread.RunState.RunState as state, Authority.{HasAuthority, HasAuthority.by_link}, Boot.IsBoot}
-use Rattle.machine.specs.Machine.{Machine}
 use Rattle.policy.specs.{Domain.EdgeTest, Needed.reply_holds}
 use Rattle.counterexamples.{specs.Counterexamples.UnsafeWithout, proofs.BootChanges.{changing, label_now, object_now, with_changes}}
 use Rattle.counterexamples.proofs.{FewLabels.among, ReplyRun.{receive_made, received, receiving, waiting}, ReplySystem.{answers, receiver}}

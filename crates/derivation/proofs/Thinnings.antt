@@ -1,12 +1,11 @@
 -- A derivation tree that slots are leaving stays so by each step of a removal, and once they are alone it is what the removal makes.
-use Rattle.std.{specs.{FinMap.values, Prelude.{None, Option, Some, filter, if◌then◌else◌}}, proofs.Common.{◌∙◌, ◌≡◌, Bool, false}}
-use Rattle.std.proofs.{Common.{inl, refl, subst, sym, true}, lemmas.Bool.false≢true}
+use Rattle.std.{specs.{FinMap.values, Prelude.{None, Option, Some, filter, if◌then◌else◌}}, proofs.Common.{◌∙◌, ◌≡◌, Bool, false, inl}}
+use Rattle.std.proofs.{Common.{refl, subst, sym, true}, lemmas.Bool.false≢true}
 use Rattle.base.specs.declared.ids.SlotRef.{SlotRef}
-use Rattle.machine.specs.{Machine.{Machine, parent_of}, Orphans.{Nearest, climbs, no_ancestor, survives}}
-use Rattle.machine.specs.{Orphans.without_nodes, Removal.parent_after, Tree.IsAlone, WellFormed.{Descends, child, further}}
-use Rattle.machine.proofs.{OrphanLemmas.{climbed, nearest_stays}, RemovalStays.further_on}
-use Rattle.derivation.{specs.{Removing.{HaveLeft}, Thinning.IsThinned}, proofs.Ancestors.only_nearest}
-use Rattle.derivation.proofs.Ancestors.{parents_kept}
+use Rattle.machine.specs.{Machine.{Machine, parent_of}, Orphans.{Nearest, climbs, no_ancestor, survives, without_nodes}}
+use Rattle.machine.{specs.{Removal.parent_after, Tree.IsAlone, WellFormed.{Descends, child, further}}, proofs.OrphanLemmas.climbed}
+use Rattle.machine.proofs.{OrphanLemmas.nearest_stays, RemovalStays.further_on}
+use Rattle.derivation.{specs.{Removing.HaveLeft, Thinning.IsThinned}, proofs.Ancestors.{only_nearest, parents_kept}}
 
 -- at first nothing has left
 pub thinned_at_first : (m : Machine) (gone : SlotRef → Bool) → IsThinned m gone m

@@ -1,7 +1,6 @@
 //! The sinks that answers are written to.
-ghost use Rattle.std.specs.Io.{WritesAtMost, KnownBytes.{Appends, Keeps, WriteAppends}};
-ghost use Rattle.std.specs.Prelude.{ℕ, ◌<◌, ◌≡◌, Bool, List, Ok, OnErr, OnOk, Option, false, length, true};
-ghost use Rattle.std.specs.Result.{is_err};
+ghost use Rattle.std.specs.{Io.{WritesAtMost, KnownBytes.{Appends, Keeps, WriteAppends}}, Prelude.{ℕ, ◌<◌, ◌≡◌, Bool}};
+ghost use Rattle.std.specs.{Prelude.{List, Ok, OnErr, OnOk, Option, false, length, true}, Result.is_err};
 ghost use Rattle.devices.specs.Devices.{AppendsBeginning};
 
 use thiserror::Error;

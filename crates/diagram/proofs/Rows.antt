@@ -1,16 +1,12 @@
 -- Programs and what is drawn of them, by the rows of the summary.
-use Rattle.std.{specs.List.{flat_map, list_all}, proofs.Common.{ℕ, ◌&&◌, ◌++◌, ◌==◌, ◌||◌, ◌∙◌, ◌≡◌, Bool, List, ap, codes, map, not, refl, sym, true}}
-use Rattle.std.proofs.lemmas.List.{Elements.All-map, Folds.{flat_map-map, list_all-map}}
-use Rattle.std.proofs.lemmas.Simd.{map-map}
+use Rattle.std.{specs.List.{flat_map, list_all}, proofs.Common.{ℕ, ◌&&◌, ◌++◌, ◌==◌, ◌||◌, ◌∙◌, ◌≡◌, Bool, List, ap, codes, map, not, refl}}
+use Rattle.std.proofs.{Common.{sym, true}, lemmas.{List.{Elements.All-map, Folds.{flat_map-map, list_all-map}}, Simd.map-map}}
 use Rattle.machine.specs.Layout.{Layout}
 use Rattle.policy.specs.Domain.{EdgeTest}
 use Rattle.verdict.specs.Extents.{Reach}
-use Rattle.summary.specs.{Labelled.others_of, Rows.{AreRowsOf, IsRowOf}}
-use Rattle.summary.specs.declared.rows.Row.{Row}
-use Rattle.diagram.specs.Folded.{IsFoldedDrawing, arrow_text, arrows_text, box_text, folded_text, rows_text}
-use Rattle.diagram.specs.Programs.{ArePrograms, IsProgram, Program, program_of}
-use Rattle.diagram.specs.Regions.{is_inside, uses}
-use Rattle.diagram.specs.declared.drawing.TheConstants.{HEAD}
+use Rattle.summary.specs.{declared.rows.Row.Row, Labelled.others_of, Rows.{AreRowsOf, IsRowOf}}
+use Rattle.diagram.specs.{declared.drawing.TheConstants.HEAD, Folded.{IsFoldedDrawing, arrow_text, arrows_text, box_text, folded_text}}
+use Rattle.diagram.specs.{Folded.rows_text, Programs.{ArePrograms, IsProgram, Program, program_of}, Regions.{is_inside, uses}}
 
 program_is : (t : Layout) (reach : Reach) (row : Row) → IsRowOf t reach row → IsProgram reach (program_of reach.test row)
 program_is t reach row is = record {

@@ -1,16 +1,14 @@
 -- The folded drawing of who may change or take from whom, as Graphviz reads it: a box for each program, with the labels without a thread
 -- that it alone uses, and an arrow from each to each other with what it may do there, and to which labels without a thread that the other
 -- uses (compare the integrity of 'seL4 Enforces Integrity', section 4; the drawing is confine's own).
-use Rattle.std.specs.{Fmt.decimal, List.flat_map}
-use Rattle.std.specs.Prelude.{[], ℕ, ◌++◌, ◌==◌, ◌∷◌, ◌≡◌, Bool, List, codes, if◌then◌else◌, length, map, not}
+use Rattle.std.specs.{Fmt.decimal, List.flat_map, Prelude.{[], ℕ, ◌++◌, ◌==◌, ◌∷◌, ◌≡◌, Bool, List, codes, if◌then◌else◌, length, map, not}}
 use Rattle.machine.specs.Layout.{Layout}
 use Rattle.policy.specs.Domain.{EdgeTest}
-use Rattle.captext.specs.PolicyText.{label_name}
 use Rattle.verdict.specs.Extents.{Reach}
-use Rattle.summary.specs.declared.rows.Row.{Row}
-use Rattle.summary.specs.{Labelled.others_of, Padding.given, Regions.names_text}
-use Rattle.diagram.specs.{Programs.{ArePrograms, Program, program_of}, Regions.{between, does, inside}}
+use Rattle.captext.specs.PolicyText.{label_name}
+use Rattle.summary.specs.{declared.rows.Row.Row, Labelled.others_of, Padding.given, Regions.names_text}
 use Rattle.diagram.specs.declared.{drawing.TheConstants.HEAD, verbs.Verb.{Verb, TheVariants.{Changes, Takes, Writes}}}
+use Rattle.diagram.specs.{Programs.{ArePrograms, Program, program_of}, Regions.{between, does, inside}}
 
 -- the names of labels inside a box, beneath the program's
 abbrev pub inside_text : Layout → List ℕ → List ℕ → List ℕ

@@ -1,8 +1,6 @@
 -- Where a label without a thread stands in the drawing: inside the one program that uses it, or in the words of arrows (confine's own).
-use Rattle.std.specs.List.{filter, list_all}
-use Rattle.std.specs.Prelude.{ℕ, ◌&&◌, ◌==◌, ◌||◌, ◌≡◌, ◌≢◌, Bool, Contains, List, not, true}
-use Rattle.diagram.specs.Programs.{Program}
-use Rattle.diagram.specs.declared.verbs.Verb.{Verb, TheVariants.{Changes, Takes, Writes}}
+use Rattle.std.specs.{List.{filter, list_all}, Prelude.{ℕ, ◌&&◌, ◌==◌, ◌||◌, ◌≡◌, ◌≢◌, Bool, Contains, List, not, true}}
+use Rattle.diagram.specs.{declared.verbs.Verb.{Verb, TheVariants.{Changes, Takes, Writes}}, Programs.Program}
 
 -- whether a program may change objects of a label or make them smaller, or reads them
 abbrev pub uses : Program → ℕ → Bool

@@ -4,8 +4,7 @@ ghost use Rattle.base.specs.Labels.{is_in};
 ghost use Rattle.policy.specs.Policy.{allows};
 ghost use Rattle.summary.specs.Padding.{given};
 ghost use Rattle.diagram.specs.Folded.{arrow_text, between_text, more_text, phrase_text, reasons_text, style_text};
-ghost use Rattle.diagram.specs.Folded.{words_text, worded_text};
-ghost use Rattle.diagram.specs.Programs.{program_of};
+ghost use Rattle.diagram.specs.{Folded.{worded_text, words_text}, Programs.program_of};
 
 use crate::verbs::{Verb, between, does, verb_word};
 use base::Label;

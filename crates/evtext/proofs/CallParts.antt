@@ -4,8 +4,7 @@ use Rattle.std.proofs.Common.{◌<◌, ◌^◌, ◌∙◌, ◌∷◌, ◌≡◌,
 use Rattle.std.proofs.{Common.{subst, sym, true}, lemmas.{Option.{none-some, same_Some}, Slice.Eq.bytes_eq-Decides}}
 use Rattle.base.specs.{declared.rights.Rights.Rights, Rights.{IsRights, letter_of, rights_of_word, rights_word}}
 use Rattle.base.proofs.RightsWords.{rights_again, rights_named}
-use Rattle.machine.specs.declared.{call.CapData.{CapData, TheVariants.{Badge, Guard}}, object.MemoryKind.{MemoryKind, TheVariants.CNode}}
-use Rattle.machine.specs.declared.object.MemoryKind.TheVariants.{Context, Endpoint, Frame, Notification, Reply, Tcb, Untyped}
+use Rattle.machine.specs.declared.{call.CapData.{CapData, TheVariants.{Badge, Guard}}, object.MemoryKind.{MemoryKind, TheVariants.Untyped}}
 use Rattle.machine.specs.{declared.slot_address.SlotAddress.SlotAddress, KindWords.{memory_kind_of, memory_kind_word}}
 use Rattle.machine.proofs.KindWords.{memory_again, memory_takes}
 use Rattle.words.specs.{Number.{dec_of}, Parts.{IsPart, by_word, keyed, read_as}, Reading.{bind, word_at}}
@@ -64,13 +63,7 @@ rights_part = word_part rights_of_word rights_word IsRights rights_named rights_
 
 plain_kind : (kind : MemoryKind) → IsPlainWord (memory_kind_word kind)
 plain_kind Untyped = plain_bytes (codes "untyped") refl
-plain_kind CNode = plain_bytes (codes "cnode") refl
-plain_kind Tcb = plain_bytes (codes "tcb") refl
-plain_kind Endpoint = plain_bytes (codes "endpoint") refl
-plain_kind Notification = plain_bytes (codes "notification") refl
-plain_kind Reply = plain_bytes (codes "reply") refl
-plain_kind Context = plain_bytes (codes "context") refl
-plain_kind Frame = plain_bytes (codes "frame") refl
+plain_kind kind = plain_bytes (memory_kind_word kind) refl
 
 pub memory_kind_part : IsPart memory_kind_at (λ kind. memory_kind_word kind ∷ []) (λ _. ⊤)
 unfolding memory_kind_at

@@ -147,57 +147,39 @@ call_at = keyed calls
 abbrev pub words_by : (form : Form) → form.Operands → List (List ℕ)
 words_by form operands = form.name ∷ form.shape.spell operands
 
+-- what a function makes of the form and the operands of a call
+abbrev pub by_form {ℓ} : {X : Type ℓ} → ((form : Form) → form.Operands → X) → Call → X
+by_form f (Signal address) = f signal_form address
+by_form f (Poll address) = f poll_form address
+by_form f (Wait address) = f wait_form address
+by_form f (Send address words capability) = f send_form (address, (words, capability))
+by_form f (call.Call address words capability) = f call_form (address, (words, capability))
+by_form f (Receive address reply slot) = f receive_form (address, (reply, slot))
+by_form f (Reply address words) = f reply_form (address, words)
+by_form f Fetch = f fetch_form tt
+by_form f (Copy to from rights) = f copy_form (to, (from, rights))
+by_form f (Mint to from rights given) = f mint_form (to, (from, (rights, given)))
+by_form f (Move to from) = f move_form (to, from)
+by_form f (Delete slot) = f delete_form slot
+by_form f (Revoke slot) = f revoke_form slot
+by_form f (Retype untyped kind bits to offset count) = f retype_form (untyped, (kind, (bits, (to, (offset, count)))))
+by_form f (Read address index) = f read_form (address, index)
+by_form f (Write address index word) = f write_form (address, (index, word))
+by_form f (SetSpace thread space) = f set_space_form (thread, space)
+by_form f (ClearSpace thread) = f clear_space_form thread
+by_form f (Suspend thread) = f suspend_form thread
+by_form f (Resume thread) = f resume_form thread
+by_form f (Configure control context budget period) = f configure_form (control, (context, (budget, period)))
+by_form f (Bind context thread) = f bind_form (context, thread)
+by_form f (Unbind context) = f unbind_form context
+
 -- a call: its name, then its operands
 abbrev pub call_words : Call → List (List ℕ)
-call_words (Signal address) = words_by signal_form address
-call_words (Poll address) = words_by poll_form address
-call_words (Wait address) = words_by wait_form address
-call_words (Send address words capability) = words_by send_form (address, (words, capability))
-call_words (call.Call address words capability) = words_by call_form (address, (words, capability))
-call_words (Receive address reply slot) = words_by receive_form (address, (reply, slot))
-call_words (Reply address words) = words_by reply_form (address, words)
-call_words Fetch = words_by fetch_form tt
-call_words (Copy to from rights) = words_by copy_form (to, (from, rights))
-call_words (Mint to from rights given) = words_by mint_form (to, (from, (rights, given)))
-call_words (Move to from) = words_by move_form (to, from)
-call_words (Delete slot) = words_by delete_form slot
-call_words (Revoke slot) = words_by revoke_form slot
-call_words (Retype untyped kind bits to offset count) = words_by retype_form (untyped, (kind, (bits, (to, (offset, count)))))
-call_words (Read address index) = words_by read_form (address, index)
-call_words (Write address index word) = words_by write_form (address, (index, word))
-call_words (SetSpace thread space) = words_by set_space_form (thread, space)
-call_words (ClearSpace thread) = words_by clear_space_form thread
-call_words (Suspend thread) = words_by suspend_form thread
-call_words (Resume thread) = words_by resume_form thread
-call_words (Configure control context budget period) = words_by configure_form (control, (context, (budget, period)))
-call_words (Bind context thread) = words_by bind_form (context, thread)
-call_words (Unbind context) = words_by unbind_form context
+call_words call = by_form words_by call
 
 -- a call whose operands can be spelled: its numbers are of 64 bits, and its rights are a set of the four
 abbrev pub HasWords : Call → Type 0
-HasWords (Signal address) = signal_form.shape.Fits address
-HasWords (Poll address) = poll_form.shape.Fits address
-HasWords (Wait address) = wait_form.shape.Fits address
-HasWords (Send address words capability) = send_form.shape.Fits (address, (words, capability))
-HasWords (call.Call address words capability) = call_form.shape.Fits (address, (words, capability))
-HasWords (Receive address reply slot) = receive_form.shape.Fits (address, (reply, slot))
-HasWords (Reply address words) = reply_form.shape.Fits (address, words)
-HasWords Fetch = fetch_form.shape.Fits tt
-HasWords (Copy to from rights) = copy_form.shape.Fits (to, (from, rights))
-HasWords (Mint to from rights given) = mint_form.shape.Fits (to, (from, (rights, given)))
-HasWords (Move to from) = move_form.shape.Fits (to, from)
-HasWords (Delete slot) = delete_form.shape.Fits slot
-HasWords (Revoke slot) = revoke_form.shape.Fits slot
-HasWords (Retype untyped kind bits to offset count) = retype_form.shape.Fits (untyped, (kind, (bits, (to, (offset, count)))))
-HasWords (Read address index) = read_form.shape.Fits (address, index)
-HasWords (Write address index word) = write_form.shape.Fits (address, (index, word))
-HasWords (SetSpace thread space) = set_space_form.shape.Fits (thread, space)
-HasWords (ClearSpace thread) = clear_space_form.shape.Fits thread
-HasWords (Suspend thread) = suspend_form.shape.Fits thread
-HasWords (Resume thread) = resume_form.shape.Fits thread
-HasWords (Configure control context budget period) = configure_form.shape.Fits (control, (context, (budget, period)))
-HasWords (Bind context thread) = bind_form.shape.Fits (context, thread)
-HasWords (Unbind context) = unbind_form.shape.Fits context
+HasWords call = by_form (λ form operands. form.shape.Fits operands) call
 
 -- the event of a core, a thread and a call
 abbrev pub event_of : ℕ × (ℕ × Call) → Event

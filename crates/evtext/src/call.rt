@@ -1,10 +1,10 @@
 //! The calls, each as its name and its operands: how one is read off the words of a line, and how it is written.
-ghost use Rattle.std.specs.Prelude.{[], ◌≡◌, Bool, OnOk, drop, get_or};
+ghost use Rattle.std.specs.Prelude.{◌≡◌, Bool, OnOk};
 ghost use Rattle.machine.specs.Step.{takes_memory};
 ghost use Rattle.words.specs.{Parts.by_word, Reading.Gives};
-ghost use Rattle.evtext.specs.Event.{bind_form, call_at, call_by, call_form, call_words, clear_space_form, configure_form, copy_form};
-ghost use Rattle.evtext.specs.Event.{delete_form, fetch_form, mint_form, move_form, poll_form, read_form, receive_form, reply_form};
-ghost use Rattle.evtext.specs.Event.{resume_form, retype_form, revoke_form, send_form, set_space_form, signal_form, slot_calls};
+ghost use Rattle.evtext.specs.Event.{bind_form, by_form, call_at, call_by, call_form, call_words, clear_space_form, configure_form};
+ghost use Rattle.evtext.specs.Event.{copy_form, delete_form, fetch_form, mint_form, move_form, poll_form, read_form, receive_form};
+ghost use Rattle.evtext.specs.Event.{reply_form, resume_form, retype_form, revoke_form, send_form, set_space_form, signal_form, slot_calls};
 ghost use Rattle.evtext.specs.{Event.{suspend_form, thread_calls, unbind_form, wait_form, write_form}, Written.written};
 
 use crate::line::is;
@@ -377,7 +377,7 @@ fn next_configure(words: &mut Words<'_>) -> Result<Call, Wrong>
 
 // The name of a call.
 fn name_of(call: &Call) -> &'static str
-    ensures { result.now ≡ get_or (call_words call.now) 0 [] }
+    ensures { result.now ≡ by_form (λ form operands. form.name) call.now }
 {
     match call {
         Call::Signal { .. } => "signal",
@@ -476,7 +476,7 @@ fn write_mint(
 // Writes the operands of a retype, the one call that takes memory.
 fn write_retype(text: &mut Vec<u8>, call: &Call) -> Result<(), AllocError>
     requires { takes_memory call.now ≡ Bool.true }
-    ensures { OnOk result (text.new.items ≡ written text.old.items (drop 1 (call_words call.now))) }
+    ensures { OnOk result (text.new.items ≡ written text.old.items (by_form (λ form operands. form.shape.spell operands) call.now)) }
 {
     let Call::Retype {
         untyped,

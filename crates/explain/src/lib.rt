@@ -2,6 +2,8 @@
 //! done; what each label may do to which others, and where the authority comes from, or why there
 //! is none; which threads can't call, and which bits of an address a root doesn't read; and that a
 //! word is no label.
+//!
+//! `confine` stands on it. It knows no device and no command.
 #![tactic(auto)]
 
 mod asked;

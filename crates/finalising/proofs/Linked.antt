@@ -1,11 +1,11 @@
 -- The links of a machine whose links agree still agree at both ends where some of its threads were halted, aborted or unbound.
-use Rattle.std.{specs.Prelude.{All, Contains, None, Option, Some, option_map}, proofs.Common.{◌||◌, ◌∙◌, ◌≡◌, Bool, List, ap, cond, false}}
-use Rattle.std.proofs.{Common.{not, refl, sym, true}, lemmas.{Bool.false≢true, List.Elements.{All-contains_itself, All-weaker}}}
+use Rattle.std.{specs.Prelude.{Contains, None, Option, Some, option_map}, proofs.Common.{◌||◌, ◌∙◌, ◌≡◌, Bool, List, ap, cond, false, not}}
+use Rattle.std.proofs.{Common.{refl, sym, true}, lemmas.{Bool.false≢true, List.Elements.{All-contains_itself, All-weaker}}}
 use Rattle.base.specs.declared.ids.ObjId.{ObjId}
 use Rattle.machine.specs.declared.object.{Object.{Object, Object as o}, ReplyState.{ReplyState, ReplyState as reply}}
 use Rattle.machine.specs.{declared.thread.{RunState.RunState, Tcb.Tcb}, Machine.{Machine, object_of, queue_of}, Releasing.reply_by}
 use Rattle.machine.{specs.WellFormed.{IsIdle, IsThread, LinksAgree}, proofs.{Filters.filter_all, Leaving.rest_itself}}
-use Rattle.steps.proofs.LeavingLinks.{Becomes, HaveLeft, link_itself, links_left}
+use Rattle.steps.proofs.LeavingLinks.{AreReleased, link_itself, links_left}
 use Rattle.finalising.proofs.Reached.{IsReached, Reach, has_left, leavers, nobody, object_by, queue_by, state_by, tcb_by}
 
 -- a thread by the ways in which it was reached
@@ -28,7 +28,7 @@ module _ (old now : Machine) (reach : Reach) (reached : IsReached old reach now)
   pub thread_now : (thread : ObjId) (tcb : Tcb) → IsThread old thread tcb → IsThread now thread (tcb_now thread tcb)
   thread_now thread tcb there = reached.objects thread ∙ ap (option_map (object_by reach thread)) there
 
-  pub reached_left : HaveLeft old (leavers reach) now
+  pub reached_left : AreReleased old (leavers reach) now
   reached_left =
       record {
         objects = reached.objects;

@@ -9,7 +9,7 @@ use Rattle.machine.specs.Finalising.{is_released, leads_nowhere, leaves, link_af
 use Rattle.machine.specs.{Machine.{Machine, object_of, queue_of}, Objects.slot_count, Releasing.reply_by, WellFormed.{IsThread, LinksAgree}}
 use Rattle.machine.proofs.{Filters.filter_same, Queues.first_in, RemovalTable.waits_aborted}
 use Rattle.objects.specs.Waiting.{WaitsNowhere}
-use Rattle.steps.proofs.LeavingLinks.{HaveLeft, member_was}
+use Rattle.steps.proofs.LeavingLinks.{AreReleased, member_was}
 use Rattle.finalising.{specs.Pass.IsFinalised, proofs.Linked.reached_left}
 use Rattle.finalising.proofs.Reached.{IsReached, Reach, has_left, leavers, object_by, queue_by, tcb_by}
 
@@ -133,7 +133,7 @@ module _ (old now : Machine) (goes : ObjId → Bool) (links : LinksAgree old) (f
     by_object (Some (o.Context context)) = refl
     by_object (Some _) = refl
 
-  left_now : HaveLeft old (leavers follows.reach) now
+  left_now : AreReleased old (leavers follows.reach) now
   left_now = reached_left old now follows.reach follows.reached
 
   -- nobody is left in the queue of an object that goes

@@ -3,15 +3,14 @@ use Rattle.std.{specs.Prelude.{None, Option, Some, option_map}, proofs.Common.{�
 use Rattle.std.proofs.{Common.{subst, sym, true}, lemmas.{Bool.false≢true, Option.{none-some, same_Some}}}
 use Rattle.base.specs.declared.ids.ObjId.{ObjId}
 use Rattle.machine.specs.declared.object.{Context.Context, Object.{Object, Object as o}, ObjectKind.{ObjectKind, ObjectKind as kind}}
-use Rattle.machine.specs.declared.object.Reply.{Reply}
-use Rattle.machine.specs.{declared.thread.{RunState.{RunState, RunState as state}, Tcb.Tcb}, Finalising.{is_aborted, is_halted}}
-use Rattle.machine.specs.{Finalising.{leads_nowhere, link_after}, Machine.{Machine, object_of, same_id}, Objects.kind_of_object}
+use Rattle.machine.specs.{declared.{object.Reply.Reply, thread.{RunState.{RunState, RunState as state}, Tcb.Tcb}}, Finalising.is_aborted}
+use Rattle.machine.specs.{Finalising.{is_halted, leads_nowhere, link_after}, Machine.{Machine, object_of, same_id}, Objects.kind_of_object}
 use Rattle.machine.specs.{Releasing.{with_halted, with_unbound}, WellFormed.{IsThread, LinksAgree, WaitsAtKind, kind_of}}
 use Rattle.machine.proofs.{Ids.itself, Leaving.apart_ids, LookUps.one_id, RemovalTable.one_thread, RoundLemmas.or_second}
 use Rattle.steps.proofs.LeavingLinks.{link_was}
-use Rattle.finalising.{specs.Finalised.with_link_cut, proofs.{Part.Follows, Reached.{Reach, and_halted, and_unbound}}}
-use Rattle.finalising.proofs.{Part.IsPart, Releases.{halted_step, unbound_step}, Tests.{alone, both_aborted, both_halted, both_links}}
-use Rattle.finalising.proofs.Tests.{is_link, link_is, neither, no_context, no_queue, nobody_waits, no_reply, or_false, plus, refuted}
+use Rattle.finalising.{specs.Finalised.with_link_cut, proofs.{Part.{Follows, IsPart}, Reached.{Reach, and_halted, and_unbound}}}
+use Rattle.finalising.proofs.{Releases.{halted_step, unbound_step}, Tests.{alone, both_aborted, both_halted, both_links, is_link, link_is}}
+use Rattle.finalising.proofs.Tests.{neither, no_context, no_queue, no_reply, nobody_waits, or_false, plus, refuted}
 
 module _ (old : Machine) (links : LinksAgree old) (done : ObjId → Bool) (x : ObjId) where
   -- who is reached by one more object that is no reply, or at which nobody waits, or that is no context

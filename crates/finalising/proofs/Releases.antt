@@ -3,16 +3,15 @@ use Rattle.std.{specs.Prelude.{None, Option, Some, option_map}, proofs.Common.{â
 use Rattle.std.proofs.{Common.{inl, inr, not, refl, subst, sym, true}, lemmas.{List.Elements.filter_agree, Option.{none-some, same_Some}}}
 use Rattle.base.specs.declared.ids.ObjId.{ObjId}
 use Rattle.machine.specs.declared.object.{Context.Context, Object.{Object, Object as o}, ReplyState.{ReplyState, ReplyState as reply}}
-use Rattle.machine.specs.{declared.thread.Tcb.Tcb, Finalising.{aborted, halted, link_after}, Releasing.{reply_by, with_aborted}}
-use Rattle.machine.specs.{Machine.{Machine, object_of, queue_of, same_id, with_object}, Releasing.{SameRest, with_halted, with_released}}
-use Rattle.machine.specs.{Releasing.with_unbound, WellFormed.{IsThread, LinksAgree}}
-use Rattle.machine.proofs.{Filters.filter_twice, Ids.{at_itself, at_other, itself, one_or_two}, Leaving.{apart_ids, freed}}
-use Rattle.machine.proofs.Leaving.{rest-with_object, rest_along, rest_itself, without}
-use Rattle.machine.proofs.LookUps.{object_of-with_object, one_id, queue_of-with_object}
-use Rattle.machine.proofs.{RemovalTable.one_thread, RoundLemmas.or_second}
+use Rattle.machine.specs.{declared.thread.Tcb.Tcb, Finalising.{aborted, halted, link_after}, Machine.{Machine, object_of, queue_of}}
+use Rattle.machine.specs.{Machine.{same_id, with_object}, Releasing.{SameRest, reply_by, with_aborted, with_halted, with_released}}
+use Rattle.machine.{specs.{Releasing.with_unbound, WellFormed.{IsThread, LinksAgree}}, proofs.{Filters.filter_twice, Ids.at_itself}}
+use Rattle.machine.proofs.{Ids.{at_other, itself, one_or_two}, Leaving.{apart_ids, freed, rest-with_object, rest_along, rest_itself}}
+use Rattle.machine.proofs.{Leaving.without, LookUps.{object_of-with_object, one_id, queue_of-with_object}, RemovalTable.one_thread}
+use Rattle.machine.proofs.RoundLemmas.{or_second}
 use Rattle.steps.proofs.{ContextsFormed.unbound_is, Releases.{IsReleased, released_is}}
-use Rattle.finalising.proofs.{Linked.{links_reached, tcb_now, thread_now}, Tests.or_false}
-use Rattle.finalising.proofs.Reached.{IsReached, Reach, and_aborted, and_halted, and_unbound, has_left, object_by, queue_by, tcb_by}
+use Rattle.finalising.proofs.{Linked.{links_reached, tcb_now, thread_now}, Reached.{IsReached, Reach, and_aborted, and_halted, and_unbound}}
+use Rattle.finalising.proofs.{Reached.{has_left, object_by, queue_by, tcb_by}, Tests.or_false}
 
 -- tests of who left
 

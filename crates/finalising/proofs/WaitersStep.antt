@@ -6,12 +6,11 @@ use Rattle.base.specs.declared.ids.ObjId.{ObjId}
 use Rattle.machine.specs.{declared.thread.Tcb.Tcb, Finalising.{is_aborted, is_halted}, Machine.{Machine, queue_of, same_id}}
 use Rattle.machine.{specs.{Releasing.with_aborted, WellFormed.{IsThread, LinksAgree, WaitsAt}}, proofs.{Ids.itself, LookUps.one_id}}
 use Rattle.machine.proofs.{Queues.{first_in, other_in}, RemovalTable.{one_thread, waits_aborted}, RoundLemmas.or_second}
-use Rattle.steps.proofs.LeavingLinks.{HaveLeft, member_now, member_was}
-use Rattle.finalising.specs.Finalised.{members, with_waiters_aborted}
-use Rattle.finalising.proofs.{Linked.reached_left, Reached.{IsReached, Reach, and_aborted, has_left, leavers}}
-use Rattle.finalising.proofs.{Part.Follows, PartSteps.{NoContext, NoReply, NoThread, part_added}}
-use Rattle.finalising.proofs.{PartSteps.{plain_bound, plain_halted}, Releases.aborted_step, Tests.{alone, both_aborted, neither, or_false}}
-use Rattle.finalising.proofs.Tests.{plus, waits_there}
+use Rattle.steps.proofs.LeavingLinks.{AreReleased, member_now, member_was}
+use Rattle.finalising.{specs.Finalised.{members, with_waiters_aborted}, proofs.{Linked.reached_left, Part.Follows, PartSteps.NoContext}}
+use Rattle.finalising.proofs.{PartSteps.{NoReply, NoThread, part_added, plain_bound, plain_halted}, Reached.{IsReached, Reach, and_aborted}}
+use Rattle.finalising.proofs.{Reached.{has_left, leavers}, Releases.aborted_step, Tests.{alone, both_aborted, neither, or_false, plus}}
+use Rattle.finalising.proofs.Tests.{waits_there}
 
 -- who is in a list, by a test
 
@@ -90,7 +89,7 @@ module _ (old : Machine) (links : LinksAgree old) (done : ObjId → Bool) (x : O
   member_is : (thread : ObjId) (threads : List ObjId) → queue_of now x ≡ Some threads → Contains threads thread → Contains waiters thread
   member_is thread threads e within = subst (λ (q : Option (List ObjId)). Contains (members q) thread) (sym e) within
 
-  left_now : HaveLeft old (leavers follows.reach) now
+  left_now : AreReleased old (leavers follows.reach) now
   left_now = reached_left old now follows.reach follows.reached
 
   -- a waiter was one, and left no queue

@@ -1,7 +1,7 @@
 //! The files, the forms of their lines, and what is said of a line that isn't spelled as its form has it.
 //!
-//! The crates with words to a person stand on it, and `reptext`. It knows nothing of a kernel or a
-//! policy.
+//! `reptext`, the crates of commands and those with words to a person stand on it. It knows nothing
+//! of a kernel or a policy.
 #![tactic(auto)]
 
 mod classes;

@@ -1,7 +1,6 @@
 -- The next multiple of a power of two.
-use Rattle.std.proofs.Common.{ℕ, ◌%◌, ◌*◌, ◌+◌, ◌-◌, ◌/◌, ◌<◌, ◌^◌, ◌≡◌, ◌≤◌, arith}
-use Rattle.std.proofs.Math.Nat.{div-add-mod, mod-lt, mul_comm, mul-mod_left}
-use Rattle.std.proofs.lemmas.Nat.{pow_pos}
+use Rattle.std.proofs.{Common.{ℕ, ◌%◌, ◌*◌, ◌+◌, ◌-◌, ◌/◌, ◌<◌, ◌^◌, ◌≡◌, ◌≤◌, arith}, Math.Nat.{div-add-mod, mod-lt, mul-mod_left}}
+use Rattle.std.proofs.{Math.Nat.mul_comm, lemmas.Nat.pow_pos}
 use Rattle.importing.specs.Objects.{aligned_up}
 
 -- it is a multiple

@@ -1,12 +1,10 @@
 -- How the capabilities of children and of virtual machines are copied, one after another.
-use Rattle.std.specs.List.{flat_map}
-use Rattle.std.proofs.Common.{[], ℕ, ◌++◌, ◌+◌, ◌-◌, ◌<◌, ◌∙◌, ◌∷◌, ◌≡◌, ◌≤◌, List, ap, append_assoc, arith, get_or, length, refl, suc, sym, take, zero}
-use Rattle.std.proofs.lemmas.{Grind.{flat_map-append}, List.{append-nil, take_all}}
+use Rattle.std.{specs.List.flat_map, proofs.Common.{[], ℕ, ◌++◌, ◌+◌, ◌-◌, ◌<◌, ◌∙◌, ◌∷◌, ◌≡◌, ◌≤◌, List, ap, append_assoc, arith, get_or}}
+use Rattle.std.proofs.{Common.{length, refl, suc, sym, take, zero}, lemmas.{Grind.flat_map-append, List.{append-nil, take_all}}}
 use Rattle.microkit.specs.Description.{Description}
 use Rattle.microkit.specs.declared.description.User.TheVariants as user
-use Rattle.importing.specs.Tails.{children_of, guest_held, guests_held, maps_held, slots_held, tail_down}
-use Rattle.importing.specs.declared.{pieces.{Minting.{Minting}}, slots.{Held.{Held}}}
-use Rattle.importing.proofs.Maps.{take_more}
+use Rattle.importing.specs.{declared.{pieces.Minting.Minting, slots.Held.Held}, Tails.{children_of, guest_held, guests_held, maps_held}}
+use Rattle.importing.{specs.Tails.{slots_held, tail_down}, proofs.Maps.take_more}
 
 -- one list more
 one_more : {X Y : Type 0} (f : X → List Y) (xs : List X) (i : ℕ) (d : X) → i < length xs

@@ -1,9 +1,8 @@
 -- There are as many names as subjects.
-use Rattle.std.proofs.Common.{[], ℕ, ◌++◌, ◌+◌, ◌∷◌, ◌≡◌, Err, List, Ok, Result, ap, arith, length, suc, sym}
-use Rattle.std.proofs.lemmas.List.{length_push}
-use Rattle.microkit.specs.{Description.{Description}, Labels.{label_at, named_at, names_from, names_of, subjects_of}}
-use Rattle.microkit.specs.declared.labels.Subject.{Subject}
-use Rattle.words.specs.{Reading.{bind}, declared.faults.Fault.{Fault}}
+use Rattle.std.proofs.{Common.{[], ℕ, ◌++◌, ◌+◌, ◌∷◌, ◌≡◌, Err, List, Ok, Result, ap, arith, length, suc, sym}, lemmas.List.length_push}
+use Rattle.words.specs.{declared.faults.Fault.Fault, Reading.bind}
+use Rattle.microkit.specs.{declared.labels.Subject.Subject, Description.Description, Labels.{label_at, named_at, names_from, names_of}}
+use Rattle.microkit.specs.Labels.{subjects_of}
 
 same_ok : {X E : Type 0} (x y : X) → ◌≡◌ {A = Result X E} (Ok x) (Ok y) → x ≡ y
 same_ok x y e = cc

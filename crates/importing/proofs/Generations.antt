@@ -1,12 +1,11 @@
 -- As many generations as there are domains are enough: with one more, no domain has more copies.
-use Rattle.std.specs.{List.{filter, flat_map, range_with_len}}
-use Rattle.std.proofs.Common.{ℕ, ◌++◌, ◌+◌, ◌<◌, ◌∷◌, ◌≡◌, ◌≤◌, Bool, List, ap, arith, cond, false, length, refl, suc, sym, true, zero}
+use Rattle.std.{specs.List.{filter, flat_map, range_with_len}, proofs.Common.{ℕ, ◌++◌, ◌+◌, ◌<◌, ◌∷◌, ◌≡◌, ◌≤◌, Bool, List, ap, arith}}
+use Rattle.std.proofs.Common.{cond, false, length, refl, suc, sym, true, zero}
 use Rattle.microkit.specs.Description.{Description, Domain}
 use Rattle.microkit.specs.declared.description.User.TheVariants as user
-use Rattle.importing.specs.Tails.{HasParentsFirst, children_of, domain_has, guests_held, is_child_of, maps_held, slots_held, tail_down, tail_held}
-use Rattle.importing.specs.declared.{pieces.{Minting.{Minting}}}
+use Rattle.importing.specs.{declared.pieces.Minting.Minting, Tails.{HasParentsFirst, children_of, domain_has, guests_held, is_child_of}}
+use Rattle.importing.{specs.Tails.{maps_held, slots_held, tail_down, tail_held}, proofs.Copies.child_has}
 use Rattle.importing.specs.declared.pieces.Children.TheVariants as children
-use Rattle.importing.proofs.Copies.{child_has}
 
 -- two functions that agree on the numbers of a range that pass a test
 same_lists : {X : Type 0} (f g : ℕ → List X) (test : ℕ → Bool) (from count : ℕ)

@@ -1,7 +1,6 @@
 -- What a list shows of another one: tests, and what stands at a place.
-use Rattle.std.specs.{List.{list_any, position, position_or_len}}
-use Rattle.std.proofs.Common.{[], ℕ, ◌++◌, ◌+◌, ◌∙◌, ◌∷◌, ◌≡◌, ◌||◌, Bool, List, None, Some, ap, cond, length, map, nat_lt, not, refl, suc, zero}
-use Rattle.std.specs.{Option.{option_map}, Prelude.{slice_get}}
+use Rattle.std.{specs.{List.{list_any, position, position_or_len}, Option.option_map, Prelude.slice_get}, proofs.Common.{[], ℕ, ◌++◌, ◌+◌}}
+use Rattle.std.proofs.Common.{◌||◌, ◌∙◌, ◌∷◌, ◌≡◌, Bool, List, None, Some, ap, cond, length, map, nat_lt, not, refl, suc, zero}
 
 -- a test of any of what is seen
 pub any_seen : {X Y : Type 0} (see : X → Y) (test : Y → Bool) (xs : List X)

@@ -1,16 +1,13 @@
 -- How labels are added one after another.
-use Rattle.std.specs.{List.{AllByRecursion, AllPairs}}
-use Rattle.std.proofs.Common.{[], ℕ, ◌++◌, ◌+◌, ◌<◌, ◌∙◌, ◌∷◌, ◌≡◌, ◌≢◌, ◌≤◌, Bool, List, add-one, ap, arith, cond, false, get_or, length, nat_le, refl, subst, suc, sym, take, true, zero}
-use Rattle.std.proofs.lemmas.List.{get_or-map, get_or-take, length-take-le, take_all}
-use Rattle.table.specs.{Building.{AdmitsLabel, with_label}, Names.{label_named}}
-use Rattle.table.proofs.FrontLemmas.{no_place}
-use Rattle.machine.specs.Layout.{Layout, most_labels}
-use Rattle.microkit.specs.Names.{IsLabelName}
-use Rattle.machine.specs.declared.layout.Version.TheVariants as version
-use Rattle.std.proofs.lemmas.Bool.Decides.{nat_tests}
+use Rattle.std.{specs.List.{AllByRecursion, AllPairs}, proofs.Common.{[], ℕ, ◌++◌, ◌+◌, ◌<◌, ◌∙◌, ◌∷◌, ◌≡◌, ◌≢◌, ◌≤◌, Bool, List, add-one}}
+use Rattle.std.proofs.Common.{ap, arith, cond, false, get_or, length, nat_le, refl, subst, suc, sym, take, true, zero}
+use Rattle.std.proofs.lemmas.{Bool.Decides.nat_tests, List.{get_or-map, get_or-take, length-take-le}}
 use Rattle.words.specs.Name.{is_name}
-use Rattle.importing.specs.{Built.{labelled, version_for}, Groups.{labels_at, name_at}}
-use Rattle.importing.proofs.Items.{length_seen}
+use Rattle.microkit.specs.Names.{IsLabelName}
+use Rattle.machine.specs.Layout.{Layout, most_labels}
+use Rattle.machine.specs.declared.layout.Version.TheVariants as version
+use Rattle.table.{specs.{Building.{AdmitsLabel, with_label}, Names.label_named}, proofs.FrontLemmas.no_place}
+use Rattle.importing.{specs.{Built.{labelled, version_for}, Groups.{labels_at, name_at}}, proofs.Items.length_seen}
 
 -- the first so many labels
 abbrev pub first_labels : List (List ℕ) → ℕ → Layout
@@ -85,14 +82,3 @@ more_at names places i item draft name below at is so_far =
     ∙ ap (λ n. with_label (first_labels (labels_at names places) i) n) (sym (named names places i item name below at is))
     ∙ ap (λ xs. record (labelled (labels_at names places)) { labels = xs })
     (sym (one_more (labels_at names places) i (name_at names item) (omega (arith, below, size))))
-
-pub all_at : (names : List (List ℕ)) (places : List ℕ) (i : ℕ) → length places ≤ i
-    → first_labels (labels_at names places) i ≡ labelled (labels_at names places)
-all_at names places i past =
-    let size : length (labels_at names places) ≡ length places = length_seen (name_at names) places in
-    ap (λ xs. record (labelled (labels_at names places)) { labels = xs }) (take_all i (labels_at names places) (omega (arith, past, size)))
-
--- there are as many labels as places
-pub same_version : (names : List (List ℕ)) (places : List ℕ)
-    → version_for (length (labels_at names places)) ≡ version_for (length places)
-same_version names places = ap version_for (length_seen (name_at names) places)

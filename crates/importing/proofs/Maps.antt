@@ -1,9 +1,8 @@
 -- How the regions that a user maps are found, one map after another.
-use Rattle.std.proofs.Common.{[], ℕ, ◌++◌, ◌+◌, ◌<◌, ◌∙◌, ◌∷◌, ◌≡◌, ◌≤◌, List, add-one, ap, append_assoc, arith, cond, drop, drop-cons, false, get_or, length, map, refl, suc, sym, take, true, zero}
-use Rattle.std.proofs.lemmas.List.{append-nil, drop_all}
-use Rattle.microkit.specs.declared.description.{Map.{Map}, User.{User}}
-use Rattle.importing.specs.declared.slots.Held.{Held}
-use Rattle.importing.specs.Tails.{frame_held, is_new, regions_from}
+use Rattle.std.proofs.Common.{[], ℕ, ◌++◌, ◌+◌, ◌<◌, ◌∙◌, ◌∷◌, ◌≡◌, ◌≤◌, List, add-one, ap, append_assoc, arith, cond, drop, drop-cons}
+use Rattle.std.proofs.{Common.{false, get_or, length, map, refl, suc, sym, take, true, zero}, lemmas.List.{append-nil, drop_all}}
+use Rattle.microkit.specs.declared.description.{Map.Map, User.User}
+use Rattle.importing.specs.{declared.slots.Held.Held, Tails.{frame_held, is_new, regions_from}}
 
 -- one more of a list
 pub take_more : {X : Type 0} (xs : List X) (i : ℕ) (d : X) → i < length xs → take i xs ++ get_or xs i d ∷ [] ≡ take (i + 1) xs

@@ -1,9 +1,8 @@
 -- Capabilities in slots that follow one another, and lists that are joined one after another.
-use Rattle.std.specs.List.{flat_map, range_with_len}
-use Rattle.std.proofs.Common.{[], ℕ, ◌++◌, ◌+◌, ◌<◌, ◌∙◌, ◌∷◌, ◌≡◌, ◌≤◌, List, add-one, ap, append_assoc, arith, drop, get_or, length, map, refl, suc, sym, zero}
+use Rattle.std.{specs.List.{flat_map, range_with_len}, proofs.Common.{[], ℕ, ◌++◌, ◌+◌, ◌<◌, ◌∙◌, ◌∷◌, ◌≡◌, ◌≤◌, List, add-one, ap}}
+use Rattle.std.proofs.{Common.{append_assoc, arith, drop, get_or, length, map, refl, suc, sym, zero}, lemmas.Grind.flat_map-append}
 use Rattle.std.proofs.lemmas.List.{append-nil, drop_all}
-use Rattle.std.proofs.lemmas.Grind.{flat_map-append}
-use Rattle.importing.specs.{Grants.{grant, numbered}, declared.{pieces.{Grant.{Grant}, Piece.{Piece}}, slots.{Held.{Held}}}}
+use Rattle.importing.specs.{declared.{pieces.{Grant.Grant, Piece.Piece}, slots.Held.Held}, Grants.{grant, numbered}}
 use Rattle.importing.proofs.Maps.{drop_more}
 
 pub one_more : (holder : Piece) (first i : ℕ) (helds : List Held) (held : Held) (grants : List Grant) → i < length helds

@@ -1,11 +1,10 @@
 -- The labels are names of subjects, each at a place of its own: each is spelled as a label, and no two are one.
-use Rattle.std.specs.{List.{AllByRecursion, AllPairs, range_with_len}, Global.{Vec}}
-use Rattle.std.proofs.Common.{[], ℕ, ◌+◌, ◌<◌, ◌∙◌, ◌∷◌, ◌≡◌, ◌≢◌, ◌≤◌, Bool, List, Ok, ap, arith, cond, false, filter, get_or, length, map, refl, subst, suc, sym, true, zero}
-use Rattle.std.proofs.lemmas.List.{FromFn.{get_or-range_with_len, length-range_with_len}, Kept.{AllPairs-filter}, get_or-map}
-use Rattle.microkit.specs.{Description.{Description}, LabelView.{bytes_of}, Labels.{names_of, subjects_of}, Names.{IsLabelName}}
-use Rattle.microkit.specs.declared.{description.Map.{Map}, labels.Subject.{Subject}}
-use Rattle.importing.specs.Groups.{labels_at, leads, name_at, places_of}
-use Rattle.importing.proofs.{Counts.{labels_few}, Items.{length_seen}}
+use Rattle.std.{specs.{Global.Vec, List.{AllByRecursion, AllPairs, range_with_len}}, proofs.Common.{[], ℕ, ◌+◌, ◌<◌, ◌∙◌, ◌∷◌, ◌≡◌, ◌≢◌}}
+use Rattle.std.proofs.Common.{◌≤◌, Bool, List, Ok, ap, arith, cond, false, filter, get_or, length, map, refl, subst, suc, sym, true, zero}
+use Rattle.std.proofs.lemmas.List.{get_or-map, FromFn.{get_or-range_with_len, length-range_with_len}, Kept.AllPairs-filter}
+use Rattle.microkit.specs.{declared.{description.Map.Map, labels.Subject.Subject}, Description.Description, LabelView.bytes_of}
+use Rattle.microkit.specs.{Labels.{names_of, subjects_of}, Names.IsLabelName}
+use Rattle.importing.{specs.Groups.{labels_at, leads, name_at, places_of}, proofs.{Counts.labels_few, Items.length_seen}}
 
 at_place : (names : List (List ℕ)) (i : ℕ) (d : List ℕ) → i < length names → name_at names i ≡ get_or names i d
 at_place [] i d below = absurd (omega (arith, below))

@@ -1,14 +1,13 @@
 -- How capabilities and bindings are added one after another, where the tests say that the table takes them.
-use Rattle.std.proofs.Common.{ℕ, ◌+◌, ◌<◌, ◌∙◌, ◌≡◌, ◌≤◌, Err, List, Ok, Option, Some, ap, drop, arith, get_or, length, true}
-use Rattle.std.proofs.lemmas.{Bool.{and_parts, not-true}, List.{drop_all}}
-use Rattle.machine.specs.{Layout.{Layout}, declared.layout.{Binding.Binding, Filled.Filled}}
-use Rattle.machine.specs.declared.object.ObjectKind.{ObjectKind}
-use Rattle.machine.specs.declared.object.ObjectKind.TheVariants as kind
+use Rattle.std.proofs.Common.{ℕ, ◌+◌, ◌<◌, ◌∙◌, ◌≡◌, ◌≤◌, Err, List, Ok, Option, Some, ap, arith, drop, get_or, length, true}
+use Rattle.std.proofs.lemmas.{Bool.{and_parts, not-true}, List.drop_all}
+use Rattle.words.specs.{declared.faults.Fault.Fault, Reading.bind}
 use Rattle.microkit.specs.Description.{Description}
-use Rattle.words.specs.{Reading.{bind}, declared.faults.Fault.{Fault}}
+use Rattle.machine.specs.{declared.{layout.{Binding.Binding, Filled.Filled}, object.ObjectKind.ObjectKind}, Layout.Layout}
+use Rattle.machine.specs.declared.object.ObjectKind.TheVariants as kind
 use Rattle.table.specs.Building.{AdmitsBinding, AdmitsCap}
-use Rattle.importing.specs.{Tables.{bond_added, bonds_added, grant_added, grants_added, is_context, is_thread, takes_binding, takes_cap}, declared.tables.Bond.{Bond}, declared.pieces.{Grant.{Grant}, Piece.{Piece}}}
-use Rattle.importing.proofs.Maps.{drop_more}
+use Rattle.importing.specs.{declared.{pieces.{Grant.Grant, Piece.Piece}, tables.Bond.Bond}, Tables.{bond_added, bonds_added, grant_added}}
+use Rattle.importing.{specs.Tables.{grants_added, is_context, is_thread, takes_binding, takes_cap}, proofs.Maps.drop_more}
 
 -- a filled slot that a table may take, it admits
 pub admits_cap : (t : Layout) (filled : Filled) → takes_cap t filled ≡ true → filled.cap.original ≡ true → AdmitsCap t filled

@@ -1,26 +1,21 @@
 -- What a table that is built up has: the objects, capabilities and bindings of the whole lists.
-use Rattle.std.proofs.Common.{[], ℕ, ◌&&◌, ◌++◌, ◌∙◌, ◌∷◌, ◌≡◌, Bool, Err, List, None, Ok, Option, Result, Some, ap, append_assoc, cond, false, is_some, length, map, nat_le, nat_lt, not, refl, subst, sym, true}
+use Rattle.std.{specs.Prelude.unwrap_or, proofs.Common.{[], ℕ, ◌&&◌, ◌++◌, ◌∙◌, ◌∷◌, ◌≡◌, Bool, Err, List, None, Ok, Option, Result, Some}}
+use Rattle.std.proofs.Common.{ap, append_assoc, cond, false, is_some, length, map, nat_le, nat_lt, not, refl, subst, sym, true}
 use Rattle.std.proofs.lemmas.List.{append-nil, map-append}
-use Rattle.std.specs.Prelude.{unwrap_or}
-use Rattle.base.specs.declared.{ids.SlotRef.SlotRef, limits.TheConstants.{ADDRESS_END}}
-use Rattle.machine.specs.{Layout.{Layout, initial_parent}, Objects.{end_of}, declared.cap.Detail.{Detail}}
-use Rattle.machine.specs.declared.{layout.{Binding.Binding, Filled.Filled, Initial.Initial, Pair.Pair}, object.Object.{Object}}
-use Rattle.words.specs.Name.{is_name, name_of}
-use Rattle.table.specs.{Names.{object_named}, Tree.{is_original, source_of, tree_fault, with_mark, with_originals}}
-use Rattle.importing.specs.Built.{Built, Plan, object_added, object_placed, piece_added, pieces_added, with_object}
-use Rattle.importing.specs.{Built.{piece_label, piece_name}, Groups.{labels_at}, Objects.{object_of}}
-use Rattle.microkit.specs.Description.{Description}
-use Rattle.words.specs.{Fault.{fault_at}, declared.faults.Wrong.TheVariants.{Double, Limit, UnknownName}}
-use Rattle.words.specs.{Reading.{bind}, declared.faults.{Wrong.Wrong}}
-use Rattle.importing.specs.{Built.{or_fault}}
-use Rattle.importing.specs.Tables.{bond_added, bonds_added, binding_added, binding_by, cap_added, filled_by, finished, grant_added, grants_added, piece_number, takes_binding, takes_cap}
-use Rattle.importing.specs.Whole.{AreOfPieces, IsOfPiece, binding_at, filled_at}
-use Rattle.microkit.specs.Labels.{names_of}
-use Rattle.importing.specs.{Built.{labelled, started}, Grants.{grants_of, roots_of}, Pieces.{pieces_of}, Whole.{IsTableOf}}
-use Rattle.importing.specs.Tables.{bonds_of, filled_up, objects_by, plan_for, planned, table_at, table_by}
-use Rattle.importing.specs.declared.{pieces.{Children.{Children}, Minting.{Minting}}}
-use Rattle.importing.specs.declared.{pieces.{Grant.{Grant}, Piece.{Piece}}, tables.Bond.{Bond}}
-use Rattle.table.specs.Building.{has_room, with_binding, with_filled}
+use Rattle.base.specs.declared.{ids.SlotRef.SlotRef, limits.TheConstants.ADDRESS_END}
+use Rattle.words.specs.{declared.faults.Wrong.{Wrong, TheVariants.{Double, Limit, UnknownName}}, Fault.fault_at, Name.{is_name, name_of}}
+use Rattle.words.specs.Reading.{bind}
+use Rattle.microkit.specs.{Description.Description, Labels.names_of}
+use Rattle.machine.specs.declared.{cap.Detail.Detail, layout.{Binding.Binding, Filled.Filled, Initial.Initial, Pair.Pair}}
+use Rattle.machine.specs.{declared.object.Object.Object, Layout.{Layout, initial_parent}, Objects.end_of}
+use Rattle.table.specs.{Building.{has_room, with_binding, with_filled}, Names.object_named, Tree.{is_original, source_of, tree_fault}}
+use Rattle.table.specs.Tree.{with_mark, with_originals}
+use Rattle.importing.specs.{declared.{pieces.{Children.Children, Grant.Grant, Minting.Minting, Piece.Piece}, tables.Bond.Bond}, Built.Built}
+use Rattle.importing.specs.Built.{Plan, labelled, object_added, object_placed, or_fault, piece_added, piece_label, piece_name, pieces_added}
+use Rattle.importing.specs.{Built.{started, with_object}, Grants.{grants_of, roots_of}, Groups.labels_at, Objects.object_of}
+use Rattle.importing.specs.{Pieces.pieces_of, Tables.{binding_added, binding_by, bond_added, bonds_added, bonds_of, cap_added, filled_by}}
+use Rattle.importing.specs.Tables.{filled_up, finished, grant_added, grants_added, objects_by, piece_number, plan_for, planned, table_at}
+use Rattle.importing.specs.{Tables.{table_by, takes_binding, takes_cap}, Whole.{AreOfPieces, IsOfPiece, IsTableOf, binding_at, filled_at}}
 
 same_ok : {X E : Type 0} (x y : X) → ◌≡◌ {A = Result X E} (Ok x) (Ok y) → x ≡ y
 same_ok x y e = cc

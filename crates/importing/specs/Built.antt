@@ -1,17 +1,16 @@
 -- How a table is built up from a description: its labels, then one object after another (confine's own).
-use Rattle.std.specs.{List.AllByRecursion, Prelude.{[], ℕ, ◌&&◌, ◌∷◌, ◌≤◌, Err, List, None, Ok, Option, Result, Some, if◌then◌else◌, is_some, length}}
-use Rattle.std.specs.Prelude.{nat_le, nat_lt, not, unwrap_or}
+use Rattle.std.specs.{List.AllByRecursion, Prelude.{[], ℕ, ◌&&◌, ◌∷◌, ◌≤◌, Err, List, None, Ok, Option, Result, Some, if◌then◌else◌}}
+use Rattle.std.specs.Prelude.{is_some, length, nat_le, nat_lt, not, unwrap_or}
 use Rattle.base.specs.declared.limits.TheConstants.{ADDRESS_END}
-use Rattle.machine.specs.declared.{layout.{Initial.Initial, Version.Version}, object.Object.{Object}}
+use Rattle.words.specs.{declared.faults.{Fault.Fault, Wrong.{Wrong, TheVariants.{Double, Limit, UnknownName}}}, Fault.fault_at}
+use Rattle.words.specs.{Name.name_of, Reading.◌>>=◌}
+use Rattle.microkit.specs.{declared.{description.Map.Map, labels.Subject.Subject}, Description.Description, Names.object_name}
+use Rattle.machine.specs.{declared.{layout.{Initial.Initial, Version.Version}, object.Object.Object}, Layout.{Layout, empty_layout}}
+use Rattle.machine.specs.Objects.{end_of}
 use Rattle.machine.specs.declared.layout.Version.TheVariants as version
-use Rattle.machine.specs.{Layout.{Layout, empty_layout}, Objects.end_of}
-use Rattle.microkit.specs.{Description.{Description}, Names.{object_name}}
-use Rattle.microkit.specs.declared.{description.Map.{Map}, labels.Subject.{Subject}}
-use Rattle.words.specs.{Fault.{fault_at}, Name.{name_of}, Reading.{◌>>=◌}, declared.faults.{Fault.Fault, Wrong.{Wrong, TheVariants.{Double, Limit, UnknownName}}}}
-use Rattle.table.specs.{Building.{has_room, with_initial}, Names.{object_named}}
-use Rattle.importing.specs.{Groups.{leader_of, name_at}, Objects.{object_of}}
+use Rattle.table.specs.{Building.{has_room, with_initial}, Names.object_named}
+use Rattle.importing.specs.{declared.pieces.{Children.Children, Grant.Grant, Piece.Piece}, Groups.{leader_of, name_at}, Objects.object_of}
 use Rattle.importing.specs.Plan.{label_of, part_of, piece_line, subject_of}
-use Rattle.importing.specs.declared.pieces.{Children.{Children}, Grant.{Grant}, Piece.{Piece}}
 
 -- what a table is built up from: what has a name and how it is called, the maps of regions if some share a label, and which subjects
 -- have a label of their own

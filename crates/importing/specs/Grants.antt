@@ -1,11 +1,10 @@
 -- The capabilities that the CNodes of domains and virtual machines have (confine's own).
-use Rattle.std.specs.List.{filter_map, flat_map, range_with_len}
-use Rattle.std.specs.Prelude.{[], ℕ, ◌++◌, ◌+◌, ◌-◌, ◌∷◌, List, Option, length, option_map}
-use Rattle.machine.specs.declared.cap.Detail.{Detail, Detail as detail}
+use Rattle.std.specs.{List.{filter_map, flat_map, range_with_len}, Prelude.{[], ℕ, ◌++◌, ◌+◌, ◌-◌, ◌∷◌, List, Option, length, option_map}}
 use Rattle.microkit.specs.Description.{Description}
-use Rattle.importing.specs.{Objects.{radix_of}, Plan.{machine_number}, Slots.{slot_held}, Tails.{guest_held, tail_held}}
-use Rattle.importing.specs.declared.{pieces.{Children.{Children}, Grant.{Grant}, Minting.{Minting}, Piece.{Piece}}, slots.{Held.{Held}}}
-use Rattle.importing.specs.declared.slots.TheConstants.{MAPS}
+use Rattle.machine.specs.declared.cap.Detail.{Detail, Detail as detail}
+use Rattle.importing.specs.declared.{pieces.{Children.Children, Grant.Grant, Minting.Minting, Piece.Piece}, slots.Held.Held}
+use Rattle.importing.specs.{declared.slots.TheConstants.MAPS, Objects.radix_of, Plan.machine_number, Slots.slot_held, Tails.guest_held}
+use Rattle.importing.specs.Tails.{tail_held}
 use Rattle.importing.specs.declared.pieces.Form.TheVariants as form
 
 -- a capability in a slot of a holder

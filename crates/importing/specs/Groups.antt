@@ -1,12 +1,10 @@
 -- Which regions share a label, where a table would have more labels than it may (confine's own).
-use Rattle.std.specs.{List.{filter_map, list_all, list_any, range_with_len}, Option.{option_map_or}}
-use Rattle.std.specs.Prelude.{[], ℕ, ◌&&◌, ◌==◌, ◌||◌, Bool, List, false, filter, if◌then◌else◌, length, map, nat_le, not, position}
-use Rattle.std.specs.Prelude.{slice_get, unwrap_or}
+use Rattle.std.specs.{List.{filter_map, list_all, list_any, range_with_len}, Option.option_map_or, Prelude.{[], ℕ, ◌&&◌, ◌==◌, ◌||◌, Bool}}
+use Rattle.std.specs.Prelude.{List, false, filter, if◌then◌else◌, length, map, nat_le, not, position, slice_get, unwrap_or}
 use Rattle.base.specs.declared.label.TheConstants.Label as Label
-use Rattle.microkit.specs.{Description.{Description}, Labels.{line_of, subjects_of}}
-use Rattle.microkit.specs.declared.{description.Map.{Map}, labels.Subject.{Subject}}
+use Rattle.microkit.specs.{declared.{description.Map.Map, labels.Subject.Subject}, Description.Description, Labels.{line_of, subjects_of}}
 use Rattle.microkit.specs.declared.labels.Subject.TheVariants as subject
-use Rattle.importing.specs.{Plan.{same_subject}, Tails.{is_user}}
+use Rattle.importing.specs.{Plan.same_subject, Tails.is_user}
 
 -- the maps of a region
 abbrev pub uses_of : List Map → ℕ → List Map

@@ -1,16 +1,13 @@
 -- What the objects of a description are at boot, and where they lie (compare the seL4 manual, "Memory Allocation").
-use Rattle.std.specs.{List.list_all, Prelude.{ℕ, ◌&&◌, ◌*◌, ◌+◌, ◌-◌, ◌/◌, ◌^◌, ◌||◌, ◌≡◌, ◌≤◌, Bool, List, None, Option, Some, false, if◌then◌else◌}}
-use Rattle.std.specs.Prelude.{nat_le, nat_lt, not, option_map, slice_get, true}
-use Rattle.base.specs.declared.core_number.TheConstants.CoreNo as CoreNo
+use Rattle.std.specs.{List.list_all, Prelude.{ℕ, ◌&&◌, ◌*◌, ◌+◌, ◌-◌, ◌/◌, ◌^◌, ◌||◌, ◌≡◌, ◌≤◌, Bool, List, None, Option, Some, false}}
+use Rattle.std.specs.Prelude.{if◌then◌else◌, nat_le, nat_lt, not, option_map, slice_get, true}
 use Rattle.base.specs.declared.limits.TheConstants.{MAX_PERIOD}
-use Rattle.machine.specs.declared.{object.{Object.{Object, Object as o}, ReplyState.ReplyState as reply, Share.Share}}
-use Rattle.machine.specs.declared.thread.{Inbox.Inbox as inbox, RunState.{RunState, RunState as run}}
-use Rattle.machine.specs.Objects.{address_of, size_bits}
-use Rattle.microkit.specs.Description.{Description, Domain, Machine}
-use Rattle.microkit.specs.declared.description.{Processor.{Processor}, Schedule.{Schedule}}
+use Rattle.base.specs.declared.core_number.TheConstants.CoreNo as CoreNo
+use Rattle.microkit.specs.{declared.description.{Processor.Processor, Schedule.Schedule}, Description.{Description, Domain, Machine}}
+use Rattle.machine.specs.declared.object.{Object.{Object, Object as o}, ReplyState.ReplyState as reply, Share.Share}
+use Rattle.machine.specs.{declared.thread.{Inbox.Inbox as inbox, RunState.{RunState, RunState as run}}, Objects.{address_of, size_bits}}
 use Rattle.table.specs.{Placement.is_aligned, Rules.{IsBlank, is_control_of}}
-use Rattle.importing.specs.Pieces.{same_piece}
-use Rattle.importing.specs.declared.pieces.{Children.{Children}, Form.{Form}, Grant.{Grant}, Piece.{Piece}}
+use Rattle.importing.specs.{declared.pieces.{Children.Children, Form.Form, Grant.Grant, Piece.Piece}, Pieces.same_piece}
 use Rattle.importing.specs.declared.pieces.Children.TheVariants as children
 use Rattle.importing.specs.declared.pieces.Form.TheVariants as form
 

@@ -1,7 +1,6 @@
 -- What a plan says, without where it lies in memory (confine's own).
-use Rattle.std.specs.{Global.{Vec}, Prelude.{List, map}}
-use Rattle.microkit.specs.declared.description.Map.{Map}
-use Rattle.microkit.specs.{LabelView.{bytes_of}, View.{description_of}}
+use Rattle.std.specs.{Global.Vec, Prelude.{List, map}}
+use Rattle.microkit.specs.{declared.description.Map.Map, LabelView.bytes_of, View.description_of}
 use Rattle.importing.specs.Built.{Plan}
 use Rattle.importing.specs.declared.builder.Plan as declared_plan
 

@@ -1,14 +1,11 @@
 -- Which capability a slot of a domain's CNode has, but for the maps (Microkit user manual, "Concepts"; the slots are those of its library).
-use Rattle.std.specs.{List.position, Option.{option_and_then, option_map_or}}
-use Rattle.std.specs.Prelude.{ℕ, ◌&&◌, ◌+◌, ◌-◌, ◌==◌, ◌^◌, Bool, List, None, Option, Some, false, if◌then◌else◌, is_some}
-use Rattle.std.specs.Prelude.{nat_lt, option_map, slice_get}
-use Rattle.base.specs.{Rights.{rights_with}, declared.rights.Rights.{Rights}}
+use Rattle.std.specs.{List.position, Option.{option_and_then, option_map_or}, Prelude.{ℕ, ◌&&◌, ◌+◌, ◌-◌, ◌==◌, ◌^◌, Bool, List, None}}
+use Rattle.std.specs.Prelude.{Option, Some, false, if◌then◌else◌, is_some, nat_lt, option_map, slice_get}
+use Rattle.base.specs.{declared.rights.Rights.Rights, Rights.rights_with}
+use Rattle.microkit.specs.{declared.description.{Channel.Channel, End.End, Id.Id, Processor.Processor}, Description.{Description, Domain}}
 use Rattle.machine.specs.declared.cap.Detail.{Detail, Detail as detail}
-use Rattle.microkit.specs.Description.{Description, Domain}
-use Rattle.microkit.specs.declared.description.{Channel.{Channel}, End.{End}, Id.{Id}, Processor.{Processor}}
-use Rattle.importing.specs.Pieces.{answers, is_called}
-use Rattle.importing.specs.declared.{pieces.{Children.{Children}, Form.{Form}, Minting.{Minting}}, slots.{Held.{Held}}}
-use Rattle.importing.specs.declared.slots.TheConstants.{BELLS, CALLS, CHILDREN, IDS, PROCESSORS}
+use Rattle.importing.specs.declared.{pieces.{Children.Children, Form.Form, Minting.Minting}, slots.{Held.Held, TheConstants.{BELLS, CALLS}}}
+use Rattle.importing.specs.{declared.slots.TheConstants.{CHILDREN, IDS, PROCESSORS}, Pieces.{answers, is_called}}
 use Rattle.importing.specs.declared.pieces.Children.TheVariants as children
 use Rattle.importing.specs.declared.pieces.Form.TheVariants as form
 use Rattle.importing.specs.declared.pieces.Minting.TheVariants as minting

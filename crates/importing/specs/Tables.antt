@@ -2,23 +2,19 @@
 --
 -- Labels, objects, capabilities and bindings are added one after another, each in the order of its list. The first that passes a limit of
 -- tables is the fault, with its line. There are no pairs of the derivation tree: each capability is original.
-use Rattle.std.specs.Prelude.{[], ℕ, ◌&&◌, ◌++◌, ◌∷◌, Bool, Err, List, None, Ok, Option, Result, Some, false, if◌then◌else◌, length, map, not}
-use Rattle.std.specs.Prelude.{position, slice_get, true}
-use Rattle.std.specs.List.{range_with_len}
-use Rattle.base.specs.declared.label.TheConstants.Label as Label
+use Rattle.std.specs.{List.range_with_len, Prelude.{[], ℕ, ◌&&◌, ◌++◌, ◌∷◌, Bool, Err, List, None, Ok, Option, Result, Some, false}}
+use Rattle.std.specs.Prelude.{if◌then◌else◌, length, map, not, position, slice_get, true}
 use Rattle.base.specs.declared.limits.TheConstants.{MAX_OBJECTS}
-use Rattle.machine.specs.declared.layout.{Binding.Binding, Filled.Filled}
-use Rattle.machine.specs.{Layout.{Layout, initial_of}, declared.object.ObjectKind.ObjectKind}
+use Rattle.base.specs.declared.label.TheConstants.Label as Label
+use Rattle.words.specs.{declared.faults.{Fault.Fault, Wrong.TheVariants.{Limit, Tree, UnknownName}}, Fault.fault_at, Reading.◌>>=◌}
+use Rattle.microkit.specs.{declared.labels.Subject.Subject, Description.Description, Labels.{line_of, names_of, subjects_of}}
+use Rattle.machine.specs.{declared.{layout.{Binding.Binding, Filled.Filled}, object.ObjectKind.ObjectKind}, Layout.{Layout, initial_of}}
 use Rattle.machine.specs.declared.object.ObjectKind.TheVariants as kind
-use Rattle.microkit.specs.{Description.{Description}, Labels.{line_of, names_of, subjects_of}}
-use Rattle.microkit.specs.declared.labels.Subject.{Subject}
-use Rattle.words.specs.{Fault.{fault_at}, Reading.{◌>>=◌}, declared.faults.{Fault.Fault, Wrong.{TheVariants.{Limit, Tree, UnknownName}}}}
 use Rattle.table.specs.Building.{declares_slot, is_above_bindings, is_above_caps, is_bound, is_fitting, may_hold, repeats_untyped}
-use Rattle.table.specs.{Building.{with_binding, with_filled}, Rules.{kind_at}, Tree.{tree_fault, with_originals}}
-use Rattle.importing.specs.{Built.{Plan, or_fault, pieces_added, started}, Grants.{grants_of, roots_of}, Pieces.{pieces_of, same_piece}}
-use Rattle.importing.specs.Groups.{labelled_of, labels_at, line_at, places_of, uses_in}
-use Rattle.importing.specs.{Plan.{piece_line}, declared.pieces.{Children.{Children}, Form.{Form}, Grant.{Grant}, Minting.{Minting}, Piece.{Piece}}}
-use Rattle.importing.specs.declared.tables.Bond.{Bond}
+use Rattle.table.specs.{Building.{with_binding, with_filled}, Rules.kind_at, Tree.{tree_fault, with_originals}}
+use Rattle.importing.specs.declared.{pieces.{Children.Children, Form.Form, Grant.Grant, Minting.Minting, Piece.Piece}, tables.Bond.Bond}
+use Rattle.importing.specs.{Built.{Plan, or_fault, pieces_added, started}, Grants.{grants_of, roots_of}, Groups.{labelled_of, labels_at}}
+use Rattle.importing.specs.{Groups.{line_at, places_of, uses_in}, Pieces.{pieces_of, same_piece}, Plan.piece_line}
 use Rattle.importing.specs.declared.pieces.Children.TheVariants as children
 use Rattle.importing.specs.declared.pieces.Form.TheVariants as form
 

@@ -1,15 +1,14 @@
 -- What CNodes have in slots that follow one another: the maps of a domain and copies of what its children have, from slot 458 on, and
 -- what a virtual machine has (confine's own).
-use Rattle.std.specs.{List.{filter_map, flat_map, list_any, range_with_len}, Option.{option_map_or}}
-use Rattle.std.specs.Prelude.{[], ℕ, ◌&&◌, ◌++◌, ◌<◌, ◌==◌, ◌∷◌, ◌≡◌, Bool, List, None, Option, false, filter, if◌then◌else◌, length, map, not, slice_get, suc, take, true, zero}
-use Rattle.base.specs.{Rights.{rights_with}, declared.rights.Rights.{Rights}}
-use Rattle.machine.specs.declared.cap.Detail.{Detail as detail}
-use Rattle.microkit.specs.Description.{Description, Domain, Machine}
-use Rattle.microkit.specs.declared.description.{Map.{Map}, Processor.{Processor}, User.{User}}
+use Rattle.std.specs.{List.{filter_map, flat_map, list_any, range_with_len}, Option.option_map_or, Prelude.{[], ℕ, ◌&&◌, ◌++◌, ◌<◌, ◌==◌}}
+use Rattle.std.specs.Prelude.{◌∷◌, ◌≡◌, Bool, List, None, Option, false, filter, if◌then◌else◌, length, map, not, slice_get, suc, take}
+use Rattle.std.specs.Prelude.{true, zero}
+use Rattle.base.specs.{declared.rights.Rights.Rights, Rights.rights_with}
+use Rattle.microkit.specs.{declared.description.{Map.Map, Processor.Processor, User.User}, Description.{Description, Domain, Machine}}
 use Rattle.microkit.specs.declared.description.User.TheVariants as user
-use Rattle.importing.specs.{Pieces.{has_parent}, Slots.{capability, parent_held, slot_held}}
-use Rattle.importing.specs.declared.{pieces.{Children.{Children}, Minting.{Minting}}, slots.{Held.{Held}}}
-use Rattle.importing.specs.declared.slots.TheConstants.{MAPS}
+use Rattle.machine.specs.declared.cap.Detail.{Detail as detail}
+use Rattle.importing.specs.{declared.{pieces.{Children.Children, Minting.Minting}, slots.{Held.Held, TheConstants.MAPS}}, Pieces.has_parent}
+use Rattle.importing.specs.Slots.{capability, parent_held, slot_held}
 use Rattle.importing.specs.declared.pieces.Children.TheVariants as children
 use Rattle.importing.specs.declared.pieces.Form.TheVariants as form
 

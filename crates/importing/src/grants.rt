@@ -1,6 +1,5 @@
 //! The capabilities that the CNodes of domains and virtual machines have.
-ghost use Rattle.std.specs.List.{filter_map, flat_map, range_with_len};
-ghost use Rattle.std.specs.Prelude.{◌≡◌, ◌≤◌, IfOk, length};
+ghost use Rattle.std.specs.{List.{filter_map, flat_map, range_with_len}, Prelude.{◌≡◌, ◌≤◌, IfOk, length}};
 ghost use Rattle.microkit.specs.View.{description_of};
 ghost use Rattle.importing.specs.Grants.{domain_grants, domain_root, grant, grants_of, guest_grants, guest_space_of};
 ghost use Rattle.importing.specs.Grants.{numbered, processor_root, root_of, roots_of, slot_grant, slot_grants};

@@ -1,4 +1,7 @@
 //! How a system description becomes a capability table.
+//!
+//! `separation`, `remarks` and the commands stand on it. It knows no policy, and no text of a
+//! table.
 #![tactic(auto)]
 
 mod builder;

@@ -1,9 +1,8 @@
 //! What each object is called, whose it is, and where a description has it.
-ghost use Rattle.std.specs.List.{position};
-ghost use Rattle.std.specs.Prelude.{◌==◌, ◌≡◌, IfOk, map, string_bytes};
-ghost use Rattle.microkit.specs.{LabelView.bytes_of, Labels.{line_of, may_call}, Names.{object_name, part_word}};
-ghost use Rattle.microkit.specs.{View.{description_of, domain_of, machine_of, region_of}};
-ghost use Rattle.microkit.specs.declared.labels.Subject.{Subject};
+ghost use Rattle.std.specs.{List.position, Prelude.{◌==◌, ◌≡◌, IfOk, map, string_bytes}};
+ghost use Rattle.microkit.specs.{declared.labels.Subject.Subject, LabelView.bytes_of, Labels.{line_of, may_call}};
+ghost use Rattle.microkit.specs.{Names.{object_name, part_word}, View.{description_of, domain_of, machine_of}};
+ghost use Rattle.microkit.specs.View.{region_of};
 ghost use Rattle.importing.specs.Plan.{label_of, machine_number, part_of, piece_line, processor_id, processor_line};
 ghost use Rattle.importing.specs.Plan.{same_subject, subject_code, subject_number, subject_of, time_of};
 

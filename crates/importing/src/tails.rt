@@ -1,11 +1,9 @@
 //! What CNodes have in slots that follow one another: the maps of a domain and copies of what its
 //! children have, from slot 458 on, and what a virtual machine has.
-ghost use Rattle.std.specs.List.{filter_map, list_any, range_with_len};
-ghost use Rattle.std.specs.Option.{option_map_or};
-ghost use Rattle.std.specs.Prelude.{[], ◌&&◌, ◌++◌, ◌==◌, ◌≡◌, ◌≤◌, false, filter, IfOk, length, map, not, slice_get};
-ghost use Rattle.std.specs.Prelude.{Some, take};
-ghost use Rattle.microkit.specs.Description.{Domain as DomainOf, Machine as MachineOf};
-ghost use Rattle.microkit.specs.View.{description_of, domain_of, domains_of, machine_of, machines_of};
+ghost use Rattle.std.specs.{List.{filter_map, list_any, range_with_len}, Option.option_map_or, Prelude.{[], ◌&&◌}};
+ghost use Rattle.std.specs.Prelude.{◌++◌, ◌==◌, ◌≡◌, ◌≤◌, IfOk, Some, false, filter, length, map, not, slice_get, take};
+ghost use Rattle.microkit.specs.{Description.{Domain as DomainOf, Machine as MachineOf}, View.description_of};
+ghost use Rattle.microkit.specs.View.{domain_of, domains_of, machine_of, machines_of};
 ghost use Rattle.importing.specs.Tails.{children_of, fault_of, faults_held, frame_held, frame_rights, guest_held};
 ghost use Rattle.importing.specs.Tails.{guests_held, guests_of, is_child_of, is_guest_of, is_mapped_by, is_new};
 ghost use Rattle.importing.specs.Tails.{is_user, maps_held, slots_held, tail_down, tail_held, user_code, user_number};

@@ -1,23 +1,12 @@
 -- What follows where only labels that may act have calls that aren't refused; and which labels may act in a closed policy.
 use Rattle.std.proofs.Common.{ℕ, ◌∙◌, ◌≡◌, ◌⊎◌, Some, inl, inr, refl, subst, sym, true}
-use Rattle.base.specs.declared.ids.ObjId.{ObjId}
-use Rattle.base.specs.declared.kind.Kind.{Kind as authority}
-use Rattle.machine.specs.declared.call.Event.{Event}
-use Rattle.machine.specs.declared.call.Outcome.{Outcome}
-use Rattle.machine.specs.Authority.{label_of}
-use Rattle.machine.specs.Layout.{Layout}
-use Rattle.machine.specs.Machine.{Machine}
-use Rattle.machine.specs.Outcomes.{IsRefused}
-use Rattle.machine.specs.Step.{Step}
+use Rattle.base.specs.declared.{ids.ObjId.ObjId, kind.Kind.Kind as authority}
+use Rattle.machine.specs.{declared.call.{Event.Event, Outcome.Outcome}, Authority.label_of, Layout.Layout, Machine.Machine}
+use Rattle.machine.specs.{Outcomes.IsRefused, Step.Step}
 use Rattle.steps.proofs.Steps.{refused_changes_nothing}
-use Rattle.policy.specs.Closed.{IsClosed}
-use Rattle.policy.specs.Domain.{EdgeTest}
-use Rattle.integrity.specs.Acting.{MayAct, Starts}
-use Rattle.integrity.specs.Acting.MayAct.{started, starts}
-use Rattle.integrity.specs.Apart.{NeverChanges}
-use Rattle.integrity.specs.Safe.{IsReached, RefusesOthers}
-use Rattle.integrity.specs.Shrinks.{IsSame}
-use Rattle.integrity.proofs.Asleep.{acts_of}
+use Rattle.policy.specs.{Closed.IsClosed, Domain.EdgeTest}
+use Rattle.integrity.specs.{Acting.{MayAct, Starts, MayAct.{started, starts}}, Apart.NeverChanges, Safe.{IsReached, RefusesOthers}}
+use Rattle.integrity.{specs.Shrinks.IsSame, proofs.Asleep.acts_of}
 
 -- in a closed policy, a label controls what a label that it controls controls
 pub acts_by_control :

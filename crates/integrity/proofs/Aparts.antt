@@ -1,21 +1,11 @@
 -- Where the bounds are kept, labels are kept apart: an object has one label, before a step or, if it is made, after it.
-use Rattle.std.proofs.Common.{ℕ, ◌∙◌, ◌≡◌, ◌⊎◌, Some, inl, inr, subst, sym}
-use Rattle.std.proofs.lemmas.Option.{none-some, same_Some}
+use Rattle.std.proofs.{Common.{ℕ, ◌∙◌, ◌≡◌, ◌⊎◌, Some, inl, inr, subst, sym}, lemmas.Option.{none-some, same_Some}}
 use Rattle.base.specs.declared.ids.ObjId.{ObjId}
-use Rattle.machine.specs.declared.call.Event.{Event}
-use Rattle.machine.specs.Authority.{label_of}
-use Rattle.machine.specs.Layout.{Layout}
-use Rattle.machine.specs.Machine.{Machine}
-use Rattle.policy.specs.Domain.{EdgeTest}
-use Rattle.integrity.specs.Allowed.{IsLabelled}
-use Rattle.integrity.specs.Apart.{NeverChanges, OnlyTakes}
-use Rattle.integrity.specs.Shrinks.{IsSame, Shrinks}
+use Rattle.machine.specs.{declared.call.Event.Event, Authority.label_of, Layout.Layout, Machine.Machine}
+use Rattle.policy.specs.{Change.{ActorTest, MayChange}, Domain.EdgeTest, NarrowTake.MayShrink}
+use Rattle.integrity.specs.{Acting.HoldsOfActors, Allowed.IsLabelled, Altered.{IsAltered, IsNarrowStep, MayChangeOrShrink}}
+use Rattle.integrity.specs.{Apart.{NeverChanges, OnlyTakes}, Safe.KeepsNarrowBounds, Shrinks.{IsSame, Shrinks}}
 use Rattle.integrity.proofs.ObjectLabels.{labelled_there}
-use Rattle.policy.specs.Change.{ActorTest, MayChange}
-use Rattle.policy.specs.NarrowTake.{MayShrink}
-use Rattle.integrity.specs.Altered.{IsAltered, IsNarrowStep, MayChangeOrShrink}
-use Rattle.integrity.specs.Safe.{KeepsNarrowBounds}
-use Rattle.integrity.specs.Acting.{HoldsOfActors}
 
 -- two labels of an object are one
 one_label :

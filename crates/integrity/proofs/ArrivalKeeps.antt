@@ -1,33 +1,15 @@
 -- A message's capability arrives within the authority of who sends it and of who receives it: over an endpoint by which the one
 -- may grant to the other, either may make it arrive.
-use Rattle.std.proofs.Common.{ℕ, ◌∙◌, ◌≡◌, ◌⊎◌, Err, Ok, Option, Result, Some, ap, inl, inr, refl, sym, true}
-use Rattle.std.proofs.lemmas.Option.{same_Some}
-use Rattle.base.specs.declared.ids.ObjId.{ObjId}
-use Rattle.base.specs.declared.kind.Kind.{Kind}
-use Rattle.base.specs.declared.kind.Kind.{Kind as authority}
-use Rattle.base.specs.declared.refusal.Cause.{Cause}
-use Rattle.machine.specs.declared.call.Event.{Event}
-use Rattle.machine.specs.declared.slot_address.Ends.{Ends}
-use Rattle.machine.specs.declared.slot_address.SlotAddress.{SlotAddress}
-use Rattle.machine.specs.declared.thread.Sending.{Sending}
-use Rattle.machine.specs.Authority.{label_of}
-use Rattle.machine.specs.Capabilities.{gives}
-use Rattle.machine.specs.Layout.{Layout}
-use Rattle.machine.specs.Machine.{Machine}
-use Rattle.machine.specs.Step.Deliver.{arrival_of, with_arrival}
-use Rattle.machine.specs.Tree.{copied, parent_of_copy}
-use Rattle.machine.specs.WellFormed.{IsWellFormed}
+use Rattle.std.proofs.{Common.{ℕ, ◌∙◌, ◌≡◌, ◌⊎◌, Err, Ok, Option, Result, Some, ap, inl, inr, refl, sym, true}, lemmas.Option.same_Some}
+use Rattle.base.specs.declared.{ids.ObjId.ObjId, kind.Kind.{Kind, Kind as authority}, refusal.Cause.Cause}
+use Rattle.machine.specs.declared.{call.Event.Event, slot_address.{Ends.Ends, SlotAddress.SlotAddress}, thread.Sending.Sending}
+use Rattle.machine.specs.{Authority.label_of, Capabilities.gives, Layout.Layout, Machine.Machine, Step.Deliver.{arrival_of, with_arrival}}
+use Rattle.machine.specs.{Tree.{copied, parent_of_copy}, WellFormed.IsWellFormed}
 use Rattle.steps.proofs.Arrival.{Arrives, arrival_fills, arrival_formed, arrives}
-use Rattle.policy.specs.Closed.{IsClosed, MayBeGranted, granted}
-use Rattle.policy.specs.Domain.{EdgeTest}
-use Rattle.integrity.specs.Invariant.{IsHeld, IsSound}
-use Rattle.integrity.proofs.FillKeeps.{MayFill, copy_derives, fill_fits, given_of_use, in_node}
-use Rattle.integrity.proofs.Held.{bare_of, held_of}
-use Rattle.integrity.proofs.Keeps.{Keeps, unchanged, Changes}
-use Rattle.integrity.proofs.Reach.{IsControlled, IsInReach, IsWithin, found_in_reach, found_within, led_controlled}
-use Rattle.integrity.proofs.SlotKeeps.{slots_keep}
-use Rattle.policy.specs.Change.WayToChange.{modifies, grants}
-use Rattle.integrity.specs.Awake.{IsAwake}
+use Rattle.policy.specs.{Change.WayToChange.{grants, modifies}, Closed.{IsClosed, MayBeGranted, granted}, Domain.EdgeTest}
+use Rattle.integrity.{specs.{Awake.IsAwake, Invariant.{IsHeld, IsSound}}, proofs.FillKeeps.{MayFill, copy_derives, fill_fits, given_of_use}}
+use Rattle.integrity.proofs.{FillKeeps.in_node, Held.{bare_of, held_of}, Keeps.{Changes, Keeps, unchanged}, Reach.{IsControlled, IsInReach}}
+use Rattle.integrity.proofs.{Reach.{IsWithin, found_in_reach, found_within, led_controlled}, SlotKeeps.slots_keep}
 
 module _
     (t : Layout) (allowed : EdgeTest) (began : Machine) (event : Event) (a : ℕ) (m : Machine) (sound : IsSound t allowed m)

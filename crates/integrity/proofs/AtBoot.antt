@@ -1,40 +1,20 @@
 -- The boot state of a table belongs to it: in particular the label of untyped memory is found by any address in it.
-use Rattle.std.proofs.Common.{ℕ, ◌&&◌, ◌<◌, ◌∙◌, ◌≡◌, ◌≤◌, Bool, None, Option, Some, ap, arith, false, inl, inr, nat_le, nat_lt, option_map, refl, slice_get, subst, sym, true}
-use Rattle.std.proofs.lemmas.Bool.{and_from, and_parts, le-leb, leb-true}
-use Rattle.std.proofs.lemmas.Bool.Decides.{Decides-ltb}
-use Rattle.std.proofs.lemmas.Option.{none-some, same_Some}
+use Rattle.std.proofs.Common.{ℕ, ◌&&◌, ◌<◌, ◌∙◌, ◌≡◌, ◌≢◌, ◌≤◌, Bool, None, Option, Some, ap, arith, false, find, inl, inr, nat_le, nat_lt}
+use Rattle.std.proofs.{Common.{option_map, refl, slice_get, subst, sym, true}, lemmas.Bool.{and_from, and_parts, cases_order, le-leb}}
+use Rattle.std.proofs.lemmas.{Bool.{leb-true, Decides.Decides-ltb}, Option.{none-some, same_Some}}
 use Rattle.base.specs.declared.ids.ObjId.{ObjId}
-use Rattle.machine.specs.declared.layout.Initial.{Initial}
-use Rattle.machine.specs.declared.object.Object.{Object}
-use Rattle.machine.specs.declared.object.Object.{Object as o}
-use Rattle.machine.specs.declared.object.Untyped.{Untyped}
-use Rattle.machine.specs.declared.thread.RunState.{RunState}
-use Rattle.machine.specs.declared.thread.RunState.{RunState as state}
-use Rattle.machine.specs.declared.thread.Tcb.{Tcb}
-use Rattle.machine.specs.Authority.{has_memory_at, label_at, lent_of}
-use Rattle.machine.specs.Boot.{IsBoot, bound}
-use Rattle.machine.specs.Layout.{Layout, bound_context, initial_of}
-use Rattle.machine.specs.Machine.{Machine}
-use Rattle.machine.specs.Objects.{address_of, end_of, kind_of_object}
-use Rattle.machine.proofs.Bound.{address-bound, kind-bound}
-use Rattle.policy.specs.Domain.{EdgeTest}
-use Rattle.table.specs.Placement.{IsApart, Lies}
-use Rattle.table.specs.Rules.{IsAtRest, IsBlank, IsLawful}
-use Rattle.table.proofs.AtBoot.{Declared, boot_label, declared_at, initial_lawful, label_declared, rest_lends}
-use Rattle.table.proofs.Lookups.{found_first, pair_at}
-use Rattle.integrity.specs.Acting.MayAct.{starts}
-use Rattle.integrity.specs.OfTable.{IsOfTable}
-use Rattle.integrity.proofs.Asleep.{acts_of}
-use Rattle.integrity.proofs.Shrinking.{same_tcb, same_reply}
-use mathlib.Core.Bool.{false≢true}
-use Rattle.integrity.specs.Awake.{OthersSleep, SleepsOrActs, CallersAreServed}
-use Rattle.machine.specs.declared.object.Reply.{Reply}
-use Rattle.machine.specs.declared.object.ReplyState.TheVariants as answers
-use Rattle.std.proofs.Common.{◌≢◌, find}
-use Rattle.std.proofs.lemmas.Bool.{cases_order}
-use Rattle.table.proofs.Lookups.{FoundAt, found_at}
+use Rattle.machine.specs.declared.{layout.Initial.Initial, object.{Object.{Object, Object as o}, Reply.Reply, Untyped.Untyped}}
+use Rattle.machine.specs.{declared.thread.{RunState.{RunState, RunState as state}, Tcb.Tcb}, Authority.{has_memory_at, label_at, context_lent}}
+use Rattle.machine.specs.{Boot.{IsBoot, bound}, Layout.{Layout, bound_context, initial_of}, Machine.Machine, Objects.{address_of, end_of}}
+use Rattle.machine.{specs.Objects.kind_of_object, proofs.Bound.{address-bound, kind-bound}}
 use Rattle.machine.specs.declared.object.ObjectKind.TheVariants as kind
-use Rattle.integrity.proofs.InMemory.{takes_memory}
+use Rattle.machine.specs.declared.object.ReplyState.TheVariants as answers
+use Rattle.table.{specs.{Placement.{IsApart, Lies}, Rules.{IsAtRest, IsBlank, IsLawful}}, proofs.AtBoot.{Declared, boot_label, declared_at}}
+use Rattle.table.proofs.{AtBoot.{initial_lawful, label_declared, rest_lends}, Lookups.{FoundAt, found_at, found_first, pair_at}}
+use Rattle.policy.specs.Domain.{EdgeTest}
+use Rattle.integrity.specs.{Acting.MayAct.starts, Awake.{CallersAreServed, OthersSleep, SleepsOrActs}, OfTable.IsOfTable}
+use Rattle.integrity.proofs.{Asleep.acts_of, InMemory.takes_memory, Shrinking.{same_reply, same_tcb}}
+use mathlib.Core.Bool.{false≢true}
 
 -- untyped memory that has an address
 memory_at :
@@ -125,10 +105,10 @@ bound_memory t id _ memory e = cc
 -- a thread lends nothing at boot
 bound_lends :
     (t : Layout) (id : ObjId) (object : Object) (thread : Tcb) (context : ObjId) → IsBlank object
-    → o.Tcb thread ≡ bound t id object → lent_of thread.state ≡ Some context → ⊥
+    → o.Tcb thread ≡ bound t id object → context_lent thread.state ≡ Some context → ⊥
 bound_lends t id (o.Tcb tcb) thread context blank e lends =
     let same : thread.state ≡ tcb.state = ap (λ (x : Tcb). x.state) (same_tcb thread (record tcb { context = bound_context t id }) e) in
-    none-some context (sym (ap lent_of same ∙ rest_lends tcb.state blank.0) ∙ lends)
+    none-some context (sym (ap context_lent same ∙ rest_lends tcb.state blank.0) ∙ lends)
 bound_lends t id _ thread context blank e lends = cc
 
 -- at boot a thread is bound as the table says

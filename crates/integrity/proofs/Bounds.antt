@@ -2,19 +2,11 @@
 -- shrink may be taken, or is within full authority, and what may be taken may be cut.
 use Rattle.std.proofs.Common.{ℕ, ◌⊎◌, inl, inr}
 use Rattle.base.specs.declared.ids.ObjId.{ObjId}
-use Rattle.machine.specs.declared.call.Event.{Event}
-use Rattle.machine.specs.Layout.{Layout}
-use Rattle.machine.specs.Machine.{Machine}
-use Rattle.policy.specs.Domain.{EdgeTest}
+use Rattle.machine.specs.{declared.call.Event.Event, Layout.Layout, Machine.Machine}
+use Rattle.policy.{specs.{Change.ActorTest, Domain.EdgeTest, Full.IsFull, Take.MayTake}, proofs.Changing.{change_is_full, shrink_is_take}}
 use Rattle.policy.proofs.Taking.{take_is_cut}
-use Rattle.integrity.specs.Allowed.{IsAllowedStep, IsModified, MayModify}
-use Rattle.integrity.specs.Bounded.{IsAffected, IsBoundedStep, MayModifyOrTake}
-use Rattle.integrity.specs.Shrinks.{IsSame}
-use Rattle.policy.specs.Change.{ActorTest}
-use Rattle.policy.specs.Full.{IsFull}
-use Rattle.policy.specs.Take.{MayTake}
-use Rattle.policy.proofs.Changing.{change_is_full, shrink_is_take}
-use Rattle.integrity.specs.Altered.{IsAltered, IsNarrowStep, MayChangeOrShrink}
+use Rattle.integrity.specs.{Allowed.{IsAllowedStep, IsModified, MayModify}, Altered.{IsAltered, IsNarrowStep, MayChangeOrShrink}}
+use Rattle.integrity.specs.{Bounded.{IsAffected, IsBoundedStep, MayModifyOrTake}, Shrinks.IsSame}
 
 modify_allowed :
     (allowed : EdgeTest) (caller label : ℕ) (m next : Machine) (id : ObjId) → MayModifyOrTake allowed caller label m next id

@@ -1,16 +1,15 @@
 -- What goes with capabilities that a label may remove is for objects that the label reaches: where it reaches a CNode it may use
 -- what that holds, and where it reaches a thread it controls it, and so reaches its space.
-use Rattle.std.proofs.Common.{ℕ, ◌<◌, ◌∙◌, ◌≡◌, ◌≢◌, ◌⊎◌, Bool, Some, ap, arith, false, inl, inr, option_map, refl}
-use Rattle.std.proofs.{Common.{subst, sym, true}, lemmas.Option.same_Some}
+use Rattle.std.proofs.Common.{ℕ, ◌<◌, ◌∙◌, ◌≡◌, ◌≢◌, ◌⊎◌, Bool, Some, ap, arith, false, inl, inr, option_map, refl, subst, sym, true}
+use Rattle.std.proofs.lemmas.Option.{same_Some}
 use Rattle.base.specs.{declared.{ids.{ObjId.ObjId, SlotRef.SlotRef}, kind.Kind.{Kind, Kind as authority}}, Kinds.is_structural}
 use Rattle.machine.specs.declared.{cap.{Cap.Cap, Detail.{Detail, Detail as d}}, object.Object.{Object, Object as o}}
-use Rattle.machine.specs.declared.object.ObjectKind.{ObjectKind, ObjectKind as kind}
-use Rattle.machine.specs.{Authority.{label_of, HasAuthority.{by_cap, by_root}}, Capabilities.{gives, kind_of_detail}, Layout.Layout}
-use Rattle.machine.specs.{Gone.{IsGone, given, gone_of, with_last}, Machine.{Machine, cap_of, object_of}}
-use Rattle.machine.specs.{Objects.{kind_of_object, slot_count}, Removal.vanishes, WellFormed.kind_of}
+use Rattle.machine.specs.{declared.object.ObjectKind.{ObjectKind, ObjectKind as kind}, Authority.{label_of, HasAuthority.{by_cap, by_root}}}
+use Rattle.machine.specs.{Capabilities.{gives, kind_of_detail}, Gone.{IsGone, given, gone_of, with_last}, Layout.Layout, Machine.Machine}
+use Rattle.machine.specs.{Machine.{cap_of, object_of}, Objects.{kind_of_object, slot_count}, Removal.vanishes, WellFormed.kind_of}
 use Rattle.machine.proofs.GoneLemmas.{gone_decided, losing_decided}
-use Rattle.policy.specs.{Change.{ActorTest, WayToChange, WayToChange.modifies}, Closed.IsClosed, Domain.EdgeTest}
-use Rattle.policy.specs.NarrowTake.{TakesByControl.removes, WayToShrink, WayToShrink.{controls, unbinds}, is_removed}
+use Rattle.policy.specs.{Change.{ActorTest, WayToChange, WayToChange.modifies}, Closed.IsClosed, Domain.EdgeTest, NarrowTake.WayToShrink}
+use Rattle.policy.specs.NarrowTake.{is_removed, TakesByControl.removes, WayToShrink.{controls, unbinds}}
 use Rattle.integrity.{specs.{Invariant.IsSound, Removals.{MayReach, MayRemove, use_of}}, proofs.{Held.held_of, Reach.target_label}}
 
 -- each capability gives the use of its object's kind

@@ -1,27 +1,15 @@
 -- Contents that a thread, a notification, a reply and a scheduling context may get in a step, and a change that a label may make, and
 -- one by which an object only shrinks.
 use Rattle.std.proofs.Common.{ℕ, ◌+◌, ◌<◌, ◌∙◌, ◌≡◌, ◌⊎◌, List, Some, ap, inl, inr, refl, subst, sym, true}
-use Rattle.base.specs.declared.ids.ObjId.{ObjId}
-use Rattle.base.specs.declared.kind.Kind.{Kind}
+use Rattle.base.specs.declared.{ids.ObjId.ObjId, kind.Kind.Kind}
 use Rattle.base.specs.declared.kind.Kind.TheVariants as authority
-use Rattle.machine.specs.declared.call.Event.{Event}
-use Rattle.machine.specs.declared.object.Context.{Context}
-use Rattle.machine.specs.declared.object.Notification.{Notification}
-use Rattle.machine.specs.declared.object.Object.{Object}
-use Rattle.machine.specs.declared.object.Object.{Object as o}
-use Rattle.machine.specs.declared.object.Reply.{Reply}
-use Rattle.machine.specs.declared.thread.Tcb.{Tcb}
-use Rattle.machine.specs.Authority.{holds_thread, label_of, lent_of, links}
-use Rattle.machine.specs.Layout.{Layout}
+use Rattle.machine.specs.declared.{call.Event.Event, object.{Context.Context, Notification.Notification, Object.{Object, Object as o}}}
+use Rattle.machine.specs.{declared.{object.Reply.Reply, thread.Tcb.Tcb}, Authority.{holds_thread, label_of, context_lent, links}, Layout.Layout}
 use Rattle.machine.specs.Machine.{Machine, object_of, queue_of, with_object}
 use Rattle.policy.specs.Domain.{EdgeTest}
-use Rattle.integrity.specs.Budgets.{MayConfigure}
-use Rattle.integrity.specs.Shrinks.{Lessens, Shrinks}
-use Rattle.integrity.proofs.Losses.{lessened}
-use Rattle.integrity.proofs.Shrinking.{same_context, same_tcb, same_reply}
+use Rattle.integrity.specs.{Awake.{IsAwake, IsHeldAfterCall, OthersSleep, SleepsOrActs}, Budgets.MayConfigure, Shrinks.{Lessens, Shrinks}}
+use Rattle.integrity.proofs.{Keeps.{Alters, Changes, Takes}, Losses.lessened, Shrinking.{same_context, same_reply, same_tcb}}
 use Rattle.integrity.proofs.TouchKeeps.{Fits}
-use Rattle.integrity.specs.Awake.{IsAwake, OthersSleep, SleepsOrActs, IsHeldAfterCall}
-use Rattle.integrity.proofs.Keeps.{Alters, Changes, Takes}
 
 -- the label may change the object's
 pub changed :
@@ -53,7 +41,7 @@ module _ (t : Layout) (allowed : EdgeTest) (began : Machine) (event : Event) (a 
       → ((end : ObjId) (k : Kind) → links (o.Tcb new) k end ≡ true
       → (links (o.Tcb old) k end ≡ true)
       ⊎ ((from to : ℕ) → label_of t m id ≡ Some from → label_of t m end ≡ Some to → allowed from k to ≡ true))
-      → ((context : ObjId) → lent_of new.state ≡ Some context → context.0 < m.next)
+      → ((context : ObjId) → context_lent new.state ≡ Some context → context.0 < m.next)
       → (IsAwake t allowed began a → OthersSleep t allowed m → SleepsOrActs t allowed m id new)
       → Fits t allowed began event a m id (o.Tcb old) (o.Tcb new)
   tcb_fits old new was same within below sleeps =
@@ -63,7 +51,7 @@ module _ (t : Layout) (allowed : EdgeTest) (began : Machine) (event : Event) (a 
         address = same;
         end = ap (λ n. n + 1024) same;
         links = within;
-        lent = λ context thread is lends. below context (ap (λ (x : Tcb). lent_of x.state) (same_tcb new thread is) ∙ lends);
+        lent = λ context thread is lends. below context (ap (λ (x : Tcb). context_lent x.state) (same_tcb new thread is) ∙ lends);
         sleeps = λ awake others thread is.
             subst (λ (x : Tcb). SleepsOrActs t allowed m id x) (same_tcb new thread is) (sleeps awake others);
         serves = λ awake served reply e. cc;

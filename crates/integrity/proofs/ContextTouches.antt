@@ -1,37 +1,19 @@
 -- The changes by which a thread and a scheduling context are linked, and are so no more, keep what a part of a call keeps, where the
 -- labels of the two allow it; and so does a context that goes over from a thread to another.
-use Rattle.std.proofs.Common.{ℕ, ◌∙◌, ◌≡◌, ◌≢◌, ◌⊎◌, None, Option, Some, ap, inl, inr, refl, subst, sym, true, List}
+use Rattle.std.proofs.Common.{ℕ, ◌∙◌, ◌≡◌, ◌≢◌, ◌⊎◌, List, None, Option, Some, ap, inl, inr, refl, subst, sym, true}
 use Rattle.std.proofs.lemmas.Option.{none-some, same_Some}
-use Rattle.base.specs.declared.ids.ObjId.{ObjId}
-use Rattle.base.specs.declared.kind.Kind.{Kind}
+use Rattle.base.specs.declared.{ids.ObjId.ObjId, kind.Kind.Kind}
 use Rattle.base.specs.declared.kind.Kind.TheVariants as authority
-use Rattle.machine.specs.declared.call.Event.{Event}
-use Rattle.machine.specs.declared.object.Context.{Context}
-use Rattle.machine.specs.declared.object.Object.{Object}
-use Rattle.machine.specs.declared.object.Object.{Object as o}
-use Rattle.machine.specs.declared.thread.Tcb.{Tcb}
-use Rattle.machine.specs.Authority.{label_of, links}
-use Rattle.machine.specs.Layout.{Layout}
-use Rattle.machine.specs.Machine.{Machine, object_of, with_object, queue_of}
-use Rattle.machine.specs.Releasing.{with_unbound}
-use Rattle.machine.specs.Step.Bind.{context_under, with_bound, with_handed}
-use Rattle.machine.specs.WellFormed.{IsThread}
-use Rattle.machine.proofs.Ids.{at_itself, at_other}
-use Rattle.machine.proofs.LookUps.{object_of-with_object, queue_of-with_object}
-use Rattle.machine.proofs.RunsLinks.{runs_by, runs_lent}
+use Rattle.machine.specs.declared.{call.Event.Event, object.{Context.Context, Object.{Object, Object as o}}, thread.Tcb.Tcb}
+use Rattle.machine.specs.{Authority.{label_of, links}, Layout.Layout, Machine.{Machine, object_of, queue_of, with_object}}
+use Rattle.machine.specs.{Releasing.with_unbound, Step.Bind.{context_under, with_bound, with_handed}, WellFormed.IsThread}
+use Rattle.machine.proofs.{Ids.{at_itself, at_other}, LookUps.{object_of-with_object, queue_of-with_object}, RunsLinks.{runs_by, runs_lent}}
 use Rattle.steps.proofs.ContextsFormed.{bound_is, unbound_is}
 use Rattle.policy.specs.Domain.{EdgeTest}
-use Rattle.integrity.specs.Acting.{MayAct}
-use Rattle.integrity.specs.Invariant.{IsHeld, IsSound}
-use Rattle.integrity.proofs.Asleep.{acts_of, unbound_sleeps}
-use Rattle.integrity.proofs.Contents.{context_fits, tcb_fits, changed, loses_links}
-use Rattle.integrity.proofs.Held.{held_of}
-use Rattle.integrity.proofs.Keeps.{Keeps, keeps_keeps, unchanged, Alters, Takes}
-use Rattle.integrity.proofs.ObjectLabels.{label_stays, same_label}
-use Rattle.integrity.proofs.SetKeeps.{set_keeps}
-use Rattle.integrity.proofs.SlotKeeps.{IsOpened}
-use Rattle.integrity.specs.Awake.{IsAwake, OthersSleep, SleepsOrActs}
-use Rattle.integrity.specs.Shrinks.Lessens.{unbound}
+use Rattle.integrity.specs.{Acting.MayAct, Awake.{IsAwake, OthersSleep, SleepsOrActs}, Invariant.{IsHeld, IsSound}, Shrinks.Lessens.unbound}
+use Rattle.integrity.proofs.{Asleep.{acts_of, unbound_sleeps}, Contents.{changed, context_fits, loses_links, tcb_fits}, Held.held_of}
+use Rattle.integrity.proofs.{Keeps.{Alters, Keeps, Takes, keeps_keeps, unchanged}, ObjectLabels.{label_stays, same_label}}
+use Rattle.integrity.proofs.{SetKeeps.set_keeps, SlotKeeps.IsOpened}
 
 -- the contents of a thread with another context, and of a context with another thread
 

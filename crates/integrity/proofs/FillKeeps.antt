@@ -1,33 +1,15 @@
 -- An empty slot gets a capability, which keeps what a part of a call keeps if the policy has the capability's edges and its pair
 -- of the tree.
-use Rattle.std.specs.Prelude.{if◌then◌else◌}
-use Rattle.std.proofs.Common.{ℕ, ◌∙◌, ◌≡◌, ◌≢◌, ◌⊎◌, Bool, None, Option, Some, ap, false, inl, inr, refl, subst, sym, true}
-use Rattle.std.proofs.lemmas.Bool.{false≢true}
-use Rattle.std.proofs.lemmas.Option.{same_Some}
-use Rattle.base.specs.declared.ids.ObjId.{ObjId}
-use Rattle.base.specs.declared.ids.SlotRef.{SlotRef}
-use Rattle.base.specs.declared.kind.Kind.{Kind}
-use Rattle.base.specs.declared.kind.Kind.{Kind as authority}
-use Rattle.base.specs.Kinds.{is_structural}
-use Rattle.machine.specs.declared.cap.Cap.{Cap}
-use Rattle.machine.specs.declared.cap.Detail.{Detail}
-use Rattle.machine.specs.Authority.{label_of}
-use Rattle.machine.specs.Authority.HasAuthority.{by_pair}
-use Rattle.machine.specs.Capabilities.{gives, kind_of_detail}
+use Rattle.std.{specs.Prelude.if◌then◌else◌, proofs.Common.{ℕ, ◌∙◌, ◌≡◌, ◌≢◌, ◌⊎◌, Bool, None, Option, Some, ap, false, inl, inr, refl}}
+use Rattle.std.proofs.{Common.{subst, sym, true}, lemmas.{Bool.false≢true, Option.same_Some}}
+use Rattle.base.specs.{declared.{ids.{ObjId.ObjId, SlotRef.SlotRef}, kind.Kind.{Kind, Kind as authority}}, Kinds.is_structural}
+use Rattle.machine.specs.{declared.cap.{Cap.Cap, Detail.Detail}, Authority.{label_of, HasAuthority.by_pair}, Capabilities.gives}
+use Rattle.machine.specs.{Capabilities.kind_of_detail, Layout.Layout, Machine.{Machine, cap_of, object_of, parent_of, same_slot}}
+use Rattle.machine.{specs.{Tree.parent_of_copy, WellFormed.kind_of}, proofs.{AuthorityLemmas.gives_no_structure, Ids.one_or_two}}
+use Rattle.machine.proofs.{LookUps.one_slot, SlotChanges.Fills}
 use Rattle.machine.specs.declared.object.ObjectKind.TheVariants as kind
-use Rattle.machine.specs.Layout.{Layout}
-use Rattle.machine.specs.Machine.{Machine, cap_of, object_of, parent_of, same_slot}
-use Rattle.machine.specs.Tree.{parent_of_copy}
-use Rattle.machine.specs.WellFormed.{kind_of}
-use Rattle.machine.proofs.AuthorityLemmas.{gives_no_structure}
-use Rattle.machine.proofs.Ids.{one_or_two}
-use Rattle.machine.proofs.LookUps.{one_slot}
-use Rattle.machine.proofs.SlotChanges.{Fills}
-use Rattle.policy.specs.Closed.{DeriveByGrant, derived}
-use Rattle.policy.specs.Domain.{EdgeTest}
-use Rattle.integrity.specs.Invariant.{IsBare, IsHeld}
-use Rattle.integrity.proofs.SlotKeeps.{IsAllowedIn, SlotsFit}
-use Rattle.integrity.proofs.Keeps.{Changes}
+use Rattle.policy.specs.{Closed.{DeriveByGrant, derived}, Domain.EdgeTest}
+use Rattle.integrity.{specs.Invariant.{IsBare, IsHeld}, proofs.{Keeps.Changes, SlotKeeps.{IsAllowedIn, SlotsFit}}}
 
 -- a slot of another object is another slot
 pub apart_slots : (q slot : SlotRef) → q.holder ≢ slot.holder → same_slot q slot ≡ false

@@ -5,7 +5,7 @@ use Rattle.std.proofs.lemmas.Option.{same_Some}
 use Rattle.base.specs.declared.{ids.{ObjId.ObjId, SlotRef.SlotRef}, kind.Kind.{Kind, Kind as authority}}
 use Rattle.machine.specs.declared.{cap.Cap.Cap, object.{Object.{Object, Object as o}, Reply.Reply, ReplyState.ReplyState}}
 use Rattle.machine.specs.declared.object.ReplyState.TheVariants as reply
-use Rattle.machine.specs.{declared.thread.{RunState.RunState, Tcb.Tcb}, Authority.{holds_thread, lent_of, links, state_links}}
+use Rattle.machine.specs.{declared.thread.{RunState.RunState, Tcb.Tcb}, Authority.{holds_thread, context_lent, links, state_links}}
 use Rattle.machine.specs.declared.thread.RunState.TheVariants as state
 use Rattle.machine.specs.{Machine.{Machine, cap_of, object_of, parent_of, with_object}, WellFormed.{IsReceivingWith, IsThread}}
 use Rattle.machine.{specs.WellFormed.{IsWellFormed, WaitsAt}, proofs.{Ids.{at_itself, at_other, one_or_two}, LookUps.cap_of-with_object}}
@@ -27,7 +27,7 @@ pub record IsJoined (m : Machine) : Type 0 where
 module _
     (m : Machine) (formed : IsWellFormed m)
     (lent :
-    (id context : ObjId) (thread : Tcb) → object_of m id ≡ Some (o.Tcb thread) → lent_of thread.state ≡ Some context
+    (id context : ObjId) (thread : Tcb) → object_of m id ≡ Some (o.Tcb thread) → context_lent thread.state ≡ Some context
     → context.0 < m.next) where
   waited_at : (thread end : ObjId) (tcb : Tcb) → IsThread m thread tcb → WaitsAt tcb.state end → IsThere m end
   waited_at thread end tcb is waits =

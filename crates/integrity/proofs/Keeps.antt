@@ -1,28 +1,14 @@
 -- What each part of a call keeps, and that two parts, one after the other, keep it: what the headline asks of each row.
-use Rattle.std.proofs.Common.{ℕ, ◌∙◌, ◌≡◌, ◌≤◌, ◌⊎◌, None, Option, Some, ap, arith, inl, inr, refl, subst, sym}
-use Rattle.std.proofs.lemmas.Option.{none-some, same_Some}
+use Rattle.std.proofs.{Common.{ℕ, ◌∙◌, ◌≡◌, ◌≤◌, ◌⊎◌, None, Option, Some, ap, arith, inl, inr, refl, subst, sym}, lemmas.Option.none-some}
+use Rattle.std.proofs.lemmas.Option.{same_Some}
 use Rattle.base.specs.declared.ids.ObjId.{ObjId}
-use Rattle.machine.specs.declared.call.Call.TheVariants.{Signal}
-use Rattle.machine.specs.declared.call.Event.{Event}
-use Rattle.machine.specs.declared.object.Context.{Context}
-use Rattle.machine.specs.declared.object.Object.{Object}
-use Rattle.machine.specs.declared.object.Object.{Object as o}
+use Rattle.machine.specs.declared.{call.{Call.TheVariants.Signal, Event.Event}, object.{Context.Context, Object.{Object, Object as o}}}
+use Rattle.machine.specs.{Authority.label_of, Layout.Layout, Machine.{Machine, object_of}, Objects.{address_of, kind_of_object}}
 use Rattle.machine.specs.declared.object.ObjectKind.TheVariants as kind
-use Rattle.machine.specs.Authority.{label_of}
-use Rattle.machine.specs.Layout.{Layout}
-use Rattle.machine.specs.Machine.{Machine, object_of}
-use Rattle.machine.specs.Objects.{address_of, kind_of_object}
-use Rattle.policy.specs.Domain.{EdgeTest}
-use Rattle.integrity.specs.Allowed.{IsLabelled}
-use Rattle.integrity.specs.Budgets.{MayConfigure}
-use Rattle.integrity.specs.Invariant.{IsHeld}
-use Rattle.integrity.specs.Shrinks.{IsSame}
-use Rattle.integrity.proofs.ObjectLabels.{label_stays, labelled_there, same_label}
-use Rattle.integrity.proofs.Shrinking.{same_context, same_same, same_shrinks, shrinks_same, shrinks_shrinks}
-use Rattle.integrity.specs.Awake.{IsAwake, OthersSleep, CallersAreServed}
-use Rattle.integrity.specs.Altered.{MayAlter, MayChangeOrShrink}
-use Rattle.policy.specs.Change.{ActorTest, WayToChange}
-use Rattle.policy.specs.NarrowTake.{WayToShrink}
+use Rattle.policy.specs.{Change.{ActorTest, WayToChange}, Domain.EdgeTest, NarrowTake.WayToShrink}
+use Rattle.integrity.specs.{Allowed.IsLabelled, Altered.{MayAlter, MayChangeOrShrink}, Awake.{CallersAreServed, IsAwake, OthersSleep}}
+use Rattle.integrity.{specs.{Budgets.MayConfigure, Invariant.IsHeld, Shrinks.IsSame}, proofs.ObjectLabels.{label_stays, labelled_there}}
+use Rattle.integrity.proofs.{ObjectLabels.same_label, Shrinking.{same_context, same_same, same_shrinks, shrinks_same, shrinks_shrinks}}
 
 -- an object is as it was, or changed within the bounds of a label, where only some labels act
 abbrev pub Acts : Layout → EdgeTest → ActorTest → ℕ → Machine → Machine → ObjId → Type 0

@@ -2,36 +2,19 @@
 -- one calls that runs on it; and so does an answer with which the context goes back to the thread that lent it.
 use Rattle.std.proofs.Common.{ℕ, ◌∙◌, ◌≡◌, ◌≢◌, ◌⊎◌, None, Option, Some, ap, inl, inr, option_map, refl, subst, sym, true}
 use Rattle.std.proofs.lemmas.Option.{none-some, same_Some}
-use Rattle.base.specs.declared.ids.ObjId.{ObjId}
-use Rattle.base.specs.declared.kind.Kind.{Kind as authority}
-use Rattle.machine.specs.declared.call.Event.{Event}
-use Rattle.machine.specs.declared.object.Object.{Object as o}
-use Rattle.machine.specs.declared.thread.Lent.{Lent}
-use Rattle.machine.specs.declared.thread.RunState.{RunState}
-use Rattle.machine.specs.declared.thread.RunState.TheVariants as state
-use Rattle.machine.specs.declared.thread.Tcb.{Tcb}
-use Rattle.machine.specs.Authority.{label_of, lent_of, links}
-use Rattle.machine.specs.Layout.{Layout}
-use Rattle.machine.specs.Machine.{Machine, object_of}
-use Rattle.machine.specs.Step.Bind.{context_under, with_handed}
-use Rattle.machine.specs.Step.Reply.{lent_in, with_returned}
-use Rattle.machine.specs.Step.Send.{called_through, lent_by, with_lent}
-use Rattle.machine.specs.WellFormed.{IsFree, IsIdle, IsThread, WaitsAt}
-use Rattle.machine.proofs.Idle.{idle_names, idle_waits}
-use Rattle.machine.proofs.Leaving.{Names}
+use Rattle.base.specs.declared.{ids.ObjId.ObjId, kind.Kind.Kind as authority}
+use Rattle.machine.specs.declared.{call.Event.Event, object.Object.Object as o, thread.{Lent.Lent, RunState.RunState, Tcb.Tcb}}
+use Rattle.machine.specs.{Authority.{label_of, context_lent, links}, Layout.Layout, Machine.{Machine, object_of}, Step.Bind.context_under}
+use Rattle.machine.specs.Step.{Bind.with_handed, Reply.{loan_in, with_returned}, Send.{called_through, loan_made, with_lent}}
+use Rattle.machine.{specs.WellFormed.{IsFree, IsIdle, IsThread, WaitsAt}, proofs.{Idle.{idle_names, idle_waits}, Leaving.Names}}
 use Rattle.machine.proofs.RunsLinks.{runs_bound, runs_lent}
-use Rattle.steps.proofs.Lending.{GivesBack, lends, returned_or_same}
-use Rattle.steps.proofs.MessageRows.{lending, lending_formed, lending_receiver, lending_there}
-use Rattle.policy.specs.Domain.{EdgeTest}
-use Rattle.integrity.specs.Acting.{MayAct}
-use Rattle.integrity.specs.Invariant.{IsHeld, IsSound}
-use Rattle.integrity.proofs.ContextTouches.{MayHand, handed_keeps}
-use Rattle.integrity.proofs.Held.{held_of}
-use Rattle.integrity.proofs.Keeps.{Keeps, keeps_keeps, unchanged, Changes, Takes}
-use Rattle.integrity.proofs.MessageParts.{halts, label_kept, thread_edge, waits_keep}
-use Rattle.integrity.proofs.MessageTouches.{sound_after, MayHold}
-use Rattle.integrity.specs.Awake.{IsAwake}
-use Rattle.policy.specs.Change.WayToChange.{own}
+use Rattle.machine.specs.declared.thread.RunState.TheVariants as state
+use Rattle.steps.proofs.{Lending.{GivesBack, lends, returned_or_same}, MessageRows.{lending, lending_formed, lending_receiver}}
+use Rattle.steps.proofs.MessageRows.{lending_there}
+use Rattle.policy.specs.{Change.WayToChange.own, Domain.EdgeTest}
+use Rattle.integrity.{specs.{Acting.MayAct, Awake.IsAwake, Invariant.{IsHeld, IsSound}}, proofs.ContextTouches.{MayHand, handed_keeps}}
+use Rattle.integrity.proofs.{Held.held_of, Keeps.{Changes, Keeps, Takes, keeps_keeps, unchanged}, MessageParts.{halts, label_kept}}
+use Rattle.integrity.proofs.{MessageParts.{thread_edge, waits_keep}, MessageTouches.{MayHold, sound_after}}
 
 -- what runs on a context has it as its own
 own_context :
@@ -41,8 +24,8 @@ own_context m thread context tcb there runs = sym (ap context_under there) ∙ r
 
 -- what a thread that called lent is among what it runs on
 lent_back :
-    (tcb : Tcb) (run : RunState) (lent : Lent) → lent_in (Some (o.Tcb (record tcb { state = run }))) ≡ Some lent
-    → lent_of run ≡ Some lent.context
+    (tcb : Tcb) (run : RunState) (lent : Lent) → loan_in (Some (o.Tcb (record tcb { state = run }))) ≡ Some lent
+    → context_lent run ≡ Some lent.context
 lent_back tcb (state.Called calling) lent e = ap (option_map (λ (l : Lent). l.context)) e
 lent_back tcb _ lent e = absurd (none-some lent e)
 
@@ -84,8 +67,8 @@ module _
   returned_back thread called giver tcb there mine at l labelled has acts may_give back =
       handed_keeps t allowed began event a m sound thread called back.free (λ id runs.
       let same : back.context ≡ id = same_Some back.context id (sym back.runs ∙ runs) in
-      let lent : lent_of tcb.state ≡ Some id =
-      lent_back tcb tcb.state (record { context = back.context; borrower = thread }) (sym (ap lent_in at) ∙ back.lent)
+      let lent : context_lent tcb.state ≡ Some id =
+      lent_back tcb tcb.state (record { context = back.context; borrower = thread }) (sym (ap loan_in at) ∙ back.lent)
       ∙ ap (λ (i : ObjId). Some i) same in
       handing thread called id giver tcb there mine (own_context m thread id giver there runs) at l labelled has acts
       (λ s target ran. inl (runs_lent tcb id lent)) may_give)
@@ -123,7 +106,7 @@ module _
       (may : (r : ℕ) → label_of t m id ≡ Some r → MayHold t allowed began a r a)
       (may_lend : (s : ℕ) → allowed a authority.Runs s ≡ true → (allowed b authority.Runs s ≡ true) × Changes t allowed began a s) where
     abbrev own_loan : Option Lent
-    own_loan = lent_by m thread receiver
+    own_loan = loan_made m thread receiver
 
     abbrev waits : Machine
     waits = lending m thread receiver tcb its sound.well_formed there receives apart id
@@ -185,4 +168,4 @@ module _
       halts t allowed began event a m sound thread tcb there a mine (inl (λ awake. own refl)) (λ awake. awake.acting) names_none
       waits_nowhere
   called_through_keeps (Some id) free may may_lend =
-      by_loan id (free id refl) (λ r. may id r refl) (λ s. may_lend id s refl) (lent_by m thread receiver) refl
+      by_loan id (free id refl) (λ r. may id r refl) (λ s. may_lend id s refl) (loan_made m thread receiver) refl

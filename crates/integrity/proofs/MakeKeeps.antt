@@ -1,53 +1,24 @@
 -- An object that is made from untyped memory keeps what a part of a call keeps: the memory is the caller's to control, so that all kinds
 -- of authority over it are, and its capability comes into a CNode that is the caller's to control too.
-use Rattle.std.specs.Prelude.{if◌then◌else◌}
-use Rattle.std.proofs.Common.{ℕ, ◌+◌, ◌<◌, ◌∙◌, ◌≡◌, ◌≢◌, ◌≤◌, Bool, None, Some, ap, arith, false, inl, inr, option_map, refl, subst, sym, true}
-use Rattle.std.proofs.lemmas.Bool.{false≢true}
-use Rattle.std.proofs.lemmas.Nat.{pow_pos}
-use Rattle.std.proofs.lemmas.Option.{none-some, same_Some}
-use Rattle.base.specs.declared.ids.ObjId.{ObjId}
-use Rattle.base.specs.declared.ids.SlotRef.{SlotRef}
-use Rattle.base.specs.declared.kind.Kind.{Kind}
-use Rattle.base.specs.declared.kind.Kind.{Kind as authority}
-use Rattle.base.specs.Kinds.{is_structural}
-use Rattle.machine.specs.declared.call.Event.{Event}
-use Rattle.machine.specs.declared.cap.Cap.{Cap}
-use Rattle.machine.specs.declared.object.MemoryKind.{MemoryKind}
+use Rattle.std.{specs.Prelude.if◌then◌else◌, proofs.Common.{ℕ, ◌+◌, ◌<◌, ◌∙◌, ◌≡◌, ◌≢◌, ◌≤◌, Bool, None, Some, ap, arith, false, inl, inr}}
+use Rattle.std.proofs.{Common.{option_map, refl, subst, sym, true}, lemmas.{Bool.false≢true, Nat.pow_pos, Option.{none-some, same_Some}}}
+use Rattle.base.specs.{declared.{ids.{ObjId.ObjId, SlotRef.SlotRef}, kind.Kind.{Kind, Kind as authority}}, Kinds.is_structural}
+use Rattle.machine.specs.declared.{call.Event.Event, cap.Cap.Cap, object.{MemoryKind.MemoryKind, Object.{Object, Object as o}}}
+use Rattle.machine.specs.declared.{object.Untyped.Untyped, thread.{Inbox.Inbox as inbox, RunState.RunState as state, Tcb.Tcb}}
+use Rattle.machine.specs.{Authority.{label_at, label_of, links}, Capabilities.{gives, kind_of_detail}, Layout.Layout, Machine.Machine}
+use Rattle.machine.specs.Machine.{cap_of, object_of, parent_of, queue_of, same_slot, with_cap, with_new, with_object, with_parent, words_of}
+use Rattle.machine.specs.{Memory.{Source, new_cap, new_detail, new_object, new_size, placed, taken, with_made}, Objects.end_of}
+use Rattle.machine.{specs.{Objects.kind_of_object, WellFormed.kind_of}, proofs.{Ids.{at_itself, at_other}, LookUps.cap_of-with_cap}}
+use Rattle.machine.proofs.LookUps.{cap_of-with_parent, object_of-with_new, object_of-with_object, parent_of-with_cap, parent_of-with_parent}
+use Rattle.machine.proofs.{ObjectMade.marked, SlotChanges.{Fills, SameObjects}}
 use Rattle.machine.specs.declared.object.MemoryKind.TheVariants as memory
-use Rattle.machine.specs.declared.object.Object.{Object}
-use Rattle.machine.specs.declared.object.Object.{Object as o}
-use Rattle.machine.specs.declared.object.Untyped.{Untyped}
-use Rattle.machine.specs.declared.thread.Inbox.{Inbox as inbox}
-use Rattle.machine.specs.declared.thread.RunState.{RunState as state}
-use Rattle.machine.specs.declared.thread.Tcb.{Tcb}
-use Rattle.machine.specs.Authority.{label_at, label_of, links}
-use Rattle.machine.specs.Capabilities.{gives, kind_of_detail}
-use Rattle.machine.specs.Layout.{Layout}
-use Rattle.machine.specs.Machine.{Machine, cap_of, object_of, parent_of, queue_of, same_slot, with_cap, with_new, with_object, with_parent, words_of}
-use Rattle.machine.specs.Memory.{Source, new_cap, new_detail, new_object, new_size, placed, taken, with_made}
-use Rattle.machine.specs.Objects.{end_of, kind_of_object}
-use Rattle.machine.specs.WellFormed.{kind_of}
-use Rattle.machine.proofs.Ids.{at_itself, at_other}
-use Rattle.machine.proofs.LookUps.{cap_of-with_cap, cap_of-with_parent, object_of-with_new, object_of-with_object, parent_of-with_cap, parent_of-with_parent}
-use Rattle.machine.proofs.ObjectMade.{marked}
-use Rattle.machine.proofs.SlotChanges.{Fills, SameObjects}
 use Rattle.machine.specs.declared.object.ObjectKind.TheVariants as kind
 use Rattle.steps.proofs.RetypeFormed.{new_address, new_kind}
-use Rattle.policy.specs.Closed.{IsClosed}
-use Rattle.policy.specs.Domain.{EdgeTest, IsInDomain}
-use Rattle.integrity.specs.Invariant.{IsBare, IsHeld}
-use Rattle.integrity.proofs.FillKeeps.{MayFill, fill_fits, given_of_use, in_node, slots_elsewhere}
-use Rattle.integrity.proofs.Joined.{IsJoined, joined_set}
-use Rattle.integrity.proofs.Keeps.{Keeps, keeps_keeps}
-use Rattle.integrity.proofs.NewKeeps.{IsMakeable, new_keeps, new_label}
-use Rattle.integrity.proofs.ObjectLabels.{kind_there, same_label}
-use Rattle.integrity.proofs.Reach.{IsControlled}
-use Rattle.integrity.proofs.SetKeeps.{set_keeps}
-use Rattle.integrity.proofs.Shrinking.{same_tcb}
-use Rattle.integrity.proofs.SlotKeeps.{SlotsFit, slots_keep}
-use Rattle.policy.specs.Change.WayToChange.{modifies}
-use Rattle.integrity.specs.Awake.{IsAsleep}
-use Rattle.integrity.proofs.Contents.{changed}
+use Rattle.policy.specs.{Change.WayToChange.modifies, Closed.IsClosed, Domain.{EdgeTest, IsInDomain}}
+use Rattle.integrity.{specs.{Awake.IsAsleep, Invariant.{IsBare, IsHeld}}, proofs.{Contents.changed, FillKeeps.{MayFill, fill_fits}}}
+use Rattle.integrity.proofs.{FillKeeps.{given_of_use, in_node, slots_elsewhere}, Joined.{IsJoined, joined_set}, Keeps.{Keeps, keeps_keeps}}
+use Rattle.integrity.proofs.{NewKeeps.{IsMakeable, new_keeps, new_label}, ObjectLabels.{kind_there, same_label}, Reach.IsControlled}
+use Rattle.integrity.proofs.{SetKeeps.set_keeps, Shrinking.same_tcb, SlotKeeps.{SlotsFit, slots_keep}}
 
 -- a new object links to nothing
 new_alone : (of : MemoryKind) (bits at : ℕ) (k : Kind) (end : ObjId) → links (new_object of bits at) k end ≡ false

@@ -1,68 +1,35 @@
 -- Send, Call, Receive, Reply and Fetch within a caller's authority: the endpoint or the reply that is found is one that its label
 -- may use so, and whom a message or an answer reaches waits there by a recorded edge.
-use Rattle.std.specs.Prelude.{if◌then◌else◌, is_ok}
-use Rattle.std.proofs.Common.{ℕ, ◌&&◌, ◌∙◌, ◌≡◌, ◌≢◌, ◌⊎◌, Bool, List, None, Option, Some, ap, false, inl, inr, refl, subst, sym, true}
-use Rattle.std.proofs.lemmas.Bool.{and_from, and_parts, false≢true}
-use Rattle.base.specs.declared.ids.ObjId.{ObjId}
-use Rattle.base.specs.declared.kind.Kind.{Kind}
-use Rattle.base.specs.declared.kind.Kind.{Kind as authority}
-use Rattle.machine.specs.declared.call.Event.{Event}
-use Rattle.machine.specs.declared.cap.Detail.{Detail as d}
-use Rattle.machine.specs.declared.object.Endpoint.{Endpoint}
-use Rattle.machine.specs.declared.object.Object.{Object}
-use Rattle.machine.specs.declared.object.Object.{Object as o}
-use Rattle.machine.specs.declared.object.Reply.{Reply}
-use Rattle.machine.specs.declared.slot_address.SlotAddress.{SlotAddress}
-use Rattle.machine.specs.declared.thread.Message.{Message}
-use Rattle.machine.specs.declared.thread.Receiving.{Receiving}
-use Rattle.machine.specs.declared.thread.RunState.{RunState}
-use Rattle.machine.specs.declared.thread.RunState.TheVariants as state
-use Rattle.machine.specs.declared.thread.Sending.{Sending}
-use Rattle.machine.specs.declared.thread.Tcb.{Tcb}
-use Rattle.machine.specs.Authority.{label_of, state_links}
-use Rattle.machine.specs.Capabilities.{can_write}
-use Rattle.machine.specs.Layout.{Layout}
-use Rattle.machine.specs.Machine.{Machine, object_of, same_id}
-use Rattle.machine.specs.Releasing.{given, ready, with_blocked, with_given, with_named, with_ready}
-use Rattle.machine.specs.Step.Deliver.{answer_through, arrival_of, delivered, linked, message_of, sending_by, sent, with_arrival}
-use Rattle.machine.specs.Step.Receive.{awaiting_message, with_reply_ended}
-use Rattle.machine.specs.Step.Reply.{with_returned}
-use Rattle.machine.specs.Step.Send.{called_through}
-use Rattle.machine.specs.WellFormed.{IsAlike, IsCallingThrough, IsReceivingWith, IsThread, IsWellFormed, WaitsAt}
-use Rattle.machine.proofs.HeldThreads.{calling_names}
-use Rattle.machine.proofs.Ids.{itself}
-use Rattle.machine.proofs.Leaving.{Names}
-use Rattle.machine.proofs.LookUps.{one_id}
-use Rattle.machine.proofs.RunsLinks.{named_so}
+use Rattle.std.{specs.Prelude.{if◌then◌else◌, is_ok}, proofs.Common.{ℕ, ◌&&◌, ◌∙◌, ◌≡◌, ◌≢◌, ◌⊎◌, Bool, List, None, Option, Some, ap}}
+use Rattle.std.proofs.{Common.{false, inl, inr, refl, subst, sym, true}, lemmas.Bool.{and_from, and_parts, false≢true}}
+use Rattle.base.specs.declared.{ids.ObjId.ObjId, kind.Kind.{Kind, Kind as authority}}
+use Rattle.machine.specs.declared.{call.Event.Event, cap.Detail.Detail as d, object.{Endpoint.Endpoint, Object.{Object, Object as o}}}
+use Rattle.machine.specs.declared.{object.Reply.Reply, slot_address.SlotAddress.SlotAddress, thread.{Message.Message, Receiving.Receiving}}
+use Rattle.machine.specs.{declared.thread.{RunState.RunState, Sending.Sending, Tcb.Tcb}, Authority.{label_of, state_links}}
+use Rattle.machine.specs.{Capabilities.can_write, Layout.Layout, Machine.{Machine, object_of, same_id}, Releasing.{given, ready}}
+use Rattle.machine.specs.{Releasing.{with_blocked, with_given, with_named, with_ready}, Step.Deliver.{answer_through, arrival_of}}
+use Rattle.machine.specs.Step.{Deliver.{delivered, linked, message_of, sending_by, sent, with_arrival}, Receive.awaiting_message}
+use Rattle.machine.specs.{Step.{Receive.with_reply_ended, Reply.with_returned, Send.called_through}, WellFormed.{IsAlike, IsCallingThrough}}
+use Rattle.machine.{specs.WellFormed.{IsReceivingWith, IsThread, IsWellFormed, WaitsAt}, proofs.{HeldThreads.calling_names, Ids.itself}}
+use Rattle.machine.proofs.{Leaving.Names, LookUps.one_id, RunsLinks.named_so}
 use Rattle.machine.specs.declared.object.ReplyState.TheVariants as reply
-use Rattle.steps.proofs.Admission.{IsCaller}
-use Rattle.steps.proofs.Arrival.{arrival_same}
-use Rattle.steps.proofs.EndpointRow.{IsEndOpen, IsReceiver, IsSender}
-use Rattle.steps.proofs.FetchRow.{FetchDone}
-use Rattle.steps.proofs.Joins.{names_one}
-use Rattle.steps.proofs.Lending.{returned_there}
-use Rattle.steps.proofs.MessageRows.{answers_through, caller_apart, caller_idle, delivered_formed, delivered_free, delivered_other, delivered_there, received_arrived_formed, received_arrived_free, received_caller, received_ended_formed, received_endpoint, received_free, received_sender}
-use Rattle.steps.proofs.ReceiveRow.{ReceiveDone}
-use Rattle.steps.proofs.ReplyRow.{Answers, ReplyDone}
-use Rattle.steps.proofs.SendRow.{EndpointCallDone, SendDone}
-use Rattle.policy.specs.Closed.{IsClosed, caller, server}
-use Rattle.policy.specs.Domain.{EdgeTest}
-use Rattle.integrity.specs.Acting.{MayAct}
-use Rattle.integrity.specs.Invariant.{IsHeld, IsSound}
-use Rattle.integrity.specs.Shrinks.{IsBlocked}
-use Rattle.integrity.proofs.ArrivalKeeps.{arrival_keeps}
-use Rattle.integrity.proofs.Asleep.{blocked_acts}
-use Rattle.integrity.proofs.Held.{held_of}
-use Rattle.integrity.proofs.Keeps.{Keeps, keeps_keeps, unchanged, Changes, Takes}
-use Rattle.integrity.proofs.LendingKeeps.{called_through_keeps, returned_keeps}
-use Rattle.integrity.proofs.MessageParts.{IsReached, answers_allowed, at_reached, blocked_beside, deliver_keeps, halt_keeps, holds_edge, label_kept, link_keeps, reached, receiver_receives, receiver_replies, same_kept, sender_calls, sender_grants, sender_sends, thread_label, held_caller}
-use Rattle.integrity.proofs.MessageTouches.{blocked_keeps, emptied_keeps, holding_keeps, released_keeps, sound_after, MayHold, free_holds, waiting_apart}
-use Rattle.integrity.proofs.ObjectLabels.{same_label}
-use Rattle.integrity.specs.Awake.{IsAwake}
-use Rattle.policy.specs.Change.WayToChange.{modifies, receives, replies, sends, shares}
-use Rattle.policy.specs.Change.WayToChange.{links as links_to}
-use Rattle.policy.specs.Change.MayChangeContext.{lends, returns}
-use Rattle.integrity.proofs.Awake.{blocked_actor, has_threads}
+use Rattle.machine.specs.declared.thread.RunState.TheVariants as state
+use Rattle.steps.proofs.{Admission.IsCaller, Arrival.arrival_same, EndpointRow.{IsEndOpen, IsReceiver, IsSender}, FetchRow.FetchDone}
+use Rattle.steps.proofs.{Joins.names_one, Lending.returned_there, MessageRows.{answers_through, caller_apart, caller_idle}}
+use Rattle.steps.proofs.MessageRows.{delivered_formed, delivered_free, delivered_other, delivered_there, received_arrived_formed}
+use Rattle.steps.proofs.MessageRows.{received_arrived_free, received_caller, received_ended_formed, received_endpoint, received_free}
+use Rattle.steps.proofs.{MessageRows.received_sender, ReceiveRow.ReceiveDone, ReplyRow.{Answers, ReplyDone}, SendRow.EndpointCallDone}
+use Rattle.steps.proofs.SendRow.{SendDone}
+use Rattle.policy.specs.Change.{MayChangeContext.{lends, returns}, WayToChange.{links as links_to, modifies, receives, replies, sends}}
+use Rattle.policy.specs.{Change.WayToChange.shares, Closed.{IsClosed, caller, server}, Domain.EdgeTest}
+use Rattle.integrity.specs.{Acting.MayAct, Awake.IsAwake, Invariant.{IsHeld, IsSound}, Shrinks.IsBlocked}
+use Rattle.integrity.proofs.{ArrivalKeeps.arrival_keeps, Asleep.blocked_acts, Awake.{blocked_actor, has_threads}, Held.held_of}
+use Rattle.integrity.proofs.{Keeps.{Changes, Keeps, Takes, keeps_keeps, unchanged}, LendingKeeps.{called_through_keeps, returned_keeps}}
+use Rattle.integrity.proofs.MessageParts.{IsReached, answers_allowed, at_reached, blocked_beside, deliver_keeps, halt_keeps, held_caller}
+use Rattle.integrity.proofs.MessageParts.{holds_edge, label_kept, link_keeps, reached, receiver_receives, receiver_replies, same_kept}
+use Rattle.integrity.proofs.{MessageParts.{sender_calls, sender_grants, sender_sends, thread_label}, MessageTouches.MayHold}
+use Rattle.integrity.proofs.MessageTouches.{blocked_keeps, emptied_keeps, free_holds, holding_keeps, released_keeps, sound_after}
+use Rattle.integrity.proofs.{MessageTouches.waiting_apart, ObjectLabels.same_label}
 
 -- who waits for an answer is blocked, and is in no queue
 

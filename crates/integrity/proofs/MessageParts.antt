@@ -1,64 +1,29 @@
 -- What the parts of a message's way keep: a receiver gets it, who called waits for the answer, and the thread of a reply is
 -- halted. All that these take is what a label has over an endpoint or a reply that is found, and the recorded edges of the
 -- threads there.
-use Rattle.std.specs.Prelude.{if◌then◌else◌, is_ok}
-use Rattle.std.proofs.Common.{ℕ, ◌&&◌, ◌<◌, ◌∙◌, ◌≡◌, ◌≢◌, ◌⊎◌, Bool, List, None, Option, Some, ap, arith, false, inl, inr, option_map, refl, subst, sym, true}
-use Rattle.std.proofs.lemmas.Bool.{and_from}
-use Rattle.std.proofs.lemmas.Option.{none-some, same_Some}
-use Rattle.base.specs.declared.ids.ObjId.{ObjId}
-use Rattle.base.specs.declared.kind.Kind.{Kind}
-use Rattle.base.specs.declared.kind.Kind.{Kind as authority}
-use Rattle.base.specs.Kinds.{is_structural}
-use Rattle.machine.specs.declared.call.Event.{Event}
-use Rattle.machine.specs.declared.cap.Detail.{Detail}
-use Rattle.machine.specs.declared.object.Object.{Object}
-use Rattle.machine.specs.declared.object.Object.{Object as o}
-use Rattle.machine.specs.declared.object.Reply.{Reply}
-use Rattle.machine.specs.declared.thread.Lent.{Lent}
-use Rattle.machine.specs.declared.thread.Message.{Message}
-use Rattle.machine.specs.declared.thread.Receiving.{Receiving}
-use Rattle.machine.specs.declared.thread.RunState.{RunState}
-use Rattle.machine.specs.declared.thread.RunState.TheVariants as state
-use Rattle.machine.specs.declared.thread.Sending.{Sending}
-use Rattle.machine.specs.declared.thread.Tcb.{Tcb}
-use Rattle.machine.specs.Authority.{holds_thread, label_of, links, names_reply, state_links}
-use Rattle.machine.specs.Authority.HasAuthority.{by_link}
-use Rattle.machine.specs.Capabilities.{gives}
-use Rattle.machine.specs.Changes.{with_tcb, with_waiting}
-use Rattle.machine.specs.Finalising.{halted}
-use Rattle.machine.specs.Layout.{Layout}
-use Rattle.machine.specs.Machine.{Machine, object_of, queue_of, same_id}
-use Rattle.machine.specs.Releasing.{given, with_blocked, with_called, with_given, with_halted, with_holder_halted}
+use Rattle.std.{specs.Prelude.{if◌then◌else◌, is_ok}, proofs.Common.{ℕ, ◌&&◌, ◌<◌, ◌∙◌, ◌≡◌, ◌≢◌, ◌⊎◌, Bool, List, None, Option, Some, ap}}
+use Rattle.std.proofs.{Common.{arith, false, inl, inr, option_map, refl, subst, sym, true}, lemmas.{Bool.and_from, Option.none-some}}
+use Rattle.std.proofs.lemmas.Option.{same_Some}
+use Rattle.base.specs.{declared.{ids.ObjId.ObjId, kind.Kind.{Kind, Kind as authority}}, Kinds.is_structural}
+use Rattle.machine.specs.declared.{call.Event.Event, cap.Detail.Detail, object.{Object.{Object, Object as o}, Reply.Reply}}
+use Rattle.machine.specs.declared.thread.{Lent.Lent, Message.Message, Receiving.Receiving, RunState.RunState, Sending.Sending, Tcb.Tcb}
+use Rattle.machine.specs.{Authority.{holds_thread, label_of, links, names_object, state_links, HasAuthority.by_link}, Capabilities.gives}
+use Rattle.machine.specs.{Changes.{with_tcb, with_waiting}, Finalising.halted, Layout.Layout, Machine.{Machine, object_of, queue_of}}
+use Rattle.machine.specs.{Machine.same_id, Releasing.{given, with_blocked, with_called, with_given, with_halted, with_holder_halted}}
 use Rattle.machine.specs.Step.Deliver.{answer_through, arrival_of, delivered, linked, message_of, with_arrival}
-use Rattle.machine.specs.WellFormed.{IsCallingThrough, IsFree, IsReceivingWith, IsThread, WaitsAt}
-use Rattle.machine.proofs.Ids.{at_other, itself}
-use Rattle.machine.proofs.Leaving.{Names}
-use Rattle.machine.proofs.LookUps.{object_of-with_object, object_of-with_queue}
+use Rattle.machine.{specs.WellFormed.{IsCallingThrough, IsFree, IsReceivingWith, IsThread, WaitsAt}, proofs.Ids.{at_other, itself}}
+use Rattle.machine.proofs.{Leaving.Names, LookUps.{object_of-with_object, object_of-with_queue}}
 use Rattle.machine.specs.declared.object.ReplyState.TheVariants as reply
-use Rattle.steps.proofs.Arrival.{arrival_same}
-use Rattle.steps.proofs.Beside.{HolderLeaves, holder_leaves}
-use Rattle.steps.proofs.EndpointRow.{IsReceiver, IsSender}
-use Rattle.steps.proofs.Finding.{FindsObject}
-use Rattle.steps.proofs.MessageRows.{arrived_there, delivered_is, halted_between}
-use Rattle.policy.specs.Closed.{IsClosed}
-use Rattle.policy.specs.Domain.{EdgeTest, SubjectsAgree}
-use Rattle.integrity.specs.Acting.{MayAct}
-use Rattle.integrity.specs.Invariant.{IsHeld, IsSound}
-use Rattle.integrity.specs.Shrinks.{IsBlocked}
-use Rattle.integrity.proofs.ArrivalKeeps.{arrival_keeps}
-use Rattle.integrity.proofs.Asleep.{blocked_acts}
-use Rattle.integrity.proofs.Held.{held_of}
-use Rattle.integrity.proofs.Keeps.{Keeps, keeps_keeps, unchanged, Changes, Takes}
-use Rattle.integrity.proofs.MessageTouches.{called_keeps, released_keeps, MayHold, MayLessen, MayRelease}
-use Rattle.integrity.proofs.ObjectLabels.{label_stays, labelled_there, same_label}
-use Rattle.integrity.proofs.Reach.{found_in_reach}
-use Rattle.integrity.specs.Awake.{IsAwake, OthersSleep, IsServed, CallersAreServed}
-use Rattle.policy.specs.Change.WayToChange.{modifies, replies, sends}
-use Rattle.policy.specs.NarrowTake.WayToShrink.{ends, frees}
-use Rattle.policy.specs.NarrowTake.WayToShrink.{halts as halts_waiting}
-use Rattle.policy.specs.Change.{MayHoldCaller}
-use Rattle.integrity.proofs.Awake.{blocked_actor}
-use Rattle.integrity.specs.Shrinks.Stops.{halted as is_halted}
+use Rattle.machine.specs.declared.thread.RunState.TheVariants as state
+use Rattle.steps.proofs.{Arrival.arrival_same, Beside.{HolderLeaves, holder_leaves}, EndpointRow.{IsReceiver, IsSender}}
+use Rattle.steps.proofs.{Finding.FindsObject, MessageRows.{arrived_there, delivered_is, halted_between}}
+use Rattle.policy.specs.{Change.{MayHoldCaller, WayToChange.{modifies, replies, sends}}, Closed.IsClosed, Domain.{EdgeTest, SubjectsAgree}}
+use Rattle.policy.specs.NarrowTake.WayToShrink.{ends, frees, halts as halts_waiting}
+use Rattle.integrity.specs.{Acting.MayAct, Awake.{CallersAreServed, IsAwake, IsServed, OthersSleep}, Invariant.{IsHeld, IsSound}}
+use Rattle.integrity.{specs.Shrinks.{IsBlocked, Stops.halted as is_halted}, proofs.{ArrivalKeeps.arrival_keeps, Asleep.blocked_acts}}
+use Rattle.integrity.proofs.{Awake.blocked_actor, Held.held_of, Keeps.{Changes, Keeps, Takes, keeps_keeps, unchanged}}
+use Rattle.integrity.proofs.{MessageTouches.{MayHold, MayLessen, MayRelease, called_keeps, released_keeps}, ObjectLabels.label_stays}
+use Rattle.integrity.proofs.{ObjectLabels.{labelled_there, same_label}, Reach.found_in_reach}
 
 -- an answer goes through a reply only where the sender may be answered
 pub answers_allowed :
@@ -168,7 +133,7 @@ module _ (t : Layout) (allowed : EdgeTest) (began : Machine) (event : Event) (a 
           → allowed b authority.Reply r ≡ true
       receiver_replies named r names at =
           thread_edge receiver named is.tcb authority.Reply b r is.there
-          (ap (λ run. state_links run authority.Reply named) is.state ∙ ap (λ n. names_reply n named) names ∙ itself named)
+          (ap (λ run. state_links run authority.Reply named) is.state ∙ ap (λ n. names_object n named) names ∙ itself named)
           labelled at
 
     module _ (id sender : ObjId) (sending : Sending) (is : IsSender m id sender sending) (s e : ℕ)
@@ -388,7 +353,7 @@ module _ (t : Layout) (allowed : EdgeTest) (began : Machine) (event : Event) (a 
           by_run (state.Receiving receiving) is names =
               let replies_with =
               thread_edge h.thread id h.tcb authority.Reply to_held.0 r h.there
-              (ap (λ run. state_links run authority.Reply id) is ∙ ap (λ n. names_reply n id) names ∙ itself id) to_held.1
+              (ap (λ run. state_links run authority.Reply id) is ∙ ap (λ n. names_object n id) names ∙ itself id) to_held.1
               labelled in
               let queue = sound.well_formed.parts.queue h.thread (o.Tcb h.tcb) h.there in
               inr (
@@ -434,7 +399,7 @@ module _ (t : Layout) (allowed : EdgeTest) (began : Machine) (event : Event) (a 
               target in
               let replies_with =
               thread_edge h.thread id h.tcb authority.Reply to_held.0 r h.there
-              (ap (λ run. state_links run authority.Reply id) is ∙ ap (λ n. names_reply n id) names ∙ itself id) to_held.1
+              (ap (λ run. state_links run authority.Reply id) is ∙ ap (λ n. names_object n id) names ∙ itself id) to_held.1
               labelled in
               inr (λ awake. ends r to_held.0 may_reply replies_with (holder_actor awake) receives_there)
           by_run (state.Called calling) is names at = absurd at

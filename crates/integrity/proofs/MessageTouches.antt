@@ -1,47 +1,26 @@
 -- The changes by which threads, queues and replies are linked, and are so no more, keep what a part of a call keeps, where the
 -- labels of the objects that they touch allow it.
-use Rattle.std.specs.Prelude.{None, Option, Some, cond}
-use Rattle.std.proofs.Common.{[], ℕ, ◌++◌, ◌<◌, ◌∙◌, ◌∷◌, ◌≡◌, ◌≢◌, ◌⊎◌, List, ap, inl, inr, not, refl, subst, sym, true, arith}
-use Rattle.std.proofs.lemmas.Bool.{false≢true}
-use Rattle.std.proofs.lemmas.Option.{none-some, same_Some}
-use Rattle.base.specs.declared.ids.ObjId.{ObjId}
-use Rattle.base.specs.declared.kind.Kind.{Kind}
+use Rattle.std.{specs.Prelude.{None, Option, Some, cond}, proofs.Common.{[], ℕ, ◌++◌, ◌<◌, ◌∙◌, ◌∷◌, ◌≡◌, ◌≢◌, ◌⊎◌, List, ap, arith, inl}}
+use Rattle.std.proofs.{Common.{inr, not, refl, subst, sym, true}, lemmas.{Bool.false≢true, Option.{none-some, same_Some}}}
+use Rattle.base.specs.declared.{ids.ObjId.ObjId, kind.Kind.Kind}
 use Rattle.base.specs.declared.kind.Kind.TheVariants as authority
-use Rattle.machine.specs.declared.call.Event.{Event}
-use Rattle.machine.specs.declared.object.Object.{Object}
-use Rattle.machine.specs.declared.object.Object.{Object as o}
-use Rattle.machine.specs.declared.object.Reply.{Reply}
-use Rattle.machine.specs.declared.object.ReplyState.{ReplyState}
-use Rattle.machine.specs.declared.object.ReplyState.TheVariants as reply
-use Rattle.machine.specs.declared.thread.Calling.{Calling}
-use Rattle.machine.specs.declared.thread.RunState.{RunState}
-use Rattle.machine.specs.declared.thread.RunState.TheVariants as state
-use Rattle.machine.specs.declared.thread.Tcb.{Tcb}
-use Rattle.machine.specs.Authority.{holds_thread, label_of, lent_of, links, state_links}
-use Rattle.machine.specs.declared.thread.Inbox.TheVariants as inbox
-use Rattle.machine.specs.Changes.{with_waiting, without_waiting}
-use Rattle.machine.specs.Layout.{Layout}
-use Rattle.machine.specs.Machine.{Machine, object_of, queue_of, same_id, with_object, with_queue}
-use Rattle.machine.specs.Releasing.{unblocked, with_blocked, with_called, with_holding, with_named, with_released}
-use Rattle.machine.specs.Step.Fetch.{emptied}
-use Rattle.machine.specs.WellFormed.{IsIdle, IsThread, IsWellFormed, WaitsAt}
-use Rattle.machine.proofs.Ids.{at_itself, at_other, one_or_two}
-use Rattle.machine.proofs.Leaving.{Names, holding_is, released_there, tcb_is, without}
-use Rattle.machine.proofs.LookUps.{cap_of-with_queue, object_of-with_object, object_of-with_queue, one_id, queue_of-with_queue, words_of-with_queue, queue_of-with_object}
+use Rattle.machine.specs.declared.{call.Event.Event, object.{Object.{Object, Object as o}, Reply.Reply, ReplyState.ReplyState}}
+use Rattle.machine.specs.{declared.thread.{Calling.Calling, RunState.RunState, Tcb.Tcb}, Authority.{holds_thread, label_of, context_lent, links}}
+use Rattle.machine.specs.{Authority.state_links, Changes.{with_waiting, without_waiting}, Layout.Layout, Machine.{Machine, object_of}}
+use Rattle.machine.specs.{Machine.{queue_of, same_id, with_object, with_queue}, Releasing.{unblocked, with_blocked, with_called}}
+use Rattle.machine.specs.{Releasing.{with_holding, with_named, with_released}, Step.Fetch.emptied, WellFormed.{IsIdle, IsThread}}
+use Rattle.machine.{specs.WellFormed.{IsWellFormed, WaitsAt}, proofs.{Ids.{at_itself, at_other, one_or_two}, Leaving.{Names, holding_is}}}
+use Rattle.machine.proofs.{Leaving.{released_there, tcb_is, without}, LookUps.{cap_of-with_queue, object_of-with_object}}
+use Rattle.machine.proofs.LookUps.{object_of-with_queue, one_id, queue_of-with_object, queue_of-with_queue, words_of-with_queue}
 use Rattle.machine.proofs.RunsLinks.{runs_also, runs_bound, runs_by}
-use Rattle.policy.specs.Domain.{EdgeTest}
-use Rattle.integrity.specs.Acting.{MayAct}
-use Rattle.integrity.specs.Invariant.{IsHeld, IsSound}
-use Rattle.integrity.specs.Shrinks.Lessens.{as_it_was, freed, released}
-use Rattle.integrity.proofs.Asleep.{acts_of}
-use Rattle.integrity.proofs.Contents.{loses_links, reply_fits, tcb_fits, changed, shrunk}
-use Rattle.integrity.proofs.Keeps.{Keeps, keeps_keeps, unchanged, Changes, Takes}
-use Rattle.integrity.proofs.ObjectLabels.{label_stays, same_label}
-use Rattle.integrity.proofs.RemovalShrinks.{part_of_all}
-use Rattle.integrity.proofs.SetKeeps.{queue_keeps, set_keeps}
-use Rattle.integrity.specs.Awake.{IsAwake, IsHeldAfterCall, IsServed}
-use Rattle.policy.specs.Change.WayToChange.{own}
-use Rattle.integrity.specs.Shrinks.{Stops}
+use Rattle.machine.specs.declared.object.ReplyState.TheVariants as reply
+use Rattle.machine.specs.declared.thread.Inbox.TheVariants as inbox
+use Rattle.machine.specs.declared.thread.RunState.TheVariants as state
+use Rattle.policy.specs.{Change.WayToChange.own, Domain.EdgeTest}
+use Rattle.integrity.specs.{Acting.MayAct, Awake.{IsAwake, IsHeldAfterCall, IsServed}, Invariant.{IsHeld, IsSound}, Shrinks.Stops}
+use Rattle.integrity.{specs.Shrinks.Lessens.{as_it_was, freed, released}, proofs.{Asleep.acts_of, Contents.{changed, loses_links}}}
+use Rattle.integrity.proofs.{Contents.{reply_fits, shrunk, tcb_fits}, Keeps.{Changes, Keeps, Takes, keeps_keeps, unchanged}}
+use Rattle.integrity.proofs.{ObjectLabels.{label_stays, same_label}, RemovalShrinks.part_of_all, SetKeeps.{queue_keeps, set_keeps}}
 
 -- what each change is
 
@@ -116,7 +95,7 @@ idle_links state.Ready k end idle e = false≢true e
 idle_links state.Inactive k end idle e = false≢true e
 idle_links _ k end idle e = absurd idle
 
-idle_lends : (run : RunState) (context : ObjId) → IsIdle run → lent_of run ≡ Some context → ⊥
+idle_lends : (run : RunState) (context : ObjId) → IsIdle run → context_lent run ≡ Some context → ⊥
 idle_lends state.Ready context idle lent = none-some context lent
 idle_lends state.Inactive context idle lent = none-some context lent
 idle_lends _ context idle lent = absurd idle
@@ -415,7 +394,7 @@ module _
   -- a thread of the label waits at an object, and lends nothing
   pub blocked_keeps :
       (caller : ObjId) (tcb : Tcb) (id : ObjId) (run : RunState) (object : Object) → IsThread m caller tcb → IsIdle tcb.state
-      → lent_of run ≡ None → label_of t m caller ≡ Some a → object_of m id ≡ Some object → id ≢ caller
+      → context_lent run ≡ None → label_of t m caller ≡ Some a → object_of m id ≡ Some object → id ≢ caller
       → (label : ℕ) → label_of t m id ≡ Some label → Changes t allowed began a label
       → ((k : Kind) (end : ObjId) (to : ℕ) → state_links run k end ≡ true → label_of t m end ≡ Some to → allowed a k to ≡ true)
       → Keeps t allowed began event a m (with_blocked m caller id run)
@@ -463,7 +442,7 @@ module _
   -- a thread waits for the answer to its call, through a reply that holds it, and lends at most the context that it runs on
   pub called_keeps :
       (thread : ObjId) (tcb : Tcb) (calling : Calling) (old : Reply) → IsThread m thread tcb → IsIdle tcb.state
-      → ((context : ObjId) → lent_of (state.Called calling) ≡ Some context → (tcb.context ≡ Some context) × (context.0 < m.next))
+      → ((context : ObjId) → context_lent (state.Called calling) ≡ Some context → (tcb.context ≡ Some context) × (context.0 < m.next))
       → object_of m calling.reply ≡ Some (o.Reply old)
       → (label : ℕ) → label_of t m thread ≡ Some label → Changes t allowed began a label
       → (IsAwake t allowed began a → MayAct t allowed label)

@@ -1,45 +1,19 @@
 -- Signal, Poll and Wait within a caller's authority: the notification that is found is one that its label may notify or await, and
 -- who waits there awaits it by a recorded edge.
 use Rattle.std.proofs.Common.{ℕ, ◌∙◌, ◌≡◌, ◌≢◌, ◌⊎◌, Bool, None, Option, Some, ap, inl, inr, refl, subst, sym, true}
-use Rattle.base.specs.declared.ids.ObjId.{ObjId}
-use Rattle.base.specs.declared.kind.Kind.{Kind}
-use Rattle.base.specs.declared.kind.Kind.{Kind as authority}
-use Rattle.machine.specs.declared.call.Event.{Event}
-use Rattle.machine.specs.declared.cap.Badged.{Badged}
-use Rattle.machine.specs.declared.cap.Detail.{Detail as d}
-use Rattle.machine.specs.declared.object.Notification.{Notification}
-use Rattle.machine.specs.declared.object.Object.{Object}
-use Rattle.machine.specs.declared.object.Object.{Object as o}
-use Rattle.machine.specs.declared.thread.RunState.{RunState}
-use Rattle.machine.specs.declared.thread.RunState.{RunState as state}
-use Rattle.machine.specs.declared.thread.Tcb.{Tcb}
-use Rattle.machine.specs.Authority.{label_of, state_links}
-use Rattle.machine.specs.Capabilities.{can_read, can_write}
-use Rattle.machine.specs.Layout.{Layout}
-use Rattle.machine.specs.Machine.{Machine, object_of, with_object}
-use Rattle.machine.specs.Releasing.{with_blocked}
-use Rattle.machine.specs.WellFormed.{IsThread, WaitsAt}
-use Rattle.machine.proofs.Ids.{itself}
-use Rattle.machine.proofs.Leaving.{Names}
-use Rattle.machine.proofs.LookUps.{one_id}
-use Rattle.steps.proofs.Admission.{IsCaller}
-use Rattle.steps.proofs.MessageRows.{caller_idle}
-use Rattle.steps.proofs.NotificationRow.{IsOpen}
-use Rattle.steps.proofs.PollRow.{PollDone}
-use Rattle.steps.proofs.SignalRow.{SignalDone, Wakes, marked, roused}
-use Rattle.steps.proofs.WaitRow.{WaitDone}
-use Rattle.policy.specs.Domain.{EdgeTest, SubjectsAgree}
-use Rattle.integrity.specs.Invariant.{IsHeld, IsSound}
-use Rattle.integrity.specs.Shrinks.{IsBlocked}
-use Rattle.integrity.proofs.Asleep.{blocked_acts}
-use Rattle.integrity.proofs.Contents.{notification_fits, changed}
-use Rattle.integrity.proofs.Held.{held_of}
-use Rattle.integrity.proofs.Keeps.{Keeps, Changes}
-use Rattle.integrity.proofs.MessageParts.{IsReached, at_reached, reached, thread_edge}
-use Rattle.integrity.proofs.MessageTouches.{blocked_keeps, released_keeps}
+use Rattle.base.specs.declared.{ids.ObjId.ObjId, kind.Kind.{Kind, Kind as authority}}
+use Rattle.machine.specs.declared.{call.Event.Event, cap.{Badged.Badged, Detail.Detail as d}, object.Notification.Notification}
+use Rattle.machine.specs.declared.{object.Object.{Object, Object as o}, thread.{RunState.{RunState, RunState as state}, Tcb.Tcb}}
+use Rattle.machine.specs.{Authority.{label_of, state_links}, Capabilities.{can_read, can_write}, Layout.Layout, Machine.Machine}
+use Rattle.machine.{specs.{Machine.{object_of, with_object}, Releasing.with_blocked, WellFormed.{IsThread, WaitsAt}}, proofs.Ids.itself}
+use Rattle.machine.proofs.{Leaving.Names, LookUps.one_id}
+use Rattle.steps.proofs.{Admission.IsCaller, MessageRows.caller_idle, NotificationRow.IsOpen, PollRow.PollDone, SignalRow.SignalDone}
+use Rattle.steps.proofs.{SignalRow.{Wakes, marked, roused}, WaitRow.WaitDone}
+use Rattle.policy.specs.{Change.WayToChange.{modifies, notifies}, Domain.{EdgeTest, SubjectsAgree}}
+use Rattle.integrity.{specs.{Invariant.{IsHeld, IsSound}, Shrinks.IsBlocked}, proofs.{Asleep.blocked_acts, Awake.blocked_actor}}
+use Rattle.integrity.proofs.{Contents.{changed, notification_fits}, Held.held_of, Keeps.{Changes, Keeps}, MessageParts.IsReached}
+use Rattle.integrity.proofs.{MessageParts.{at_reached, reached, thread_edge}, MessageTouches.{blocked_keeps, released_keeps}}
 use Rattle.integrity.proofs.SetKeeps.{set_keeps}
-use Rattle.policy.specs.Change.WayToChange.{modifies, notifies}
-use Rattle.integrity.proofs.Awake.{blocked_actor}
 
 module _
     (t : Layout) (allowed : EdgeTest) (event : Event) (a : ℕ) (m : Machine) (sound : IsSound t allowed m)

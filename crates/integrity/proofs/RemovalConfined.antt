@@ -3,7 +3,7 @@ use Rattle.std.{specs.Prelude.length, proofs.Common.{ℕ, ◌<◌, ◌∙◌, �
 use Rattle.std.proofs.{Common.true, lemmas.{Bool.false≢true, Option.none-some}}
 use Rattle.base.specs.declared.{ids.{ObjId.ObjId, SlotRef.SlotRef}, kind.Kind.{Kind, Kind as authority}}
 use Rattle.machine.specs.declared.object.{Object.{Object, Object as o}, ObjectKind.ObjectKind, ReplyState.{ReplyState, ReplyState as reply}}
-use Rattle.machine.specs.{declared.thread.Tcb.Tcb, Authority.{holds_thread, label_of, lent_of, links, HasAuthority.{by_cap, by_link}}}
+use Rattle.machine.specs.{declared.thread.Tcb.Tcb, Authority.{holds_thread, label_of, context_lent, links, HasAuthority.{by_cap, by_link}}}
 use Rattle.machine.specs.{Authority.HasAuthority.{by_pair, by_root}, Finalising.{aborted, finalised, halted, is_aborted, is_halted}}
 use Rattle.machine.specs.{Finalising.{leads_nowhere, leaves, link_after, reply_after, tcb_after, unbound}, Layout.Layout, Machine.Machine}
 use Rattle.machine.specs.{Machine.parent_of, Objects.{address_of, kind_of_object}, Removal.{removed, vanishes}, WellFormed.Descends}
@@ -36,7 +36,7 @@ holding_was m vanished (reply.Called thread) end e = by_left (leaves m vanished 
 
 lent_was :
     (tcb : Tcb) (halts aborts : Bool) (context : ObjId)
-    → lent_of (cond halts (halted tcb) (cond aborts (aborted tcb) tcb)).state ≡ Some context → lent_of tcb.state ≡ Some context
+    → context_lent (cond halts (halted tcb) (cond aborts (aborted tcb) tcb)).state ≡ Some context → context_lent tcb.state ≡ Some context
 lent_was tcb true aborts context e = absurd (none-some context e)
 lent_was tcb false true context e = absurd (none-some context e)
 lent_was tcb false false context e = e
@@ -68,13 +68,13 @@ object_link_was m vanished _ k end e = e
 -- nor does a thread lend anew
 object_lent_was :
     (m : Machine) (vanished : ObjId → Bool) (object : Object) (thread : Tcb) (context : ObjId)
-    → finalised m vanished object ≡ o.Tcb thread → lent_of thread.state ≡ Some context
-    → (tcb : Tcb) × (object ≡ o.Tcb tcb) × (lent_of tcb.state ≡ Some context)
+    → finalised m vanished object ≡ o.Tcb thread → context_lent thread.state ≡ Some context
+    → (tcb : Tcb) × (object ≡ o.Tcb tcb) × (context_lent tcb.state ≡ Some context)
 object_lent_was m vanished (o.Tcb tcb) thread context is lends = (
   tcb,
   refl,
   lent_was tcb (is_halted vanished tcb.state) (is_aborted vanished tcb.state) context
-      (ap (λ (x : Tcb). lent_of x.state) (same_tcb (tcb_after vanished tcb) thread is) ∙ lends),
+      (ap (λ (x : Tcb). context_lent x.state) (same_tcb (tcb_after vanished tcb) thread is) ∙ lends),
 )
 object_lent_was m vanished _ thread context is lends = cc
 

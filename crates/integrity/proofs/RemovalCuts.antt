@@ -1,27 +1,24 @@
 -- What a removal changes is of labels that the label may change or make smaller: what vanished, what was linked with that, the queues
 -- and replies that who was aborted or halted leaves, and the objects of the chosen slots.
-use Rattle.std.specs.Prelude.{◌&&◌, ◌||◌, Contains, None, Option, Some, filter, is_some, option_map}
-use Rattle.std.proofs.Common.{[], ℕ, ◌<◌, ◌∙◌, ◌∷◌}
+use Rattle.std.{specs.Prelude.{◌&&◌, ◌||◌, Contains, None, Option, Some, filter, is_some, option_map}, proofs.Common.{[], ℕ, ◌<◌, ◌∙◌, ◌∷◌}}
 use Rattle.std.proofs.Common.{◌≡◌, ◌≢◌, ◌⊎◌, Bool, List, ap, arith, cond, false, inl, inr, not, refl, subst, suc, sym, true, zero}
 use Rattle.std.proofs.lemmas.{Bool.{cases_order, false≢true}, Option.same_Some}
 use Rattle.base.specs.{declared.{ids.{ObjId.ObjId, SlotRef.SlotRef}, kind.Kind.{Kind, Kind as authority}}, Kinds.is_structural}
-use Rattle.machine.specs.declared.{cap.Cap.Cap, object.{Context.Context, Object.{Object, Object as o}}}
-use Rattle.machine.specs.declared.object.ObjectKind.{ObjectKind, ObjectKind as kind}
-use Rattle.machine.specs.declared.{object.{Reply.Reply, ReplyState.ReplyState}, thread.{RunState.RunState, Tcb.Tcb}}
-use Rattle.machine.specs.{Authority.{holds_thread, label_of, links, names_reply, state_links, HasAuthority.by_link}, Finalising.aborted}
-use Rattle.machine.specs.Finalising.{finalised, halted, is_aborted, is_halted, is_released, leads_nowhere, leaves, reply_after, staying_in}
-use Rattle.machine.specs.{Finalising.{tcb_after, unbound}, Gone.{IsGone, given, gone_of, with_last}, Layout.Layout, Machine.Machine}
-use Rattle.machine.specs.{Machine.{cap_of, object_of, queue_of, same_id}, Objects.{kind_of_object, slot_count}}
-use Rattle.machine.specs.Removal.{removed, vanishes}
-use Rattle.machine.specs.WellFormed.{IsCallingThrough, IsReceivingWith, IsThread, WaitsAt, WaitsAtKind, kind_of}
-use Rattle.machine.proofs.{GoneLemmas.{gone_decided, id_itself, losing_decided}, Queues.{first_in, other_in}, RemovalLooks.cap_of-removed}
-use Rattle.machine.proofs.{RemovalTable.finalised_there, RoundLemmas.both_pass, RunsLinks.runs_bound}
+use Rattle.machine.specs.declared.{cap.Cap.Cap, object.{Context.Context, Object.{Object, Object as o}, ObjectKind.ObjectKind}}
+use Rattle.machine.specs.declared.{object.{ObjectKind.ObjectKind as kind, Reply.Reply, ReplyState.ReplyState}, thread.RunState.RunState}
+use Rattle.machine.specs.{declared.thread.Tcb.Tcb, Authority.{holds_thread, label_of, links, names_object, state_links}}
+use Rattle.machine.specs.{Authority.HasAuthority.by_link, Finalising.{aborted, finalised, halted, is_aborted, is_halted, is_released}}
+use Rattle.machine.specs.{Finalising.{leads_nowhere, leaves, reply_after, staying_in, tcb_after, unbound}, Gone.{IsGone, given, gone_of}}
+use Rattle.machine.specs.{Gone.with_last, Layout.Layout, Machine.{Machine, cap_of, object_of, queue_of, same_id}, Objects.kind_of_object}
+use Rattle.machine.specs.{Objects.slot_count, Removal.{removed, vanishes}, WellFormed.{IsCallingThrough, IsReceivingWith, IsThread}}
+use Rattle.machine.{specs.WellFormed.{WaitsAt, WaitsAtKind, kind_of}, proofs.GoneLemmas.{gone_decided, id_itself, losing_decided}}
+use Rattle.machine.proofs.{Queues.{first_in, other_in}, RemovalLooks.cap_of-removed, RemovalTable.finalised_there, RoundLemmas.both_pass}
+use Rattle.machine.proofs.RunsLinks.{runs_bound}
 use Rattle.machine.specs.declared.object.ReplyState.TheVariants as reply
 use Rattle.machine.specs.declared.thread.RunState.TheVariants as state
 use Rattle.steps.proofs.{LeavingLinks.queue_now, RemovalLinks.{have_left, leavers}}
-use Rattle.policy.specs.{Change.{WayToChange.{modifies, replies}, is_changing}, Closed.IsClosed, Domain.EdgeTest}
+use Rattle.policy.specs.{Change.{is_changing, WayToChange.{modifies, replies}}, Closed.IsClosed, Domain.EdgeTest, NarrowTake.is_waiting}
 use Rattle.policy.specs.NarrowTake.{TakesByControl.{drops, releases, removes, wakes}, WayToShrink.{controls, ends, halts, stops}}
-use Rattle.policy.specs.NarrowTake.{is_waiting}
 use Rattle.integrity.specs.{Awake.IsAwake, Invariant.IsSound, Removals.{MayGo, MayRemove, use_of}, Shrinks.{IsBlocked, IsSame}}
 use Rattle.integrity.proofs.{Awake.blocked_actor, Cascade.{IsInReach, WayToAlter, controls_agree, reached_alters, vanished_reached}}
 use Rattle.integrity.proofs.{Cascade.vanished_used, RemovalShrinks.{absent_stays, words_stay}}
@@ -102,7 +99,7 @@ names_link :
     (tcb : Tcb) (run : RunState) (id : ObjId) → tcb.state ≡ run → IsReceivingWith run id
     → links (o.Tcb tcb) authority.Reply id ≡ true
 names_link tcb (state.Receiving receiving) id is at =
-    ap (λ s. state_links s authority.Reply id) is ∙ ap (λ link. names_reply link id) at ∙ id_itself id
+    ap (λ s. state_links s authority.Reply id) is ∙ ap (λ link. names_object link id) at ∙ id_itself id
 names_link tcb _ id is at = absurd at
 
 names_blocked : (run : RunState) (id : ObjId) → IsReceivingWith run id → IsBlocked run

@@ -1,41 +1,17 @@
 -- A removal keeps what a part of a call keeps: the machine stays within the policy, and what differs shrinks and is of labels that
 -- may be altered.
-use Rattle.std.proofs.Common.{ℕ, ◌∙◌, ◌≡◌, ◌⊎◌, Bool, Some, ap, arith, inl, inr, refl, sym}
-use Rattle.std.proofs.lemmas.Option.{none-some, same_Some}
-use Rattle.base.specs.declared.ids.ObjId.{ObjId}
-use Rattle.base.specs.declared.ids.SlotRef.{SlotRef}
-use Rattle.machine.specs.declared.call.Event.{Event}
-use Rattle.machine.specs.declared.object.Context.{Context}
-use Rattle.machine.specs.declared.object.Object.{Object}
-use Rattle.machine.specs.declared.object.Object.{Object as o}
-use Rattle.machine.specs.declared.object.ObjectKind.{ObjectKind as kind}
-use Rattle.machine.specs.declared.thread.Tcb.{Tcb}
-use Rattle.machine.specs.Authority.{label_of}
-use Rattle.machine.specs.Finalising.{finalised}
-use Rattle.machine.specs.Layout.{Layout}
-use Rattle.machine.specs.Machine.{Machine, object_of}
-use Rattle.machine.specs.Objects.{address_of, kind_of_object}
-use Rattle.machine.specs.Removal.{removed, vanishes}
-use Rattle.machine.proofs.RemovalLooks.{next-removed}
+use Rattle.std.proofs.{Common.{ℕ, ◌∙◌, ◌≡◌, ◌⊎◌, Bool, Some, ap, arith, inl, inr, refl, sym}, lemmas.Option.{none-some, same_Some}}
+use Rattle.base.specs.declared.ids.{ObjId.ObjId, SlotRef.SlotRef}
+use Rattle.machine.specs.declared.{call.Event.Event, object.{Context.Context, Object.{Object, Object as o}, ObjectKind.ObjectKind as kind}}
+use Rattle.machine.specs.{declared.thread.Tcb.Tcb, Authority.label_of, Finalising.finalised, Layout.Layout, Machine.{Machine, object_of}}
+use Rattle.machine.{specs.{Objects.{address_of, kind_of_object}, Removal.{removed, vanishes}}, proofs.RemovalLooks.next-removed}
 use Rattle.machine.proofs.RemovalStays.{like_finalised, object_was}
 use Rattle.steps.proofs.RemovalNumbers.{removed_formed}
-use Rattle.policy.specs.Closed.{IsClosed}
-use Rattle.policy.specs.Domain.{EdgeTest}
-use Rattle.integrity.specs.Invariant.{IsSound}
-use Rattle.integrity.specs.Removals.{MayRemove}
-use Rattle.integrity.specs.Shrinks.{IsSame}
-use Rattle.integrity.proofs.Asleep.{shrunk_asleep}
-use Rattle.integrity.proofs.Held.{held_of}
-use Rattle.integrity.proofs.Keeps.{Acts, Keeps}
-use Rattle.integrity.proofs.ObjectLabels.{labelled_there}
-use Rattle.integrity.proofs.RemovalConfined.{label_was, removed_confined, removed_of_table}
-use Rattle.integrity.proofs.RemovalShrinks.{removed_shrinks}
-use Rattle.integrity.proofs.Shrinking.{same_context}
-use Rattle.integrity.specs.Awake.{OthersSleep, SleepsOrActs, IsAwake}
-use Rattle.policy.specs.Change.{WayToChange}
-use Rattle.policy.specs.NarrowTake.{WayToShrink}
-use Rattle.integrity.proofs.RemovalCuts.{removed_alters}
-use Rattle.integrity.proofs.RemovalServed.{removed_served}
+use Rattle.policy.specs.{Change.WayToChange, Closed.IsClosed, Domain.EdgeTest, NarrowTake.WayToShrink}
+use Rattle.integrity.specs.{Awake.{IsAwake, OthersSleep, SleepsOrActs}, Invariant.IsSound, Removals.MayRemove, Shrinks.IsSame}
+use Rattle.integrity.proofs.{Asleep.shrunk_asleep, Held.held_of, Keeps.{Acts, Keeps}, ObjectLabels.labelled_there}
+use Rattle.integrity.proofs.{RemovalConfined.{label_was, removed_confined, removed_of_table}, RemovalCuts.removed_alters}
+use Rattle.integrity.proofs.{RemovalServed.removed_served, RemovalShrinks.removed_shrinks, Shrinking.same_context}
 
 thread_by_kind : (object : Object) → kind_of_object object ≡ kind.Tcb → (thread : Tcb) × (object ≡ o.Tcb thread)
 thread_by_kind (o.Tcb thread) is = (thread, refl)

@@ -1,52 +1,24 @@
 -- Every run from a sound machine is safe: by induction over its events, with one clause for each call.
 use Rattle.std.proofs.Common.{[], ℕ, ◌∙◌, ◌∷◌, ◌≡◌, ◌⊎◌, Err, List, Ok, Result, Some, ap, inl, inr, refl, subst, sym, true}
 use Rattle.std.proofs.lemmas.Option.{same_Some}
-use Rattle.base.specs.declared.ids.ObjId.{ObjId}
-use Rattle.base.specs.declared.refusal.Cause.{Cause}
-use Rattle.machine.specs.declared.call.Call.{Call}
+use Rattle.base.specs.declared.{ids.ObjId.ObjId, refusal.Cause.Cause}
+use Rattle.machine.specs.declared.{call.{Call.Call, Event.Event, Made.Made, Outcome.Outcome}, object.{Context.Context, Object.Object as o}}
+use Rattle.machine.specs.{declared.{object.Share.Share, thread.Tcb.Tcb}, Authority.label_of, Boot.IsBoot, Layout.Layout, Machine.Machine}
+use Rattle.machine.specs.{Machine.object_of, Outcomes.IsRefused, Run.Run, Step.{Step, admitted, made_by, running_share, settled, step_of}}
+use Rattle.machine.specs.Step.{thread_in, Step.{ends, lacks}}
 use Rattle.machine.specs.declared.call.Call.TheVariants as call
-use Rattle.machine.specs.declared.call.Event.{Event}
-use Rattle.machine.specs.declared.call.Made.{Made}
-use Rattle.machine.specs.declared.call.Outcome.{Outcome}
-use Rattle.machine.specs.declared.object.Context.{Context}
-use Rattle.machine.specs.declared.object.Object.{Object as o}
-use Rattle.machine.specs.declared.object.Share.{Share}
-use Rattle.machine.specs.declared.thread.Tcb.{Tcb}
-use Rattle.machine.specs.Authority.{label_of}
-use Rattle.machine.specs.Boot.{IsBoot}
-use Rattle.machine.specs.Layout.{Layout}
-use Rattle.machine.specs.Machine.{Machine, object_of}
-use Rattle.machine.specs.Outcomes.{IsRefused}
-use Rattle.machine.specs.Run.{Run}
-use Rattle.machine.specs.Step.{Step, admitted, made_by, running_share, settled, step_of, thread_in}
-use Rattle.machine.specs.Step.Step.{ends, lacks}
-use Rattle.steps.proofs.Admission.{IsCaller, admits}
-use Rattle.steps.proofs.Calls.{CallDone, EventDone, step_done, step_formed}
-use Rattle.steps.proofs.Conditions.{both_done, same_ok}
+use Rattle.steps.proofs.{Admission.{IsCaller, admits}, Calls.{CallDone, EventDone, step_done, step_formed}, Conditions.{both_done, same_ok}}
 use Rattle.steps.proofs.Steps.{refused_changes_nothing}
-use Rattle.policy.specs.Closed.{IsClosed}
-use Rattle.policy.specs.Domain.{EdgeTest}
-use Rattle.integrity.specs.Acting.{MayAct, HoldsOfActors}
-use Rattle.integrity.specs.Budgets.{KeepsBudgets, configures}
-use Rattle.integrity.specs.Invariant.{IsSound}
-use Rattle.integrity.specs.Safe.{IsReached, IsSafe, KeepsBounds}
-use Rattle.integrity.specs.Shrinks.{IsSame}
-use Rattle.integrity.proofs.Bounds.{bounded_allowed, narrow_bounded}
-use Rattle.integrity.proofs.ContextKeeps.{bind_keeps, configure_keeps, may_configure, unbind_keeps}
-use Rattle.integrity.proofs.Keeps.{Acts, Keeps}
-use Rattle.integrity.proofs.MessageKeeps.{endpoint_call_keeps, fetch_keeps, receive_keeps, reply_keeps, send_keeps}
-use Rattle.integrity.proofs.NotificationKeeps.{poll_keeps, signal_keeps, wait_keeps}
-use Rattle.integrity.proofs.RemovalCalls.{delete_keeps, revoke_keeps}
-use Rattle.integrity.proofs.RetypeKeeps.{retype_keeps}
-use Rattle.integrity.proofs.Shrinking.{same_context}
-use Rattle.integrity.proofs.SlotCalls.{derive_keeps, move_keeps}
-use Rattle.integrity.proofs.SpaceKeeps.{clear_space_keeps, set_space_keeps}
-use Rattle.integrity.proofs.ThreadKeeps.{resume_keeps, suspend_keeps}
+use Rattle.policy.specs.{Change.ActorTest, Closed.IsClosed, Domain.EdgeTest}
+use Rattle.integrity.specs.{Acting.{HoldsOfActors, MayAct}, Altered.{IsAltered, IsNarrowStep}, Awake.{CallersAreServed, IsAsleep, IsAwake}}
+use Rattle.integrity.specs.{Awake.{OthersSleep, SleepsOrActs}, Budgets.{KeepsBudgets, configures}, Invariant.IsSound, Safe.IsReached}
+use Rattle.integrity.{specs.{Safe.{IsSafe, KeepsBounds}, Shrinks.IsSame}, proofs.{Awake.has_threads, Bounds.bounded_allowed}}
+use Rattle.integrity.proofs.{Bounds.narrow_bounded, ContextKeeps.{bind_keeps, configure_keeps, may_configure, unbind_keeps}, Keeps.Acts}
+use Rattle.integrity.proofs.{Keeps.Keeps, MessageKeeps.{endpoint_call_keeps, fetch_keeps, receive_keeps, reply_keeps, send_keeps}}
+use Rattle.integrity.proofs.{NotificationKeeps.{poll_keeps, signal_keeps, wait_keeps}, RemovalCalls.{delete_keeps, revoke_keeps}}
+use Rattle.integrity.proofs.{RetypeKeeps.retype_keeps, Shrinking.same_context, SlotCalls.{derive_keeps, move_keeps}}
+use Rattle.integrity.proofs.{SpaceKeeps.{clear_space_keeps, set_space_keeps}, ThreadKeeps.{resume_keeps, suspend_keeps}}
 use Rattle.integrity.proofs.WordsKeeps.{read_keeps, write_keeps}
-use Rattle.integrity.specs.Awake.{OthersSleep, SleepsOrActs, IsAsleep, CallersAreServed, IsAwake}
-use Rattle.policy.specs.Change.{ActorTest}
-use Rattle.integrity.specs.Altered.{IsAltered, IsNarrowStep}
-use Rattle.integrity.proofs.Awake.{has_threads}
 
 -- one clause for each call
 call_keeps :

@@ -1,16 +1,13 @@
 -- Setting an object's content, and changing who waits at it, touch that object alone.
 use Rattle.std.proofs.Common.{ℕ, ◌∙◌, ◌≡◌, List, Some}
 use Rattle.base.specs.declared.ids.ObjId.{ObjId}
-use Rattle.machine.specs.declared.call.Event.{Event}
-use Rattle.machine.specs.declared.object.Object.{Object}
-use Rattle.machine.specs.Layout.{Layout}
-use Rattle.machine.specs.Machine.{Machine, object_of, queue_of, with_object, with_queue}
-use Rattle.machine.proofs.Ids.{at_itself, at_other}
-use Rattle.machine.proofs.LookUps.{cap_of-with_object, cap_of-with_queue, number_of-with_object, number_of-with_queue, object_of-with_object, object_of-with_queue, parent_of-with_object, parent_of-with_queue, queue_of-with_object, queue_of-with_queue, words_of-with_object, words_of-with_queue}
+use Rattle.machine.specs.{declared.{call.Event.Event, object.Object.Object}, Layout.Layout, Machine.{Machine, object_of, queue_of}}
+use Rattle.machine.{specs.Machine.{with_object, with_queue}, proofs.{Ids.{at_itself, at_other}, LookUps.cap_of-with_object}}
+use Rattle.machine.proofs.LookUps.{cap_of-with_queue, number_of-with_object, number_of-with_queue, object_of-with_object}
+use Rattle.machine.proofs.LookUps.{object_of-with_queue, parent_of-with_object, parent_of-with_queue, queue_of-with_object}
+use Rattle.machine.proofs.LookUps.{queue_of-with_queue, words_of-with_object, words_of-with_queue}
 use Rattle.policy.specs.Domain.{EdgeTest}
-use Rattle.integrity.specs.Invariant.{IsHeld}
-use Rattle.integrity.proofs.Keeps.{Keeps, Alters}
-use Rattle.integrity.proofs.TouchKeeps.{Fits, same_fits, touch_keeps}
+use Rattle.integrity.{specs.Invariant.IsHeld, proofs.{Keeps.{Alters, Keeps}, TouchKeeps.{Fits, same_fits, touch_keeps}}}
 
 module _ (t : Layout) (allowed : EdgeTest) (began : Machine) (event : Event) (a : ℕ) (m : Machine) (id : ObjId) (held : IsHeld t allowed m) where
   pub set_keeps :

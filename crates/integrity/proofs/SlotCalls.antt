@@ -1,39 +1,17 @@
 -- Copy, Mint and Move within a caller's authority: both slots are in CNodes that its label controls, so that the labels of both may do the
 -- same, and derive on one another.
-use Rattle.std.specs.Prelude.{if◌then◌else◌}
-use Rattle.std.proofs.Common.{ℕ, ◌∙◌, ◌≡◌, ◌≢◌, ◌⊎◌, Bool, None, Some, ap, false, inl, inr, refl, subst, sym, true}
-use Rattle.std.proofs.lemmas.Option.{none-some, same_Some}
-use Rattle.base.specs.declared.ids.ObjId.{ObjId}
-use Rattle.base.specs.declared.ids.SlotRef.{SlotRef}
-use Rattle.base.specs.declared.kind.Kind.{Kind}
-use Rattle.base.specs.declared.kind.Kind.{Kind as authority}
-use Rattle.base.specs.Kinds.{is_structural}
-use Rattle.machine.specs.declared.call.Event.{Event}
-use Rattle.machine.specs.declared.cap.Cap.{Cap}
-use Rattle.machine.specs.declared.slot_address.SlotAddress.{SlotAddress}
-use Rattle.machine.specs.Authority.{label_of}
-use Rattle.machine.specs.Authority.HasAuthority.{by_cap, by_pair}
-use Rattle.machine.specs.Capabilities.{gives}
-use Rattle.machine.specs.Layout.{Layout}
-use Rattle.machine.specs.Machine.{Machine, cap_of, parent_of, same_slot}
-use Rattle.machine.specs.Tree.{copied, exchange, parent_of_copy}
-use Rattle.machine.specs.WellFormed.{IsWellFormed, kind_of}
-use Rattle.machine.proofs.AuthorityLemmas.{gives_fewer}
-use Rattle.machine.proofs.Ids.{one_or_two}
-use Rattle.machine.proofs.LookUps.{one_slot}
-use Rattle.steps.proofs.FillsFormed.{derives_formed}
-use Rattle.steps.proofs.LedSlots.{led_slot}
-use Rattle.steps.proofs.MovesFormed.{move_formed, pair_was}
-use Rattle.steps.proofs.SlotRows.{Derives, MoveDone}
-use Rattle.policy.specs.Closed.{IsClosed, derived}
-use Rattle.policy.specs.Domain.{EdgeTest}
-use Rattle.integrity.specs.Invariant.{IsHeld, IsSound}
-use Rattle.integrity.proofs.FillKeeps.{MayFill, apart_slots, copy_derives, fill_fits, given_of_use, in_node}
-use Rattle.integrity.proofs.Held.{bare_of, held_of}
-use Rattle.integrity.proofs.Keeps.{Keeps}
-use Rattle.integrity.proofs.Reach.{IsControlled, led_controlled}
+use Rattle.std.{specs.Prelude.if◌then◌else◌, proofs.Common.{ℕ, ◌∙◌, ◌≡◌, ◌≢◌, ◌⊎◌, Bool, None, Some, ap, false, inl, inr, refl, subst, sym}}
+use Rattle.std.proofs.{Common.true, lemmas.Option.{none-some, same_Some}}
+use Rattle.base.specs.{declared.{ids.{ObjId.ObjId, SlotRef.SlotRef}, kind.Kind.{Kind, Kind as authority}}, Kinds.is_structural}
+use Rattle.machine.specs.{declared.{call.Event.Event, cap.Cap.Cap, slot_address.SlotAddress.SlotAddress}, Authority.label_of}
+use Rattle.machine.specs.{Authority.HasAuthority.{by_cap, by_pair}, Capabilities.gives, Layout.Layout, Machine.{Machine, cap_of, parent_of}}
+use Rattle.machine.specs.{Machine.same_slot, Tree.{copied, exchange, parent_of_copy}, WellFormed.{IsWellFormed, kind_of}}
+use Rattle.machine.proofs.{AuthorityLemmas.gives_fewer, Ids.one_or_two, LookUps.one_slot}
+use Rattle.steps.proofs.{FillsFormed.derives_formed, LedSlots.led_slot, MovesFormed.{move_formed, pair_was}, SlotRows.{Derives, MoveDone}}
+use Rattle.policy.specs.{Change.WayToChange.modifies, Closed.{IsClosed, derived}, Domain.EdgeTest}
+use Rattle.integrity.{specs.Invariant.{IsHeld, IsSound}, proofs.FillKeeps.{MayFill, apart_slots, copy_derives, fill_fits, given_of_use}}
+use Rattle.integrity.proofs.{FillKeeps.in_node, Held.{bare_of, held_of}, Keeps.Keeps, Reach.{IsControlled, led_controlled}}
 use Rattle.integrity.proofs.SlotKeeps.{IsAllowedIn, SlotsFit, opened, slots_keep}
-use Rattle.policy.specs.Change.WayToChange.{modifies}
 
 -- one label is near another: what may derive to it may derive to the other, and where it may derive to the other may
 record IsNear (allowed : EdgeTest) (label other : ℕ) : Type 0 where

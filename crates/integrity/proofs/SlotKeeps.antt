@@ -1,38 +1,18 @@
 -- A change of slots keeps what a part of a call keeps: each capability and pair of the tree that is new is in the policy, and the
 -- objects whose slots change are the caller's to change.
-use Rattle.std.proofs.Common.{ℕ, ◌∙◌, ◌≡◌, ◌⊎◌, None, Some, ap, arith, inl, inr, refl, sym, true}
-use Rattle.std.proofs.lemmas.Option.{none-some, same_Some}
-use Rattle.base.specs.declared.ids.ObjId.{ObjId}
-use Rattle.base.specs.declared.ids.SlotRef.{SlotRef}
-use Rattle.base.specs.declared.kind.Kind.{Kind}
+use Rattle.std.proofs.{Common.{ℕ, ◌∙◌, ◌≡◌, ◌⊎◌, None, Some, ap, arith, inl, inr, refl, sym, true}, lemmas.Option.{none-some, same_Some}}
+use Rattle.base.specs.declared.{ids.{ObjId.ObjId, SlotRef.SlotRef}, kind.Kind.Kind}
 use Rattle.base.specs.declared.kind.Kind.TheVariants as authority
-use Rattle.machine.specs.declared.call.Event.{Event}
-use Rattle.machine.specs.declared.cap.Cap.{Cap}
-use Rattle.machine.specs.declared.object.Context.{Context}
-use Rattle.machine.specs.declared.object.Object.{Object}
-use Rattle.machine.specs.declared.object.Object.{Object as o}
-use Rattle.machine.specs.Authority.{label_of}
-use Rattle.machine.specs.Authority.HasAuthority.{by_cap, by_link, by_pair, by_root}
-use Rattle.machine.specs.Capabilities.{gives, kind_of_detail}
-use Rattle.machine.specs.Layout.{Layout}
-use Rattle.machine.specs.Machine.{Machine, cap_of, object_of, parent_of}
-use Rattle.machine.specs.Objects.{address_of, kind_of_object}
-use Rattle.machine.specs.WellFormed.{kind_of}
-use Rattle.machine.proofs.SlotChanges.{SameObjects}
+use Rattle.machine.specs.declared.{call.Event.Event, cap.Cap.Cap, object.{Context.Context, Object.{Object, Object as o}}}
+use Rattle.machine.specs.{Authority.{label_of, HasAuthority.{by_cap, by_link, by_pair, by_root}}, Capabilities.{gives, kind_of_detail}}
+use Rattle.machine.specs.{Layout.Layout, Machine.{Machine, cap_of, object_of, parent_of}, Objects.{address_of, kind_of_object}}
+use Rattle.machine.{specs.WellFormed.kind_of, proofs.SlotChanges.SameObjects}
 use Rattle.machine.specs.declared.object.ObjectKind.TheVariants as kind
 use Rattle.steps.proofs.SameObjects.{kinds_same}
-use Rattle.policy.specs.Domain.{EdgeTest}
-use Rattle.integrity.specs.Confined.{IsConfined}
-use Rattle.integrity.specs.Invariant.{IsBare, IsHeld}
-use Rattle.integrity.specs.OfTable.{IsOfTable}
-use Rattle.integrity.proofs.Asleep.{sleeps_on}
-use Rattle.integrity.proofs.Keeps.{Acts, Keeps, Changes}
-use Rattle.integrity.proofs.ObjectLabels.{same_label}
-use Rattle.integrity.proofs.Reach.{IsControlled}
+use Rattle.policy.specs.{Change.WayToChange.modifies, Domain.EdgeTest}
+use Rattle.integrity.{specs.{Awake.IsAwake, Confined.IsConfined, Invariant.{IsBare, IsHeld}, OfTable.IsOfTable}, proofs.Asleep.sleeps_on}
+use Rattle.integrity.proofs.{Contents.changed, Keeps.{Acts, Changes, Keeps}, ObjectLabels.same_label, Reach.IsControlled}
 use Rattle.integrity.proofs.Shrinking.{same_context}
-use Rattle.integrity.specs.Awake.{IsAwake}
-use Rattle.policy.specs.Change.WayToChange.{modifies}
-use Rattle.integrity.proofs.Contents.{changed}
 
 -- a label may change an object's, in a step that began at some machine
 pub record IsOpened (t : Layout) (allowed : EdgeTest) (began m : Machine) (a : ℕ) (id : ObjId) : Type 0 where

@@ -1,43 +1,19 @@
 -- Setspace and Clearspace within a caller's authority: its label controls the thread, whose root slot loses its capability, and
 -- gets that of a CNode that the label controls too.
-use Rattle.std.proofs.Common.{ℕ, ◌∙◌, ◌≡◌, ◌⊎◌, None, Option, Some, ap, inl, inr, refl, subst, sym, true}
-use Rattle.std.proofs.lemmas.Option.{same_Some}
-use Rattle.base.specs.declared.ids.ObjId.{ObjId}
-use Rattle.base.specs.declared.ids.SlotRef.{SlotRef}
-use Rattle.base.specs.declared.kind.Kind.{Kind as authority}
-use Rattle.machine.specs.declared.call.Event.{Event}
-use Rattle.machine.specs.declared.cap.Cap.{Cap}
-use Rattle.machine.specs.declared.cap.Detail.{Detail as d}
-use Rattle.machine.specs.declared.object.Object.{Object}
-use Rattle.machine.specs.declared.object.ObjectKind.{ObjectKind as kind}
-use Rattle.machine.specs.Authority.{label_of}
-use Rattle.machine.specs.Capabilities.{kind_of_detail}
-use Rattle.machine.specs.Layout.{Layout}
-use Rattle.machine.specs.Lookup.{root_of}
-use Rattle.machine.specs.Machine.{Machine, cap_of, object_of, same_slot}
-use Rattle.machine.specs.Step.Delete.{deleted}
-use Rattle.machine.specs.Step.Space.{with_root, without_root}
-use Rattle.machine.specs.Tree.{copied, parent_of_copy, with_copy}
-use Rattle.machine.specs.WellFormed.{IsWellFormed, kind_of}
-use Rattle.steps.proofs.Finding.{FindsObject}
-use Rattle.steps.proofs.SlotRows.{with_copy_fills}
-use Rattle.steps.proofs.SpaceFormed.{held_before, root_empty, set_formed, thread_there}
+use Rattle.std.proofs.{Common.{ℕ, ◌∙◌, ◌≡◌, ◌⊎◌, None, Option, Some, ap, inl, inr, refl, subst, sym, true}, lemmas.Option.same_Some}
+use Rattle.base.specs.declared.{ids.{ObjId.ObjId, SlotRef.SlotRef}, kind.Kind.Kind as authority}
+use Rattle.machine.specs.declared.{call.Event.Event, cap.{Cap.Cap, Detail.Detail as d}, object.Object.Object}
+use Rattle.machine.specs.{declared.object.ObjectKind.ObjectKind as kind, Authority.label_of, Capabilities.kind_of_detail, Layout.Layout}
+use Rattle.machine.specs.{Lookup.root_of, Machine.{Machine, cap_of, object_of, same_slot}, Step.{Delete.deleted, Space.with_root}}
+use Rattle.machine.specs.{Step.Space.without_root, Tree.{copied, parent_of_copy, with_copy}, WellFormed.{IsWellFormed, kind_of}}
+use Rattle.steps.proofs.{Finding.FindsObject, SlotRows.with_copy_fills, SpaceFormed.{held_before, root_empty, set_formed, thread_there}}
 use Rattle.steps.proofs.SpaceRow.{ClearDone, RootFilled, SetDone, root_filled}
-use Rattle.policy.specs.Closed.{IsClosed}
-use Rattle.policy.specs.Domain.{EdgeTest}
-use Rattle.integrity.specs.Invariant.{IsHeld, IsSound}
-use Rattle.integrity.specs.Removals.{MayRemove}
-use Rattle.integrity.proofs.FillKeeps.{MayFill, copy_derives, fill_fits}
-use Rattle.integrity.proofs.Held.{bare_of, held_of}
-use Rattle.integrity.proofs.Keeps.{Keeps, keeps_keeps, unchanged}
-use Rattle.integrity.proofs.MessageParts.{IsReached, label_kept, reached}
-use Rattle.integrity.proofs.ObjectLabels.{kind_there, labelled_there}
-use Rattle.integrity.proofs.Reach.{IsWithin, found_within}
-use Rattle.integrity.proofs.RemovalKeeps.{removed_keeps, removed_sound}
-use Rattle.integrity.proofs.SlotKeeps.{slots_keep}
-use Rattle.integrity.proofs.ThreadKeeps.{may_control, to_thread}
-use Rattle.policy.specs.Change.WayToChange.{modifies}
-use Rattle.integrity.proofs.RemovalRights.{may_clear_root}
+use Rattle.policy.specs.{Change.WayToChange.modifies, Closed.IsClosed, Domain.EdgeTest}
+use Rattle.integrity.{specs.{Invariant.{IsHeld, IsSound}, Removals.MayRemove}, proofs.FillKeeps.{MayFill, copy_derives, fill_fits}}
+use Rattle.integrity.proofs.{Held.{bare_of, held_of}, Keeps.{Keeps, keeps_keeps, unchanged}, MessageParts.{IsReached, label_kept, reached}}
+use Rattle.integrity.proofs.{ObjectLabels.{kind_there, labelled_there}, Reach.{IsWithin, found_within}, RemovalKeeps.removed_keeps}
+use Rattle.integrity.proofs.{RemovalKeeps.removed_sound, RemovalRights.may_clear_root, SlotKeeps.slots_keep, ThreadKeeps.may_control}
+use Rattle.integrity.proofs.ThreadKeeps.{to_thread}
 
 module _
     (t : Layout) (allowed : EdgeTest) (event : Event) (a : ℕ) (m : Machine) (sound : IsSound t allowed m)

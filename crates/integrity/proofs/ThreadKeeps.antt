@@ -1,42 +1,20 @@
 -- Suspend and Resume within a caller's authority: its label controls the thread, and so may use what the thread waits at and the reply
 -- that it waits with; a reply that holds it since it called only loses it.
-use Rattle.std.proofs.Common.{ℕ, ◌∙◌, ◌≡◌, ◌⊎◌, Some, ap, inl, inr, refl, subst, sym, true, false}
-use Rattle.base.specs.declared.ids.ObjId.{ObjId}
-use Rattle.base.specs.declared.kind.Kind.{Kind}
-use Rattle.base.specs.declared.kind.Kind.{Kind as authority}
-use Rattle.machine.specs.declared.call.Event.{Event}
-use Rattle.machine.specs.declared.cap.Detail.{Detail as d}
-use Rattle.machine.specs.declared.object.Object.{Object as o}
-use Rattle.machine.specs.declared.object.Reply.{Reply}
-use Rattle.machine.specs.declared.thread.RunState.{RunState}
-use Rattle.machine.specs.declared.thread.RunState.TheVariants as state
-use Rattle.machine.specs.declared.thread.Tcb.{Tcb}
-use Rattle.machine.specs.Authority.{label_of, state_links, names_reply}
-use Rattle.machine.specs.Finalising.{aborted}
-use Rattle.machine.specs.Layout.{Layout}
-use Rattle.machine.specs.Machine.{Machine, object_of, same_id}
-use Rattle.machine.specs.Releasing.{ready, suspended, with_aborted, with_ready, with_released}
-use Rattle.machine.specs.Step.Suspend.{with_resumed}
-use Rattle.machine.specs.WellFormed.{IsCallingThrough, IsIdle, IsThread, WaitsAt}
-use Rattle.machine.proofs.Ids.{itself}
-use Rattle.machine.proofs.Leaving.{Names}
+use Rattle.std.proofs.Common.{ℕ, ◌∙◌, ◌≡◌, ◌⊎◌, Some, ap, false, inl, inr, refl, subst, sym, true}
+use Rattle.base.specs.{declared.{ids.ObjId.ObjId, kind.Kind.{Kind, Kind as authority}}, Kinds.is_structural}
+use Rattle.machine.specs.declared.{call.Event.Event, cap.Detail.Detail as d, object.{Object.Object as o, Reply.Reply}}
+use Rattle.machine.specs.{declared.thread.{RunState.RunState, Tcb.Tcb}, Authority.{label_of, names_object, state_links}, Finalising.aborted}
+use Rattle.machine.specs.{Layout.Layout, Machine.{Machine, object_of, same_id}, Releasing.{ready, suspended, with_aborted, with_ready}}
+use Rattle.machine.specs.{Releasing.with_released, Step.Suspend.with_resumed, WellFormed.{IsCallingThrough, IsIdle, IsThread, WaitsAt}}
+use Rattle.machine.proofs.{Ids.itself, Leaving.Names}
 use Rattle.machine.specs.declared.object.ReplyState.TheVariants as reply
-use Rattle.steps.proofs.Finding.{FindsObject, found_kind}
-use Rattle.steps.proofs.FoundObjects.{tcb_of_kind}
-use Rattle.steps.proofs.ThreadRow.{ResumeDone, SuspendDone}
-use Rattle.policy.specs.Closed.{IsClosed}
-use Rattle.policy.specs.Domain.{EdgeTest}
-use Rattle.integrity.specs.Acting.MayAct.{started}
-use Rattle.integrity.specs.Invariant.{IsSound}
-use Rattle.integrity.proofs.Held.{held_of}
-use Rattle.integrity.proofs.Keeps.{Keeps, unchanged, Changes, Takes}
-use Rattle.integrity.proofs.MessageParts.{IsReached, holds_edge, reached, thread_edge, names_blocked}
-use Rattle.integrity.proofs.MessageTouches.{MayLessen, released_keeps}
-use Rattle.policy.specs.Change.WayToChange.{modifies}
+use Rattle.machine.specs.declared.thread.RunState.TheVariants as state
+use Rattle.steps.proofs.{Finding.{FindsObject, found_kind}, FoundObjects.tcb_of_kind, ThreadRow.{ResumeDone, SuspendDone}}
+use Rattle.policy.specs.{Change.WayToChange.modifies, Closed.IsClosed, Domain.EdgeTest, NarrowTake.TakesByControl.releases}
 use Rattle.policy.specs.NarrowTake.WayToShrink.{controls}
-use Rattle.policy.specs.NarrowTake.TakesByControl.{releases}
-use Rattle.integrity.proofs.Awake.{blocked_actor}
-use Rattle.base.specs.Kinds.{is_structural}
+use Rattle.integrity.{specs.{Acting.MayAct.started, Invariant.IsSound}, proofs.{Awake.blocked_actor, Held.held_of, Keeps.{Changes, Keeps}}}
+use Rattle.integrity.proofs.{Keeps.{Takes, unchanged}, MessageParts.{IsReached, holds_edge, names_blocked, reached, thread_edge}}
+use Rattle.integrity.proofs.MessageTouches.{MayLessen, released_keeps}
 
 -- a thread that goes on is as it was, or can run, or is aborted
 data Resumes (m : Machine) (thread : ObjId) (next : Machine) : Type 0 where
@@ -79,7 +57,7 @@ module _
         by_run (state.Receiving receiving) is named =
             let edge =
             thread_edge t allowed m event a m sound thread id tcb authority.Reply to_thread.label to there
-            (ap (λ run. state_links run authority.Reply id) is ∙ ap (λ n. names_reply n id) named ∙ itself id)
+            (ap (λ run. state_links run authority.Reply id) is ∙ ap (λ n. names_object n id) named ∙ itself id)
             to_thread.labelled target in
             inl (λ awake. modifies authority.Reply refl (agrees authority.Reply to refl edge))
         by_run (state.Called calling) is named =

@@ -2,34 +2,17 @@
 -- and its new links, its budget and the change are allowed.
 use Rattle.std.proofs.Common.{ℕ, ◌<◌, ◌∙◌, ◌≡◌, ◌≢◌, ◌≤◌, ◌⊎◌, None, Some, ap, arith, inl, inr, option_map, refl, subst, sym, true}
 use Rattle.std.proofs.lemmas.Option.{none-some, same_Some}
-use Rattle.base.specs.declared.ids.ObjId.{ObjId}
-use Rattle.base.specs.declared.ids.SlotRef.{SlotRef}
-use Rattle.base.specs.declared.kind.Kind.{Kind}
-use Rattle.machine.specs.declared.call.Event.{Event}
-use Rattle.machine.specs.declared.object.Context.{Context}
-use Rattle.machine.specs.declared.object.Object.{Object}
-use Rattle.machine.specs.declared.object.Object.{Object as o}
-use Rattle.machine.specs.declared.object.Untyped.{Untyped}
-use Rattle.machine.specs.declared.object.ObjectKind.TheVariants as kind
-use Rattle.machine.specs.declared.thread.Tcb.{Tcb}
-use Rattle.machine.specs.Authority.{label_at, label_of, lent_of, links}
-use Rattle.machine.specs.Authority.HasAuthority.{by_link}
-use Rattle.machine.specs.Layout.{Layout}
-use Rattle.machine.specs.Machine.{Machine, cap_of, object_of, parent_of, queue_of, words_of}
-use Rattle.machine.specs.Objects.{address_of, end_of, kind_of_object}
+use Rattle.base.specs.declared.{ids.{ObjId.ObjId, SlotRef.SlotRef}, kind.Kind.Kind}
+use Rattle.machine.specs.declared.{call.Event.Event, object.{Context.Context, Object.{Object, Object as o}, Reply.Reply, Untyped.Untyped}}
+use Rattle.machine.specs.{declared.thread.Tcb.Tcb, Authority.{label_at, label_of, context_lent, links, HasAuthority.by_link}, Layout.Layout}
+use Rattle.machine.specs.{Machine.{Machine, cap_of, object_of, parent_of, queue_of, words_of}, Objects.{address_of, end_of, kind_of_object}}
 use Rattle.machine.proofs.Ids.{one_or_two}
+use Rattle.machine.specs.declared.object.ObjectKind.TheVariants as kind
 use Rattle.policy.specs.Domain.{EdgeTest}
-use Rattle.integrity.specs.Budgets.{MayConfigure}
-use Rattle.integrity.specs.Invariant.{IsBare, IsHeld}
-use Rattle.integrity.specs.OfTable.{IsOfTable}
-use Rattle.integrity.proofs.Asleep.{sleeps_on}
-use Rattle.integrity.proofs.Keeps.{Acts, Keeps, Alters}
-use Rattle.integrity.proofs.ObjectLabels.{kind_stays, label_stays, same_label}
-use Rattle.integrity.proofs.Shrinking.{same_context}
+use Rattle.integrity.specs.{Altered.MayAlter, Awake.{CallersAreServed, IsAwake, IsHeldAfterCall, OthersSleep, SleepsOrActs}}
+use Rattle.integrity.{specs.{Budgets.MayConfigure, Invariant.{IsBare, IsHeld}, OfTable.IsOfTable}, proofs.{Asleep.sleeps_on, Keeps.Acts}}
+use Rattle.integrity.proofs.{Keeps.{Alters, Keeps}, ObjectLabels.{kind_stays, label_stays, same_label}, Shrinking.same_context}
 use Rattle.integrity.proofs.Steady.{IsSteady, LinksAllowed, steady_confined}
-use Rattle.integrity.specs.Awake.{IsAwake, OthersSleep, SleepsOrActs, CallersAreServed, IsHeldAfterCall}
-use Rattle.machine.specs.declared.object.Reply.{Reply}
-use Rattle.integrity.specs.Altered.{MayAlter}
 
 -- all but one object's content, queue and words is as it was
 pub record Touches (m : Machine) (id : ObjId) (next : Machine) : Type 0 where
@@ -54,7 +37,7 @@ pub record Fits
       → (links old k end ≡ true)
       ⊎ ((from to : ℕ) → label_of t m id ≡ Some from → label_of t m end ≡ Some to → allowed from k to ≡ true)
   -- the number of a context that a thread lent was given out
-  pub lent : (context : ObjId) (thread : Tcb) → new ≡ o.Tcb thread → lent_of thread.state ≡ Some context → context.0 < m.next
+  pub lent : (context : ObjId) (thread : Tcb) → new ≡ o.Tcb thread → context_lent thread.state ≡ Some context → context.0 < m.next
   -- a thread sleeps, or its label may act
   pub sleeps :
       IsAwake t allowed began a → OthersSleep t allowed m → (thread : Tcb) → new ≡ o.Tcb thread

@@ -5,7 +5,7 @@ use Rattle.std.specs.Prelude.{ℕ, ◌<◌, ◌≡◌, ◌≢◌, ◌≤◌, Som
 use Rattle.base.specs.declared.ids.ObjId.{ObjId}
 use Rattle.machine.specs.declared.{layout.Initial.Initial, object.{Object.{Object, Object as o}, Untyped.Untyped}, thread.Tcb.Tcb}
 use Rattle.machine.specs.declared.object.ObjectKind.TheVariants as kind
-use Rattle.machine.specs.{Authority.{label_at, label_of, lent_of}, Layout.{Layout, initial_of}, Machine.{Machine, object_of}}
+use Rattle.machine.specs.{Authority.{label_at, label_of, context_lent}, Layout.{Layout, initial_of}, Machine.{Machine, object_of}}
 use Rattle.machine.specs.Objects.{address_of, end_of, kind_of_object}
 
 pub record IsOfTable (t : Layout) (m : Machine) : Type 0 where
@@ -27,7 +27,7 @@ pub record IsOfTable (t : Layout) (m : Machine) : Type 0 where
       → label_at t (address_of declared.object) ≡ Some label → declared.label ≡ label
   -- the number of a context that a thread lent was given out: no object that is made later gets it, though the context may vanish
   pub lent :
-      (id context : ObjId) (thread : Tcb) → object_of m id ≡ Some (o.Tcb thread) → lent_of thread.state ≡ Some context
+      (id context : ObjId) (thread : Tcb) → object_of m id ≡ Some (o.Tcb thread) → context_lent thread.state ≡ Some context
       → context.0 < m.next
   -- made objects have numbers above those of the initial ones
   pub counted : length t.objects ≤ m.next

@@ -1,35 +1,17 @@
 -- What the words of a command line ask for: each command, with its words and options, and the request that they make (confine's own).
-use Rattle.std.specs.Borrow.{Bor}
-use Rattle.std.specs.Prelude.{[], ℕ, ◌&&◌, ◌≡◌, ◌∷◌, Bool, List, None, Option, Some, codes, false, if◌then◌else◌, is_some, nat_le, option_and_then, option_copied}
-use Rattle.std.specs.Prelude.{option_map, true}
-use Rattle.std.specs.Str.{bytes_eq}
-use Rattle.clap.specs.declared.parser.matches.ArgMatches.{ArgMatches}
-use Rattle.clap.specs.declared.parser.matches.Found.{Found}
-use Rattle.clap.specs.Matches.{first_value, one_text, subcommand_name_of}
-use Rattle.clap.specs.Simple.{subcommand_rows_of}
-use Rattle.clap.specs.Walk.{rows_of}
+use Rattle.std.specs.{Borrow.Bor, Prelude.{[], ℕ, ◌&&◌, ◌∷◌, ◌≡◌, Bool, List, None, Option, Some, codes, false, if◌then◌else◌, is_some}}
+use Rattle.std.specs.{Prelude.{nat_le, option_and_then, option_copied, option_map, true}, Str.bytes_eq}
 use Rattle.words.specs.Number.{dec_of}
 use Rattle.importing.specs.declared.pieces.{Children.{Children, Children as children}, Minting.{Minting, Minting as minting}}
-use Rattle.commands.specs.declared.choices.OnAccept.{OnAccept}
-use Rattle.commands.specs.declared.choices.OnAccept.{OnAccept as on_accept}
-use Rattle.commands.specs.declared.choices.OnClose.{OnClose}
-use Rattle.commands.specs.declared.choices.OnClose.{OnClose as on_close}
-use Rattle.invocation.specs.declared.meaning.Verb.{Verb}
-use Rattle.invocation.specs.declared.meaning.Verb.{Verb as verb}
-use Rattle.invocation.specs.declared.meaning.Words.{Words}
-use Rattle.invocation.specs.declared.request.{Format.{Format, Format as format}, Manner.Manner}
-use Rattle.invocation.specs.declared.request.OfSystem.{OfSystem}
-use Rattle.invocation.specs.declared.request.OfSystem.{OfSystem as of_system}
-use Rattle.invocation.specs.declared.request.CommandLine.{CommandLine}
-use Rattle.invocation.specs.declared.request.CommandLine.TheVariants.{InTurn, Split}
-use Rattle.invocation.specs.declared.request.OfTable.{OfTable, OfTable as on_table}
-use Rattle.invocation.specs.declared.request.OfThree.{OfThree}
-use Rattle.invocation.specs.declared.request.OfThree.{OfThree as of_three}
-use Rattle.invocation.specs.declared.request.Request.{Request}
-use Rattle.invocation.specs.declared.request.Request.{Request as request}
-use Rattle.commands.specs.declared.choices.Basis.{Basis}
-use Rattle.commands.specs.declared.choices.Basis.{Basis as basis}
-use Rattle.commands.specs.declared.choices.{Imported.{Imported, Imported as imported}, OnImport.OnImport, Picture.{Picture, Picture as picture}, Search.Search}
+use Rattle.commands.specs.declared.choices.{Basis.{Basis, Basis as basis}, Imported.{Imported, Imported as imported}, OnAccept.OnAccept}
+use Rattle.commands.specs.declared.choices.{OnAccept.OnAccept as on_accept, OnClose.{OnClose, OnClose as on_close}, OnImport.OnImport}
+use Rattle.commands.specs.declared.choices.{Picture.{Picture, Picture as picture}, Search.Search}
+use Rattle.invocation.specs.declared.{meaning.{Verb.{Verb, Verb as verb}, Words.Words}, request.CommandLine.CommandLine}
+use Rattle.invocation.specs.declared.request.{CommandLine.TheVariants.{InTurn, Split}, Format.{Format, Format as format}, Manner.Manner}
+use Rattle.invocation.specs.declared.request.{OfSystem.{OfSystem, OfSystem as of_system}, OfTable.{OfTable, OfTable as on_table}}
+use Rattle.invocation.specs.declared.request.{OfThree.{OfThree, OfThree as of_three}, Request.{Request, Request as request}}
+use Rattle.clap.specs.{declared.parser.matches.{ArgMatches.ArgMatches, Found.Found}, Matches.{first_value, one_text, subcommand_name_of}}
+use Rattle.clap.specs.{Simple.subcommand_rows_of, Walk.rows_of}
 
 infixl 10 ◌>>=◌
 abbrev ◌>>=◌ : {A B : Type 0} → Option A → (A → Option B) → Option B

@@ -1,6 +1,8 @@
 //! The command line of the program `confine`: its commands with their words and options, their help texts,
-//! and the request that they make. The program carries a request out; this crate opens no file and knows
-//! no engine.
+//! and the request that they make.
+//!
+//! `confine` stands on it, and carries the request out. This crate opens no file, and knows no
+//! engine.
 #![tactic(auto)]
 
 pub mod help;

@@ -1,6 +1,5 @@
 //! How a script is run.
-ghost use Rattle.std.specs.List.{zip};
-ghost use Rattle.std.specs.Prelude.{◌++◌, ◌+◌, ◌≡◌, ◌≤◌, All, IfErr, IsOk, List, OnErr, OnOk, drop, length};
+ghost use Rattle.std.specs.{List.zip, Prelude.{◌++◌, ◌+◌, ◌≡◌, ◌≤◌, All, IfErr, IsOk, List, OnErr, OnOk, drop, length}};
 ghost use Rattle.std.specs.Prelude.{vec_capacity, vec_len};
 ghost use Rattle.base.specs.Refusals.{plain};
 ghost use Rattle.machine.specs.{declared.call.Outcome.Outcome as Ended, Run.Run, Step.MayEnd, WellFormed.IsWellFormed};

@@ -4,14 +4,13 @@ use Rattle.std.proofs.Common.{Bool, List, ap, cond, false, inl, inr, not, refl, 
 use Rattle.std.proofs.lemmas.{List.Elements.{All-contains_itself, All-weaker}, Option.{none-some, same_Some}}
 use Rattle.base.specs.declared.ids.ObjId.{ObjId}
 use Rattle.machine.specs.declared.{object.{Object.{Object, Object as o}, Reply.Reply, ReplyState.ReplyState}, thread.RunState.RunState}
+use Rattle.machine.specs.{declared.thread.Tcb.Tcb, Changes.{with_reply, with_tcb, without_first, without_waiting}, Finalising.IsHolding}
+use Rattle.machine.specs.{Finalising.aborted, Machine.{Machine, object_of, queue_of, same_id, with_object, with_queue}, Releasing.SameRest}
+use Rattle.machine.specs.Releasing.{reply_by, unblocked, with_aborted, with_free, with_holding, with_named, with_released}
+use Rattle.machine.{specs.WellFormed.{IsThread, WaitsAt}, proofs.{Filters.filter_all, Ids.{at_itself, at_other, itself, one_or_two}}}
+use Rattle.machine.proofs.LookUps.{object_of-with_object, object_of-with_queue, one_id, queue_of-with_object, queue_of-with_queue}
 use Rattle.machine.specs.declared.object.ReplyState.TheVariants as reply
 use Rattle.machine.specs.declared.thread.RunState.TheVariants as state
-use Rattle.machine.specs.{declared.thread.Tcb.Tcb, Changes.{with_reply, with_tcb, without_first, without_waiting}, Finalising.IsHolding}
-use Rattle.machine.specs.{Finalising.{aborted, halted}, Machine.{Machine, object_of, queue_of, same_id, with_object, with_queue}}
-use Rattle.machine.specs.Releasing.{SameRest, reply_by, unblocked, with_aborted, with_free, with_halted, with_holding, with_named}
-use Rattle.machine.{specs.{Releasing.with_released, WellFormed.{IsThread, WaitsAt}}, proofs.{Filters.filter_all, Ids.{at_itself, at_other}}}
-use Rattle.machine.proofs.{Ids.{itself, one_or_two}, LookUps.{object_of-with_object, object_of-with_queue, one_id, queue_of-with_object}}
-use Rattle.machine.proofs.LookUps.{queue_of-with_queue}
 
 -- whether a run state names a reply
 abbrev pub Names : RunState → ObjId → Type 0
@@ -315,11 +314,6 @@ pub released_there :
     → with_released m thread change ≡ with_tcb (unblocked m thread tcb.state) thread (change tcb)
 unfolding with_released
 released_there m thread tcb change there = rw there refl
-
-pub halted_is :
-    (m : Machine) (thread : ObjId) (tcb : Tcb) → IsThread m thread tcb
-    → with_halted m thread ≡ with_tcb (unblocked m thread tcb.state) thread (halted tcb)
-halted_is m thread tcb there = released_there m thread tcb halted there
 
 pub aborted_is :
     (m : Machine) (thread : ObjId) (tcb : Tcb) → IsThread m thread tcb

@@ -159,10 +159,6 @@ pub going-with_object : (m : Machine) (id : ObjId) (object : Object) → (with_o
 unfolding with_object
 going-with_object m id object = refl
 
-pub going-with_queue : (m : Machine) (id : ObjId) (threads : List ObjId) → (with_queue m id threads).going ≡ m.going
-unfolding with_queue
-going-with_queue m id threads = refl
-
 -- nothing is there in the empty machine
 pub object_of-empty : (q : ObjId) → object_of empty_machine q ≡ None
 unfolding object_of empty_machine

@@ -28,9 +28,9 @@ label_of t m id =
     option_and_then (λ object. if nat_lt id.0 (length t.objects) then declared_label t id else label_at t (address_of object))
     (object_of m id)
 
-abbrev pub names_reply : Option ObjId → ObjId → Bool
-names_reply None id = false
-names_reply (Some named) id = same_id named id
+abbrev pub names_object : Option ObjId → ObjId → Bool
+names_object None id = false
+names_object (Some named) id = same_id named id
 
 -- what a blocked thread keeps over other objects, also after the capability that it used went
 abbrev pub state_links : RunState → Kind → ObjId → Bool
@@ -38,14 +38,14 @@ state_links (state.Sending sending) authority.Send id = same_id sending.endpoint
 state_links (state.Sending sending) authority.Grant id = sending.grant && same_id sending.endpoint id
 state_links (state.Sending sending) authority.Call id = (sending.is_call && sending.can_reply) && same_id sending.endpoint id
 state_links (state.Receiving receiving) authority.Receive id = same_id receiving.endpoint id
-state_links (state.Receiving receiving) authority.Reply id = names_reply receiving.reply id
+state_links (state.Receiving receiving) authority.Reply id = names_object receiving.reply id
 state_links (state.Waiting notification) authority.Await id = same_id notification id
 state_links _ _ id = false
 
 -- the context that a thread lent as it called, as long as it waits for the answer
-abbrev pub lent_of : RunState → Option ObjId
-lent_of (state.Called calling) = option_map (λ (lent : Lent). lent.context) calling.lent
-lent_of _ = None
+abbrev pub context_lent : RunState → Option ObjId
+context_lent (state.Called calling) = option_map (λ (lent : Lent). lent.context) calling.lent
+context_lent _ = None
 
 abbrev pub holds_thread : ReplyState → ObjId → Bool
 holds_thread reply.Free id = false
@@ -55,7 +55,7 @@ holds_thread (reply.Called thread) id = same_id thread id
 -- the edges that an object's content gives: a thread runs on its context, and on the one that it lent, wherever that is bound, a
 -- reply holds its thread, and a blocked thread keeps its rights
 abbrev pub links : Object → Kind → ObjId → Bool
-links (o.Tcb thread) authority.Runs id = names_reply thread.context id || names_reply (lent_of thread.state) id
+links (o.Tcb thread) authority.Runs id = names_object thread.context id || names_object (context_lent thread.state) id
 links (o.Tcb thread) k id = state_links thread.state k id
 links (o.Reply answers) authority.Holds id = holds_thread answers.state id
 links _ _ id = false

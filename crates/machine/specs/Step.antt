@@ -118,29 +118,8 @@ ChangesCaller _ = ⊥
 
 -- whether a call takes memory
 abbrev pub takes_memory : Call → Bool
-takes_memory (call.Signal _) = Bool.false
-takes_memory (call.Poll _) = Bool.false
-takes_memory (call.Wait _) = Bool.false
-takes_memory (call.Send _ _ _) = Bool.false
-takes_memory (call.Call _ _ _) = Bool.false
-takes_memory (call.Receive _ _ _) = Bool.false
-takes_memory (call.Reply _ _) = Bool.false
-takes_memory call.Fetch = Bool.false
-takes_memory (call.Copy _ _ _) = Bool.false
-takes_memory (call.Mint _ _ _ _) = Bool.false
-takes_memory (call.Move _ _) = Bool.false
-takes_memory (call.Delete _) = Bool.false
-takes_memory (call.Revoke _) = Bool.false
 takes_memory (call.Retype _ _ _ _ _ _) = Bool.true
-takes_memory (call.Read _ _) = Bool.false
-takes_memory (call.Write _ _ _) = Bool.false
-takes_memory (call.SetSpace _ _) = Bool.false
-takes_memory (call.ClearSpace _) = Bool.false
-takes_memory (call.Suspend _) = Bool.false
-takes_memory (call.Resume _) = Bool.false
-takes_memory (call.Configure _ _ _ _) = Bool.false
-takes_memory (call.Bind _ _) = Bool.false
-takes_memory (call.Unbind _) = Bool.false
+takes_memory _ = Bool.false
 
 -- the event could be made, but takes memory that isn't there
 pub record LacksMemory (m : Machine) (event : Event) (outcome : Outcome) (next : Machine) : Type 0 where

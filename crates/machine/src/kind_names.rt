@@ -1,8 +1,7 @@
 //! The names of the kinds of objects.
 ghost use Rattle.std.specs.Prelude.{◌≡◌, IfSome, Some};
-ghost use Rattle.machine.specs.declared.object.MemoryKind.{MemoryKind as Kind};
-ghost use Rattle.machine.specs.KindWords.{memory_kind_in, memory_kind_of, memory_kind_word, object_kind_of};
-ghost use Rattle.machine.specs.KindWords.{object_kind_word};
+ghost use Rattle.machine.specs.{declared.object.MemoryKind.MemoryKind as Kind, KindWords.memory_kind_in};
+ghost use Rattle.machine.specs.KindWords.{memory_kind_of, memory_kind_word, object_kind_of, object_kind_word};
 
 use crate::{MemoryKind, ObjectKind};
 use std::fmt;

@@ -1,10 +1,8 @@
 -- How the digits of a number are read one after another.
-use Rattle.std.proofs.Common.{[], ℕ, ◌&&◌, ◌*◌, ◌+◌, ◌<◌, ◌==◌, ◌∙◌, ◌∷◌, ◌≡◌, ◌≢◌, ◌≤◌, ◌^◌, ◌||◌, Bool, List, None, Option, Some, add-one, ap, arith}
-use Rattle.std.proofs.Common.{cond, drop, drop-cons, false, get_or, length, lt-ltb, refl, sym, true}
-use Rattle.std.proofs.{Math.Nat.{mul-le-mul_left}, lemmas.List.drop_all}
-use Rattle.std.proofs.lemmas.{Bool.{cond-true, ltb-false, ltb-true}, Option.{cond_some, none-some}}
-use Rattle.std.specs.{Char.{digit_value, is_digit}, List.list_all, Str.Parse.{digits_value_after}}
-use Rattle.std.specs.Prelude.{is_some, nat_lt, not, unwrap_or}
+use Rattle.std.specs.{Char.{digit_value, is_digit}, List.list_all, Prelude.{is_some, nat_lt, not, unwrap_or}, Str.Parse.digits_value_after}
+use Rattle.std.proofs.Common.{[], ℕ, ◌&&◌, ◌*◌, ◌+◌, ◌<◌, ◌==◌, ◌^◌, ◌||◌, ◌∙◌, ◌∷◌, ◌≡◌, ◌≢◌, ◌≤◌, Bool, List, None, Option, Some, add-one}
+use Rattle.std.proofs.{Common.{ap, arith, cond, drop, drop-cons, false, get_or, length, lt-ltb, refl, sym, true}, Math.Nat.mul-le-mul_left}
+use Rattle.std.proofs.lemmas.{Bool.{cond-true, ltb-false, ltb-true}, List.drop_all, Option.{cond_some, none-some}}
 use Rattle.words.specs.Number.{below_limit}
 use Rattle.microkit.specs.Values.{bare, digits_of, is_some_digit}
 

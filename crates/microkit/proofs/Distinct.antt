@@ -1,12 +1,10 @@
 -- No two labels have one name, since each is called as none before it.
-use Rattle.std.proofs.Common.{[], ℕ, ◌++◌, ◌+◌, ◌∙◌, ◌∷◌, ◌≡◌, ◌≢◌, ◌||◌, Bool, Err, List, None, Ok, Option, Result, Some, ap, cond, false}
-use Rattle.std.proofs.Common.{refl, subst, suc, sym, true, zero}
-use Rattle.std.proofs.lemmas.{Map.Made.{AllPairs-from_IsDistinct}, Option.{none-some}, Slice.Eq.{bytes_eq-Decides}}
-use Rattle.std.specs.{List.{AllByRecursion, AllPairs, IsDistinct}, Prelude.{unwrap_or}, Str.{bytes_eq}}
-use Rattle.words.specs.{Reading.{bind}, declared.faults.Fault.{Fault}}
-use Rattle.microkit.specs.{Description.{Description}, Labels.{label_at, named_at, names_from, names_of, or_limit, subjects_of}}
-use Rattle.microkit.specs.Names.{candidate, free_from, is_known}
-use Rattle.microkit.specs.declared.labels.Subject.{Subject}
+use Rattle.std.{specs.{List.{AllByRecursion, AllPairs, IsDistinct}, Prelude.unwrap_or, Str.bytes_eq}, proofs.Common.{[], ℕ, ◌++◌, ◌+◌}}
+use Rattle.std.proofs.Common.{◌||◌, ◌∙◌, ◌∷◌, ◌≡◌, ◌≢◌, Bool, Err, List, None, Ok, Option, Result, Some, ap, cond, false, refl, subst, suc}
+use Rattle.std.proofs.{Common.{sym, true, zero}, lemmas.{Map.Made.AllPairs-from_IsDistinct, Option.none-some, Slice.Eq.bytes_eq-Decides}}
+use Rattle.words.specs.{declared.faults.Fault.Fault, Reading.bind}
+use Rattle.microkit.specs.{declared.labels.Subject.Subject, Description.Description, Labels.{label_at, named_at, names_from, names_of}}
+use Rattle.microkit.specs.{Labels.{or_limit, subjects_of}, Names.{candidate, free_from, is_known}}
 
 pub some_same : {X : Type 0} (x y : X) → Some x ≡ Some y → x ≡ y
 some_same x y same = ap (λ o. unwrap_or o x) same

@@ -1,16 +1,15 @@
 -- Each label has a name as a table's labels have it, of at most 24 letters.
-use Rattle.std.proofs.Common.{[], ℕ, ◌&&◌, ◌++◌, ◌+◌, ◌-◌, ◌<◌, ◌==◌, ◌∙◌, ◌∷◌, ◌≡◌, ◌≤◌, ◌^◌, ◌||◌, Bool, Err, List, Ok}
-use Rattle.std.proofs.Common.{Result, Some, ap, arith, cond, drop, false, length, map, nat_le, nat_lt, refl, subst, suc, sym, take, true, zero}
-use Rattle.std.proofs.lemmas.{Bool.{and_from, and_parts, leb-false, leb-true, Decides.nat_tests}, Fmt.{length-decimal-le}, Grind.{common_steps}}
-use Rattle.std.proofs.lemmas.{List.{take-append-drop, Folds.{list_all-append}}, Option.{none-some}}
-use Rattle.std.specs.{Char.{is_ascii_digit, is_ascii_lowercase, is_ascii_uppercase}, Fmt.{decimal}}
-use Rattle.std.specs.{List.{AllByRecursion, list_all}, Prelude.{codes}}
-use Rattle.words.specs.{Name.{is_name_byte, starts_with_letter}, Reading.{bind}, declared.faults.Fault.{Fault}}
-use Rattle.microkit.specs.{Description.{Description}, Labels.{ending_of, label_at, name_of, named_at, names_from, names_of, subjects_of}}
-use Rattle.microkit.specs.Names.{IsLabelName, candidate, free_from, is_known, kept_last, letter_of, plain_name, shortened, tail_of, with_letter}
-use Rattle.microkit.specs.declared.labels.Subject.{Subject}
+use Rattle.std.specs.{Char.{is_ascii_digit, is_ascii_lowercase, is_ascii_uppercase}, Fmt.decimal, List.{AllByRecursion, list_all}}
+use Rattle.std.{specs.Prelude.codes, proofs.Common.{[], ℕ, ◌&&◌, ◌++◌, ◌+◌, ◌-◌, ◌<◌, ◌==◌, ◌^◌, ◌||◌, ◌∙◌, ◌∷◌, ◌≡◌, ◌≤◌, Bool, Err, List}}
+use Rattle.std.proofs.Common.{Ok, Result, Some, ap, arith, cond, drop, false, length, map, nat_le, nat_lt, refl, subst, suc, sym, take}
+use Rattle.std.proofs.{Common.{true, zero}, lemmas.Bool.{and_from, and_parts, leb-false, leb-true, Decides.nat_tests}}
+use Rattle.std.proofs.lemmas.{Fmt.length-decimal-le, Grind.common_steps, List.{take-append-drop, Folds.list_all-append}, Option.none-some}
+use Rattle.words.specs.{declared.faults.Fault.Fault, Name.{is_name_byte, starts_with_letter}, Reading.bind}
+use Rattle.microkit.specs.{declared.labels.Subject.Subject, Description.Description, Labels.{ending_of, label_at, name_of, named_at}}
+use Rattle.microkit.specs.{Labels.{names_from, names_of, subjects_of}, Names.{IsLabelName, candidate, free_from, is_known, kept_last}}
+use Rattle.microkit.{specs.Names.{letter_of, plain_name, shortened, tail_of, with_letter}, proofs.Distinct.{limited, some_same}}
+use Rattle.microkit.proofs.Parts.{decimal_digits}
 use Rattle.microkit.specs.declared.labels.Subject.TheVariants as subject
-use Rattle.microkit.proofs.{Distinct.{limited, some_same}, Parts.{decimal_digits}}
 
 abbrev pub are_bytes : List ℕ → Bool
 are_bytes name = list_all is_name_byte name

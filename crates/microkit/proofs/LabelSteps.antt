@@ -1,10 +1,9 @@
 -- How names are tried, and labels named, one after another.
-use Rattle.std.proofs.Common.{ℕ, ◌+◌, ◌-◌, ◌<◌, ◌∙◌, ◌∷◌, ◌≡◌, ◌≤◌, Err, List, None, Ok, Some, add-one, ap, arith, drop, drop-cons}
-use Rattle.std.proofs.Common.{false, get_or, length, refl, suc, sym, true}
-use Rattle.std.proofs.lemmas.List.{drop_all}
-use Rattle.words.specs.{Reading.{bind}, declared.faults.Fault.{Fault}}
-use Rattle.microkit.specs.{Description.{Description}, Labels.{named_at, names_from}, Names.{candidate, free_from, is_known}}
-use Rattle.microkit.specs.declared.labels.Subject.{Subject}
+use Rattle.std.proofs.Common.{ℕ, ◌+◌, ◌-◌, ◌<◌, ◌∙◌, ◌∷◌, ◌≡◌, ◌≤◌, Err, List, None, Ok, Some, add-one, ap, arith, drop, drop-cons, false}
+use Rattle.std.proofs.{Common.{get_or, length, refl, suc, sym, true}, lemmas.List.drop_all}
+use Rattle.words.specs.{declared.faults.Fault.Fault, Reading.bind}
+use Rattle.microkit.specs.{declared.labels.Subject.Subject, Description.Description, Labels.{named_at, names_from}, Names.candidate}
+use Rattle.microkit.specs.Names.{free_from, is_known}
 
 -- a name is taken
 pub try_more : (names : List (List ℕ)) (name ending found : List ℕ) (k last : ℕ) → k < last → found ≡ candidate name ending k

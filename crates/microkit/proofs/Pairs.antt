@@ -1,10 +1,8 @@
 -- How the value of an attribute is found, one attribute after another.
-use Rattle.std.proofs.Common.{ℕ, ◌+◌, ◌<◌, ◌∙◌, ◌∷◌, ◌≡◌, ◌≤◌, List, None, Some, add-one, ap, cond, drop, drop-cons, false, get_or}
-use Rattle.std.proofs.Common.{length, sym, true}
-use Rattle.std.proofs.lemmas.List.{drop_all}
-use Rattle.std.specs.Str.{bytes_eq}
+use Rattle.std.{specs.Str.bytes_eq, proofs.Common.{ℕ, ◌+◌, ◌<◌, ◌∙◌, ◌∷◌, ◌≡◌, ◌≤◌, List, None, Some, add-one, ap, cond, drop, drop-cons}}
+use Rattle.std.proofs.{Common.{false, get_or, length, sym, true}, lemmas.List.drop_all}
+use Rattle.xml.specs.{declared.element.Attribute.Attribute, View.pairs_of}
 use Rattle.microkit.specs.Attributes.{value_among}
-use Rattle.xml.specs.{View.{pairs_of}, declared.element.Attribute.Attribute}
 
 -- the attributes from one on
 pub attributes_from : (found : List Attribute) (i : ℕ) (attribute : Attribute) → i < length found

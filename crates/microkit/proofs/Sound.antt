@@ -1,22 +1,19 @@
 -- What a description names is there, since each element is read so.
-use Rattle.std.proofs.Common.{[], ℕ, ◌++◌, ◌+◌, ◌<◌, ◌∷◌, ◌≡◌, ◌≤◌, Bool, Err, List, None, Ok, Option, Result, Some, ap, arith, cond, false}
-use Rattle.std.proofs.Common.{length, refl, subst, true}
-use Rattle.std.proofs.lemmas.{Bool.{leb-false, ltb-true}, Grind.{common_steps}, Option.{cond_some}}
-use Rattle.std.specs.{List.{AllByRecursion, position}, Prelude.{⊤}}
-use Rattle.words.specs.{Reading.{bind}, declared.faults.Fault.{Fault}, Fault.{fault_at}}
-use Rattle.words.specs.declared.faults.Wrong.TheVariants.{WrongKind}
-use Rattle.microkit.specs.Channels.{channel_at, channel_of, channel_part_at, domain_number, end_added, end_at, end_in, joined_at}
-use Rattle.microkit.specs.Channels.{calling, end_begun, end_joined, go_together}
-use Rattle.microkit.specs.{Description.{Description, Domain, Region}, Regions.{region_at, region_in, region_number, with_region}}
-use Rattle.microkit.specs.Domains.{domain_at, domain_fits, domain_in, domain_part_at, domain_part_of, interrupt_at, machine_at, machine_in, map_at, own_processor_at}
-use Rattle.microkit.specs.Domains.{port_at, processor_at, processor_fits, variable_at, with_domain, with_machine}
-use Rattle.microkit.specs.{Draft.{Draft, known_number, no_draft, place_at}, Sound.{IsSound}}
-use Rattle.microkit.specs.Reading.{description_at, description_of_text, element_at, elements_at, part_at, region_part_at}
-use Rattle.microkit.specs.declared.{description.{Channel.{Channel}, End.{End}, Id.{Id}, Processor.{Processor}, User.{User}}, draft.{Begun.{Begun}, Place.{Place}}}
-use Rattle.microkit.specs.declared.{kinds.Kind.{Kind}, reading.Phase.{Phase}}
+use Rattle.std.{specs.{List.{AllByRecursion, position}, Prelude.⊤}, proofs.Common.{[], ℕ, ◌++◌, ◌+◌, ◌<◌, ◌∷◌, ◌≡◌, ◌≤◌, Bool, Err, List}}
+use Rattle.std.proofs.{Common.{None, Ok, Option, Result, Some, ap, arith, cond, false, length, refl, subst, true}, lemmas.Bool.leb-false}
+use Rattle.std.proofs.lemmas.{Bool.ltb-true, Grind.common_steps, Option.cond_some}
+use Rattle.words.specs.{declared.faults.{Fault.Fault, Wrong.TheVariants.WrongKind}, Fault.fault_at, Reading.bind}
+use Rattle.xml.specs.Document.{Node}
+use Rattle.microkit.specs.declared.{description.{Channel.Channel, End.End, Id.Id, Processor.Processor, User.User}, draft.Begun.Begun}
+use Rattle.microkit.specs.{declared.{draft.Place.Place, kinds.Kind.Kind, reading.Phase.Phase}, Channels.{calling, channel_at, channel_of}}
+use Rattle.microkit.specs.Channels.{channel_part_at, domain_number, end_added, end_at, end_begun, end_in, end_joined, go_together}
+use Rattle.microkit.specs.{Channels.joined_at, Description.{Description, Domain, Region}, Domains.{domain_at, domain_fits, domain_in}}
+use Rattle.microkit.specs.Domains.{domain_part_at, domain_part_of, interrupt_at, machine_at, machine_in, map_at, own_processor_at, port_at}
+use Rattle.microkit.specs.{Domains.{processor_at, processor_fits, variable_at, with_domain, with_machine}, Draft.{Draft, known_number}}
+use Rattle.microkit.specs.{Draft.{no_draft, place_at}, Reading.{description_at, description_of_text, element_at, elements_at, part_at}}
+use Rattle.microkit.specs.{Reading.region_part_at, Regions.{region_at, region_in, region_number, with_region}, Sound.IsSound}
 use Rattle.microkit.specs.declared.kinds.Kind.TheVariants as kind
 use Rattle.microkit.specs.declared.reading.Phase.TheVariants as phase
-use Rattle.xml.specs.Document.{Node}
 
 -- what came before, where both gave a value
 record Then {X Y : Type 0} (r : Result X Fault) (next : X → Result Y Fault) (y : Y) : Type 0 where
@@ -162,9 +159,6 @@ same_keeps draft next e kept = subst (λ d. Keeps d) (same_ok _ _ e) kept
 variable_keeps : (node : Node) (draft next : Draft) → variable_at node draft ≡ Ok next → Keeps draft → Keeps next
 unfolding variable_at
 variable_keeps node draft next e kept = same_keeps draft next (parts _ _ _ e).then kept
-
-also_sound : (draft : Draft) → Keeps draft → IsSound draft.description
-also_sound draft kept = kept.sound
 
 interrupt_keeps : (domain : ℕ) (node : Node) (draft next : Draft) → interrupt_at domain node draft ≡ Ok next → Keeps draft → Keeps next
 unfolding interrupt_at

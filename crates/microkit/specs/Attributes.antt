@@ -1,8 +1,7 @@
 -- What an element says by an attribute (Microkit user manual, "System Description File").
-use Rattle.std.specs.Prelude.{[], ℕ, ◌∷◌, Bool, List, None, Option, Some, if◌then◌else◌, option_and_then, unwrap_or}
-use Rattle.std.specs.{Str.bytes_eq}
-use Rattle.microkit.specs.Values.{flag_of, number_of}
+use Rattle.std.specs.{Prelude.{[], ℕ, ◌∷◌, Bool, List, None, Option, Some, if◌then◌else◌, option_and_then, unwrap_or}, Str.bytes_eq}
 use Rattle.xml.specs.{Document.Node, Tag.Pair}
+use Rattle.microkit.specs.Values.{flag_of, number_of}
 
 -- the value of the attribute of this name
 unfoldable pub value_among : List Pair → List ℕ → Option (List ℕ)

@@ -1,13 +1,12 @@
 -- How channels are read (Microkit user manual, "channel").
-use Rattle.std.specs.{List.{list_any, position}, Option.{option_map_or}, Prelude.{[], ℕ, ◌&&◌, ◌++◌, ◌||◌, ◌∷◌, Bool, Err, List, None, Ok}}
+use Rattle.std.specs.{List.{list_any, position}, Option.option_map_or, Prelude.{[], ℕ, ◌&&◌, ◌++◌, ◌||◌, ◌∷◌, Bool, Err, List, None, Ok}}
 use Rattle.std.specs.Prelude.{Option, Result, Some, codes, false, if◌then◌else◌, is_some, nat_lt, not, slice_get, true, unwrap_or}
 use Rattle.std.specs.Str.{bytes_eq}
-use Rattle.words.specs.{Fault.{fault_at}, Reading.{◌>>=◌}, declared.faults.{Fault.{Fault}, Wrong.TheVariants.{WrongKind}}}
-use Rattle.microkit.specs.Attributes.{flag_in, flag_or, text_in}
-use Rattle.microkit.specs.{Description.{Domain}, Domains.{id_in}, Draft.{Draft, free_at, known_number}}
-use Rattle.microkit.specs.declared.{description.{Channel.{Channel}, End.{End}, Id.{Id}}, draft.Begun.{Begun}, kinds.Kind.{Kind}}
-use Rattle.microkit.specs.declared.kinds.Kind.TheVariants as kind
+use Rattle.words.specs.{declared.faults.{Fault.Fault, Wrong.TheVariants.WrongKind}, Fault.fault_at, Reading.◌>>=◌}
 use Rattle.xml.specs.Document.{Node}
+use Rattle.microkit.specs.{declared.{description.{Channel.Channel, End.End, Id.Id}, draft.Begun.Begun, kinds.Kind.Kind}, Attributes.flag_in}
+use Rattle.microkit.specs.{Attributes.{flag_or, text_in}, Description.Domain, Domains.id_in, Draft.{Draft, free_at, known_number}}
+use Rattle.microkit.specs.declared.kinds.Kind.TheVariants as kind
 
 -- the number of the domain of this name, which must be known
 unfoldable pub domain_number : ℕ → List Domain → List ℕ → Result ℕ Fault

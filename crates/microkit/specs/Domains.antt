@@ -1,17 +1,14 @@
 -- How protection domains and what stands in them are read (Microkit user manual, "protection_domain" and the elements within it).
-use Rattle.std.specs.{List.{list_any}, Option.{option_map_or, option_to_list}, Prelude.{[], ℕ, ◌++◌, ◌==◌, ◌||◌, ◌∷◌, Bool, Err, List, None, Ok}}
-use Rattle.std.specs.Prelude.{Option, Result, Some, codes, false, if◌then◌else◌, length, nat_le, nat_lt, true}
-use Rattle.std.specs.Str.{bytes_eq}
-use Rattle.words.specs.{Fault.{fault_at}, Reading.{◌>>=◌}, declared.faults.{Fault.{Fault}, Wrong.TheVariants.{Double, Limit, WrongKind}}}
-use Rattle.microkit.specs.Attributes.{flag_in, flag_or, number_in, number_or, text_in, value_in}
-use Rattle.microkit.specs.{Description.{Domain, Machine}, Draft.{Draft, free_at}, Forms.{has_byte}, Regions.{region_number}}
-use Rattle.microkit.specs.declared.description.{Id.{Id}, Interrupt.{Interrupt}, Map.{Map}, Processor.{Processor}}
-use Rattle.microkit.specs.declared.{description.{Schedule.{Schedule}, User.{User}}, draft.Place.{Place}}
-use Rattle.microkit.specs.declared.domains.TheConstants.{MAX_DOMAINS}
-use Rattle.microkit.specs.declared.kinds.Kind.{Kind}
-use Rattle.microkit.specs.declared.kinds.Kind.TheVariants as kind
-use Rattle.microkit.specs.declared.description.User.TheVariants as user
+use Rattle.std.specs.{List.list_any, Option.{option_map_or, option_to_list}, Prelude.{[], ℕ, ◌++◌, ◌==◌, ◌||◌, ◌∷◌, Bool, Err, List, None}}
+use Rattle.std.specs.{Prelude.{Ok, Option, Result, Some, codes, false, if◌then◌else◌, length, nat_le, nat_lt, true}, Str.bytes_eq}
+use Rattle.words.specs.{declared.faults.{Fault.Fault, Wrong.TheVariants.{Double, Limit, WrongKind}}, Fault.fault_at, Reading.◌>>=◌}
 use Rattle.xml.specs.Document.{Node}
+use Rattle.microkit.specs.declared.description.{Id.Id, Interrupt.Interrupt, Map.Map, Processor.Processor, Schedule.Schedule, User.User}
+use Rattle.microkit.specs.{declared.{domains.TheConstants.MAX_DOMAINS, draft.Place.Place, kinds.Kind.Kind}, Attributes.{flag_in, flag_or}}
+use Rattle.microkit.specs.{Attributes.{number_in, number_or, text_in, value_in}, Description.{Domain, Machine}, Draft.{Draft, free_at}}
+use Rattle.microkit.specs.{Forms.has_byte, Regions.region_number}
+use Rattle.microkit.specs.declared.description.User.TheVariants as user
+use Rattle.microkit.specs.declared.kinds.Kind.TheVariants as kind
 
 -- what an element says of scheduling: a budget of 1,000 microseconds, and a period as long as the budget, unless it says otherwise
 unfoldable pub schedule_in : Node → Schedule

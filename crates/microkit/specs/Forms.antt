@@ -1,16 +1,12 @@
 -- Which attributes an element has, and of which form their values are (Microkit user manual, "System Description File").
-use Rattle.std.specs.List.{list_all, list_any}
-use Rattle.std.specs.Prelude.{[], ℕ, ◌&&◌, ◌==◌, ◌||◌, ◌∷◌, Bool, Err, List, None, Ok, Option, Result, Some, codes, false}
-use Rattle.std.specs.{Prelude.{if◌then◌else◌, is_some, nat_le, not, true}, Str.bytes_eq}
-use Rattle.words.specs.{Fault.fault_at, declared.faults.{Fault.Fault, Wrong.TheVariants.{Limit, Syntax}}}
-use Rattle.microkit.specs.Attributes.{number_or}
-use Rattle.microkit.specs.Values.{flag_of, number_of}
-use Rattle.microkit.specs.declared.forms.{Form.{Form}, Need.{Need, TheVariants.{Optional, Required}}}
-use Rattle.microkit.specs.declared.forms.Form.TheVariants as form
-use Rattle.microkit.specs.declared.forms.TheConstants.{MAX_ID, MAX_PRIORITY}
-use Rattle.microkit.specs.declared.kinds.Kind.{Kind}
-use Rattle.microkit.specs.declared.kinds.Kind.TheVariants as kind
+use Rattle.std.specs.{List.{list_all, list_any}, Prelude.{[], ℕ, ◌&&◌, ◌==◌, ◌||◌, ◌∷◌, Bool, Err, List, None, Ok, Option, Result, Some}}
+use Rattle.std.specs.{Prelude.{codes, false, if◌then◌else◌, is_some, nat_le, not, true}, Str.bytes_eq}
+use Rattle.words.specs.{declared.faults.{Fault.Fault, Wrong.TheVariants.{Limit, Syntax}}, Fault.fault_at}
 use Rattle.xml.specs.{Document.Node, Tag.{Pair, is_given}}
+use Rattle.microkit.specs.declared.forms.{Form.Form, Need.{Need, TheVariants.{Optional, Required}}, TheConstants.{MAX_ID, MAX_PRIORITY}}
+use Rattle.microkit.specs.{declared.kinds.Kind.Kind, Attributes.number_or, Values.{flag_of, number_of}}
+use Rattle.microkit.specs.declared.forms.Form.TheVariants as form
+use Rattle.microkit.specs.declared.kinds.Kind.TheVariants as kind
 
 -- an attribute that an element may have
 pub record Rule : Type 0 where

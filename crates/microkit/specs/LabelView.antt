@@ -1,6 +1,5 @@
 -- What a list of names is, without where it lies in memory (confine's own).
-use Rattle.std.specs.{Prelude.{ℕ, List, map}}
-use Rattle.std.specs.Global.{Vec}
+use Rattle.std.specs.{Global.Vec, Prelude.{ℕ, List, map}}
 
 abbrev pub bytes_of : List (Vec ℕ) → List (List ℕ)
 bytes_of names = map (λ (name : Vec ℕ). name.items) names

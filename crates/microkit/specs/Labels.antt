@@ -1,12 +1,10 @@
 -- The labels of the table that a description becomes, and how they are called (confine's own).
-use Rattle.std.specs.{List.{list_any, range_with_len}, Option.{option_map_or}}
-use Rattle.std.specs.Prelude.{[], ℕ, ◌&&◌, ◌++◌, ◌==◌, ◌||◌, ◌∷◌, Bool, Err, List, None, Ok, Option, Result, Some, codes}
-use Rattle.std.specs.Prelude.{filter, if◌then◌else◌, length, map, slice_get, take}
-use Rattle.words.specs.{Fault.{fault_at}, Reading.{◌>>=◌}, declared.faults.{Fault.{Fault}, Wrong.TheVariants.{Limit}}}
+use Rattle.std.specs.{List.{list_any, range_with_len}, Option.option_map_or, Prelude.{[], ℕ, ◌&&◌, ◌++◌, ◌==◌, ◌||◌, ◌∷◌, Bool, Err, List}}
+use Rattle.std.specs.Prelude.{None, Ok, Option, Result, Some, codes, filter, if◌then◌else◌, length, map, slice_get, take}
+use Rattle.words.specs.{declared.faults.{Fault.Fault, Wrong.TheVariants.Limit}, Fault.fault_at, Reading.◌>>=◌}
+use Rattle.microkit.specs.declared.{description.{Channel.Channel, Map.Map}, labels.Subject.Subject, names.TheConstants.MAX_TRIES}
 use Rattle.microkit.specs.{Description.{Description, Domain, Machine, Region}, Names.{candidate, free_from, is_known, plain_name}}
-use Rattle.microkit.specs.declared.{description.{Channel.{Channel}, Map.{Map}}, labels.Subject.{Subject}}
 use Rattle.microkit.specs.declared.labels.Subject.TheVariants as subject
-use Rattle.microkit.specs.declared.names.TheConstants.{MAX_TRIES}
 
 -- whether a domain may call another
 abbrev pub may_call : List Channel → ℕ → Bool

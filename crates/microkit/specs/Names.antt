@@ -1,10 +1,9 @@
 -- How labels and objects of a table are called after the names of a description (confine's own).
-use Rattle.std.specs.{Char.{is_ascii_digit, is_ascii_lowercase, is_ascii_uppercase}, Fmt.{decimal}, List.{list_any}}
-use Rattle.std.specs.Prelude.{[], ℕ, ◌++◌, ◌+◌, ◌-◌, ◌==◌, ◌||◌, ◌∷◌, Bool, List, None, Option, Some, codes, drop}
-use Rattle.std.specs.{Prelude.{if◌then◌else◌, length, map, nat_le, nat_lt, suc, take, zero}, Str.{bytes_eq}}
-use Rattle.std.specs.Prelude.{◌≡◌, ◌≤◌, true}
+use Rattle.std.specs.{Char.{is_ascii_digit, is_ascii_lowercase, is_ascii_uppercase}, Fmt.decimal, List.list_any, Prelude.{[], ℕ, ◌++◌, ◌+◌}}
+use Rattle.std.specs.Prelude.{◌-◌, ◌==◌, ◌||◌, ◌∷◌, ◌≡◌, ◌≤◌, Bool, List, None, Option, Some, codes, drop, if◌then◌else◌, length, map}
+use Rattle.std.specs.{Prelude.{nat_le, nat_lt, suc, take, true, zero}, Str.bytes_eq}
 use Rattle.words.specs.Name.{is_name}
-use Rattle.microkit.specs.declared.names.{Part.{Part}, TheConstants.{MAX_LABEL_LENGTH}}
+use Rattle.microkit.specs.declared.names.{Part.Part, TheConstants.MAX_LABEL_LENGTH}
 use Rattle.microkit.specs.declared.names.Part.TheVariants as part
 
 -- a byte as a letter of a name: lower case, and `_` for what is neither a letter nor a digit

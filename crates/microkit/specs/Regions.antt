@@ -1,11 +1,10 @@
 -- How memory regions are read (Microkit user manual, "memory_region").
-use Rattle.std.specs.{List.{list_any, position}, Prelude.{[], ℕ, ◌%◌, ◌&&◌, ◌++◌, ◌+◌, ◌==◌, ◌^◌, ◌∷◌, Bool, Err, List, None, Ok}}
-use Rattle.std.specs.Prelude.{Option, Result, Some, codes, false, if◌then◌else◌, nat_lt, not, true}
-use Rattle.std.specs.Str.{bytes_eq}
-use Rattle.words.specs.{Fault.fault_at, Reading.{◌>>=◌}, declared.faults.{Fault.Fault, Wrong.TheVariants.{Double, WrongKind}}}
-use Rattle.microkit.specs.{Attributes.{number_in, number_or, text_in}, Description.{Region}, Draft.{Draft, known_number}, Pages.{page_bytes}}
-use Rattle.microkit.specs.declared.description.Page.{Page, TheVariants.{Large, Small}}
+use Rattle.std.specs.{List.{list_any, position}, Prelude.{[], ℕ, ◌%◌, ◌&&◌, ◌++◌, ◌+◌, ◌==◌, ◌^◌, ◌∷◌, Bool, Err, List, None, Ok, Option}}
+use Rattle.std.specs.{Prelude.{Result, Some, codes, false, if◌then◌else◌, nat_lt, not, true}, Str.bytes_eq}
+use Rattle.words.specs.{declared.faults.{Fault.Fault, Wrong.TheVariants.{Double, WrongKind}}, Fault.fault_at, Reading.◌>>=◌}
 use Rattle.xml.specs.Document.{Node}
+use Rattle.microkit.specs.{declared.description.Page.{Page, TheVariants.{Large, Small}}, Attributes.{number_in, number_or, text_in}}
+use Rattle.microkit.specs.{Description.Region, Draft.{Draft, known_number}, Pages.page_bytes}
 
 -- the pages of a region, small ones unless it says otherwise
 unfoldable pub page_in : Node → Page

@@ -1,7 +1,6 @@
 -- What holds of each description that is read: what it names is there (confine's own).
 use Rattle.std.specs.{List.AllByRecursion, Prelude.{◌<◌, ◌≤◌, length}}
-use Rattle.microkit.specs.Description.{Description}
-use Rattle.microkit.specs.declared.{description.{Channel.{Channel}, Map.{Map}}, domains.TheConstants.{MAX_DOMAINS}}
+use Rattle.microkit.specs.{declared.{description.{Channel.Channel, Map.Map}, domains.TheConstants.MAX_DOMAINS}, Description.Description}
 
 -- there aren't too many domains, each map is of a region, and each channel between domains
 pub record IsSound (d : Description) : Type 0 where

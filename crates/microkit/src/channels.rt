@@ -1,13 +1,10 @@
 //! How channels are read.
-ghost use Rattle.std.specs.{List.{list_any, position}, Str.bytes_eq};
-ghost use Rattle.std.specs.Prelude.{◌≡◌, is_some};
+ghost use Rattle.std.specs.{List.{list_any, position}, Prelude.{◌≡◌, is_some}, Str.bytes_eq};
 ghost use Rattle.words.specs.Reading.{Gives, Reads};
 ghost use Rattle.xml.specs.View.{node_of};
 ghost use Rattle.microkit.specs.Channels.{calling, calls_upwards, channel_at, channel_part_at, domain_number};
-ghost use Rattle.microkit.specs.Channels.{end_added, end_at, end_fits};
-ghost use Rattle.microkit.specs.Channels.{end_in, go_together, is_mixed, joined_at, priority_of, serves, whole_at};
-ghost use Rattle.microkit.specs.Draft.{Draft};
-ghost use Rattle.microkit.specs.View.{domain_of, domains_of};
+ghost use Rattle.microkit.specs.Channels.{end_added, end_at, end_fits, end_in, go_together, is_mixed, joined_at};
+ghost use Rattle.microkit.specs.{Channels.{priority_of, serves, whole_at}, Draft.Draft, View.{domain_of, domains_of}};
 
 use crate::attributes::{flag_in, flag_or, name_in};
 use crate::description::{Channel, Domain, End, Id};

@@ -1,16 +1,13 @@
 //! How protection domains and what stands in them are read.
-ghost use Rattle.std.specs.{List.list_any, Str.bytes_eq};
-ghost use Rattle.std.specs.Prelude.{[], ◌++◌, ◌==◌, ◌∷◌, ◌≡◌, IfOk, Ok, OnOk, ◌||◌};
+ghost use Rattle.std.specs.{List.list_any, Prelude.{[], ◌++◌, ◌==◌, ◌||◌, ◌∷◌, ◌≡◌, IfOk, Ok, OnOk}, Str.bytes_eq};
 ghost use Rattle.words.specs.Reading.{Gives, Reads};
 ghost use Rattle.xml.specs.View.{node_of};
-ghost use Rattle.microkit.specs.Domains.{domain_at, domain_fits, domain_in, domain_part_at, has_interrupt};
-ghost use Rattle.microkit.specs.Domains.{has_machine, id_in};
-ghost use Rattle.microkit.specs.Domains.{interrupt_at, interrupt_fits, interrupt_in, is_domain, is_writable};
-ghost use Rattle.microkit.specs.Domains.{machine_at, machine_fits, machine_in, map_at};
-ghost use Rattle.microkit.specs.Domains.{own_processor_at, parent_free_at, port_at, processor_at};
-ghost use Rattle.microkit.specs.Domains.{processor_fits, schedule_in, variable_at};
-ghost use Rattle.microkit.specs.Domains.{with_domain, with_machine};
-ghost use Rattle.microkit.specs.View.{domain_of, domains_of, machine_of, machines_of};
+ghost use Rattle.microkit.specs.Domains.{domain_at, domain_fits, domain_in, domain_part_at, has_interrupt, has_machine};
+ghost use Rattle.microkit.specs.Domains.{id_in, interrupt_at, interrupt_fits, interrupt_in, is_domain, is_writable};
+ghost use Rattle.microkit.specs.Domains.{machine_at, machine_fits, machine_in, map_at, own_processor_at};
+ghost use Rattle.microkit.specs.Domains.{parent_free_at, port_at, processor_at, processor_fits, schedule_in};
+ghost use Rattle.microkit.specs.{Domains.{variable_at, with_domain, with_machine}, View.{domain_of, domains_of}};
+ghost use Rattle.microkit.specs.View.{machine_of, machines_of};
 
 use crate::attributes::{flag_in, flag_or, name_in, number_in, number_or, text_in, value_in};
 use crate::description::{Domain, Id, Interrupt, Machine, Map, Port, Processor, Schedule, User};

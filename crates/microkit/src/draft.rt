@@ -1,6 +1,5 @@
 //! A description of which a part was read.
-ghost use Rattle.std.specs.Option.{option_copied};
-ghost use Rattle.std.specs.Prelude.{[], ◌++◌, ◌∷◌, ◌≡◌, IfOk, OnOk};
+ghost use Rattle.std.specs.{Option.option_copied, Prelude.{[], ◌++◌, ◌∷◌, ◌≡◌, IfOk, OnOk}};
 ghost use Rattle.words.specs.Reading.{Gives, Reads};
 ghost use Rattle.xml.specs.View.{node_of};
 ghost use Rattle.microkit.specs.Draft.{entered, free_at, innermost, inside, is_taken, no_draft, outer_path, place_at};

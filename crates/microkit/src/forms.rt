@@ -1,15 +1,10 @@
 //! Which attributes an element has, and of which form their values are.
-ghost use Rattle.std.specs.List.{list_all, list_any};
-ghost use Rattle.std.specs.Prelude.{◌&&◌, ◌≡◌, codes, map};
-ghost use Rattle.std.specs.Str.{bytes_eq};
-ghost use Rattle.microkit.specs.Forms.{child_rules, domain_rules, end_rules, follows, form_at, has_byte};
-ghost use Rattle.microkit.specs.Forms.{has_form, image_rules};
-ghost use Rattle.microkit.specs.Forms.{interrupt_rules, is_formed, is_met, is_page_size, is_right, is_rights};
-ghost use Rattle.microkit.specs.Forms.{is_within};
-ghost use Rattle.microkit.specs.Forms.{machine_rules, map_rules, port_rules, processor_rules, region_rules};
-ghost use Rattle.microkit.specs.Forms.{rules_of, variable_rules};
-ghost use Rattle.microkit.specs.FormView.{rule_of};
+ghost use Rattle.std.specs.{List.{list_all, list_any}, Prelude.{◌&&◌, ◌≡◌, codes, map}, Str.bytes_eq};
 ghost use Rattle.xml.specs.{Tag.is_given, View.{node_of, pair_of, pairs_of}};
+ghost use Rattle.microkit.specs.{FormView.rule_of, Forms.{child_rules, domain_rules, end_rules, follows, form_at}};
+ghost use Rattle.microkit.specs.Forms.{has_byte, has_form, image_rules, interrupt_rules, is_formed, is_met};
+ghost use Rattle.microkit.specs.Forms.{is_page_size, is_right, is_rights, is_within, machine_rules, map_rules};
+ghost use Rattle.microkit.specs.Forms.{port_rules, processor_rules, region_rules, rules_of, variable_rules};
 
 use crate::attributes::number_or;
 use crate::kinds::Kind;

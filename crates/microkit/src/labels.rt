@@ -1,14 +1,12 @@
 //! The labels of the table that a description becomes, and how they are called.
-ghost use Rattle.std.specs.{List.{AllByRecursion, AllPairs, list_any, range_with_len}, Option.option_map, Str.bytes_eq};
-ghost use Rattle.std.specs.Prelude.{[], ℕ, ◌≡◌, ◌≢◌, IfOk, filter, length, map, take};
+ghost use Rattle.std.specs.{List.{AllByRecursion, AllPairs, list_any, range_with_len}, Option.option_map, Prelude.[]};
+ghost use Rattle.std.specs.{Prelude.{ℕ, ◌≡◌, ◌≢◌, IfOk, filter, length, map, take}, Str.bytes_eq};
 ghost use Rattle.words.specs.Reading.{Gives, Reads};
-ghost use Rattle.microkit.specs.Labels.{ending_of, is_mapped, label_at, line_of, may_call, name_of, named_at};
-ghost use Rattle.microkit.specs.Labels.{names_from, names_of, or_limit, subjects_of};
-ghost use Rattle.microkit.specs.Names.{IsLabelName, free_from, is_known, plain_name};
-ghost use Rattle.microkit.specs.LabelView.{bytes_of};
-ghost use Rattle.microkit.specs.View.{description_of};
+ghost use Rattle.microkit.specs.{declared.names.TheConstants.MAX_TRIES, LabelView.bytes_of, Labels.ending_of};
+ghost use Rattle.microkit.specs.Labels.{is_mapped, label_at, line_of, may_call, name_of, named_at, names_from};
+ghost use Rattle.microkit.specs.{Labels.{names_of, or_limit, subjects_of}, Names.{IsLabelName, free_from, is_known}};
+ghost use Rattle.microkit.specs.{Names.plain_name, View.description_of};
 ghost use Rattle.microkit.specs.declared.labels.Subject.TheVariants as subject;
-ghost use Rattle.microkit.specs.declared.names.TheConstants.{MAX_TRIES};
 
 use crate::description::{Channel, Description, Map};
 use crate::names::{MAX_TRIES, candidate, plain_name};

@@ -1,11 +1,9 @@
 //! How labels and objects are called after the names of a description.
-ghost use Rattle.std.specs.{List.list_any, Str.bytes_eq};
-ghost use Rattle.std.specs.Prelude.{ℕ, ◌<◌, ◌^◌, ◌∷◌, ◌≡◌, ◌≤◌, IfOk, List, map, string_bytes};
-ghost use Rattle.std.specs.Option.{option_map};
-ghost use Rattle.microkit.specs.Names.{candidate, free_from, is_known, kept_last, letter_of, object_name};
-ghost use Rattle.microkit.specs.Names.{part_number, plain_name, shortened};
-ghost use Rattle.microkit.specs.Names.{tail_of, with_letter};
-ghost use Rattle.microkit.specs.declared.names.Part.{Part};
+ghost use Rattle.std.specs.{List.list_any, Option.option_map, Prelude.{ℕ, ◌<◌, ◌^◌, ◌∷◌, ◌≡◌, ◌≤◌, IfOk, List, map}};
+ghost use Rattle.std.specs.{Prelude.string_bytes, Str.bytes_eq};
+ghost use Rattle.microkit.specs.{declared.names.Part.Part, Names.{candidate, free_from, is_known, kept_last}};
+ghost use Rattle.microkit.specs.Names.{letter_of, object_name, part_number, plain_name, shortened, tail_of};
+ghost use Rattle.microkit.specs.Names.{with_letter};
 
 use std::alloc::{AllocError, Global};
 

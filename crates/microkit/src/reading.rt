@@ -1,12 +1,9 @@
 //! How a text is read as a description.
-ghost use Rattle.std.specs.Prelude.{◌≡◌, Ok};
-ghost use Rattle.std.specs.Prelude.{IfOk};
-ghost use Rattle.microkit.specs.Sound.{IsSound};
+ghost use Rattle.std.specs.Prelude.{◌≡◌, IfOk, Ok};
 ghost use Rattle.words.specs.Reading.{Gives, Reads};
 ghost use Rattle.xml.specs.View.{node_of, nodes_of};
 ghost use Rattle.microkit.specs.Reading.{description_at, description_of_text, element_at, elements_at, part_at};
-ghost use Rattle.microkit.specs.Reading.{region_part_at};
-ghost use Rattle.microkit.specs.View.{description_of};
+ghost use Rattle.microkit.specs.{Reading.region_part_at, Sound.IsSound, View.description_of};
 
 use crate::channels::check_whole;
 use crate::description::Description;

@@ -1,11 +1,9 @@
 //! How memory regions are read.
-ghost use Rattle.std.specs.{List.{list_any, position}, Str.bytes_eq};
-ghost use Rattle.std.specs.Prelude.{◌+◌, ◌^◌, ◌≡◌, IfOk, nat_lt};
+ghost use Rattle.std.specs.{List.{list_any, position}, Prelude.{◌+◌, ◌^◌, ◌≡◌, IfOk, nat_lt}, Str.bytes_eq};
 ghost use Rattle.words.specs.Reading.{Gives, Reads};
 ghost use Rattle.xml.specs.View.{node_of};
-ghost use Rattle.microkit.specs.Regions.{has_pages, is_aligned, is_region, page_in, region_at, region_fits};
-ghost use Rattle.microkit.specs.Regions.{region_in, region_number, regions_meet};
-ghost use Rattle.microkit.specs.View.{region_of, regions_of};
+ghost use Rattle.microkit.specs.Regions.{has_pages, is_aligned, is_region, page_in, region_at, region_fits, region_in};
+ghost use Rattle.microkit.specs.{Regions.{region_number, regions_meet}, View.{region_of, regions_of}};
 
 use crate::attributes::{number_in, number_or, text_in};
 use crate::description::{Page, Region};

@@ -1,12 +1,12 @@
 -- What a machine becomes when one entry is changed or added, or threads are linked otherwise.
-use Rattle.std.specs.FinMap as finite
 use Rattle.std.{specs.Prelude.{None, Option, Some, option_and_then, option_map, slice_get, slice_set}, proofs.Common.{[], ℕ, ◌+◌, ◌∙◌, ◌≡◌}}
 use Rattle.std.proofs.Common.{◌≢◌, Bool, List, ap, cond, false, length, refl, replicate, subst, sym, true}
+use Rattle.std.specs.FinMap as finite
 use Rattle.base.specs.declared.ids.{ObjId.ObjId, SlotRef.SlotRef}
 use Rattle.machine.specs.{declared.object.Object.Object, Changes.with_words, Machine.{Machine, cap_of, object_of, parent_of, queue_of}}
 use Rattle.machine.specs.{Machine.{same_id, with_new, with_object, with_queue, words_of}, Objects.{slot_count, word_count}}
-use Rattle.machine.proofs.{FiniteLemmas.{by_key, cond_elsewhere, cond_here, same_from_tie}, LookUps.{id_apart, id_total, slot_apart}}
-use Rattle.machine.proofs.{LookUps.slot_total, SlotChanges.SameObjects}
+use Rattle.machine.proofs.{FiniteLemmas.{by_key, cond_elsewhere, cond_here, same_from_tie}, LookUps.{id_apart, id_total}}
+use Rattle.machine.proofs.SlotChanges.{SameObjects}
 use Rattle.machine.proofs.LookUps as seen
 use Rattle.objects.specs.{declared.{entry.Entry.Entry, links.{Ends.Ends, Standing.Standing}, slots.Slot.Slot}, Entries.change_slot_in}
 use Rattle.objects.specs.{Entries.{empty_slot, new_entry, replace_in, set_caps_in, set_word_in, slot_at}, Family.{cap_in, parent_in}}

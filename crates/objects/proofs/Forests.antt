@@ -1,6 +1,5 @@
 -- Links of a forest: what follows of them, and that they stay so where a root comes under a parent.
-use Rattle.std.{specs.Prelude.{None, Option, Some}, proofs.Common.{ℕ, ◌<◌, ◌∙◌, ◌≡◌, ◌≢◌, ◌⊎◌, arith, inl, inr, refl, suc, sym}}
-use Rattle.std.proofs.Common.{zero}
+use Rattle.std.{specs.Prelude.{None, Option, Some}, proofs.Common.{ℕ, ◌<◌, ◌∙◌, ◌≡◌, ◌≢◌, ◌⊎◌, arith, inl, inr, refl, suc, sym, zero}}
 use Rattle.objects.specs.Forest.{IsForest, Joins, Links}
 
 pub cases_link : {K : Type 0} → ((x y : K) → (x ≡ y) ⊎ (x ≢ y)) → (link : Option K) (a : K) → (link ≡ Some a) ⊎ (link ≢ Some a)

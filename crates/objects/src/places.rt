@@ -1,9 +1,8 @@
 //! Where the entry of an object is kept: from numbers to places, and the entries at these.
 ghost use Rattle.std.specs.Prelude.{ℕ, ◌+◌, ◌-◌, ◌<◌, ◌^◌, ◌≡◌, ◌≤◌, None, OnOk, option_copied, option_map};
 ghost use Rattle.objects.specs.Entries.{caps_in, change_slot_in, replace_in, set_caps_in, set_ends_in, set_standing_in};
-ghost use Rattle.objects.specs.Entries.{set_word_in, slot_at};
-ghost use Rattle.objects.specs.Family.{cap_in};
-ghost use Rattle.objects.specs.Places.{AddsEntry, HasRoom, RemovesEntry, SameEntries, placed, places_in, with_placed};
+ghost use Rattle.objects.specs.{Entries.{set_word_in, slot_at}, Family.cap_in, Places.{AddsEntry, HasRoom}};
+ghost use Rattle.objects.specs.Places.{RemovesEntry, SameEntries, placed, places_in, with_placed};
 
 use crate::entry::Entry;
 use crate::links::{Ends, Standing};

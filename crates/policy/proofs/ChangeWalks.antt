@@ -1,18 +1,16 @@
 -- Each way to change as the walks along a chain of turns.
-use Rattle.std.{specs.declared.alloc.Global.Global, proofs.Common.{[], ℕ, ◌||◌, ◌↔◌, ◌∙◌, ◌∷◌, ◌≡◌, ◌⊎◌, List, None, Option, Some, Vec, ap, inl, inr, not}}
-use Rattle.std.proofs.Common.{refl, subst, sym, true}
-use Rattle.base.specs.{declared.{edge.Edge.Edge, labels.Labels.Labels}, Labels.is_in}
-use Rattle.base.specs.declared.kind.Kind.{Kind, TheVariants.{Await, Call, Context, Control, Grant, Holds, Notify, Receive, Reply, Runs, SchedControl}}
-use Rattle.base.specs.declared.kind.Kind.TheVariants.{Send}
-use Rattle.policy.specs.{declared.{change.TheConstants.CHANGING, guarded.Turn.Turn}, ActorReasons.{IsChangeBy, change_edges, context_edges}, Domain.EdgeTest}
-use Rattle.policy.specs.Change.{ActorTest, MayChangeContext, MayHoldCaller, WayToChange, is_changing}
-use Rattle.policy.specs.Change.{MayChangeContext.{binds, configures, lends, returns}, WayToChange.{grants, links, modifies, notifies, own}}
-use Rattle.policy.specs.Change.WayToChange.{receives, replies, sends, shares}
-use Rattle.policy.specs.{Guarded.{FindsLesserGuarded, IsGuardedWalk, lets_through}, Reasons.edge, Steps.is_joined, Walks.{FindsWalk, GoesAgainst}}
-use Rattle.policy.specs.Walks.{GoesAlong, is_of}
-use Rattle.policy.proofs.{Gathering.{first_joined, joined_either, second_joined}, KindNumbers.each_kind, Stepping.of_kind, WalkOrder.finds_same}
-use Rattle.policy.proofs.GuardedWalking.{ends_there, last_turn_against, last_turn_along, longer_along, more_turn_against, more_turn_along}
-use Rattle.policy.proofs.GuardedWalking.{one_turn_against, one_turn_along, or_guarded, turn_along}
+use Rattle.std.{specs.declared.alloc.Global.Global, proofs.Common.{[], ℕ, ◌||◌, ◌↔◌, ◌∙◌, ◌∷◌, ◌≡◌, ◌⊎◌, List, None, Option, Some, Vec, ap}}
+use Rattle.std.proofs.Common.{inl, inr, not, refl, subst, sym, true}
+use Rattle.base.specs.declared.{edge.Edge.Edge, kind.Kind.{Kind, TheVariants.{Await, Call, Context, Control, Grant, Holds, Notify}}}
+use Rattle.base.specs.{declared.{kind.Kind.TheVariants.{Receive, Reply, Runs, SchedControl, Send}, labels.Labels.Labels}, Labels.is_in}
+use Rattle.policy.specs.{declared.{change.TheConstants.CHANGING, guarded.Turn.Turn}, ActorReasons.{IsChangeBy, change_edges, context_edges}}
+use Rattle.policy.specs.Change.{ActorTest, MayChangeContext, MayHoldCaller, WayToChange, is_changing, MayChangeContext.{binds, configures}}
+use Rattle.policy.specs.Change.{MayChangeContext.{lends, returns}, WayToChange.{grants, links, modifies, notifies, own, receives, replies}}
+use Rattle.policy.specs.{Change.WayToChange.{sends, shares}, Domain.EdgeTest, Guarded.{FindsLesserGuarded, IsGuardedWalk, lets_through}}
+use Rattle.policy.{specs.{Reasons.edge, Steps.is_joined, Walks.{FindsWalk, GoesAgainst, GoesAlong, is_of}}, proofs.Gathering.first_joined}
+use Rattle.policy.proofs.{Gathering.{joined_either, second_joined}, GuardedWalking.{ends_there, last_turn_against, last_turn_along}}
+use Rattle.policy.proofs.GuardedWalking.{longer_along, more_turn_against, more_turn_along, one_turn_against, one_turn_along, or_guarded}
+use Rattle.policy.proofs.{GuardedWalking.turn_along, KindNumbers.each_kind, Stepping.of_kind, WalkOrder.finds_same}
 
 changing_from : (kind : Kind) → is_of CHANGING kind ≡ true → is_changing kind ≡ true
 changing_from kind is = of_kind (is_of CHANGING kind) _ is (each_kind (λ k. not (is_of CHANGING k) || is_changing k) refl kind)

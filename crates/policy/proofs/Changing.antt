@@ -1,18 +1,17 @@
 -- What may be changed is within full authority, and what may be made smaller within it or within what may be taken, way by way; both
 -- grow with the policy and with the labels that act.
 use Rattle.std.proofs.Common.{ℕ, ◌∙◌, ◌≡◌, ◌⊎◌, inl, inr, refl, sym, true}
-use Rattle.base.specs.declared.kind.Kind.{Kind, TheVariants.{Await, Call, Context, Control, Grant, Receive, Reply, Reset, Runs, SchedControl, Send}}
-use Rattle.base.specs.declared.kind.Kind.TheVariants.{Derive, Holds, Notify, Space, Write}
-use Rattle.policy.specs.{Change.{ActorTest, MayAnswer, MayChange, MayChangeContext, WayToChange, is_changing}, Closing.IsWithin, Cut.IsNear}
-use Rattle.policy.specs.{Cut.{IsHolding, IsNear.{against, along, stays}, is_link}, Domain.EdgeTest, Full.{IsFull, is_modifying}}
-use Rattle.policy.specs.NarrowTake.{MaySendTo, MayShrink, TakesByControl, WayToShrink, is_removed, is_waiting}
-use Rattle.policy.specs.Take.{HasNone, MayTake}
-use Rattle.policy.specs.Change.MayChangeContext.{binds, configures, lends, returns}
-use Rattle.policy.specs.Change.WayToChange.{grants, links, modifies, notifies, own, receives, replies, sends, shares}
-use Rattle.policy.specs.NarrowTake.{TakesByControl.{drops, releases, removes, wakes}, WayToShrink.{controls, ends, frees, halts, stops, unbinds}}
-use Rattle.policy.specs.Full.IsFull.{grants as full_grants, links as full_links, modifies as full_modifies, notifies as full_notifies}
-use Rattle.policy.specs.Full.IsFull.{own as full_own, receives as full_receives, replies as full_replies, sends as full_sends}
-use Rattle.policy.specs.Take.MayTake.{ends as take_ends, removes as take_removes, unbinds as take_unbinds}
+use Rattle.base.specs.declared.kind.Kind.{Kind, TheVariants.{Await, Call, Context, Control, Derive, Grant, Holds, Notify, Receive, Reply}}
+use Rattle.base.specs.declared.kind.Kind.TheVariants.{Reset, Runs, SchedControl, Send, Space, Write}
+use Rattle.policy.specs.Change.{ActorTest, MayAnswer, MayChange, MayChangeContext, WayToChange, is_changing, MayChangeContext.binds}
+use Rattle.policy.specs.Change.{MayChangeContext.{configures, lends, returns}, WayToChange.{grants, links, modifies, notifies, own}}
+use Rattle.policy.specs.{Change.WayToChange.{receives, replies, sends, shares}, Closing.IsWithin, Cut.{IsHolding, IsNear, is_link}}
+use Rattle.policy.specs.{Cut.IsNear.{against, along, stays}, Domain.EdgeTest, Full.{IsFull, is_modifying, IsFull.grants as full_grants}}
+use Rattle.policy.specs.Full.IsFull.{links as full_links, modifies as full_modifies, notifies as full_notifies, own as full_own}
+use Rattle.policy.specs.{Full.IsFull.{receives as full_receives, replies as full_replies, sends as full_sends}, NarrowTake.MaySendTo}
+use Rattle.policy.specs.NarrowTake.{MayShrink, TakesByControl, WayToShrink, is_removed, is_waiting, TakesByControl.{drops, releases}}
+use Rattle.policy.specs.NarrowTake.{TakesByControl.{removes, wakes}, WayToShrink.{controls, ends, frees, halts, stops, unbinds}}
+use Rattle.policy.specs.Take.{HasNone, MayTake, MayTake.{ends as take_ends, removes as take_removes, unbinds as take_unbinds}}
 use mathlib.Core.Bool.{false≢true}
 
 -- a kind that changes the object itself modifies it

@@ -60,11 +60,6 @@ module _ (test : EdgeTest) where
       by [] walk = walk
       by (edge ∷ edges) walk = none edge (led from edge edges walk)
 
-    pub turns_on : (from : ℕ) (edge : Edge) → Leads test turn.step from goals edge → IsNone (IsGuardedWalk test rest (other_end edge from) to) → ⊥
-    turns_on from edge leads none =
-        let tail = of_goals leads.0 leads.1 in
-        none tail.1.0 (subst (λ next. IsGuardedWalk test rest next to tail.1.0) (sym (end_is test turn.step from edge leads.0 leads.3)) tail.1.1)
-
     pub least_turn : (turns : List Turn) → turns ≡ turn ∷ rest → (from : ℕ) (edge : Edge) (tail : List Edge) → Leads test turn.step from goals edge
         → ((other : Edge) → Leads test turn.step from goals other → edge_cmp other edge ≡ Less → ⊥)
         → IsLeast reason_place (IsGuardedWalk test rest (other_end edge from) to) tail → IsLeast reason_place (IsGuardedWalk test turns from to) (edge ∷ tail)

@@ -1,11 +1,10 @@
 -- What each rule's places are made of.
-use Rattle.std.{proofs.Common.{[], ℕ, ◌↔◌, ◌∷◌, ◌≡◌, ◌≢◌, List, arith, false, refl, sym}}
-use Rattle.std.proofs.Common.{true}
-use Rattle.base.specs.{declared.{kind.Kind.{Kind, TheVariants.{Derive, Holds}}, labels.Labels.Labels}, Kinds.is_structural}
-use Rattle.base.specs.{Kinds.kind_number, Labels.is_in}
-use Rattle.policy.specs.{declared.broken.Broken.{Broken, Broken as broken}, Broken.{IsBrokenAt, broken_place, p1, p2, p3, p5}}
-use Rattle.policy.specs.{Broken.{p7}, Closed.MayBeGranted, Domain.{EdgeTest, IsInDomain}, Places.IsUnder}
-use Rattle.policy.{proofs.Cells.{FindsByCell, FindsByTarget, least_cell, least_target}}
+use Rattle.std.proofs.Common.{[], ℕ, ◌↔◌, ◌∷◌, ◌≡◌, ◌≢◌, List, arith, false, refl, sym, true}
+use Rattle.base.specs.{declared.{kind.Kind.{Kind, TheVariants.{Derive, Holds}}, labels.Labels.Labels}, Kinds.{is_structural, kind_number}}
+use Rattle.base.specs.Labels.{is_in}
+use Rattle.policy.specs.{declared.broken.Broken.{Broken, Broken as broken}, Broken.{IsBrokenAt, broken_place, p1, p2, p3, p5, p7}}
+use Rattle.policy.{specs.{Closed.MayBeGranted, Domain.{EdgeTest, IsInDomain}, Places.IsUnder}, proofs.Cells.{FindsByCell, FindsByTarget}}
+use Rattle.policy.proofs.Cells.{least_cell, least_target}
 
 -- the labels that are given for each kind are those with a property
 abbrev Tells : (Kind → Labels → Type 0) → (Kind → ℕ → Type 0) → Type 0

@@ -2,11 +2,14 @@
 //! the opening of a kernel that threads share, whose memory is refused: for `tests/refuse-memory`,
 //! which has their allocations refused one by one.
 //!
+//! No crate stands on it. It knows no command line, and no words of `--explain`.
+//!
 //! Asked for `CALL COUNT`, the program makes `COUNT` allocations of its own, then prepares what the
 //! call is given, which may take some more, and then makes the call. A call that meets a refusal
 //! has to say so, with all that it was given as it was, and to answer its value when it is made
-//! again; else it has to answer its value at once. The program says which it was. Asked for nothing
-//! it makes each call once.
+//! again; else it has to answer its value at once. The program then goes on to allocate, to see
+//! whether the refusal is still to come. It says which it was. Asked for nothing it makes each call
+//! once.
 #![tactic(auto)]
 
 mod authority;
@@ -27,7 +30,7 @@ mod writers;
 
 use calls::{NAMES, make};
 use engines::CALLS;
-use memory::Stopped;
+use memory::{Stopped, spend};
 use std::sync::Wait;
 use std::thread::Threads;
 use std::{env, io};
@@ -58,8 +61,22 @@ fn answer<R: AllocGlobal + Threads + Wait + Sync>(rt: &R, asked: &str) -> &'stat
         return "usage: refusals [CALL COUNT]";
     };
     match count.parse() {
-        Ok(count) => told(make(rt, name, count)),
+        Ok(count) => match make(rt, name, count) {
+            Ok(()) => passed(rt),
+            ended => told(ended),
+        },
         Err(_) => "COUNT is a number",
+    }
+}
+
+/// The number of allocations after a call. It is greater than that of the one that is refused.
+const FURTHER: u64 = 1000;
+
+/// How a call ended that has answered its value: before the refusal, or in spite of it.
+fn passed<R: AllocGlobal>(rt: &R) -> &'static str {
+    match spend(rt.alloc(), FURTHER) {
+        Ok(()) => "passed over",
+        Err(_) => "passed",
     }
 }
 

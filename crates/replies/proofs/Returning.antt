@@ -2,12 +2,12 @@
 use Rattle.std.{specs.Prelude.{None, Option, Some, option_map}, proofs.{Common.{◌∙◌, ◌≡◌, ◌≢◌, refl, sym, true}, lemmas.Option.none-some}}
 use Rattle.base.specs.declared.ids.ObjId.{ObjId}
 use Rattle.machine.specs.declared.{object.{Object.{Object, Object as o}, ObjectKind.ObjectKind as kind}, thread.Lent.Lent}
-use Rattle.machine.specs.{Machine.{Machine, object_of}, Objects.kind_of_object, Step.{Bind.context_under, Reply.{gives_back, lent_in}}}
+use Rattle.machine.specs.{Machine.{Machine, object_of}, Objects.kind_of_object, Step.{Bind.context_under, Reply.{gives_back, loan_in}}}
 use Rattle.machine.specs.WellFormed.{kind_of}
 use Rattle.steps.proofs.Lending.{GivesBack, gives_back_is}
 
 -- who has lent something is a thread
-lender_is : (content : Option Object) (lent : Lent) → lent_in content ≡ Some lent → option_map kind_of_object content ≡ Some kind.Tcb
+lender_is : (content : Option Object) (lent : Lent) → loan_in content ≡ Some lent → option_map kind_of_object content ≡ Some kind.Tcb
 lender_is (Some (o.Tcb tcb)) lent e = refl
 lender_is None lent e = absurd (none-some lent e)
 lender_is (Some _) lent e = absurd (none-some lent e)

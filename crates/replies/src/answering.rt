@@ -1,8 +1,7 @@
 //! The call Reply, which answers a call.
 ghost use Rattle.std.specs.Prelude.{◌≡◌};
-ghost use Rattle.machine.specs.{Machine.object_of, Makes.Makes};
-ghost use Rattle.machine.specs.Step.Reply.{answered, caller_in, gives_back, lent_in, reply_of, with_returned};
-ghost use Rattle.machine.specs.WellFormed.{IsWellFormed};
+ghost use Rattle.machine.specs.{Machine.object_of, Makes.Makes, Step.Reply.{answered, caller_in, gives_back, loan_in}};
+ghost use Rattle.machine.specs.{Step.Reply.{reply_of, with_returned}, WellFormed.IsWellFormed};
 
 use crate::release::give;
 use base::{Cause, ObjId};
@@ -30,8 +29,8 @@ fn caller_through(state: &State, id: ObjId) -> Option<ObjId>
 }
 
 /// What a thread lent that called and waits for its answer.
-fn lent_in(state: &State, thread: ObjId) -> Option<Lent>
-    ensures { result ≡ lent_in (object_of state.now thread) }
+fn loan_in(state: &State, thread: ObjId) -> Option<Lent>
+    ensures { result ≡ loan_in (object_of state.now thread) }
 {
     match state.object(thread) {
         Some(
@@ -53,7 +52,7 @@ fn gives_back(state: &State, invoker: ObjId, called: ObjId) -> bool
 {
     match (
         context_under(state, invoker),
-        lent_in(state, called),
+        loan_in(state, called),
         context_under(state, called),
     ) {
         (Some(context), Some(lent), None) => lent.borrower == invoker && lent.context == context,

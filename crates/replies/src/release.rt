@@ -2,8 +2,7 @@
 ghost use Rattle.std.specs.Prelude.{◌≡◌, unwrap_or};
 ghost use Rattle.base.specs.declared.ids.ObjId.{ObjId as Id};
 ghost use Rattle.machine.specs.Releasing.{IsInItsQueue, unblocked, with_aborted, with_given, with_halted, with_ready};
-ghost use Rattle.machine.specs.Releasing.{with_released, with_suspended};
-ghost use Rattle.machine.specs.WellFormed.{IsWellFormed, WaitsAt};
+ghost use Rattle.machine.specs.{Releasing.{with_released, with_suspended}, WellFormed.{IsWellFormed, WaitsAt}};
 ghost use Rattle.objects.specs.Waiting.{WaitsThere};
 
 use crate::holding::free;

@@ -4,10 +4,8 @@ use Rattle.base.specs.declared.{edge.Edge.Edge, labels.Labels.Labels}
 use Rattle.machine.specs.Layout.{Layout}
 use Rattle.verdict.specs.{declared.denial.Denial.Denial, Extents.reach_by, Verdict.rule_name}
 use Rattle.reptext.specs.{Places.place_names, Reports.denial_report}
-use Rattle.commands.specs.declared.choices.Basis.{Basis}
-use Rattle.commands.specs.declared.choices.Basis.{Basis as basis}
-use Rattle.report.specs.{Answers.accepted, Questions.{AnswersOn, IsActingOn, IsReachOn}}
-use Rattle.report.proofs.Denied.{denied_by}
+use Rattle.commands.specs.declared.choices.Basis.{Basis, Basis as basis}
+use Rattle.report.{specs.{Answers.accepted, Questions.{AnswersOn, IsActingOn, IsReachOn}}, proofs.Denied.denied_by}
 
 pub denied_on :
     (on : Basis) (t : Layout) (edges : List Edge) (Tells : List ℕ → Type 0) {text : List ℕ} {status : ℕ} (denial : Denial)

@@ -1,19 +1,18 @@
 -- The text of the least closed policy over a table.
-use Rattle.std.{specs.{List.AllByRecursion, Prelude.{Err, IfOk, Ok, Result}}, proofs.Common.{[], ℕ, ◌++◌, ◌<◌, ◌↔◌, ◌∙◌, ◌∷◌, ◌≡◌}}
-use Rattle.std.proofs.{Common.{List, ap, inl, inr, length, refl, subst, sym}, lemmas.Bool.or_cases}
+use Rattle.std.{specs.{List.AllByRecursion, Prelude.{Err, IfOk, Ok, Result}}, proofs.Common.{[], ℕ, ◌++◌, ◌<◌, ◌↔◌, ◌∙◌, ◌∷◌, ◌≡◌, List}}
+use Rattle.std.proofs.{Common.{ap, inl, inr, length, refl, subst, sym}, lemmas.Bool.or_cases}
 use Rattle.base.specs.declared.{edge.Edge.Edge, kind.Kind.Kind}
 use Rattle.machine.specs.{Authority.HasAuthority, Boot.IsBoot, Layout.Layout, Machine.Machine}
 use Rattle.policy.specs.{Closed.IsClosed, Closing.{IsLeastClosed, IsWithin}, Policy.{IsRising, allows}}
-use Rattle.captext.specs.{Policies.read_policy_of, PolicyText.{IsEdgeOf, edge_lines, policy_text}}
 use Rattle.labels.proofs.EdgeLists.{allows-append, allows_after, allows_before}
 use Rattle.integrity.specs.Confined.{IsConfined}
 use Rattle.verdict.specs.Verdict.{IsAccepted}
+use Rattle.captext.specs.{Policies.read_policy_of, PolicyText.{IsEdgeOf, edge_lines, policy_text}}
 use Rattle.reptext.proofs.OneText.{same_answer}
-use Rattle.commands.specs.declared.answer.Answer.{Answer}
-use Rattle.commands.specs.declared.choices.OnClose.{OnClose as on_close}
-use Rattle.report.specs.Closings.{Closes, IsAuthorityOf, IsClosing}
-use Rattle.report.{specs.Closings.{IsInEachPolicyFor, missing_edges, missing_status}, proofs.ClosedLabels.{either_within, least_within}}
-use Rattle.report.proofs.{ClosedLabels.{listed_within, within_listed}, Missing.{none_if_within, within_if_none}}
+use Rattle.commands.specs.declared.{answer.Answer.Answer, choices.OnClose.OnClose as on_close}
+use Rattle.report.specs.Closings.{Closes, IsAuthorityOf, IsClosing, IsInEachPolicyFor, missing_edges, missing_status}
+use Rattle.report.proofs.{ClosedLabels.{either_within, least_within, listed_within, within_listed}, Missing.none_if_within}
+use Rattle.report.proofs.Missing.{within_if_none}
 
 -- which tables and policies are accepted
 abbrev pub AcceptedAsClosed : Layout → List Edge → Type 0

@@ -1,18 +1,14 @@
 -- What a label may do to another is told by one text, with one status.
-use Rattle.std.proofs.Common.{ℕ, ◌++◌, ◌∙◌, ◌≡◌, List, ap, codes, refl, subst, sym}
-use Rattle.std.proofs.lemmas.Option.{same_Some}
+use Rattle.std.proofs.{Common.{ℕ, ◌++◌, ◌∙◌, ◌≡◌, List, ap, codes, refl, subst, sym}, lemmas.Option.same_Some}
 use Rattle.base.specs.declared.edge.Edge.{Edge}
 use Rattle.machine.specs.Layout.{Layout}
-use Rattle.policy.specs.declared.why.Why.{Why}
-use Rattle.policy.specs.declared.why.Why.{Why as why}
-use Rattle.policy.specs.ActorReasons.{IsChangeBy, IsShrinkBy, IsWhyAmong}
-use Rattle.policy.specs.{Policy.allows, Reasons.reason_place}
-use Rattle.captext.specs.PolicyText.{edge_lines}
+use Rattle.policy.specs.{declared.why.Why.{Why, Why as why}, ActorReasons.{IsChangeBy, IsShrinkBy, IsWhyAmong}, Policy.allows}
+use Rattle.policy.specs.Reasons.{reason_place}
 use Rattle.verdict.{specs.Extents.Reach, proofs.{Extents.{one_reach, same_reach}, OneVerdict.one_least}}
-use Rattle.commands.specs.declared.choices.Basis.{Basis}
-use Rattle.commands.specs.declared.choices.Basis.{Basis as basis}
-use Rattle.report.specs.Questions.{AnswersOn, IsReachOn, Tells, TellsWhy, why_text}
-use Rattle.report.proofs.{OneAnswer.JudgesSystemOnce, OneClosing.place_once, OneReport.verdict_once}
+use Rattle.captext.specs.PolicyText.{edge_lines}
+use Rattle.commands.specs.declared.choices.Basis.{Basis, Basis as basis}
+use Rattle.report.{specs.Questions.{AnswersOn, IsReachOn, Tells, TellsWhy, why_text}, proofs.OneAnswer.JudgesSystemOnce}
+use Rattle.report.proofs.{OneClosing.place_once, OneReport.verdict_once}
 
 -- an answer rests on one reach
 pub reach_once :

@@ -1,25 +1,17 @@
 -- Claims on a table and a policy have one answer, and the strongest that hold one text.
 use Rattle.std.proofs.Common.{[], ◌∙◌, ◌∷◌, ◌≡◌, All, List, Option, ap, subst, sym}
-use Rattle.verdict.specs.declared.denial.Denial.{Denial}
-use Rattle.verdict.specs.Verdict.{rule_name}
-use Rattle.claims.proofs.OneList.{broken_once, none_broken}
 use Rattle.base.specs.declared.edge.Edge.{Edge}
 use Rattle.machine.specs.Layout.{Layout}
-use Rattle.stated.specs.declared.{claim.Stated.Stated, deciding.Broken.Broken}
+use Rattle.verdict.{specs.{declared.denial.Denial.Denial, Extents.{IsReachOf, Reach}, Verdict.rule_name}, proofs.Extents.one_reach}
+use Rattle.claims.{specs.Holding.{Holds, IsFirstBroken}, proofs.OneList.{broken_once, none_broken}}
+use Rattle.stated.specs.{declared.{claim.Stated.Stated, deciding.Broken.Broken}, Holding.AreBroken, Strongest.AreStrongest, Text.lines_text}
+use Rattle.stated.proofs.{OneList.broken_once as broken_once_stated, StrongestLaws.strongest_once}
 use Rattle.stated.specs.declared.lines.TheConstants.StatedLines as StatedLines
-use Rattle.stated.specs.{Holding.AreBroken, Strongest.AreStrongest, Text.lines_text}
-use Rattle.stated.proofs.{OneList.{broken_once as broken_once_stated}, StrongestLaws.strongest_once}
+use Rattle.reptext.specs.{Breaches.breaches_data, Places.place_names, Reports.{broken_data, denial_report, line_of}}
 use Rattle.commands.specs.declared.later.ClaimList.TheVariants.{First, Second}
-use Rattle.reptext.specs.Breaches.{breaches_data}
-use Rattle.reptext.specs.Places.{place_names}
-use Rattle.reptext.specs.Reports.{broken_data, denial_report, line_of}
-use Rattle.report.specs.Claimed.{JudgesClaimList, JudgesClaims, JudgesStated, TellsStrongest, WritesStrongest, all_hold, broken, denied, hold, not_accepted}
-use Rattle.report.specs.Claimed.{some_broken}
-use Rattle.report.proofs.OneAnswer.{JudgesOnce, JudgesSystemOnce}
-use Rattle.report.proofs.OneReport.{one_denial, verdict_once}
-use Rattle.claims.specs.Holding.{Holds, IsFirstBroken}
-use Rattle.verdict.specs.Extents.{IsReachOf, Reach}
-use Rattle.verdict.proofs.Extents.{one_reach}
+use Rattle.report.specs.Claimed.{JudgesClaimList, JudgesClaims, JudgesStated, TellsStrongest, WritesStrongest, all_hold, broken, denied}
+use Rattle.report.{specs.Claimed.{hold, not_accepted, some_broken}, proofs.{OneAnswer.{JudgesOnce, JudgesSystemOnce}, OneReport.one_denial}}
+use Rattle.report.proofs.OneReport.{verdict_once}
 
 first_once : JudgesOnce JudgesClaims
 first_once t edges claims text other status another (denied d is says exit) (denied e also again out) =

@@ -1,22 +1,14 @@
 -- A policy has one closing over a table, and a label has one reason for its authority on another.
 use Rattle.std.proofs.Common.{[], ℕ, ◌++◌, ◌||◌, ◌∙◌, ◌∷◌, ◌≡◌, List, ap, refl, subst, sym}
-use Rattle.base.specs.declared.edge.Edge.{Edge}
-use Rattle.base.specs.declared.kind.Kind.{Kind}
-use Rattle.base.specs.Kinds.{kind_number}
+use Rattle.base.specs.{declared.{edge.Edge.Edge, kind.Kind.Kind}, Kinds.kind_number}
 use Rattle.machine.specs.Layout.{Layout}
-use Rattle.policy.specs.Closing.{IsLeastClosed}
-use Rattle.policy.specs.Policy.{allows}
-use Rattle.policy.specs.Reasons.{edge_numbers, reason_place}
-use Rattle.policy.proofs.ClosingGrowth.{least_of_same}
-use Rattle.policy.proofs.KindNumbers.{same_kind}
-use Rattle.policy.proofs.Members.{same_rising}
 use Rattle.table.proofs.BootState.{boot_state, boot_state_is}
+use Rattle.policy.{specs.{Closing.IsLeastClosed, Policy.allows, Reasons.{edge_numbers, reason_place}}, proofs.ClosingGrowth.least_of_same}
+use Rattle.policy.proofs.{KindNumbers.same_kind, Members.same_rising}
 use Rattle.labels.proofs.EdgeLists.{allows-append}
 use Rattle.reptext.proofs.OneText.{same_answer}
-use Rattle.commands.specs.declared.choices.OnClose.{OnClose}
-use Rattle.commands.specs.declared.choices.OnClose.{OnClose as on_close}
-use Rattle.report.specs.Closings.{Closes, IsClosing, TellsClosing, kept_edges}
-use Rattle.report.proofs.OneAnswer.{JudgesSystemOnce}
+use Rattle.commands.specs.declared.choices.OnClose.{OnClose, OnClose as on_close}
+use Rattle.report.{specs.Closings.{Closes, IsClosing, TellsClosing, kept_edges}, proofs.OneAnswer.JudgesSystemOnce}
 
 -- the closing of a policy
 

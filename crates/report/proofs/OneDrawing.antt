@@ -1,22 +1,15 @@
 -- A table and a policy have one drawing, and a table one list.
-use Rattle.std.specs.List.{flat_map}
-use Rattle.std.proofs.Common.{[], ℕ, ◌++◌, ◌∙◌, ◌∷◌, ◌≡◌, List, ap, codes, length, sym, subst}
+use Rattle.std.{specs.List.flat_map, proofs.Common.{[], ℕ, ◌++◌, ◌∙◌, ◌∷◌, ◌≡◌, List, ap, codes, length, subst, sym}}
 use Rattle.base.specs.declared.edge.Edge.{Edge}
 use Rattle.machine.specs.Layout.{Layout}
-use Rattle.policy.specs.Places.{IsLeast}
-use Rattle.policy.specs.Reasons.{reason_place}
-use Rattle.reptext.specs.Drawing.{IsArrow, arrow_line, label_line, pairs_of, IsDrawing}
-use Rattle.reptext.specs.Drawing.IsArrow.{dashed, itself, nothing, solid}
-use Rattle.reptext.specs.Drawing as drawing
-use Rattle.verdict.proofs.OneVerdict.{one_least}
+use Rattle.policy.specs.{ActorReasons.{IsChangeBy, IsShrinkBy}, Places.IsLeast, Reasons.reason_place}
+use Rattle.verdict.{specs.Extents.Reach, proofs.OneVerdict.one_least}
 use Rattle.diagram.proofs.OneFolded.{drawn_once as folded_once}
-use Rattle.report.specs.Questions.{Draws, IsPicture, Lists, TellsDrawing}
-use Rattle.report.proofs.OneAnswer.{IsOne, JudgesSystemOnce}
-use Rattle.report.proofs.OneClosing.{place_once}
-use Rattle.policy.specs.ActorReasons.{IsChangeBy, IsShrinkBy}
-use Rattle.verdict.specs.Extents.{Reach}
+use Rattle.reptext.specs.Drawing.{IsArrow, IsDrawing, arrow_line, label_line, pairs_of, IsArrow.{dashed, itself, nothing, solid}}
+use Rattle.reptext.specs.Drawing as drawing
 use Rattle.commands.specs.declared.choices.{Basis.Basis, Picture.{Picture, Picture as picture}}
-use Rattle.report.proofs.OneAsked.{answers_on_once, reach_once}
+use Rattle.report.{specs.Questions.{Draws, IsPicture, Lists, TellsDrawing}, proofs.OneAnswer.{IsOne, JudgesSystemOnce}}
+use Rattle.report.proofs.{OneAsked.{answers_on_once, reach_once}, OneClosing.place_once}
 
 module _ (reach : Reach) (t : Layout) where
   -- the least reason has one first edge

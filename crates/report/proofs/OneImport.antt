@@ -1,11 +1,10 @@
 -- A description has one answer when it is imported.
 use Rattle.std.proofs.Common.{ℕ, ◌∙◌, ◌≡◌, List, sym}
-use Rattle.machine.specs.Layout.{Layout}
 use Rattle.microkit.specs.Description.{Description}
+use Rattle.machine.specs.Layout.{Layout}
 use Rattle.importing.specs.declared.pieces.Children.{Children}
-use Rattle.commands.specs.declared.choices.{Imported.{Imported, Imported as imported}, OnImport.{OnImport}}
-use Rattle.report.specs.Imports.{Imports, TellsImport}
-use Rattle.report.proofs.OneAnswer.{IsOne}
+use Rattle.commands.specs.declared.choices.{Imported.{Imported, Imported as imported}, OnImport.OnImport}
+use Rattle.report.{specs.Imports.{Imports, TellsImport}, proofs.OneAnswer.IsOne}
 
 told_once : (writes : Imported) (children : Children) (d : Description) (t : Layout) (text other : List ℕ)
     → TellsImport writes children d t text → TellsImport writes children d t other → text ≡ other

@@ -1,6 +1,6 @@
 -- A script has one log where no call is refused memory, and a log has one report of its replay.
 use Rattle.std.{specs.List.zip, proofs.Common.{[], ℕ, ◌+◌, ◌∙◌, ◌∷◌, ◌≡◌, ◌⊎◌, All, List, Some, ap, inl, inr, length, refl, subst, sym}}
-use Rattle.std.proofs.lemmas.{List.Elements.{All-head, All-tail}, Option.{none-some, same_Some}}
+use Rattle.std.proofs.lemmas.List.Elements.{All-head, All-tail}
 use Rattle.base.specs.declared.edge.Edge.{Edge}
 use Rattle.machine.specs.{declared.call.{Event.Event, Outcome.Outcome}, Boot.IsBoot, Layout.Layout, Machine.Machine, Run.Run}
 use Rattle.machine.specs.{Step.LacksMemory, WellFormed.kind_of}
@@ -11,8 +11,8 @@ use Rattle.evtext.specs.Log.{log_text}
 use Rattle.kernel.{specs.Legal.{Entry, IsLack, Leads, StopsAt}, proofs.LegalLemmas.{no_run, one_next, one_stop}}
 use Rattle.integrity.specs.Confined.{IsConfined}
 use Rattle.verdict.specs.{declared.denial.Denial.Denial, Rules.{Exceeds, Excess, excess_place}, Sources.of_machine, Verdict.excess_of}
-use Rattle.verdict.{specs.Verdict.{place_of, rule_name}, proofs.{OneVerdict.{one_least, same_place}, Outsides.within_confined}}
-use Rattle.verdict.specs.declared.denial.Denial.TheVariants as denial
+use Rattle.verdict.specs.Verdict.{place_of, rule_name}
+use Rattle.verdict.proofs.{DenialPlaces.numbered, OneVerdict.{one_least, same_place}, Outsides.within_confined}
 use Rattle.reptext.specs.{Places.place_names_by, Reports.{illegal_data, line_of, outside_data}}
 use Rattle.report.specs.{OneAnswer.{IsLogInMemory, RunsInMemory}, Replays.{IsFirstOutside, IsReplayedTo, Replays, illegal, outside, within}}
 use Rattle.report.proofs.{OneAnswer.JudgesOnce, OneReport.verdict_once}
@@ -63,16 +63,6 @@ led_once (e ∷ es) m last after ran again =
     led_once es again.0 last after
     (subst (λ (n : Machine). Leads n es last) (one_next m e.0 e.1 ran.0 again.0 ran.1 again.1) ran.2) again.2
 
-placed : (d : Denial) (place : Excess) → excess_of d ≡ Some place → place_of d ≡ excess_place place
-placed (denial.Policy broken) place is = absurd (none-some place is)
-placed (denial.Capability slot kind label) place is = ap excess_place (same_Some _ _ is)
-placed (denial.Root slot label) place is = ap excess_place (same_Some _ _ is)
-placed (denial.Pair child parent) place is = ap excess_place (same_Some _ _ is)
-placed (denial.Binding thread context) place is = ap excess_place (same_Some _ _ is)
-placed (denial.Holding reply thread) place is = ap excess_place (same_Some _ _ is)
-placed (denial.Recorded thread kind label) place is = ap excess_place (same_Some _ _ is)
-placed (denial.Certificate line) place is = absurd (none-some place is)
-
 module _ (t : Layout) (edges : List Edge) (entries : List Entry) where
   -- a denial that tells where a machine's authority lies outside
   abbrev TellsOutside : Machine → Denial → Type 0
@@ -83,8 +73,8 @@ module _ (t : Layout) (edges : List Edge) (entries : List Entry) where
     has = (is.0, is.1, is.2.has);
     first = λ other tells before.
         is.2.first tells.0 tells.2
-        (subst (λ (p : List ℕ). ComesBefore p (excess_place is.0)) (placed other tells.0 tells.1)
-        (subst (λ (p : List ℕ). ComesBefore (place_of other) p) (placed d is.0 is.1) before));
+        (subst (λ (p : List ℕ). ComesBefore p (excess_place is.0)) (numbered other tells.0 tells.1)
+        (subst (λ (p : List ℕ). ComesBefore (place_of other) p) (numbered d is.0 is.1) before));
   }
 
   outside_once : (m : Machine) (d e : Denial) → IsFirstOutside t edges m d → IsFirstOutside t edges m e → d ≡ e

@@ -1,23 +1,15 @@
 -- A table and a policy have one summary: the rows are known by the labels that have threads.
-use Rattle.std.specs.List.{range_with_len}
-use Rattle.std.proofs.Common.{[], ℕ, ◌∙◌, ◌∷◌, ◌≡◌, ◌↔◌, All, Bool, List, ap, false, length, map, refl, subst, sym, true}
-use Rattle.std.proofs.lemmas.List.{length-map}
-use Rattle.std.proofs.lemmas.List.Elements.{All-head, All-tail}
+use Rattle.std.{specs.List.range_with_len, proofs.Common.{[], ℕ, ◌↔◌, ◌∙◌, ◌∷◌, ◌≡◌, All, Bool, List, ap, false, length, map, refl, subst}}
+use Rattle.std.proofs.{Common.{sym, true}, lemmas.List.{length-map, Elements.{All-head, All-tail}}}
 use Rattle.base.specs.{declared.edge.Edge.Edge, Labels.is_in}
 use Rattle.machine.specs.Layout.{Layout}
 use Rattle.policy.specs.Policy.{allows}
 use Rattle.verdict.specs.{Extents.{ActingSystem, IsReachOf, MayChangeIn, MayShrinkIn, Reach, reach_of}, System.System}
 use Rattle.verdict.proofs.Extents.{one_reach}
-use Rattle.summary.specs.Labelled.{programs_of}
-use Rattle.summary.specs.Letters.{HasLetter, by_answer, by_call, by_other, by_signal}
-use Rattle.summary.specs.Rows.{AreRows, IsRowOf}
-use Rattle.summary.specs.Sharing.{SharesMemory, reads_of}
-use Rattle.summary.specs.Whole.{summary_text}
-use Rattle.summary.specs.declared.rows.Row.{Row}
-use Rattle.report.specs.Summaries.{Sums, TellsSummary}
-use Rattle.report.proofs.OneAnswer.{JudgesSystemOnce}
-use Rattle.report.proofs.OneReport.{verdict_once}
-use Rattle.report.proofs.SameRows.{SameRow, SameRows, same_summary}
+use Rattle.summary.specs.{declared.rows.Row.Row, Labelled.programs_of, Letters.{HasLetter, by_answer, by_call, by_other, by_signal}}
+use Rattle.summary.specs.{Rows.{AreRows, IsRowOf}, Sharing.{SharesMemory, reads_of}, Whole.summary_text}
+use Rattle.report.{specs.Summaries.{Sums, TellsSummary}, proofs.{OneAnswer.JudgesSystemOnce, OneReport.verdict_once, SameRows.SameRow}}
+use Rattle.report.proofs.SameRows.{SameRows, same_summary}
 
 -- two tests that hold of the same are one
 same_test : (one other : Bool) (P : Type 0) → (one ≡ true) ↔ P → (other ≡ true) ↔ P → one ≡ other

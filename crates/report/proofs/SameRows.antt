@@ -1,16 +1,14 @@
 -- Rows that say the same of the same labels have one text.
-use Rattle.std.specs.{Bool.if◌then◌else◌, List.{filter, flat_map, fold, list_all, list_any, range_with_len}, Fmt.decimal}
-use Rattle.std.specs.Prelude.{◌%◌, ◌-◌, ◌/◌, ◌==◌, ◌&&◌, codes, drop, length, map, max, nat_lt, not, take}
-use Rattle.std.proofs.Common.{[], ℕ, ◌++◌, ◌∙◌, ◌∷◌, ◌≡◌, Bool, List, ap, refl, suc, sym, zero}
+use Rattle.std.specs.{Bool.if◌then◌else◌, Fmt.decimal, List.{filter, flat_map, fold, list_all, list_any, range_with_len}, Prelude.◌%◌}
+use Rattle.std.{specs.Prelude.{◌&&◌, ◌==◌, codes, drop, length, map, max, nat_lt, not, take}, proofs.Common.{[], ℕ, ◌++◌, ◌∙◌, ◌∷◌, ◌≡◌}}
+use Rattle.std.proofs.Common.{Bool, List, ap, refl, suc, sym, zero}
 use Rattle.base.specs.Labels.{is_in}
 use Rattle.machine.specs.Layout.{Layout}
 use Rattle.captext.specs.PolicyText.{label_name}
-use Rattle.summary.specs.Padding.{given, pad_left}
-use Rattle.summary.specs.Labelled.{others_of}
-use Rattle.summary.specs.Matrix.{block_from, block_text, cell_text, columns, head_text, line_text, longest_name, marks, matrix_text, number_text, page_of, shown_from, start_text}
-use Rattle.summary.specs.Regions.{changers, group_of, group_text, has_same_users, is_leader, is_same, leads, names_text, readers, regions_text, users_text}
-use Rattle.summary.specs.Whole.{others_text, summary_text}
-use Rattle.summary.specs.declared.rows.Row.{Row}
+use Rattle.summary.specs.{declared.rows.Row.Row, Labelled.others_of, Matrix.{block_text, cell_text, columns, head_text, line_text, marks}}
+use Rattle.summary.specs.{Matrix.{matrix_text, number_text, page_of, shown_from, start_text}, Padding.{given, pad_left}, Regions.changers}
+use Rattle.summary.specs.{Regions.{group_text, has_same_users, is_same, names_text, readers, regions_text, users_text}, Whole.others_text}
+use Rattle.summary.specs.Whole.{summary_text}
 
 -- two rows of one label have the same number, and the same labels in each of their sets
 pub record SameRow (one other : Row) : Type 0 where

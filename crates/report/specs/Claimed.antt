@@ -2,27 +2,18 @@
 -- of 'seL4 Enforces Integrity', section 4, restated).
 use Rattle.std.specs.{List.{Contains, filter}, Prelude.{[], ℕ, ◌∷◌, ◌≡◌, All, List, Option, Some, is_some, length}}
 use Rattle.base.specs.declared.edge.Edge.{Edge}
+use Rattle.forms.specs.declared.file.File.{File as file}
 use Rattle.machine.specs.Layout.{Layout}
 use Rattle.policy.specs.Policy.{allows}
-use Rattle.verdict.specs.declared.denial.Denial.{Denial}
-use Rattle.verdict.specs.Verdict.{IsAccepted, IsLeastBroken, rule_name}
-use Rattle.claims.specs.declared.claim.Claim.{Claim}
-use Rattle.claims.specs.declared.holding.BrokenClaim.{BrokenClaim}
-use Rattle.claims.specs.Holding.{Holds, IsFirstBroken, IsKept}
-use Rattle.stated.specs.declared.{claim.Stated.Stated, deciding.Broken.Broken}
-use Rattle.stated.specs.declared.lines.TheConstants.StatedLines as StatedLines
+use Rattle.verdict.specs.{declared.denial.Denial.Denial, Extents.{IsReachOf, Reach}, Verdict.{IsAccepted, IsLeastBroken, rule_name}}
+use Rattle.claims.specs.{declared.{claim.Claim.Claim, holding.BrokenClaim.BrokenClaim}, Holding.{Holds, IsFirstBroken, IsKept}}
+use Rattle.stated.specs.{declared.{claim.Stated.Stated, deciding.Broken.Broken}, Holding.AreBroken, Strongest.AreStrongest, Text.lines_text}
 use Rattle.stated.specs.Holding as stated
-use Rattle.stated.specs.{Holding.AreBroken, Strongest.AreStrongest, Text.lines_text}
-use Rattle.forms.specs.declared.file.File.{File as file}
-use Rattle.reptext.specs.Breaches.{breaches_data}
-use Rattle.reptext.specs.Places.{place_names}
-use Rattle.reptext.specs.Reports.{broken_data, denial_report, hold_data, line_of}
-use Rattle.commands.specs.declared.end.End.{End}
-use Rattle.commands.specs.declared.later.ClaimList.{ClaimList, TheVariants.{First, Second}}
-use Rattle.commands.specs.Claims.{read_claim_list_of}
+use Rattle.stated.specs.declared.lines.TheConstants.StatedLines as StatedLines
+use Rattle.reptext.specs.{Breaches.breaches_data, Places.place_names, Reports.{broken_data, denial_report, hold_data, line_of}}
+use Rattle.commands.specs.{declared.{end.End.End, later.ClaimList.{ClaimList, TheVariants.{First, Second}}}, Claims.read_claim_list_of}
 use Rattle.commands.specs.Commands.{Input, IsDoneOnSystem, IsDoneOnThree, Output, no_label}
 use Rattle.report.specs.Answers.{AnswersVerdict}
-use Rattle.verdict.specs.Extents.{Reach, IsReachOf}
 
 -- the answer to claims on a table and a policy: these are denied; or they are accepted, and all claims hold, so that what they claim is
 -- kept in every run from the table's boot state; or they are accepted, and this claim is the first that doesn't hold

@@ -1,30 +1,18 @@
 -- What is told of what a label may do to another, drawn of all labels, and listed of a table (compare the integrity of 'seL4 Enforces
 -- Integrity', section 4; telling why, drawing and listing are confine's own).
-use Rattle.std.specs.Prelude.{ℕ, ◌++◌, ◌≡◌, List, None, Option, Some, codes, ◌↔◌, ◌<◌, true, Ok, Err, Result}
-use Rattle.base.specs.declared.edge.Edge.{Edge}
-use Rattle.machine.specs.Layout.{Layout}
-use Rattle.policy.specs.declared.why.Why.{Why}
-use Rattle.policy.specs.declared.why.Why.{Why as why}
-use Rattle.policy.specs.Policy.{allows}
-use Rattle.table.specs.Names.{label_named}
-use Rattle.captext.specs.PolicyText.{edge_lines}
-use Rattle.reptext.specs.Drawing.{IsDrawing}
-use Rattle.diagram.specs.Folded.{IsFoldedDrawing}
-use Rattle.reptext.specs.Objects.{objects_text}
-use Rattle.commands.specs.declared.end.Asked.{Asked}
-use Rattle.commands.specs.declared.end.Asked.{Asked as asked}
-use Rattle.commands.specs.declared.end.End.{End}
-use Rattle.commands.specs.Commands.{Input, IsDoneOnSystem, IsDoneOnTable, Output, no_label}
-use Rattle.policy.specs.ActorReasons.{IsWhyAmong}
-use Rattle.verdict.specs.Extents.{Reach, IsReachOf, reach_by}
-use Rattle.commands.specs.declared.choices.Basis.{Basis}
-use Rattle.commands.specs.declared.choices.Basis.{Basis as basis}
-use Rattle.commands.specs.declared.choices.Picture.{Picture, Picture as picture}
-use Rattle.report.specs.Answers.{AnswersVerdict}
+use Rattle.std.specs.Prelude.{ℕ, ◌++◌, ◌<◌, ◌↔◌, ◌≡◌, Err, List, None, Ok, Option, Result, Some, codes, true}
+use Rattle.base.specs.declared.{edge.Edge.Edge, labels.Labels.Labels}
 use Rattle.base.specs.declared.label.TheConstants.Label as Label
-use Rattle.verdict.specs.declared.denial.Denial.{Denial}
-use Rattle.verdict.specs.Verdict.{IsAccepted, IsLeastBroken}
-use Rattle.base.specs.declared.labels.Labels.{Labels}
+use Rattle.machine.specs.Layout.{Layout}
+use Rattle.table.specs.Names.{label_named}
+use Rattle.policy.specs.{declared.why.Why.{Why, Why as why}, ActorReasons.IsWhyAmong, Policy.allows}
+use Rattle.verdict.specs.{declared.denial.Denial.Denial, Extents.{IsReachOf, Reach, reach_by}, Verdict.{IsAccepted, IsLeastBroken}}
+use Rattle.captext.specs.PolicyText.{edge_lines}
+use Rattle.diagram.specs.Folded.{IsFoldedDrawing}
+use Rattle.reptext.specs.{Drawing.IsDrawing, Objects.objects_text}
+use Rattle.commands.specs.declared.{choices.{Basis.{Basis, Basis as basis}, Picture.{Picture, Picture as picture}}, end.Asked.Asked}
+use Rattle.commands.specs.{declared.end.{Asked.Asked as asked, End.End}, Commands.{Input, IsDoneOnSystem, IsDoneOnTable, Output, no_label}}
+use Rattle.report.specs.Answers.{AnswersVerdict}
 
 -- of two labels that may be there, the first that isn't
 abbrev pub first_absent : Option ℕ → Option ℕ → Option Asked

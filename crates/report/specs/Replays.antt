@@ -1,15 +1,14 @@
 -- What the command `replay` answers to a table, a policy and a log (confine's own).
 use Rattle.std.specs.Prelude.{ℕ, ◌+◌, ◌≡◌, ◌⊎◌, List, None, Option, Some, length, slice_get, take}
 use Rattle.base.specs.declared.edge.Edge.{Edge}
+use Rattle.forms.specs.declared.file.File.{File as file}
 use Rattle.machine.specs.{declared.call.Outcome.Outcome, Boot.IsBoot, Layout.Layout, Machine.Machine, Step.Step, WellFormed.kind_of}
-use Rattle.policy.specs.Policy.{allows}
-use Rattle.evtext.specs.Log.{read_log_of}
 use Rattle.kernel.specs.Legal.{Entry, Leads, StopsAt}
+use Rattle.policy.specs.Policy.{allows}
 use Rattle.integrity.specs.Confined.{IsConfined}
 use Rattle.verdict.specs.{declared.denial.Denial.Denial, Rules.Excess, Verdict.{IsOutside, excess_of, rule_name}}
-use Rattle.forms.specs.declared.file.File.{File as file}
-use Rattle.reptext.specs.{Places.place_names_by, Reports.{illegal_data, line_of, outside_data}}
-use Rattle.reptext.specs.Reports.{within_data}
+use Rattle.evtext.specs.Log.{read_log_of}
+use Rattle.reptext.specs.{Places.place_names_by, Reports.{illegal_data, line_of, outside_data, within_data}}
 use Rattle.commands.specs.{declared.end.End.End, Commands.{Input, IsDoneOnThree, Output}}
 
 -- the log's last state: its entries are a run from the boot state of the table to there

@@ -3,14 +3,13 @@
 use Rattle.std.specs.Prelude.{ℕ, ◌≡◌, ◌≤◌, List, Some, if◌then◌else◌}
 use Rattle.base.specs.declared.edge.Edge.{Edge}
 use Rattle.machine.specs.{declared.call.Event.Event, Layout.Layout}
-use Rattle.policy.specs.Policy.{allows}
 use Rattle.table.specs.Names.{label_named}
-use Rattle.evtext.specs.Script.{script_text}
-use Rattle.verdict.specs.declared.denial.Denial.{Denial}
-use Rattle.verdict.specs.declared.extent.Extent.{Extent}
+use Rattle.policy.specs.Policy.{allows}
+use Rattle.verdict.specs.{declared.{denial.Denial.Denial, extent.Extent.Extent}, Extents.{GoesTo, IsReachOf, KeepsTo, Reach}}
+use Rattle.verdict.specs.Verdict.{IsAccepted, IsLeastBroken, rule_name}
 use Rattle.verdict.specs.declared.extent.Extent.TheVariants as extent
-use Rattle.verdict.specs.{Extents.{GoesTo, IsReachOf, KeepsTo, Reach}, Verdict.{IsAccepted, IsLeastBroken, rule_name}}
-use Rattle.search.specs.{declared.question.Question.Question, Shown.{Answers}}
+use Rattle.search.specs.{declared.question.Question.Question, Shown.Answers}
+use Rattle.evtext.specs.Script.{script_text}
 use Rattle.reptext.specs.{Places.place_names, Reports.{denial_report, impossible_data, line_of, unfound_data}}
 use Rattle.commands.specs.{declared.{choices.Search.Search, end.End.End}, Commands.{Input, IsDoneOnSystem, Output}}
 use Rattle.report.specs.Questions.{unlabelled}

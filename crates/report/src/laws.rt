@@ -1,16 +1,14 @@
 //! The law that reports are functions of the bytes of files.
 ghost use Rattle.std.specs.Prelude.{[], ℕ, List};
+ghost use Rattle.forms.specs.declared.file.File.TheVariants as file;
 ghost use Rattle.evtext.specs.{Log.read_log_of, Script.read_script_of};
 ghost use Rattle.certificate.specs.Reading.{read_certificate_of};
-ghost use Rattle.forms.specs.declared.file.File.TheVariants as file;
-ghost use Rattle.commands.specs.Claims.{read_claim_list_of};
 ghost use Rattle.commands.specs.declared.choices.{Basis.Basis, OnAccept.OnAccept, OnClose.OnClose, OnImport.OnImport};
-ghost use Rattle.commands.specs.declared.choices.Picture.{Picture};
-ghost use Rattle.report.specs.Answers.{Checks, Verifies};
-ghost use Rattle.report.specs.{Claimed.{JudgesClaimList, WritesStrongest}, Closings.Closes, Imports.Imports};
-ghost use Rattle.report.specs.{Questions.{Draws, Lists, Tells}, Replays.Replays, Summaries.Sums};
-ghost use Rattle.report.specs.OneAnswer.{DescriptionHasOneAnswer, RunsInMemory, SystemHasOneAnswer, TableHasOneAnswer};
-ghost use Rattle.report.specs.OneAnswer.{ThreeHaveOneAnswer};
+ghost use Rattle.commands.specs.{declared.choices.Picture.Picture, Claims.read_claim_list_of};
+ghost use Rattle.report.specs.{Answers.{Checks, Verifies}, Claimed.{JudgesClaimList, WritesStrongest}, Closings.Closes};
+ghost use Rattle.report.specs.{Imports.Imports, OneAnswer.{DescriptionHasOneAnswer, RunsInMemory, SystemHasOneAnswer}};
+ghost use Rattle.report.specs.{OneAnswer.{TableHasOneAnswer, ThreeHaveOneAnswer}, Questions.{Draws, Lists, Tells}};
+ghost use Rattle.report.specs.{Replays.Replays, Summaries.Sums};
 
 /// Proves that a report is a function of the bytes of the files. What a command writes, and its
 /// status, are the same whenever and wherever it is carried out. So is the log of a run in which no

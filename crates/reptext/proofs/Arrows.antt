@@ -1,26 +1,18 @@
 -- A drawing grows label by label, and pair by pair; and where a label has authority on another there is an edge that gives it.
-use Rattle.std.specs.List.{flat_map, range_with_len}
-use Rattle.std.specs.Prelude.{IfSome, IsSome, codes}
-use Rattle.std.proofs.Common.{[], ℕ, ◌++◌, ◌+◌, ◌<◌, ◌==◌, ◌∙◌, ◌∷◌, ◌≡◌, ◌≢◌, List, None, Option, Some, ap, append_assoc, arith, false, get_or, length, refl, subst, sym, take, true}
-use Rattle.std.proofs.lemmas.Bool.Decides.{nat_tests}
-use Rattle.std.proofs.lemmas.List.{append-nil, flat_map_more, map-id, take_more}
+use Rattle.std.{specs.{List.{flat_map, range_with_len}, Prelude.{IfSome, IsSome, codes}}, proofs.Common.{[], ℕ, ◌++◌, ◌+◌, ◌<◌, ◌==◌, ◌∙◌}}
+use Rattle.std.proofs.Common.{◌∷◌, ◌≡◌, ◌≢◌, List, None, Option, Some, ap, append_assoc, arith, false, get_or, length, refl, subst, sym}
+use Rattle.std.proofs.{Common.{take, true}, lemmas.{Bool.Decides.nat_tests, List.{append-nil, flat_map_more, map-id, take_more}}}
 use Rattle.std.proofs.lemmas.List.FromFn.{map-range_with_len_more}
 use Rattle.base.specs.declared.edge.Edge.{Edge}
 use Rattle.machine.specs.Layout.{Layout}
-use Rattle.policy.specs.Places.{IsLeast}
-use Rattle.policy.specs.Reasons.{reason_place}
-use Rattle.reptext.specs.Drawing.{AddsArrows, Draws, IsArrow, arrow_line, pairs_with}
-use Rattle.reptext.specs.Drawing.IsArrow.{dashed, itself, nothing, solid}
+use Rattle.policy.specs.{ActorReasons.{IsChangeBy, IsShrinkBy, change_edges, shrink_edges}, Change.{WayToChange, MayChangeContext.binds}}
+use Rattle.policy.specs.Change.{MayChangeContext.{configures, lends, returns as returns_it}, WayToChange.{grants, links, modifies}}
+use Rattle.policy.specs.{Change.WayToChange.{notifies, own, receives, replies, sends, shares}, NarrowTake.WayToShrink}
+use Rattle.policy.specs.NarrowTake.{TakesByControl.{drops, releases, removes, wakes}, WayToShrink.{controls, ends, frees, halts, stops}}
+use Rattle.policy.specs.{NarrowTake.WayToShrink.unbinds, Places.IsLeast, Reasons.reason_place}
+use Rattle.verdict.specs.Extents.{MayChangeIn, MayShrinkIn, Reach}
+use Rattle.reptext.specs.Drawing.{AddsArrows, Draws, IsArrow, arrow_line, pairs_with, IsArrow.{dashed, itself, nothing, solid}}
 use mathlib.Core.Bool.{false≢true}
-use Rattle.policy.specs.ActorReasons.{IsChangeBy, IsShrinkBy, change_edges, shrink_edges}
-use Rattle.policy.specs.Change.{WayToChange}
-use Rattle.policy.specs.Change.WayToChange.{grants, links, modifies, notifies, own, receives, replies, sends, shares}
-use Rattle.policy.specs.Change.MayChangeContext.{configures, binds, lends}
-use Rattle.policy.specs.Change.MayChangeContext.{returns as returns_it}
-use Rattle.policy.specs.NarrowTake.{WayToShrink}
-use Rattle.policy.specs.NarrowTake.WayToShrink.{unbinds, stops, halts, ends, frees, controls}
-use Rattle.policy.specs.NarrowTake.TakesByControl.{removes, releases, wakes, drops}
-use Rattle.verdict.specs.Extents.{Reach, MayChangeIn, MayShrinkIn}
 
 -- one text more, for the next of some values
 pub piece_more : {X : Type 0} (f : X → List ℕ) (xs : List X) (i : ℕ) (d : X) (before text longer : List ℕ) → i < length xs

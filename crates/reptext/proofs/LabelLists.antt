@@ -1,9 +1,8 @@
 -- The labels one after another: the names of some of them, and a set for each.
 use Rattle.std.{specs.List.{filter, fold, range_with_len}, proofs.Common.{[], ℕ, ◌++◌, ◌+◌, ◌<◌, ◌∙◌, ◌∷◌, ◌≡◌, Bool, List, ap, arith}}
-use Rattle.std.proofs.{Common.{false, get_or, length, map, sym, true}}
-use Rattle.std.proofs.lemmas.List.{get_or_default, map-append, map-id, Elements.filter-append, FromFn.map-range_with_len_more}
-use Rattle.std.proofs.lemmas.List.Sums.{fold-append}
-use Rattle.base.specs.{declared.labels.Labels.Labels, Labels.{no_labels}}
+use Rattle.std.proofs.{Common.{false, get_or, length, map, sym, true}, lemmas.List.{get_or_default, map-append, map-id}}
+use Rattle.std.proofs.lemmas.List.{Elements.filter-append, FromFn.map-range_with_len_more, Sums.fold-append}
+use Rattle.base.specs.{declared.labels.Labels.Labels, Labels.no_labels}
 
 -- one number more
 one_more : (n : ℕ) → range_with_len 0 (n + 1) ≡ range_with_len 0 n ++ n ∷ []

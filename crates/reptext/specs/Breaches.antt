@@ -1,13 +1,13 @@
 -- The report of claims that don't hold: each with its line, and the authority that breaks it (confine's own).
-use Rattle.std.specs.{List.flat_map, Prelude.{[], ℕ, ◌-◌, ◌∷◌, Bool, List, None, Option, Some, codes, false, if◌then◌else◌, map, nat_lt, slice_get, true}}
-use Rattle.serde_json.specs.{Data.{Data, member, no_members, number, object, array, string, unsigned}, View.items_of}
+use Rattle.std.specs.{List.flat_map, Prelude.{[], ℕ, ◌-◌, ◌∷◌, Bool, List, None, Option, Some, codes, false, if◌then◌else◌, nat_lt}}
+use Rattle.std.specs.Prelude.{slice_get, true}
 use Rattle.machine.specs.Layout.{Layout}
 use Rattle.captext.specs.PolicyText.{label_name}
-use Rattle.stated.specs.declared.{breaches.Breach.Breach, claim.{Stated.{Stated, Stated as stated}, Who.Who as who}}
-use Rattle.stated.specs.declared.deciding.{Broken.Broken, Failure.{Failure, Failure as failure}}
+use Rattle.stated.specs.declared.{breaches.Breach.Breach, claim.{Stated.{Stated, Stated as stated}, Who.Who as who}, deciding.Broken.Broken}
+use Rattle.stated.specs.{declared.deciding.Failure.{Failure, Failure as failure}, Text.stated_text}
 use Rattle.stated.specs.declared.lines.TheConstants.StatedLines as StatedLines
-use Rattle.stated.specs.Text.{stated_text}
 use Rattle.reptext.specs.Reports.{extent_word, names_data}
+use Rattle.serde_json.specs.{Data.{Data, array, member, no_members, number, object, string, unsigned}, View.items_of}
 
 -- the claim itself names the two labels that it bounds
 abbrev pub names_both : Stated → Bool

@@ -1,16 +1,12 @@
 -- The drawing of who may change or take from whom, as Graphviz reads it: the labels, and an arrow from each to each other whose objects it
 -- may change or make smaller, solid where it may change them and dashed where it may not, with an edge of the reason (compare the integrity
 -- of 'seL4 Enforces Integrity', section 4; its drawing is confine's own).
-use Rattle.std.specs.List.{flat_map, range_with_len}
-use Rattle.std.specs.Prelude.{[], ℕ, ◌++◌, ◌∷◌, ◌≡◌, ◌≢◌, List, codes, length, map}
-use Rattle.base.specs.declared.edge.Edge.{Edge}
-use Rattle.base.specs.Kinds.{kind_name}
+use Rattle.std.specs.{List.{flat_map, range_with_len}, Prelude.{[], ℕ, ◌++◌, ◌∷◌, ◌≡◌, ◌≢◌, List, codes, length, map}}
+use Rattle.base.specs.{declared.edge.Edge.Edge, Kinds.kind_name}
 use Rattle.machine.specs.Layout.{Layout}
-use Rattle.policy.specs.Places.{IsLeast}
-use Rattle.policy.specs.Reasons.{reason_place}
+use Rattle.policy.specs.{ActorReasons.{IsChangeBy, IsShrinkBy}, Places.IsLeast, Reasons.reason_place}
+use Rattle.verdict.specs.Extents.{MayChangeIn, MayShrinkIn, Reach}
 use Rattle.captext.specs.PolicyText.{label_name}
-use Rattle.policy.specs.ActorReasons.{IsChangeBy, IsShrinkBy}
-use Rattle.verdict.specs.Extents.{Reach, MayChangeIn, MayShrinkIn}
 
 -- the line of a label
 abbrev pub label_line : List ℕ → List ℕ

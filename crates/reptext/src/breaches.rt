@@ -1,11 +1,9 @@
 //! The report of claims that don't hold.
-ghost use Rattle.std.specs.{List.flat_map, Prelude.{◌++◌, ◌≡◌, IfOk, OnOk, map, option_copied}};
-ghost use Rattle.serde_json.specs.View.{view};
-ghost use Rattle.reptext.specs.Breaches.{breaches_data, claim_at, failure_data, names_both, pair_data, plain_data};
-ghost use Rattle.reptext.specs.Breaches.{told};
-ghost use Rattle.reptext.specs.Reports.{line_of, names_data};
+ghost use Rattle.std.specs.{List.flat_map, Prelude.{[], ◌++◌, ◌∷◌, ◌≡◌, IfOk, OnOk, map, option_copied}};
 ghost use Rattle.captext.specs.PolicyText.{label_name as label_name_of};
-ghost use Rattle.std.specs.Prelude.{[], ◌∷◌};
+ghost use Rattle.reptext.specs.Breaches.{breaches_data, claim_at, failure_data, names_both, pair_data, plain_data};
+ghost use Rattle.reptext.specs.{Breaches.told, Reports.{line_of, names_data}};
+ghost use Rattle.serde_json.specs.View.{view};
 
 use crate::places::label_name;
 use crate::reports::{extent_word, line_of};

@@ -1,6 +1,8 @@
 //! The texts that the program writes besides tables, policies, certificates and logs: reports, each
 //! one JSON object on a line, and the names at the place that it tells; the list of a table's
 //! objects; and the drawing of who may change or take from whom.
+//!
+//! `commands` and `report` stand on it. It knows no device, and no code of the kernel's calls.
 #![tactic(auto)]
 
 mod breaches;

@@ -1,5 +1,8 @@
 //! Devices that fail or move few bytes at a time, commands over such devices, and workers that
-//! share work: what no text can say, so that it is no case. Tests alone.
+//! share work: what no text can say, so that it is no case.
+//!
+//! No crate stands on it: it has tests alone. It knows no command line, and no words of
+//! `--explain`.
 #![tactic(auto)]
 
 #[cfg(test)]

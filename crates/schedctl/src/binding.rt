@@ -1,8 +1,7 @@
 //! The calls Bind and Unbind, on a thread and the scheduling context that it runs on.
 ghost use Rattle.std.specs.Prelude.{◌≡◌};
-ghost use Rattle.machine.specs.{Machine.object_of, Makes.Makes};
-ghost use Rattle.machine.specs.Step.Bind.{bind_of, thread_on, unbind_of, unlinked, without_thread};
-ghost use Rattle.machine.specs.WellFormed.{IsWellFormed};
+ghost use Rattle.machine.specs.{Machine.object_of, Makes.Makes, Step.Bind.{bind_of, thread_on, unbind_of, unlinked}};
+ghost use Rattle.machine.specs.{Step.Bind.without_thread, WellFormed.IsWellFormed};
 
 use crate::links::{bind_to, context_under, part};
 use base::{Cause, ObjId};

@@ -1,12 +1,11 @@
 -- How a change that is told apart is what a question asks.
-use Rattle.std.proofs.Common.{[], ◌++◌, ◌∷◌, ◌≡◌, Bool, IsTrue, List, false, refl, true, Some}
-use mathlib.Core.Bool.{beq, false≢true}
+use Rattle.std.proofs.Common.{[], ◌++◌, ◌∷◌, ◌≡◌, Bool, IsTrue, List, Some, false, refl, true}
 use Rattle.base.specs.declared.ids.ObjId.{ObjId}
-use Rattle.machine.specs.declared.call.{Event.Event, Outcome.Outcome}
-use Rattle.machine.specs.{Authority.label_of, Layout.Layout, Machine.Machine, Step.Step}
+use Rattle.machine.specs.{declared.call.{Event.Event, Outcome.Outcome}, Authority.label_of, Layout.Layout, Machine.Machine, Step.Step}
 use Rattle.integrity.specs.{Allowed.IsLabelled, Shrinks.{IsSame, Shrinks}}
-use Rattle.search.specs.Shown.{Answers, GoesSo, IsAsked, IsChange, IsGain, IsLoss, IsMade, IsReachedBy}
-use Rattle.search.specs.declared.question.Question.{Question}
+use Rattle.search.specs.{declared.question.Question.Question, Shown.{Answers, GoesSo, IsAsked, IsChange, IsGain, IsLoss, IsMade}}
+use Rattle.search.specs.Shown.{IsReachedBy}
+use mathlib.Core.Bool.{beq, false≢true}
 
 pub as_told :
     (m next : Machine) (id : ObjId) (shrinking taking : Bool) → (IsTrue shrinking → Shrinks m next id)

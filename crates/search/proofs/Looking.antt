@@ -1,11 +1,10 @@
 -- A sight that was read part by part is one of the object.
-use Rattle.std.proofs.Common.{ℕ, ◌<◌, ◌≤◌, ◌∙◌, ◌≡◌, List, None, Option, Some, ap, arith, inl, inr, length, option_and_then, refl, slice_get, subst, sym}
-use Rattle.std.proofs.lemmas.{Bool.cases_lt, Option.slice_get_past}
+use Rattle.std.proofs.Common.{ℕ, ◌<◌, ◌∙◌, ◌≡◌, ◌≤◌, List, None, Option, Some, ap, arith, inl, inr, length, option_and_then, refl}
+use Rattle.std.proofs.{Common.{slice_get, subst, sym}, lemmas.{Bool.cases_lt, Option.slice_get_past}}
 use Rattle.base.specs.declared.ids.ObjId.{ObjId}
-use Rattle.machine.specs.declared.{cap.Cap.Cap, object.Object.Object}
-use Rattle.machine.specs.{Machine.{Machine, cap_of, object_of, queue_of, words_of}, Objects.{slot_count, word_count}, WellFormed.IsWellFormed}
-use Rattle.search.specs.Sights.{IsSightOf}
-use Rattle.search.specs.declared.sight.Sight.{Sight}
+use Rattle.machine.specs.{declared.{cap.Cap.Cap, object.Object.Object}, Machine.{Machine, cap_of, object_of, queue_of, words_of}}
+use Rattle.machine.specs.{Objects.{slot_count, word_count}, WellFormed.IsWellFormed}
+use Rattle.search.specs.{declared.sight.Sight.Sight, Sights.IsSightOf}
 
 no_cap :
     (m : Machine) (id : ObjId) (content : Object) (index : ℕ) → IsWellFormed m → object_of m id ≡ Some content

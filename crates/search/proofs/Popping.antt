@@ -1,9 +1,7 @@
 -- The thread that waits first, and who waits after it left.
 use Rattle.std.proofs.Common.{[], ℕ, ◌++◌, ◌<◌, ◌∙◌, ◌∷◌, ◌≡◌, List, None, Option, Some, ap, append_assoc, arith, length, refl, sym}
 use Rattle.base.specs.declared.ids.ObjId.{ObjId}
-use Rattle.machine.specs.Changes.{first_waiting, without_first}
-use Rattle.machine.specs.Machine.{Machine, queue_of}
-use Rattle.machine.proofs.Ids.{at_itself}
+use Rattle.machine.{specs.{Changes.{first_waiting, without_first}, Machine.{Machine, queue_of}}, proofs.Ids.at_itself}
 use Rattle.machine.proofs.LookUps.{queue_of-with_queue}
 
 -- the queue has a first thread, and the others are left

@@ -1,10 +1,9 @@
 -- Scripts that lead a step further, and that a script leads to one state.
-use Rattle.std.proofs.Common.{[], ℕ, ◌++◌, ◌+◌, ◌<◌, ◌∙◌, ◌∷◌, ◌≡◌, ◌≢◌, All, List, ap, append_assoc, arith, drop, get_or, length, refl, subst, suc, sym, take}
-use Rattle.std.proofs.lemmas.List.{take-append-drop, take_more}
-use Rattle.std.proofs.lemmas.List.Elements.{All-push}
+use Rattle.std.proofs.Common.{[], ℕ, ◌++◌, ◌+◌, ◌<◌, ◌∙◌, ◌∷◌, ◌≡◌, ◌≢◌, All, List, ap, append_assoc, arith, drop, get_or, length, refl}
+use Rattle.std.proofs.{Common.{subst, suc, sym, take}, lemmas.List.{take-append-drop, take_more, Elements.All-push}}
 use Rattle.base.specs.{declared.refusal.Refusal.Refusal, Refusals.out_of_memory}
-use Rattle.machine.specs.declared.call.{Event.Event, Outcome.{Outcome, Outcome as o}}
-use Rattle.machine.specs.{Boot.IsBoot, Layout.Layout, Machine.Machine, Outcomes.IsRefused, Run.Run, Step.{Step}}
+use Rattle.machine.specs.{declared.call.{Event.Event, Outcome.{Outcome, Outcome as o}}, Boot.IsBoot, Layout.Layout, Machine.Machine}
+use Rattle.machine.specs.{Outcomes.IsRefused, Run.Run, Step.Step}
 use Rattle.kernel.proofs.RunLemmas.{run_further}
 use Rattle.search.specs.Shown.{IsMade, IsReachedBy, IsStopped}
 

@@ -2,12 +2,9 @@
 use Rattle.std.proofs.Common.{ℕ, ◌<◌, ◌∙◌, ◌≡◌, List, None, Option, Some, ap, get_or, inl, inr, length, refl, subst, sym}
 use Rattle.std.proofs.lemmas.{List.same_lists, Option.slice_get-get_or}
 use Rattle.base.specs.declared.ids.ObjId.{ObjId}
-use Rattle.machine.specs.{declared.{cap.Cap.Cap, object.Object.Object}, Machine.{Machine}}
-use Rattle.machine.specs.Objects.{slot_count}
+use Rattle.machine.specs.{declared.{cap.Cap.Cap, object.Object.Object}, Machine.Machine, Objects.slot_count}
 use Rattle.integrity.specs.Shrinks.{HasLess, IsPart, IsSame, Lessens, Shrinks}
-use Rattle.search.specs.Comparing.{AreAlike, HaveLess, IsLess}
-use Rattle.search.specs.Sights.{IsSeen, IsSightOf, held_at}
-use Rattle.search.specs.declared.sight.Sight.{Sight}
+use Rattle.search.specs.{declared.sight.Sight.Sight, Comparing.{AreAlike, HaveLess, IsLess}, Sights.{IsSeen, IsSightOf, held_at}}
 
 pub same_by_sights :
     (m next : Machine) (id : ObjId) (was is : Option Sight) → IsSeen m id was → IsSeen next id is → AreAlike was is

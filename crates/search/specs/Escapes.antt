@@ -4,8 +4,7 @@ use Rattle.std.specs.Prelude.{◌≡◌, ◌≤◌, List, Some, length}
 use Rattle.machine.specs.{declared.call.Event.Event, Layout.Layout, Machine.Machine}
 use Rattle.policy.specs.Domain.{EdgeTest}
 use Rattle.verdict.specs.{declared.denial.Denial.Denial, Rules.Excess, Verdict.{IsOutside, excess_of}}
-use Rattle.search.specs.Shown.{IsReachedBy}
-use Rattle.search.specs.declared.escaping.TheConstants.{MOST_CALLS}
+use Rattle.search.specs.{declared.escaping.TheConstants.MOST_CALLS, Shown.IsReachedBy}
 
 -- a machine's authority lies outside the policy, first where the denial says
 abbrev pub IsOutsideAt : Layout → EdgeTest → Machine → Denial → Type 0

@@ -1,9 +1,8 @@
 //! The state that a script leads to.
 ghost use Rattle.std.specs.Prelude.{◌↔◌, ◌≡◌, IfErr, IfNone, IfOk, IfSome, IsTrue, List};
 ghost use Rattle.base.specs.Refusals.{out_of_memory, plain};
-ghost use Rattle.machine.specs.declared.call.Outcome.TheVariants.{Refused};
-ghost use Rattle.machine.specs.{declared.call.Event.Event as Ev, Layout.Layout, Machine.Machine};
-ghost use Rattle.machine.specs.WellFormed.{IsWellFormed};
+ghost use Rattle.machine.specs.{declared.call.{Event.Event as Ev, Outcome.TheVariants.Refused}, Layout.Layout};
+ghost use Rattle.machine.specs.{Machine.Machine, WellFormed.IsWellFormed};
 ghost use Rattle.search.specs.Shown.{IsReachedBy, IsStopped};
 
 use base::Refusal;

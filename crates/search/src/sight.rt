@@ -1,7 +1,6 @@
 //! Sights: all that there is of an object in a state.
 ghost use Rattle.std.specs.Prelude.{ℕ, ◌<◌, ◌≡◌, IfErr, IfOk, List, Some, length, slice_get};
-ghost use Rattle.base.specs.Refusals.{plain};
-ghost use Rattle.base.specs.declared.ids.ObjId.{ObjId as Id};
+ghost use Rattle.base.specs.{declared.ids.ObjId.ObjId as Id, Refusals.plain};
 ghost use Rattle.machine.specs.{Machine.{cap_of, queue_of, words_of}, WellFormed.IsWellFormed};
 ghost use Rattle.search.specs.Sights.{IsSeen};
 

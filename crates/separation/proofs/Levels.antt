@@ -1,7 +1,6 @@
 -- One level more or less of the domains in which one stands, and one call more.
-use Rattle.std.specs.{Option.{option_map_or}}
-use Rattle.std.proofs.Common.{ℕ, ◌+◌, ◌-◌, ◌<◌, ◌==◌, ◌∙◌, ◌≡◌, ◌||◌, ◌≤◌, Bool, None, Some, add-one, ap, arith, eq-eqb, false, refl, suc, sym, true, zero}
-use Rattle.std.proofs.lemmas.Bool.Decides.{nat_tests}
+use Rattle.std.{specs.Option.option_map_or, proofs.Common.{ℕ, ◌+◌, ◌-◌, ◌<◌, ◌==◌, ◌||◌, ◌∙◌, ◌≡◌, ◌≤◌, Bool, None, Some, add-one, ap}}
+use Rattle.std.proofs.{Common.{arith, eq-eqb, false, refl, suc, sym, true, zero}, lemmas.Bool.Decides.nat_tests}
 use Rattle.microkit.specs.Description.{Description}
 use Rattle.importing.specs.declared.pieces.Children.{Children}
 use Rattle.separation.specs.{Lending.{ones_with, runners_by, with_called}, Users.{is_within, parent_of, top_of}}

@@ -1,8 +1,7 @@
 -- Lists that grow by one part after another.
-use Rattle.std.specs.List.{flat_map, range_with_len}
-use Rattle.std.proofs.Common.{[], ℕ, ◌++◌, ◌+◌, ◌<◌, ◌∙◌, ◌∷◌, ◌≡◌, List, add-one, ap, arith, get_or, length, map, refl, suc, sym, take, zero}
-use Rattle.std.proofs.{Math.Seq.take-suc, lemmas.List.{flat_map_more}}
-use Rattle.separation.specs.{Claims.{claim_line, lines_of}, declared.claims.Pair.{Pair}}
+use Rattle.std.{specs.List.range_with_len, proofs.Common.{[], ℕ, ◌++◌, ◌+◌, ◌<◌, ◌∙◌, ◌∷◌, ◌≡◌, List, add-one, ap, arith, get_or, length}}
+use Rattle.std.proofs.{Common.{map, refl, suc, sym, take, zero}, Math.Seq.take-suc, lemmas.List.flat_map_more}
+use Rattle.separation.specs.{declared.claims.Pair.Pair, Claims.{claim_line, lines_of}}
 
 -- one line more
 pub line_more : (names : List (List ℕ)) (pairs : List Pair) (i : ℕ) (d : Pair) (before text longer : List ℕ) → i < length pairs

@@ -1,12 +1,11 @@
 -- The claims that a description makes: each label that has a thread leaves alone what it isn't joined to (confine's own).
-use Rattle.std.specs.{List.{flat_map, range_with_len}, Option.{option_map_or}}
-use Rattle.std.specs.Prelude.{[], ℕ, ◌&&◌, ◌++◌, ◌==◌, Bool, List, None, Option, Some, codes, false, filter, length, map, not, option_and_then, slice_get, unwrap_or}
-use Rattle.microkit.specs.Description.{Description}
-use Rattle.microkit.specs.declared.{description.User.{User}, labels.Subject.{Subject}}
+use Rattle.std.specs.{List.{flat_map, range_with_len}, Option.option_map_or, Prelude.{[], ℕ, ◌&&◌, ◌++◌, ◌==◌, Bool, List, None, Option}}
+use Rattle.std.specs.Prelude.{Some, codes, false, filter, length, map, not, option_and_then, slice_get, unwrap_or}
+use Rattle.microkit.specs.{declared.{description.User.User, labels.Subject.Subject}, Description.Description}
 use Rattle.microkit.specs.declared.description.User.TheVariants as user
 use Rattle.microkit.specs.declared.labels.Subject.TheVariants as subject
-use Rattle.importing.specs.{Groups.{labelled_of}, declared.pieces.Children.{Children}}
-use Rattle.separation.specs.{Joined.{is_joined}, Lending.{all_runners}, declared.claims.Pair.{Pair}}
+use Rattle.importing.specs.{declared.pieces.Children.Children, Groups.labelled_of}
+use Rattle.separation.specs.{declared.claims.Pair.Pair, Joined.is_joined, Lending.all_runners}
 
 -- what has a label, as a user, which has threads
 unfoldable pub user_of : Subject → Option User

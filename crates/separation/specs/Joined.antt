@@ -2,14 +2,12 @@
 --
 -- A user is joined to whom it may notify, whom it may call, and who may call it; to its children and its parent; to the memory that it
 -- maps to be written; to the time of whoever it may run for; and to what they are joined to for whom it acts.
-use Rattle.std.specs.{List.{list_any}, Option.{option_map_or}}
-use Rattle.std.specs.Prelude.{[], ℕ, ◌&&◌, ◌==◌, ◌||◌, Bool, List, false, slice_get, unwrap_or}
+use Rattle.std.specs.{List.list_any, Option.option_map_or, Prelude.{[], ℕ, ◌&&◌, ◌==◌, ◌||◌, Bool, List, false, slice_get, unwrap_or}}
+use Rattle.microkit.specs.declared.{description.{Channel.Channel, End.End, Map.Map, User.User}, labels.Subject.Subject}
 use Rattle.microkit.specs.Description.{Description}
-use Rattle.microkit.specs.declared.description.{Channel.{Channel}, End.{End}, Map.{Map}, User.{User}}
 use Rattle.microkit.specs.declared.description.User.TheVariants as user
-use Rattle.microkit.specs.declared.labels.Subject.{Subject}
 use Rattle.microkit.specs.declared.labels.Subject.TheVariants as subject
-use Rattle.importing.specs.{Tails.{is_user}, declared.pieces.Children.{Children}}
+use Rattle.importing.specs.{declared.pieces.Children.Children, Tails.is_user}
 use Rattle.importing.specs.declared.pieces.Children.TheVariants as children
 use Rattle.separation.specs.Users.{acts_for, is_one, parent_of_user}
 

@@ -1,9 +1,7 @@
 -- On whose time a domain may run: its own, and that of all who call it, through calls in between (confine's own; compare the seL4 manual,
 -- "Passive Servers").
-use Rattle.std.specs.{List.{list_any, range_with_len}}
-use Rattle.std.specs.Prelude.{ℕ, ◌&&◌, ◌==◌, ◌||◌, Bool, List, filter, length, map, suc, zero}
-use Rattle.microkit.specs.Description.{Description}
-use Rattle.microkit.specs.declared.description.{Channel.{Channel}, End.{End}}
+use Rattle.std.specs.{List.{list_any, range_with_len}, Prelude.{ℕ, ◌&&◌, ◌==◌, ◌||◌, Bool, List, filter, length, map, suc, zero}}
+use Rattle.microkit.specs.{declared.description.{Channel.Channel, End.End}, Description.Description}
 use Rattle.microkit.specs.declared.description.User.TheVariants as user
 use Rattle.importing.specs.declared.pieces.Children.{Children}
 use Rattle.separation.specs.Users.{is_one}

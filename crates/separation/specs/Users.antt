@@ -1,10 +1,9 @@
 -- Domains and virtual machines, and which of them act for which (confine's own).
-use Rattle.std.specs.{Option.{option_map_or}}
-use Rattle.std.specs.Prelude.{ℕ, ◌==◌, ◌||◌, Bool, None, Option, Some, false, length, option_and_then, option_map, slice_get, suc, zero}
-use Rattle.microkit.specs.Description.{Description, Domain, Machine}
-use Rattle.microkit.specs.declared.description.{Id.{Id}, User.{User}}
+use Rattle.std.specs.{Option.option_map_or, Prelude.{ℕ, ◌==◌, ◌||◌, Bool, Option, Some, false, length, option_and_then, option_map}}
+use Rattle.std.specs.Prelude.{slice_get, suc, zero}
+use Rattle.microkit.specs.{declared.description.{Id.Id, User.User}, Description.{Description, Domain, Machine}}
 use Rattle.microkit.specs.declared.description.User.TheVariants as user
-use Rattle.importing.specs.{Tails.{is_user}, declared.pieces.Children.{Children}}
+use Rattle.importing.specs.{declared.pieces.Children.Children, Tails.is_user}
 use Rattle.importing.specs.declared.pieces.Children.TheVariants as children
 
 -- the domain of a user: for a virtual machine the one in which it stands

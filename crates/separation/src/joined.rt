@@ -1,10 +1,8 @@
 //! Which labels a description joins to the label of a domain or of a virtual machine.
-ghost use Rattle.std.specs.List.{list_any};
-ghost use Rattle.std.specs.Prelude.{[], ◌&&◌, ◌==◌, ◌≡◌, slice_get, unwrap_or};
+ghost use Rattle.std.specs.{List.list_any, Prelude.{[], ◌&&◌, ◌==◌, ◌≡◌, slice_get, unwrap_or}};
 ghost use Rattle.microkit.specs.{LabelView.bytes_of, View.description_of};
 ghost use Rattle.separation.specs.Joined.{channel_joins, end_joins, is_joined, is_kin, is_parent, runs_on};
-ghost use Rattle.separation.specs.Joined.{users_joined, writes_to};
-ghost use Rattle.separation.specs.Users.{acts_for};
+ghost use Rattle.separation.specs.{Joined.{users_joined, writes_to}, Users.acts_for};
 
 use crate::users::{acts_for, is_one, is_user, parent_of_user};
 use importing::Children;

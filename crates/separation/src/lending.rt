@@ -1,11 +1,9 @@
 //! On whose time a domain may run: its own, and that of all who call it, through calls in between.
-ghost use Rattle.std.specs.List.{list_any, range_with_len};
-ghost use Rattle.std.specs.Prelude.{◌≡◌, IfOk, filter};
-ghost use Rattle.microkit.specs.declared.description.User.TheVariants as user;
+ghost use Rattle.std.specs.{List.{list_any, range_with_len}, Prelude.{◌≡◌, IfOk, filter}};
 ghost use Rattle.microkit.specs.{LabelView.bytes_of, View.description_of};
+ghost use Rattle.microkit.specs.declared.description.User.TheVariants as user;
 ghost use Rattle.separation.specs.Lending.{all_runners, channel_lends, end_lends, is_among, is_lent, ones_with};
-ghost use Rattle.separation.specs.Lending.{runners_by, runners_of, with_called};
-ghost use Rattle.separation.specs.Users.{is_one};
+ghost use Rattle.separation.specs.{Lending.{runners_by, runners_of, with_called}, Users.is_one};
 
 use crate::users::is_one;
 use importing::Children;

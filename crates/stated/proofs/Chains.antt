@@ -1,6 +1,6 @@
 -- The search for the labels to which a chain leads, label by label; and sets that no chain enters.
-use Rattle.std.proofs.Common.{ℕ, ◌&&◌, ◌+◌, ◌<◌, ◌==◌, ◌||◌, ◌↔◌, ◌∙◌, ◌≡◌, ◌≤◌, ◌⊎◌, Bool, ap, arith, cond, false, inl, inr, not, refl, suc, subst, sym, true, zero}
-use Rattle.std.proofs.lemmas.Bool.{cases_order, eq-eqb, eqb-true, false≢true, or_cases, or_left, or_right}
+use Rattle.std.proofs.Common.{ℕ, ◌&&◌, ◌<◌, ◌==◌, ◌||◌, ◌↔◌, ◌∙◌, ◌≡◌, ◌≤◌, Bool, ap, arith, cond, false, inl, inr, not, refl, subst, suc}
+use Rattle.std.proofs.{Common.{sym, true, zero}, lemmas.Bool.{cases_order, eq-eqb, eqb-true, false≢true, or_cases, or_left, or_right}}
 use Rattle.verdict.specs.Extents.{Reach}
 use Rattle.stated.specs.Holding.{AreApart, Leads, MayAffect, Leads.{goes_on, starts}}
 

@@ -1,19 +1,13 @@
 -- The search for the first breach of a claim: which pairs it bounds, and which have more.
-use Rattle.std.specs.List.{Contains, list_any, slice_get}
-use Rattle.std.proofs.lemmas.List.{get_or_append_left, get_or_push, length_push}
-use Rattle.std.proofs.lemmas.Map.Views.{Contains-from_any}
-use Rattle.std.proofs.lemmas.Option.{get_or_from_slice_get, slice_get-get_or, slice_get_within}
-use Rattle.stated.specs.declared.rows.Row.{Row}
-use Rattle.stated.specs.Rows.{IsRow}
-use Rattle.std.proofs.Common.{[], ℕ, ◌&&◌, ◌++◌, ◌+◌, ◌∷◌, List, Some, ◌<◌, ◌==◌, ◌||◌, ◌↔◌, ◌∙◌, ◌≡◌, ◌≢◌, ◌⊎◌, Bool, ap, arith, cond, false, inl, inr, length, not, refl, subst, sym, true}
-use Rattle.std.proofs.lemmas.Bool.{and_from, and_parts, cases_order, eq-eqb, eqb-true, false≢true, or_cases, or_left, or_right}
-use Rattle.std.proofs.lemmas.Bool.Decides.{nat_tests}
+use Rattle.std.{specs.List.{Contains, list_any, slice_get}, proofs.Common.{[], ℕ, ◌++◌, ◌+◌, ◌<◌, ◌==◌, ◌||◌, ◌↔◌, ◌∙◌, ◌∷◌, ◌≡◌, ◌≢◌}}
+use Rattle.std.proofs.{Common.{Bool, List, Some, ap, arith, inl, inr, length, subst, sym, true}, lemmas.Bool.{cases_order, eqb-true}}
+use Rattle.std.proofs.lemmas.{Bool.{or_cases, or_left, or_right}, List.{get_or_append_left, get_or_push, length_push}}
+use Rattle.std.proofs.lemmas.{Map.Views.Contains-from_any, Option.{get_or_from_slice_get, slice_get-get_or, slice_get_within}}
 use Rattle.machine.specs.Layout.{Layout}
 use Rattle.verdict.specs.Extents.{GoesTo, MayChangeIn, MayShrinkIn, Reach}
-use Rattle.claims.specs.{declared.claim.Most.{Most, Most as most}, Holding.{ComesBefore, HasAtMost}}
-use Rattle.stated.specs.declared.{breaches.Breach.Breach, claim.Stated.{Stated, Stated as stated}}
-use Rattle.stated.specs.Breaches.{HoldsOf, IsFirstBreachBy}
-use Rattle.stated.specs.Holding.{AreTwo, Bounds, HoldsOnPairs, IsFirstBreach, MayAffect, most_of}
+use Rattle.claims.specs.{declared.claim.Most.Most as most, Holding.{ComesBefore, HasAtMost}}
+use Rattle.stated.specs.{declared.{breaches.Breach.Breach, claim.Stated.{Stated, Stated as stated}, rows.Row.Row}, Breaches.HoldsOf}
+use Rattle.stated.specs.{Breaches.IsFirstBreachBy, Holding.{Bounds, IsFirstBreach, MayAffect, most_of}, Rows.IsRow}
 
 -- a row has more than a claim leaves
 

@@ -1,12 +1,11 @@
 -- The broken claims, gathered line by line.
-use Rattle.std.specs.List.{Contains}
-use Rattle.std.proofs.Common.{[], ℕ, ◌++◌, ◌+◌, ◌<◌, ◌∙◌, ◌∷◌, ◌≡◌, ◌⊎◌, List, None, Option, Some, ap, arith, get_or, inl, inr, length, subst, sym, take}
-use Rattle.std.proofs.lemmas.List.{length-take-le, take_more}
-use Rattle.std.proofs.lemmas.List.Elements.{Contains-append_cases, Contains-push_cases}
+use Rattle.std.{specs.List.Contains, proofs.Common.{[], ℕ, ◌++◌, ◌+◌, ◌<◌, ◌∷◌, ◌≡◌, ◌⊎◌, List, None, Option, Some, ap, arith, get_or, inl}}
+use Rattle.std.proofs.{Common.{inr, length, subst, sym, take}, lemmas.List.{length-take-le, take_more, Elements.Contains-append_cases}}
+use Rattle.std.proofs.lemmas.List.Elements.{Contains-push_cases}
 use Rattle.machine.specs.Layout.{Layout}
 use Rattle.verdict.specs.Extents.{Reach}
-use Rattle.stated.specs.declared.{claim.Stated.Stated, deciding.Broken.Broken}
-use Rattle.stated.specs.Holding.{AreBroken, Holds, IsBroken, AreBroken.{broke, ended, held, silent}}
+use Rattle.stated.specs.{declared.{claim.Stated.Stated, deciding.Broken.Broken}, Holding.{AreBroken, Holds, AreBroken.{broke, ended, held}}}
+use Rattle.stated.specs.Holding.AreBroken.{silent}
 
 module _ (t : Layout) (reach : Reach) where
   abbrev From : ℕ → List (Option Stated) → List Broken → Type 0

@@ -1,7 +1,6 @@
 -- Words that are joined by spaces, one more at a time.
-use Rattle.std.specs.List.{join_with_byte}
-use Rattle.std.proofs.Common.{[], ℕ, ◌++◌, ◌+◌, ◌<◌, ◌∙◌, ◌∷◌, ◌≡◌, List, ap, append_assoc, get_or, length, map, refl, sym, take}
-use Rattle.std.proofs.lemmas.List.{map_more}
+use Rattle.std.{specs.List.join_with_byte, proofs.Common.{[], ℕ, ◌++◌, ◌+◌, ◌<◌, ◌∙◌, ◌∷◌, ◌≡◌, List, ap, append_assoc, get_or, length}}
+use Rattle.std.proofs.{Common.{map, refl, sym, take}, lemmas.List.map_more}
 
 join_more : (c : ℕ) (x : List ℕ) (xs : List (List ℕ)) (y : List ℕ)
     → join_with_byte c (x ∷ (xs ++ y ∷ [])) ≡ join_with_byte c (x ∷ xs) ++ (c ∷ y)

@@ -1,15 +1,10 @@
 -- What claims that hold keep in every run; and that a claim that fails doesn't hold.
-use Rattle.std.specs.Prelude.{IfNone, IfSome}
-use Rattle.std.proofs.Common.{ℕ, ◌∙◌, ◌≡◌, ◌⊎◌, List, None, Option, Some, inl, inr, subst, sym}
-use Rattle.std.proofs.lemmas.Bool.{false≢true}
+use Rattle.std.{specs.Prelude.IfNone, proofs.{Common.{ℕ, ◌∙◌, ◌≡◌, List, None, Option, Some, inl, inr, subst, sym}, lemmas.Bool.false≢true}}
 use Rattle.machine.specs.Layout.{Layout}
-use Rattle.verdict.specs.Extents.{ActingSystem, IsActingSystem, Reach, reach_of}
-use Rattle.verdict.proofs.Extents.{apart, takes}
+use Rattle.verdict.{specs.Extents.{ActingSystem, IsActingSystem, Reach, reach_of}, proofs.Extents.{apart, takes}}
 use Rattle.claims.specs.{declared.claim.Most.{Most, Most as most}, Holding.{HasAtMost, KeepsAtMost}}
-use Rattle.stated.specs.declared.claim.{Stated.{Stated, Stated as stated}, Who.Who}
-use Rattle.stated.specs.declared.deciding.Failure.{Failure, Failure as failure}
-use Rattle.stated.specs.Holding.{Fails, FailsOnPair, Holds, HoldsOnPairs, IsKept}
-use Rattle.stated.proofs.Chains.{no_chain}
+use Rattle.stated.specs.declared.{claim.{Stated.{Stated, Stated as stated}, Who.Who}, deciding.Failure.{Failure, Failure as failure}}
+use Rattle.stated.{specs.Holding.{Fails, FailsOnPair, Holds, HoldsOnPairs, IsKept}, proofs.Chains.no_chain}
 
 module _ (acting : ActingSystem) (is : IsActingSystem acting) where
   abbrev t : Layout

@@ -1,13 +1,12 @@
 -- Of the lines of a text there is one list of the claims that don't hold.
-use Rattle.std.proofs.Common.{[], ℕ, ◌+◌, ◌<◌, ◌∙◌, ◌∷◌, ◌≡◌, ◌⊎◌, List, None, Option, Some, ap, inl, inr, refl, subst, sym}
+use Rattle.std.proofs.Common.{[], ℕ, ◌+◌, ◌∙◌, ◌∷◌, ◌≡◌, ◌⊎◌, List, None, Option, Some, ap, inl, inr, refl, subst, sym}
 use Rattle.std.proofs.lemmas.Bool.{cases_order}
 use Rattle.machine.specs.Layout.{Layout}
-use Rattle.verdict.specs.declared.extent.Extent.{Extent}
 use Rattle.verdict.specs.Extents.{GoesTo, Reach}
-use Rattle.claims.specs.Holding.{ComesBefore, HasAtMost}
-use Rattle.claims.proofs.OneList.{extents_once}
-use Rattle.stated.specs.declared.{breaches.Breach.Breach, claim.{Stated.{Stated, Stated as stated}, Who.Who}, deciding.{Broken.Broken, Failure.{Failure, Failure as failure}}}
-use Rattle.stated.specs.Holding.{AreBroken, Bounds, Fails, FailsOnPair, Holds, IsBroken, IsFirstBreach, broke, ended, held, most_of, silent}
+use Rattle.claims.{specs.Holding.ComesBefore, proofs.OneList.extents_once}
+use Rattle.stated.specs.declared.{breaches.Breach.Breach, claim.Stated.{Stated, Stated as stated}, deciding.Broken.Broken}
+use Rattle.stated.specs.{declared.deciding.Failure.{Failure, Failure as failure}, Holding.{AreBroken, Fails, FailsOnPair, IsBroken}}
+use Rattle.stated.specs.Holding.{IsFirstBreach, broke, ended, held, silent}
 
 -- two pairs of labels: one comes before the other, or they are one
 pairs : (a l b m : ℕ) → ComesBefore a l b m ⊎ (ComesBefore b m a l ⊎ ((a ≡ b) × (l ≡ m)))

@@ -1,22 +1,19 @@
 -- The strongest claims: how rows give them, that they hold, and that there is one list of them.
-use Rattle.std.specs.List.{AllByRecursion, Contains, filter, flat_map, range_with_len}
-use Rattle.std.proofs.Common.{[], ℕ, ◌++◌, ◌+◌, ◌<◌, ◌==◌, ◌∙◌, ◌∷◌, ◌≡◌, ◌≢◌, ◌≤◌, ◌↔◌, Bool, List, Option, Some, ap, append_assoc}
-use Rattle.std.proofs.Common.{arith, cond, false, get_or, if◌then◌else◌, inl, inr, length, map, not, refl, slice_get, suc, subst, sym, take, true, zero}
-use Rattle.std.proofs.lemmas.Bool.{and_from, cases_order, false≢true, ne_eqb}
-use Rattle.std.proofs.lemmas.List.{flat_map_more, map-append, map_more, take_more}
+use Rattle.std.{specs.List.{AllByRecursion, Contains, filter, flat_map, range_with_len}, proofs.Common.{[], ℕ, ◌++◌, ◌+◌, ◌<◌, ◌==◌, ◌↔◌}}
+use Rattle.std.proofs.Common.{◌∙◌, ◌∷◌, ◌≡◌, ◌≢◌, ◌≤◌, Bool, List, Option, Some, ap, append_assoc, arith, cond, false, get_or}
+use Rattle.std.proofs.Common.{if◌then◌else◌, inl, inr, length, map, not, refl, slice_get, subst, suc, sym, take, true, zero}
+use Rattle.std.proofs.lemmas.{Bool.{and_from, cases_order, false≢true, ne_eqb}, List.{flat_map_more, map-append, take_more}}
 use Rattle.std.proofs.lemmas.List.Elements.{Contains-append_cases, Contains-append_right, Contains-push_cases}
 use Rattle.std.proofs.lemmas.Option.{get_or_from_slice_get, slice_get-get_or}
 use Rattle.base.specs.Labels.{is_in}
 use Rattle.machine.specs.Layout.{Layout}
 use Rattle.verdict.specs.{declared.extent.Extent.{Extent, Extent as extent}, Extents.{GoesTo, MayChangeIn, MayShrinkIn, Reach}}
-use Rattle.claims.specs.{declared.claim.Most.{Most as most}, Holding.HasAtMost}
-use Rattle.claims.proofs.OneList.{extents_once}
+use Rattle.claims.{specs.{declared.claim.Most.Most as most, Holding.HasAtMost}, proofs.OneList.extents_once}
 use Rattle.summary.specs.Labelled.{labels_of, others_of, programs_of}
-use Rattle.stated.specs.declared.{claim.{Stated.{Stated}}, rows.{Row.Row, Rows.Rows}}
-use Rattle.stated.specs.Holding.{AreBroken, Holds, AreBroken.{ended, held}}
-use Rattle.stated.specs.Rows.{AreRows, IsRow, extents_of, no_row, row_extent}
-use Rattle.stated.specs.Strongest.{AreExtents, AreStrongest, Extents, affects, claim_to, claims_among, claims_for, claims_of, claims_on, is_user}
-use Rattle.stated.specs.Strongest.{only_these, pair_claims, strongest_by, users_of}
+use Rattle.stated.specs.{declared.{claim.Stated.Stated, rows.{Row.Row, Rows.Rows}}, Holding.{AreBroken, Holds, AreBroken.{ended, held}}}
+use Rattle.stated.specs.{Rows.{AreRows, IsRow, extents_of, no_row, row_extent}, Strongest.{AreExtents, AreStrongest, Extents, affects}}
+use Rattle.stated.specs.Strongest.{claim_to, claims_among, claims_for, claims_of, claims_on, is_user, only_these, pair_claims, strongest_by}
+use Rattle.stated.specs.Strongest.{users_of}
 
 -- rows
 
@@ -54,16 +51,6 @@ said_more f xs i d before lines longer within so_far grown =
     ∙ append_assoc before (map Some (flat_map f (take i xs))) (map Some (f (get_or xs i d)))
     ∙ ap (λ ls. before ++ ls) (sym (map-append Some (flat_map f (take i xs)) (f (get_or xs i d))))
     ∙ ap (λ cs. before ++ map Some cs) (sym (flat_more f xs i d within))
-
-pub claim_more : (f : ℕ → Stated) (xs : List ℕ) (i d : ℕ) (before lines longer : List (Option Stated)) → i < length xs
-    → lines ≡ before ++ map Some (map f (take i xs)) → longer ≡ lines ++ Some (f (get_or xs i d)) ∷ []
-    → longer ≡ before ++ map Some (map f (take (i + 1) xs))
-claim_more f xs i d before lines longer within so_far grown =
-    grown
-    ∙ ap (λ ls. ls ++ Some (f (get_or xs i d)) ∷ []) so_far
-    ∙ append_assoc before (map Some (map f (take i xs))) (Some (f (get_or xs i d)) ∷ [])
-    ∙ ap (λ ls. before ++ ls) (sym (map-append Some (map f (take i xs)) (f (get_or xs i d) ∷ [])))
-    ∙ ap (λ cs. before ++ map Some cs) (sym (map_more f xs i d within))
 
 -- the claims among labels with a thread, and then those for the others, are all
 pub all_said : (t : Layout) (extents : Extents) (programs others : List ℕ) (before lines longer : List (Option Stated))

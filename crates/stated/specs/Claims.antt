@@ -1,5 +1,5 @@
 -- Claims of version 2, and when two are the same, word by word (confine's own).
-use Rattle.std.specs.{Cmp.Lexicographic.pointwise, Prelude.{◌&&◌, ◌==◌, Bool, List, None, Option, Some, false, true}}
+use Rattle.std.specs.{Cmp.Lexicographic.pointwise, Prelude.{◌&&◌, ◌==◌, Bool, false, true}}
 use Rattle.base.specs.Kinds.{kind_number}
 use Rattle.claims.specs.declared.claim.Most.{Most, Most as most}
 use Rattle.stated.specs.declared.claim.{Stated.{Stated, Stated as stated}, Who.{Who, Who as who}}

@@ -1,14 +1,12 @@
 -- When claims of version 2 hold, what is then kept in every run from a table's boot state, and which of the claims of a text don't
 -- hold (the authority and what is kept are those of 'seL4 Enforces Integrity', sections 4 and 5, restated; claims are confine's own).
-use Rattle.std.specs.Prelude.{[], ℕ, ◌+◌, ◌<◌, ◌∷◌, ◌≡◌, ◌≢◌, ◌⊎◌, Bool, List, None, Option, Some, false, length, true}
-use Rattle.std.specs.List.{Contains}
+use Rattle.std.specs.{List.Contains, Prelude.{[], ℕ, ◌+◌, ◌<◌, ◌∷◌, ◌≡◌, ◌≢◌, ◌⊎◌, Bool, List, None, Option, Some, false, length, true}}
 use Rattle.base.specs.declared.kind.Kind.{Kind}
 use Rattle.machine.specs.{Authority.HasAuthority, Layout.Layout, Machine.Machine}
 use Rattle.integrity.specs.{Apart.NeverChanges, Safe.IsReached}
 use Rattle.verdict.specs.Extents.{GoesTo, MayChangeIn, MayShrinkIn, Reach}
 use Rattle.claims.specs.{declared.claim.Most.{Most, Most as most}, Holding.{ComesBefore, HasAtMost, KeepsAtMost}}
-use Rattle.stated.specs.declared.breaches.Breach.{Breach}
-use Rattle.stated.specs.declared.claim.{Stated.{Stated, Stated as stated}, Who.{Who, Who as who}}
+use Rattle.stated.specs.declared.{breaches.Breach.Breach, claim.{Stated.{Stated, Stated as stated}, Who.{Who, Who as who}}}
 use Rattle.stated.specs.declared.deciding.{Broken.Broken, Failure.{Failure, Failure as failure}}
 
 -- what a claim says

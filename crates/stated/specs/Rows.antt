@@ -2,8 +2,7 @@
 use Rattle.std.specs.Prelude.{ℕ, ◌↔◌, ◌≡◌, Some, get_or, if◌then◌else◌, slice_get, true}
 use Rattle.base.specs.Labels.{is_in, no_labels}
 use Rattle.verdict.specs.{declared.extent.Extent.{Extent, Extent as extent}, Extents.{MayChangeIn, MayShrinkIn, Reach}}
-use Rattle.stated.specs.declared.rows.{Row.Row, Rows.Rows}
-use Rattle.stated.specs.Strongest.{Extents}
+use Rattle.stated.specs.{declared.rows.{Row.Row, Rows.Rows}, Strongest.Extents}
 
 -- these are the labels whose objects threads of a label may change, and those whose objects they may make smaller
 pub record IsRow (reach : Reach) (a : ℕ) (row : Row) : Type 0 where

@@ -1,11 +1,10 @@
 //! The first pair of labels that has more authority than a claim leaves.
-ghost use Rattle.std.specs.Prelude.{ℕ, ◌==◌, ◌↔◌, ◌≡◌, IfNone, IfSome, IsTrue, true};
-ghost use Rattle.std.specs.List.{Contains, list_any};
+ghost use Rattle.std.specs.{List.{Contains, list_any}, Prelude.{ℕ, ◌==◌, ◌↔◌, ◌≡◌, IfNone, IfSome, IsTrue, true}};
 ghost use Rattle.base.specs.Labels.{is_in};
 ghost use Rattle.machine.specs.Layout.{Layout};
 ghost use Rattle.verdict.specs.Extents.{Reach};
-ghost use Rattle.stated.specs.Breaches.{AreExcess, AreLabelsOf, HoldsOf, IsFirstBreachBy};
-ghost use Rattle.stated.specs.{Holding.{Bounds, HoldsOnPairs, IsFirstBreach, IsNamed, most_of}, Rows.{AreRows, IsRow}};
+ghost use Rattle.stated.specs.{Breaches.{AreExcess, AreLabelsOf, HoldsOf, IsFirstBreachBy}, Holding.Bounds};
+ghost use Rattle.stated.specs.{Holding.{HoldsOnPairs, IsFirstBreach, IsNamed, most_of}, Rows.{AreRows, IsRow}};
 
 use crate::claim::{LabelList, Stated, Who};
 use crate::rows::{Row, Rows};

@@ -1,13 +1,11 @@
 //! Which claims don't hold of a system.
-ghost use Rattle.std.specs.Prelude.{[], ℕ, ◌≡◌, IfErr, IfNone, IfOk, IfSome, Some};
-ghost use Rattle.std.specs.List.{Contains};
+ghost use Rattle.std.specs.{List.Contains, Prelude.{[], ℕ, ◌≡◌, IfErr, IfNone, IfOk, IfSome, Some}};
 ghost use Rattle.base.specs.Refusals.{out_of_memory};
 ghost use Rattle.machine.specs.Layout.{Layout};
 ghost use Rattle.verdict.specs.Extents.{Reach, reach_of};
-ghost use Rattle.stated.specs.declared.claim.Stated.{Stated as StatedOf};
+ghost use Rattle.stated.specs.{declared.claim.Stated.Stated as StatedOf, Breaches.AreLabelsOf, Holding.AreBroken};
+ghost use Rattle.stated.specs.{Holding.{Fails, FailsOnPair, Holds, HoldsOnPairs, IsKept}, Rows.AreRows};
 ghost use Rattle.stated.specs.declared.lines.TheConstants.StatedLines as StatedLines;
-ghost use Rattle.stated.specs.Breaches.{AreLabelsOf};
-ghost use Rattle.stated.specs.{Holding.{AreBroken, Fails, FailsOnPair, Holds, HoldsOnPairs, IsKept}, Rows.AreRows};
 
 use crate::breaches::{Breach, first_breach, labels_of};
 use crate::claim::Stated;

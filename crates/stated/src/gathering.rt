@@ -1,13 +1,12 @@
 //! The strongest claims that hold of a system.
-ghost use Rattle.std.specs.Prelude.{[], ◌++◌, ◌≡◌, IfErr, IfOk, OnOk, Some, map};
-ghost use Rattle.std.specs.List.{Contains, flat_map};
+ghost use Rattle.std.specs.{List.{Contains, flat_map}, Prelude.{[], ◌++◌, ◌≡◌, IfErr, IfOk, OnOk, Some, map}};
 ghost use Rattle.base.specs.Refusals.{out_of_memory};
 ghost use Rattle.verdict.specs.Extents.{reach_of};
 ghost use Rattle.summary.specs.Labelled.{labels_of};
-ghost use Rattle.stated.specs.declared.claim.Stated.{Stated as StatedOf};
+ghost use Rattle.stated.specs.{declared.claim.Stated.Stated as StatedOf, Holding.{AreBroken, IsKept}, Rows.extents_of};
+ghost use Rattle.stated.specs.{Rows.row_extent, Strongest.{AreStrongest, affects, claims_among, claims_for, claims_on}};
+ghost use Rattle.stated.specs.Strongest.{is_user, only_these, users_of};
 ghost use Rattle.stated.specs.declared.lines.TheConstants.StatedLines as StatedLines;
-ghost use Rattle.stated.specs.{Holding.{AreBroken, IsKept}, Rows.{extents_of, row_extent}};
-ghost use Rattle.stated.specs.Strongest.{AreStrongest, affects, claims_among, claims_for, claims_on, is_user, only_these, users_of};
 
 use crate::claim::{LabelList, Stated, Who};
 use crate::lines::StatedLines;

@@ -1,10 +1,8 @@
 //! How the text of claims of version 2 is read.
-ghost use Rattle.std.specs.Prelude.{[], ℕ, ◌≡◌, ◌≢◌, Err, IfErr, List, Option};
-ghost use Rattle.std.specs.Prelude.{map, option_map};
+ghost use Rattle.std.specs.Prelude.{[], ℕ, ◌≡◌, ◌≢◌, Err, IfErr, List, Option, map, option_map};
+ghost use Rattle.words.specs.{declared.faults.Wrong.Wrong, Fault.{fault_at, no_memory}, FirstFault.IsFirstFault};
+ghost use Rattle.words.specs.{FirstFault.TellsFirst, Reading.{Gives, GivesOrStops, Reads}, Text.lines_of};
 ghost use Rattle.machine.specs.Layout.{Layout};
-ghost use Rattle.words.specs.{declared.faults.Wrong.Wrong, Fault.{fault_at, no_memory}};
-ghost use Rattle.words.specs.FirstFault.{IsFirstFault, TellsFirst};
-ghost use Rattle.words.specs.{Reading.{Gives, GivesOrStops, Reads}, Text.lines_of};
 ghost use Rattle.captext.specs.Policies.{kind_at};
 ghost use Rattle.stated.specs.declared.claim.Stated.{Stated as StatedOf};
 ghost use Rattle.stated.specs.Reading as reading;

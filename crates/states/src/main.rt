@@ -1,6 +1,8 @@
 //! Prints the state in which the events of a script end, or the first of them, run from the boot
 //! state of a table: the number that the next object gets, and each object and each slot, a line
 //! for each.
+//!
+//! No crate stands on it. It knows no policy and no verdict.
 #![tactic(auto)]
 
 mod facts;

@@ -1,6 +1,6 @@
 -- What a call found at an address: the capability in the slot where the lookup ends.
-use Rattle.std.{specs.Prelude.{None, Ok, Option, Result, Some}, proofs.Common.{ℕ, ◌∙◌, ◌≡◌, Bool, ap, false, refl, sym, true}}
-use Rattle.base.specs.declared.{ids.{ObjId.ObjId, SlotRef.SlotRef}, refusal.Cause.Cause}
+use Rattle.std.{specs.Prelude.{None, Ok, Option, Some}, proofs.Common.{ℕ, ◌∙◌, ◌≡◌, Bool, ap, false, refl, sym, true}}
+use Rattle.base.specs.declared.ids.{ObjId.ObjId, SlotRef.SlotRef}
 use Rattle.machine.specs.declared.{cap.{Cap.Cap, Detail.{Detail, Detail as d}, Guard.Guard}, object.ObjectKind.ObjectKind}
 use Rattle.machine.specs.{declared.object.ObjectKind.ObjectKind as kind, Capabilities.{badged_of, kind_of_detail}, Lookup.lookup_of}
 use Rattle.machine.specs.{Machine.{Machine, cap_of}, Refusing.◌>>=◌, Step.Find.{find, find_cap, held_in, of_kind, permitted}}

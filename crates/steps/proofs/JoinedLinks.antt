@@ -4,11 +4,10 @@ use Rattle.std.proofs.{Common.{refl, subst, sym}, lemmas.List.Elements.{Contains
 use Rattle.std.proofs.lemmas.{List.{Elements.Contains-push_cases, Quantifiers.all_pairs_push}, Option.same_Some}
 use Rattle.base.specs.declared.ids.ObjId.{ObjId}
 use Rattle.machine.specs.declared.object.{Context.Context, Object.{Object, Object as o}, ObjectKind.ObjectKind, Reply.Reply}
-use Rattle.machine.specs.declared.object.ReplyState.{ReplyState}
-use Rattle.machine.specs.{declared.thread.{RunState.RunState, Tcb.Tcb}, Finalising.IsHolding, Machine.{Machine, object_of, queue_of}}
-use Rattle.machine.specs.WellFormed.{IsAlike, IsCallingThrough, IsIdle, IsReceivingWith, IsSending, IsThread, LinksAgree, WaitsAt}
-use Rattle.machine.{specs.WellFormed.{WaitsAtKind, kind_of}, proofs.{Idle.{idle_held_by_none, idle_in_none}, Ids.one_or_two, Leaving.Names}}
-use Rattle.machine.proofs.RemovalTable.{one_thread}
+use Rattle.machine.specs.{declared.{object.ReplyState.ReplyState, thread.{RunState.RunState, Tcb.Tcb}}, Finalising.IsHolding}
+use Rattle.machine.specs.{Machine.{Machine, object_of, queue_of}, WellFormed.{IsAlike, IsCallingThrough, IsIdle, IsReceivingWith}}
+use Rattle.machine.{specs.WellFormed.{IsSending, IsThread, LinksAgree, WaitsAt, WaitsAtKind, kind_of}, proofs.Idle.idle_held_by_none}
+use Rattle.machine.proofs.{Idle.idle_in_none, Ids.one_or_two, Leaving.Names, RemovalTable.one_thread}
 use Rattle.machine.specs.declared.object.ObjectKind.TheVariants as kind
 use Rattle.machine.specs.declared.object.ReplyState.TheVariants as reply
 use Rattle.machine.specs.declared.thread.RunState.TheVariants as state

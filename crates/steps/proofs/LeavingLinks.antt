@@ -56,7 +56,7 @@ pub record Becomes (who : Leavers) (thread : ObjId) (tcb : Tcb) : Type 0 where
   pub idle : who.leaves thread ≡ true → IsIdle (who.becomes thread tcb).state
   pub context : (who.becomes thread tcb).context ≡ (if who.unbinds thread then None else link_after who.goes tcb.context)
 
-pub record HaveLeft (old : Machine) (who : Leavers) (now : Machine) : Type 0 where
+pub record AreReleased (old : Machine) (who : Leavers) (now : Machine) : Type 0 where
   pub objects : (id : ObjId) → object_of now id ≡ (if who.goes id then None else option_map (object_left who id) (object_of old id))
   pub queues : (id : ObjId) → queue_of now id ≡ (if who.goes id then None else option_map (queue_left who) (queue_of old id))
   pub becomes : (thread : ObjId) (tcb : Tcb) → IsThread old thread tcb → who.goes thread ≡ false → Becomes who thread tcb
@@ -123,7 +123,7 @@ module _ (leaves : ObjId → Bool) (thread : ObjId) where
   held_was (reply.Called held) = by_test (reply.Called held) held (leaves held) refl (λ holds. holds)
   held_was reply.Free = λ is. absurd is
 
-module _ (old now : Machine) (who : Leavers) (have : HaveLeft old who now) where
+module _ (old now : Machine) (who : Leavers) (have : AreReleased old who now) where
   object_was :
       (id : ObjId) (object : Object) → object_of now id ≡ Some object
       → (was : Object) × (object_of old id ≡ Some was) × (who.goes id ≡ false) × (object_left who id was ≡ object)

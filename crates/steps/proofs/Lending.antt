@@ -3,8 +3,8 @@ use Rattle.std.{specs.Prelude.{None, Option, Some, if◌then◌else◌}, proofs.
 use Rattle.std.proofs.{Common.{sym, true}, lemmas.{Bool.{and_parts, false≢true}, Option.{none-some, same_Some}}}
 use Rattle.base.specs.declared.ids.ObjId.{ObjId}
 use Rattle.machine.specs.{declared.{object.Object.{Object, Object as o}, thread.{Lent.Lent, Tcb.Tcb}}, Machine.{Machine, object_of}}
-use Rattle.machine.specs.{Machine.same_id, Step.{Bind.{context_under, with_handed}, Reply.{gives_back, has_on_loan, lent_in}}}
-use Rattle.machine.{specs.{Step.{Reply.with_returned, Send.{lent_by, loan}}, WellFormed.{IsThread, IsWellFormed}}, proofs.LookUps.one_id}
+use Rattle.machine.specs.{Machine.same_id, Step.{Bind.{context_under, with_handed}, Reply.{gives_back, has_on_loan, loan_in}}}
+use Rattle.machine.{specs.{Step.{Reply.with_returned, Send.{loan_made, loan}}, WellFormed.{IsThread, IsWellFormed}}, proofs.LookUps.one_id}
 use Rattle.steps.proofs.ContextsFormed.{handed_there, with_handed_formed}
 
 -- a caller lends to a receiver what it runs on, and the receiver runs on nothing
@@ -23,7 +23,7 @@ loan_is (Some context) (Some other) borrower lent e = absurd (none-some lent e)
 loan_is None its borrower lent e = absurd (none-some lent e)
 
 pub lends :
-    (m : Machine) (caller receiver : ObjId) (lent : Lent) → lent_by m caller receiver ≡ Some lent → Lends m caller receiver lent
+    (m : Machine) (caller receiver : ObjId) (lent : Lent) → loan_made m caller receiver ≡ Some lent → Lends m caller receiver lent
 lends m caller receiver lent e =
     let w = loan_is (context_under (object_of m caller)) (context_under (object_of m receiver)) receiver lent e in
     record { runs = w.0; free = w.1; borrower = w.2 }
@@ -32,7 +32,7 @@ lends m caller receiver lent e =
 pub record GivesBack (m : Machine) (invoker called : ObjId) : Type 0 where
   pub context : ObjId
   pub runs : context_under (object_of m invoker) ≡ Some context
-  pub lent : lent_in (object_of m called) ≡ Some (record { context = context; borrower = invoker })
+  pub lent : loan_in (object_of m called) ≡ Some (record { context = context; borrower = invoker })
   pub free : context_under (object_of m called) ≡ None
 
 on_loan :
@@ -50,7 +50,7 @@ on_loan borrower (Some context) (Some lent) (Some other) e = absurd (false≢tru
 pub gives_back_is : (m : Machine) (invoker called : ObjId) → gives_back m invoker called ≡ true → GivesBack m invoker called
 gives_back_is m invoker called e =
     let w =
-    on_loan invoker (context_under (object_of m invoker)) (lent_in (object_of m called)) (context_under (object_of m called)) e in
+    on_loan invoker (context_under (object_of m invoker)) (loan_in (object_of m called)) (context_under (object_of m called)) e in
     record { context = w.0; runs = w.1; lent = w.2; free = w.3 }
 
 -- what runs on a context is a thread

@@ -4,8 +4,8 @@ use Rattle.std.proofs.{Common.{inl, inr, refl, subst, sym, true}, lemmas.{Bool.a
 use Rattle.base.specs.declared.ids.ObjId.{ObjId}
 use Rattle.machine.specs.{declared.{object.{Context.Context, Object.{Object, Object as o}}, thread.{Lent.Lent, Tcb.Tcb}}, Finalising.halted}
 use Rattle.machine.specs.{Machine.{Machine, object_of, same_id}, Releasing.{given, with_called, with_halted, with_released}}
-use Rattle.machine.specs.Step.{Bind.{context_under, with_handed}, Reply.{answered, gives_back, has_on_loan, lent_in, with_returned}}
-use Rattle.machine.{specs.{Step.Send.{called_through, lent_by, with_lent}, WellFormed.{IsFree, IsThread, IsWellFormed}}, proofs.Ids.itself}
+use Rattle.machine.specs.Step.{Bind.{context_under, with_handed}, Reply.{answered, gives_back, has_on_loan, loan_in, with_returned}}
+use Rattle.machine.{specs.{Step.Send.{called_through, loan_made, with_lent}, WellFormed.{IsFree, IsThread, IsWellFormed}}, proofs.Ids.itself}
 use Rattle.machine.proofs.{Ids.one_or_two, Leaving.freed, LookUps.one_id}
 use Rattle.machine.specs.declared.thread.RunState.TheVariants as state
 use Rattle.steps.proofs.{ContextsFormed.{handed_from, handed_other, handed_there}, Joins.IsJoined, Lending.{GivesBack, Lends, lends}}
@@ -59,10 +59,10 @@ module _ (m : Machine) (thread id : ObjId) (lent : Option Lent) (tcb : Tcb) (for
 module _ (m : Machine) (caller receiver id : ObjId) (tcb its : Tcb) (words : List ℕ) (formed : IsWellFormed m)
     (there : IsThread m caller tcb) (receives : IsThread m receiver its) (apart : caller ≢ receiver) (free : IsFree m id) where
   abbrev lending : Machine
-  lending = with_called (with_halted m caller) caller (record { reply = id; lent = lent_by m caller receiver })
+  lending = with_called (with_halted m caller) caller (record { reply = id; lent = loan_made m caller receiver })
 
   abbrev lender : Tcb
-  lender = record tcb { state = state.Called (record { reply = id; lent = lent_by m caller receiver }) }
+  lender = record tcb { state = state.Called (record { reply = id; lent = loan_made m caller receiver }) }
 
   abbrev next : Machine
   next = called_through m caller receiver (Some id)
@@ -85,7 +85,7 @@ module _ (m : Machine) (caller receiver id : ObjId) (tcb its : Tcb) (words : Lis
   receiver_is = lending_receiver m caller receiver tcb its formed there receives apart id free
 
   lending_under : (q : ObjId) → context_under (object_of lending q) ≡ context_under (object_of m q)
-  lending_under = waits_under m caller id (lent_by m caller receiver) tcb formed there free
+  lending_under = waits_under m caller id (loan_made m caller receiver) tcb formed there free
 
   answered_under :
       (now : Tcb) → IsThread next caller now → (q : ObjId) → context_under (object_of last q) ≡ context_under (object_of returned q)
@@ -95,7 +95,7 @@ module _ (m : Machine) (caller receiver id : ObjId) (tcb its : Tcb) (words : Lis
       (given (record { badge = 0; words = words; capability = false })) (returned_formed next receiver caller next_formed) w.1
       refl q
 
-  none_lent : lent_by m caller receiver ≡ None → (q : ObjId) → context_under (object_of last q) ≡ context_under (object_of m q)
+  none_lent : loan_made m caller receiver ≡ None → (q : ObjId) → context_under (object_of last q) ≡ context_under (object_of m q)
   none_lent e q = answered_under lender next_caller q ∙ by_case (returned_or_same next receiver caller) where
     next_is : next ≡ lending
     next_is = ap (λ (lent : Option Lent). with_lent lending caller lent) e
@@ -106,23 +106,23 @@ module _ (m : Machine) (caller receiver id : ObjId) (tcb its : Tcb) (words : Lis
     by_case :
         (GivesBack next receiver caller × (returned ≡ with_handed next receiver caller)) ⊎ (returned ≡ next)
         → context_under (object_of returned q) ≡ context_under (object_of m q)
-    by_case (inl w) = absurd (none-some _ (sym (ap lent_in next_caller ∙ e) ∙ (w.0).lent))
+    by_case (inl w) = absurd (none-some _ (sym (ap loan_in next_caller ∙ e) ∙ (w.0).lent))
     by_case (inr same) = ap (λ (n : Machine). context_under (object_of n q)) (same ∙ next_is) ∙ lending_under q
 
   -- what is lent goes there and back
-  module _ (lent : Lent) (loans : lent_by m caller receiver ≡ Some lent) where
-    loan_made : Lends m caller receiver lent
-    loan_made = lends m caller receiver lent loans
+  module _ (lent : Lent) (loans : loan_made m caller receiver ≡ Some lent) where
+    made_loan : Lends m caller receiver lent
+    made_loan = lends m caller receiver lent loans
 
     next_is : next ≡ with_handed lending caller receiver
     next_is =
-        ap (λ (what : Option Lent). with_lent lending caller what) loans ∙ ap (with_handed lending caller) loan_made.borrower
+        ap (λ (what : Option Lent). with_lent lending caller what) loans ∙ ap (with_handed lending caller) made_loan.borrower
 
     runs : lender.context ≡ Some lent.context
-    runs = ap context_under (sym there) ∙ loan_made.runs
+    runs = ap context_under (sym there) ∙ made_loan.runs
 
     receiver_free : context_under (object_of lending receiver) ≡ None
-    receiver_free = lending_under receiver ∙ loan_made.free
+    receiver_free = lending_under receiver ∙ made_loan.free
 
     lent_there : (context : Context) × (object_of lending lent.context ≡ Some (o.Context context)) × (context.thread ≡ Some caller)
     lent_there =
@@ -150,10 +150,10 @@ module _ (m : Machine) (caller receiver id : ObjId) (tcb its : Tcb) (words : Lis
 
     gives : gives_back next receiver caller ≡ true
     gives =
-        (λ i. has_on_loan receiver (context_under (next_receiver i)) (lent_in (next_caller i)) (context_under (next_caller i)))
+        (λ i. has_on_loan receiver (context_under (next_receiver i)) (loan_in (next_caller i)) (context_under (next_caller i)))
         ∙ (λ i. has_on_loan receiver (Some lent.context) (loans i) None)
         ∙ and_from (same_id lent.borrower receiver) (same_id lent.context lent.context)
-        (ap (λ (p : ObjId). same_id p receiver) loan_made.borrower ∙ itself receiver) (itself lent.context)
+        (ap (λ (p : ObjId). same_id p receiver) made_loan.borrower ∙ itself receiver) (itself lent.context)
 
     returned_is : returned ≡ with_handed next receiver caller
     returned_is = ap (λ (b : Bool). if b then with_handed next receiver caller else next) gives
@@ -179,14 +179,14 @@ module _ (m : Machine) (caller receiver id : ObjId) (tcb its : Tcb) (words : Lis
               ∙ ap context_under
               (handed_there next receiver lent.context caller (record its { context = Some lent.context }) back_there.0
               next_receiver refl back_there.1 (ap context_under next_caller) (record lender { context = None }) next_caller)
-              ∙ sym loan_made.runs
+              ∙ sym made_loan.runs
               ∙ ap (λ (p : ObjId). context_under (object_of m p)) (sym same)
           by_id (inr not_caller) (inl same) =
               ap (λ (p : ObjId). context_under (object_of back p)) same
               ∙ ap context_under
               (handed_from next receiver lent.context caller (record its { context = Some lent.context }) back_there.0
               next_receiver refl back_there.1 (ap context_under next_caller) (record lender { context = None }) next_caller)
-              ∙ sym loan_made.free
+              ∙ sym made_loan.free
               ∙ ap (λ (p : ObjId). context_under (object_of m p)) (sym same)
           by_id (inr not_caller) (inr not_receiver) =
               handed_other next receiver lent.context caller (record its { context = Some lent.context }) back_there.0
@@ -195,8 +195,8 @@ module _ (m : Machine) (caller receiver id : ObjId) (tcb its : Tcb) (words : Lis
               ∙ next_other q not_caller not_receiver
 
   pub loans_return : (q : ObjId) → context_under (object_of last q) ≡ context_under (object_of m q)
-  loans_return q = by_loan (lent_by m caller receiver) refl where
+  loans_return q = by_loan (loan_made m caller receiver) refl where
     by_loan :
-        (lent : Option Lent) → lent_by m caller receiver ≡ lent → context_under (object_of last q) ≡ context_under (object_of m q)
+        (lent : Option Lent) → loan_made m caller receiver ≡ lent → context_under (object_of last q) ≡ context_under (object_of m q)
     by_loan None e = none_lent e q
     by_loan (Some lent) e = some_lent lent e q

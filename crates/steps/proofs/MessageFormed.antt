@@ -14,8 +14,7 @@ use Rattle.machine.specs.declared.object.ReplyState.TheVariants as reply
 use Rattle.machine.specs.declared.thread.Inbox.TheVariants as inbox
 use Rattle.machine.specs.declared.thread.RunState.TheVariants as state
 use Rattle.steps.proofs.{JoinedLinks.{FitsIn, links_joined}, Joins.{IsJoined, awaiting_joins, blocked_joins, called_joins, joined_steady}}
-use Rattle.steps.proofs.{Joins.waits_at_one, Outlines.steady_formed, Releases.{links_released, released_is, released_steady}}
-use Rattle.steps.proofs.Releases.{reply_freed}
+use Rattle.steps.proofs.{Joins.waits_at_one, Outlines.steady_formed, Releases.{links_released, released_is, released_steady, reply_freed}}
 
 -- a thread leaves its queue and its reply
 pub released_formed :

@@ -7,7 +7,7 @@ use Rattle.machine.specs.declared.thread.{Calling.Calling, Lent.Lent, Message.Me
 use Rattle.machine.specs.{declared.thread.{Sending.Sending, Tcb.Tcb}, Finalising.halted, Machine.{Machine, object_of}}
 use Rattle.machine.specs.{Objects.kind_of_object, Releasing.{given, ready, with_called, with_given, with_halted, with_ready}}
 use Rattle.machine.specs.Step.{Bind.context_under, Deliver.{answer_through, arrival_of, delivered, linked, message_of, sending_by, sent}}
-use Rattle.machine.specs.Step.{Deliver.with_arrival, Receive.with_reply_ended, Reply.with_returned, Send.{called_through, lent_by}}
+use Rattle.machine.specs.Step.{Deliver.with_arrival, Receive.with_reply_ended, Reply.with_returned, Send.{called_through, loan_made}}
 use Rattle.machine.specs.{Step.Send.with_lent, WellFormed.{IsFree, IsIdle, IsReceivingWith, IsThread, IsWellFormed}}
 use Rattle.machine.specs.declared.object.ReplyState.TheVariants as reply
 use Rattle.machine.specs.declared.thread.RunState.TheVariants as state
@@ -86,23 +86,23 @@ module _ (m : Machine) (caller receiver : ObjId) (tcb its : Tcb) (formed : IsWel
     (receives : IsThread m receiver its) (apart : caller ≢ receiver) where
   -- it waits for its answer, and what it lends is still its own
   abbrev pub lending : ObjId → Machine
-  lending id = with_called (with_halted m caller) caller (record { reply = id; lent = lent_by m caller receiver })
+  lending id = with_called (with_halted m caller) caller (record { reply = id; lent = loan_made m caller receiver })
 
   module _ (id : ObjId) (free : IsFree m id) where
     pub lending_formed : IsWellFormed (lending id)
-    lending_formed = waits_formed m caller id (lent_by m caller receiver) tcb formed there free
+    lending_formed = waits_formed m caller id (loan_made m caller receiver) tcb formed there free
 
     pub lending_there :
         IsThread (lending id) caller
-        (record tcb { state = state.Called (record { reply = id; lent = lent_by m caller receiver }) })
-    lending_there = waits_there m caller id (lent_by m caller receiver) tcb formed there free
+        (record tcb { state = state.Called (record { reply = id; lent = loan_made m caller receiver }) })
+    lending_there = waits_there m caller id (loan_made m caller receiver) tcb formed there free
 
     pub lending_receiver : IsThread (lending id) receiver its
     lending_receiver =
-        waits_other m caller id (lent_by m caller receiver) tcb formed there free receiver its (λ same. apart (sym same))
+        waits_other m caller id (loan_made m caller receiver) tcb formed there free receiver its (λ same. apart (sym same))
         receives
 
-    module _ (lent : Lent) (loans : lent_by m caller receiver ≡ Some lent) where
+    module _ (lent : Lent) (loans : loan_made m caller receiver ≡ Some lent) where
       pub lending_runs : context_under (object_of (lending id) caller) ≡ Some lent.context
       lending_runs =
           ap context_under lending_there ∙ ap context_under (sym there) ∙ (lends m caller receiver lent loans).runs
@@ -118,8 +118,8 @@ module _ (m : Machine) (caller receiver : ObjId) (tcb its : Tcb) (formed : IsWel
       (through : Option ObjId) → ((id : ObjId) → through ≡ Some id → IsFree m id)
       → IsWellFormed (called_through m caller receiver through)
   called_through_formed None free = (halted_between m caller tcb formed there).0
-  called_through_formed (Some id) free = by_loan (lent_by m caller receiver) refl where
-    by_loan : (lent : Option Lent) → lent_by m caller receiver ≡ lent → IsWellFormed (with_lent (lending id) caller lent)
+  called_through_formed (Some id) free = by_loan (loan_made m caller receiver) refl where
+    by_loan : (lent : Option Lent) → loan_made m caller receiver ≡ lent → IsWellFormed (with_lent (lending id) caller lent)
     by_loan None e = lending_formed id (free id refl)
     by_loan (Some lent) e =
         with_handed_formed (lending id) caller lent.borrower (lending_formed id (free id refl))

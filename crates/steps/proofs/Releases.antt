@@ -1,16 +1,14 @@
 -- What changes where a thread leaves its queue and its reply: read off the machine as it was, object by object and queue by
 -- queue; and links agree where it is idle then.
+use Rattle.std.{specs.Prelude.{None, Option, Some, if◌then◌else◌, is_some, length, option_map}, proofs.Common.{◌∙◌, ◌≡◌, ◌≢◌, ◌⊎◌, Bool}}
+use Rattle.std.proofs.{Common.{List, ap, cond, false, inl, inr, refl, subst, sym, true}, lemmas.Bool.false≢true}
 use Rattle.std.specs.FinMap as map
-use Rattle.std.{specs.Prelude.{None, Option, Some, if◌then◌else◌, is_some, length, option_map}, proofs.Common.{◌∙◌, ◌≡◌, ◌≢◌}}
-use Rattle.std.proofs.{Common.{◌⊎◌, Bool, List, ap, cond, false, inl, inr, refl, subst, sym, true}}
-use Rattle.std.proofs.lemmas.Bool.{false≢true}
-use Rattle.machine.proofs.{LookUps.one_id, RemovalTable.one_thread}
 use Rattle.base.specs.declared.ids.{ObjId.ObjId, SlotRef.SlotRef}
 use Rattle.machine.specs.declared.{object.{Object.{Object, Object as o}, Reply.Reply, ReplyState.ReplyState}, thread.Tcb.Tcb}
-use Rattle.machine.specs.{Finalising.{IsHolding}, Machine.{Machine, cap_of, object_of, parent_of, queue_of, same_id, words_of}}
+use Rattle.machine.specs.{Finalising.IsHolding, Machine.{Machine, cap_of, object_of, parent_of, queue_of, same_id, words_of}}
 use Rattle.machine.{specs.{Releasing.{SameRest, with_released}, WellFormed.{IsIdle, IsThread, LinksAgree}}, proofs.HeldThreads.links_of}
-use Rattle.machine.proofs.{Ids.{at_itself, at_other, one_or_two}, Leaving.{freed, held_freed, others_kept}}
-use Rattle.machine.proofs.{Leaving.{released_objects, released_queues, released_rest, released_there, without}}
+use Rattle.machine.proofs.{Ids.{at_itself, at_other, one_or_two}, Leaving.{freed, held_freed, others_kept, released_objects}}
+use Rattle.machine.proofs.{Leaving.{released_queues, released_rest, released_there, without}, LookUps.one_id, RemovalTable.one_thread}
 use Rattle.machine.specs.declared.object.ReplyState.TheVariants as reply
 use Rattle.machine.specs.declared.thread.Inbox.TheVariants as inbox
 use Rattle.machine.specs.declared.thread.RunState.TheVariants as state

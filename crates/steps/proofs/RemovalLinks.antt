@@ -1,15 +1,14 @@
 -- A removal is a set of threads that leave their queues and their replies, and of objects that go.
-use Rattle.std.{specs.Prelude.{◌||◌, None, Option, Some, option_map}, proofs.Common.{◌∙◌, ◌≡◌, Bool, ap, cond, false, refl, sym}}
-use Rattle.std.proofs.{Common.true, lemmas.Bool.false≢true}
+use Rattle.std.{specs.Prelude.{◌||◌, None, Option, Some, option_map}, proofs.Common.{◌∙◌, ◌≡◌, Bool, ap, cond, false, refl, sym, true}}
+use Rattle.std.proofs.lemmas.Bool.{false≢true}
 use Rattle.base.specs.declared.ids.{ObjId.ObjId, SlotRef.SlotRef}
 use Rattle.machine.specs.declared.object.{Object.{Object, Object as o}, ReplyState.{ReplyState, ReplyState as reply}}
 use Rattle.machine.specs.{declared.thread.{RunState.{RunState, RunState as state}, Tcb.Tcb}, Finalising.{aborted, finalised, halted}}
-use Rattle.machine.specs.Finalising.{is_aborted, is_halted, is_released, leads_nowhere, leaves, link_after, reply_after}
-use Rattle.machine.specs.{Finalising.{tcb_after, unbound}, Machine.{Machine, object_of}, Releasing.reply_by}
-use Rattle.machine.specs.{Removal.{removed, vanishes}, WellFormed.{IsIdle, IsThread}}
+use Rattle.machine.specs.Finalising.{is_aborted, is_halted, is_released, leads_nowhere, leaves, link_after, reply_after, tcb_after, unbound}
+use Rattle.machine.specs.{Machine.{Machine, object_of}, Releasing.reply_by, Removal.{removed, vanishes}, WellFormed.{IsIdle, IsThread}}
 use Rattle.machine.proofs.{Leaving.Names, RemovalLooks.{object_of-removed, queue_of-removed}, RemovalTable.waits_aborted}
 use Rattle.machine.proofs.RoundLemmas.{or_second}
-use Rattle.steps.proofs.LeavingLinks.{Becomes, HaveLeft, Leavers, object_left}
+use Rattle.steps.proofs.LeavingLinks.{Becomes, AreReleased, Leavers, object_left}
 
 -- a run state that names a vanished reply is halted
 names_halted :
@@ -79,7 +78,7 @@ module _ (m : Machine) (chosen : SlotRef → Bool) where
   finalised_left id (Some (o.Context context)) = refl
   finalised_left id (Some _) = refl
 
-  pub have_left : HaveLeft m leavers (removed m chosen)
+  pub have_left : AreReleased m leavers (removed m chosen)
   have_left =
       record {
         objects =

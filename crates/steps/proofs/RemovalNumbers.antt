@@ -3,9 +3,8 @@ use Rattle.std.{specs.Prelude.Some, proofs.Common.{◌<◌, ◌∙◌, ◌≡◌
 use Rattle.base.specs.declared.ids.{ObjId.ObjId, SlotRef.SlotRef}
 use Rattle.machine.specs.{declared.object.{Object.{Object, Object as o}, Untyped.Untyped}, Finalising.finalised, Machine.Machine}
 use Rattle.machine.specs.{Machine.object_of, Objects.{address_of, end_of}, Removal.{removed, vanishes}, WellFormed.{IsRanged, IsWellFormed}}
-use Rattle.machine.specs.WellFormed.{LiesIn, Meets, NumbersFit}
-use Rattle.machine.proofs.{RemovalLooks.{going-removed, next-removed}, RemovalStays.cap_stays}
-use Rattle.machine.proofs.RemovalStays.{cap_was, descends_now, like_finalised, object_was, untyped_was}
+use Rattle.machine.{specs.WellFormed.{LiesIn, Meets, NumbersFit}, proofs.RemovalLooks.{going-removed, next-removed}}
+use Rattle.machine.proofs.RemovalStays.{cap_stays, cap_was, descends_now, like_finalised, object_was, untyped_was}
 use Rattle.steps.proofs.{LeavingLinks.links_left, RemovalLinks.{have_left, leavers}, RemovalSlots.{parts_fit, slots_fit}}
 
 module _ (m : Machine) (chosen : SlotRef → Bool) (formed : IsWellFormed m) where

@@ -1,13 +1,12 @@
 -- Slots, the parts of objects, and numbers and ranges of a well-formed machine fit after a removal.
-use Rattle.std.{specs.Prelude.{ℕ, None, Some}, proofs.Common.{◌<◌, ◌∙◌, ◌≡◌, Bool, List, ap, arith, cond}}
-use Rattle.std.proofs.{Common.{false, inl, inr, refl, subst, sym, true}, lemmas.Option.{none-some, same_Some}}
+use Rattle.std.{specs.Prelude.{ℕ, None, Some}, proofs.Common.{◌<◌, ◌∙◌, ◌≡◌, Bool, List, ap, arith, cond, false, inl, inr, refl, subst}}
+use Rattle.std.proofs.{Common.{sym, true}, lemmas.Option.{none-some, same_Some}}
 use Rattle.base.specs.declared.ids.{ObjId.ObjId, SlotRef.SlotRef}
 use Rattle.machine.specs.{declared.{cap.Cap.Cap, object.{Object.{Object, Object as o}, Untyped.Untyped}}, Finalising.finalised}
-use Rattle.machine.specs.{Finalising.staying_in, Machine.{Machine, cap_of, object_of, words_of}}
-use Rattle.machine.specs.{Objects.{slot_count, word_count}, Removal.{removed, vanishes}, WellFormed.{Descends, IsWellFormed, LiesIn}}
-use Rattle.machine.{specs.WellFormed.{PartsFit, SlotsFit, child, further, kind_of}}
-use Rattle.machine.proofs.{RemovalLooks.words_of-removed, RemovalStays.{cap_now, cap_was, descends_was, holder_stays, like_finalised}}
-use Rattle.machine.proofs.{RemovalStays.{object_stays, object_was, parent_was}, RemovalTable.finalised_there}
+use Rattle.machine.specs.{Finalising.staying_in, Machine.{Machine, cap_of, object_of, words_of}, Objects.{slot_count, word_count}}
+use Rattle.machine.specs.{Removal.{removed, vanishes}, WellFormed.{Descends, IsWellFormed, LiesIn, PartsFit, SlotsFit, child, further}}
+use Rattle.machine.{specs.WellFormed.kind_of, proofs.{RemovalLooks.words_of-removed, RemovalStays.{cap_now, cap_was, descends_was}}}
+use Rattle.machine.proofs.{RemovalStays.{holder_stays, like_finalised, object_stays, object_was, parent_was}, RemovalTable.finalised_there}
 use Rattle.steps.proofs.{LeavingLinks.{kind_now, queue_now, queue_was}, RemovalLinks.{have_left, leavers}, SameObjects.Kin}
 
 -- what lies in memory that lies in other memory lies there

@@ -7,8 +7,7 @@ use Rattle.machine.specs.{Capabilities.kind_of_detail, Lookup.root_of, Machine.{
 use Rattle.machine.specs.{Step.{Delete.deleted, Space.{with_root, without_root}}, Tree.{copied, with_copy}, WellFormed.IsWellFormed}
 use Rattle.machine.{specs.WellFormed.kind_of, proofs.{Exchange.slot_itself, RemovalStays.cap_was}}
 use Rattle.steps.proofs.{FillsFormed.{Takes, fills_formed}, FoundObjects.tcb_of_kind, RemovalNumbers.removed_formed}
-use Rattle.steps.proofs.RemovalRows.{chosen_empty}
-use Rattle.steps.proofs.{SlotRows.with_copy_fills, SpaceRow.{ClearDone, RootFilled, SetDone, root_filled}}
+use Rattle.steps.proofs.{RemovalRows.chosen_empty, SlotRows.with_copy_fills, SpaceRow.{ClearDone, RootFilled, SetDone, root_filled}}
 
 -- a root slot that is cleared
 

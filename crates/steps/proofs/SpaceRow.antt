@@ -1,10 +1,9 @@
 -- What a clearspace and a setspace do that are made: the thread that they found, the CNode's capability, and the machine after it.
-use Rattle.std.{specs.Prelude.{None, Ok, Option, Some}, proofs.Common.{ℕ, ◌∙◌, ◌≡◌, ◌⊎◌, ap, inl, inr, refl, sym}}
+use Rattle.std.{specs.Prelude.{None, Ok, Option, Some}, proofs.Common.{ℕ, ◌≡◌, ◌⊎◌, ap, inl, inr, refl, sym}}
 use Rattle.base.specs.declared.ids.{ObjId.ObjId, SlotRef.SlotRef}
-use Rattle.machine.specs.{declared.{call.Made.Made, cap.{Cap.Cap, Detail.Detail as d, Guard.Guard}}, Lookup.root_of}
-use Rattle.machine.specs.{Machine.{Machine, cap_of}, Step.{Find.find, Space.{clear_space_of, set_space_of}}}
+use Rattle.machine.specs.{declared.{call.Made.Made, cap.{Cap.Cap, Detail.Detail as d, Guard.Guard}}, Lookup.root_of, Machine.Machine}
+use Rattle.machine.specs.{Machine.cap_of, Step.{Find.find, Space.{clear_space_of, set_space_of, with_root, without_root}}, Tree.with_copy}
 use Rattle.machine.specs.declared.object.ObjectKind.TheVariants as kind
-use Rattle.machine.specs.{Step.Space.{with_root, without_root}, Tree.with_copy}
 use Rattle.steps.proofs.{Conditions.{both_done, same_ok}, Finding.{FindsCap, FindsObject, finds}}
 
 pub record ClearDone (m : Machine) (caller : ObjId) (address : ℕ) (next : Machine) : Type 0 where

@@ -1,5 +1,4 @@
 pub mod Pieces
 mod LetterSets
-mod Found
 mod Waiting
 mod Written

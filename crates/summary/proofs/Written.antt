@@ -1,10 +1,9 @@
 -- Texts that are written one after the other.
-use Rattle.std.specs.{Bool.if◌then◌else◌, Prelude.{OnOk, codes}, Result.is_ok}
-use Rattle.std.proofs.Common.{[], ℕ, ◌++◌, ◌∙◌, ◌∷◌, ◌≡◌, Err, List, Ok, Result, ap, append_assoc, false, refl, sym, true}
+use Rattle.std.{specs.{Bool.if◌then◌else◌, Prelude.{OnOk, codes}, Result.is_ok}, proofs.Common.{[], ℕ, ◌++◌, ◌∙◌, ◌∷◌, ◌≡◌, Err, List, Ok}}
+use Rattle.std.proofs.Common.{Result, ap, append_assoc, false, refl, sym, true}
 use Rattle.machine.specs.Layout.{Layout}
-use Rattle.summary.specs.declared.rows.Row.{Row}
-use Rattle.summary.specs.Padding.{given}
-use Rattle.summary.specs.Regions.{also_text, changers, group_of, group_text, is_nil, leads, names_text, readers, readers_text, users_text}
+use Rattle.summary.specs.{declared.rows.Row.Row, Padding.given, Regions.{also_text, changers, group_of, group_text, is_nil, leads}}
+use Rattle.summary.specs.Regions.{names_text, readers, readers_text, users_text}
 use mathlib.Core.Bool.{false≢true}
 
 -- a text is longer by a piece, if there was memory for it

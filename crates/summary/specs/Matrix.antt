@@ -1,11 +1,10 @@
 -- The text of the matrix of who may change whom (confine's own): blocks of columns, each with a head, and a line for each row.
-use Rattle.std.specs.{Fmt.decimal, List.{flat_map, fold, range_with_len}}
-use Rattle.std.specs.Prelude.{[], ℕ, ◌%◌, ◌++◌, ◌-◌, ◌/◌, ◌==◌, List, codes, drop, if◌then◌else◌, length, max, not, take}
+use Rattle.std.specs.{Fmt.decimal, List.{flat_map, fold, range_with_len}, Prelude.{[], ℕ, ◌%◌, ◌++◌, ◌-◌, ◌/◌, ◌==◌, List, codes, drop}}
+use Rattle.std.specs.Prelude.{if◌then◌else◌, length, max, not, take}
 use Rattle.base.specs.Labels.{is_in}
 use Rattle.machine.specs.Layout.{Layout}
 use Rattle.captext.specs.PolicyText.{label_name}
-use Rattle.summary.specs.Padding.{given, pad_left, pad_right}
-use Rattle.summary.specs.declared.{lines.Page.Page, rows.Row.Row}
+use Rattle.summary.specs.{declared.{lines.Page.Page, rows.Row.Row}, Padding.{given, pad_left, pad_right}}
 
 -- the letters of the reasons by which the one may change the other
 abbrev pub letters : Row → ℕ → List ℕ

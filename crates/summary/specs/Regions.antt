@@ -1,11 +1,10 @@
 -- The text about labels without a thread (confine's own): those with the same users in one line, and below it who these are.
-use Rattle.std.specs.List.{filter, flat_map, list_all, list_any}
-use Rattle.std.specs.Prelude.{[], ℕ, ◌&&◌, ◌++◌, ◌∷◌, Bool, List, codes, false, if◌then◌else◌, map, nat_lt, not, true}
+use Rattle.std.specs.{List.{filter, flat_map, list_all, list_any}, Prelude.{[], ℕ, ◌&&◌, ◌++◌, ◌∷◌, Bool, List, codes, false}}
+use Rattle.std.specs.Prelude.{if◌then◌else◌, map, nat_lt, not, true}
 use Rattle.base.specs.Labels.{is_in}
 use Rattle.machine.specs.Layout.{Layout}
 use Rattle.captext.specs.PolicyText.{label_name}
-use Rattle.summary.specs.Padding.{given}
-use Rattle.summary.specs.declared.rows.Row.{Row}
+use Rattle.summary.specs.{declared.rows.Row.Row, Padding.given}
 
 -- two tests agree
 abbrev pub is_same : Bool → Bool → Bool

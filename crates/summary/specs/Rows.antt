@@ -1,11 +1,10 @@
 -- The rows of the matrix: what a label with a thread has to do with others (confine's own).
-use Rattle.std.specs.List.{range_with_len}
-use Rattle.std.specs.Prelude.{ℕ, ◌↔◌, ◌≡◌, All, List, length, map, true}
+use Rattle.std.specs.{List.range_with_len, Prelude.{ℕ, ◌↔◌, ◌≡◌, All, List, length, map, true}}
 use Rattle.base.specs.Labels.{is_in}
 use Rattle.machine.specs.Layout.{Layout}
 use Rattle.verdict.specs.Extents.{ActingSystem, MayChangeIn, MayShrinkIn, Reach, reach_of}
-use Rattle.summary.specs.{Labelled.programs_of, Letters.{HasLetter, by_answer, by_call, by_other, by_signal}, Sharing.{SharesMemory, reads_of}}
-use Rattle.summary.specs.declared.rows.Row.{Row}
+use Rattle.summary.specs.{declared.rows.Row.Row, Labelled.programs_of, Letters.{HasLetter, by_answer, by_call, by_other, by_signal}}
+use Rattle.summary.specs.Sharing.{SharesMemory, reads_of}
 
 -- a row says what threads of its label may do to objects of each other label
 pub record IsRowOf (t : Layout) (reach : Reach) (row : Row) : Type 0 where

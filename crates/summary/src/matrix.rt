@@ -1,9 +1,7 @@
 //! The matrix of who may change whom: blocks of columns, each with a head and all rows.
 ghost use Rattle.std.specs.{List.flat_map, Prelude.{◌++◌, ◌<◌, ◌≡◌, IfOk, OnOk, length, string_bytes}};
 ghost use Rattle.summary.specs.Matrix.{block_from, cell_text, extent_text, head_text, letters, line_text, marks};
-ghost use Rattle.summary.specs.Matrix.{matrix_text};
-ghost use Rattle.summary.specs.Padding.{given};
-ghost use Rattle.summary.specs.Matrix.{number_text, start_text};
+ghost use Rattle.summary.specs.{Matrix.{matrix_text, number_text, start_text}, Padding.given};
 
 use crate::lines::{Page, columns, shown_from};
 use crate::padding::{digits, push_at_left, push_at_right};

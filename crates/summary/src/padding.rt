@@ -1,6 +1,5 @@
 //! Texts that are filled up with spaces to a width.
-ghost use Rattle.std.specs.Prelude.{◌++◌, ◌≡◌, IfOk, OnOk, replicate, string_bytes};
-ghost use Rattle.std.specs.Fmt.{decimal};
+ghost use Rattle.std.specs.{Fmt.decimal, Prelude.{◌++◌, ◌≡◌, IfOk, OnOk, replicate, string_bytes}};
 ghost use Rattle.summary.specs.Padding.{pad_left, pad_right};
 
 use std::alloc::{AllocError, Global};

@@ -1,8 +1,7 @@
 //! The labels without a thread, with those who change and read them.
 ghost use Rattle.std.specs.{List.{flat_map, list_any}, Prelude.{◌++◌, ◌≡◌, IfOk, OnOk, string_bytes}};
 ghost use Rattle.summary.specs.Regions.{also_text, changers, group_of, group_text, has_same_users, is_leader, is_nil};
-ghost use Rattle.summary.specs.Regions.{leads};
-ghost use Rattle.summary.specs.Regions.{more_name, names_text, readers, readers_text, regions_text, users_text};
+ghost use Rattle.summary.specs.Regions.{leads, more_name, names_text, readers, readers_text, regions_text, users_text};
 
 use crate::rows::Row;
 use base::Label;

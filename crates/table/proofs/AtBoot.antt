@@ -4,7 +4,7 @@ use Rattle.std.proofs.{Common.{refl, subst, sym, true}, lemmas.{Bool.Decides.Dec
 use Rattle.std.proofs.lemmas.Option.{same_Some, slice_get_within}
 use Rattle.base.specs.declared.{ids.ObjId.ObjId, kind.Kind.Kind}
 use Rattle.machine.specs.declared.{layout.Initial.Initial, object.Object.Object, thread.RunState.{RunState, RunState as state}}
-use Rattle.machine.specs.{Authority.{label_at, label_of, lent_of, state_links}, Boot.{IsBoot, booted, bound}, Layout.Layout}
+use Rattle.machine.specs.{Authority.{label_at, label_of, context_lent, state_links}, Boot.{IsBoot, booted, bound}, Layout.Layout}
 use Rattle.machine.specs.{Layout.{declared_label, initial_of}, Machine.{Machine, object_of}, Objects.{address_of, kind_of_object}}
 use Rattle.machine.{specs.WellFormed.kind_of, proofs.Bound.kind-bound}
 use Rattle.table.specs.Rules.{IsAtRest, IsLawful, IsObjectOf, kind_at}
@@ -75,7 +75,7 @@ rest_links state.Inactive k end rest = refl
 rest_links _ k end rest = absurd rest
 
 -- and lends nothing
-pub rest_lends : (run : RunState) → IsAtRest run → lent_of run ≡ None
+pub rest_lends : (run : RunState) → IsAtRest run → context_lent run ≡ None
 rest_lends state.Ready rest = refl
 rest_lends state.Inactive rest = refl
 rest_lends _ rest = absurd rest

@@ -1,7 +1,6 @@
 //! Names with their numbers.
-ghost use Rattle.std.specs.Option.{option_copied};
-ghost use Rattle.std.specs.Prelude.{[], ◌++◌, ◌<◌, ◌∷◌, ◌≡◌, OnErr, OnOk, false, is_some, length, position, slice_get};
-ghost use Rattle.std.specs.Str.{bytes_eq};
+ghost use Rattle.std.specs.{Option.option_copied, Prelude.{[], ◌++◌, ◌<◌, ◌∷◌, ◌≡◌, OnErr, OnOk, false, is_some}};
+ghost use Rattle.std.specs.{Prelude.{length, position, slice_get}, Str.bytes_eq};
 
 use indexmap::IndexSet;
 use std::alloc::{AllocError, Global};

@@ -1,8 +1,7 @@
 //! The objects of a capability table, with their names and addresses.
-ghost use Rattle.std.specs.{List.list_any, Option.option_copied};
-ghost use Rattle.std.specs.Prelude.{[], ◌++◌, ◌+◌, ◌<◌, ◌∷◌, ◌≡◌, ◌≤◌, OnErr, OnOk, false, find, if◌then◌else◌};
-ghost use Rattle.std.specs.Prelude.{is_some, length, not, option_map, position, slice_get, true, vec_len};
-ghost use Rattle.std.specs.{Str.bytes_eq, Vec.vec_capacity};
+ghost use Rattle.std.specs.{List.list_any, Option.option_copied, Prelude.{[], ◌++◌, ◌+◌, ◌<◌, ◌∷◌, ◌≡◌, ◌≤◌, OnErr}};
+ghost use Rattle.std.specs.Prelude.{OnOk, false, find, if◌then◌else◌, is_some, length, not, option_map, position};
+ghost use Rattle.std.specs.{Prelude.{slice_get, true, vec_len}, Str.bytes_eq, Vec.vec_capacity};
 ghost use Rattle.base.specs.declared.limits.TheConstants.{ADDRESS_END, MAX_SLOTS, MAX_THREADS};
 ghost use Rattle.machine.specs.{Authority.has_memory_at, Objects.{end_of, slot_count}};
 ghost use Rattle.table.specs.{Placement.meets, Rules.{is_tcb, slots_in, threads_in}};

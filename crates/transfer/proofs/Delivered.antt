@@ -4,7 +4,7 @@ use Rattle.std.{specs.Prelude.{None, Some, option_map}, proofs.{Common.{◌∙�
 use Rattle.base.specs.declared.ids.ObjId.{ObjId}
 use Rattle.machine.specs.declared.{object.ObjectKind.ObjectKind as kind, thread.{Lent.Lent, Receiving.Receiving, Sending.Sending, Tcb.Tcb}}
 use Rattle.machine.specs.{Machine.{Machine, object_of}, Objects.kind_of_object, Releasing.{with_called, with_halted}}
-use Rattle.machine.specs.Step.{Bind.context_under, Deliver.{answer_through, delivered, first_at, receiver_in}, Send.lent_by}
+use Rattle.machine.specs.Step.{Bind.context_under, Deliver.{answer_through, delivered, first_at, receiver_in}, Send.loan_made}
 use Rattle.machine.specs.WellFormed.{IsCaller, IsFree, IsThread, IsWellFormed, kind_of}
 use Rattle.steps.proofs.{EndpointRow.{IsReceiver, receiver_first}, FoundObjects.tcb_of_kind, Lending.lends, MessageRows.answers_through}
 use Rattle.steps.proofs.MessageRows.{caller_apart, delivered_free, delivered_other, delivered_there, lending_free, lending_receiver}
@@ -35,9 +35,9 @@ module _ (m : Machine) (caller : ObjId) (sending : Sending) (receiver : ObjId) (
 
 module _ (m : Machine) (caller receiver id : ObjId) (formed : IsWellFormed m) (caller_is : kind_of m caller ≡ Some kind.Tcb)
     (receiver_is : kind_of m receiver ≡ Some kind.Tcb) (apart : caller ≢ receiver) (free : IsFree m id) (lent : Lent)
-    (loans : lent_by m caller receiver ≡ Some lent) where
+    (loans : loan_made m caller receiver ≡ Some lent) where
   abbrev lending : Machine
-  lending = with_called (with_halted m caller) caller (record { reply = id; lent = lent_by m caller receiver })
+  lending = with_called (with_halted m caller) caller (record { reply = id; lent = loan_made m caller receiver })
 
   tcb : (thread : Tcb) × IsThread m caller thread
   tcb = tcb_of_kind (object_of m caller) caller_is

@@ -1,7 +1,7 @@
 //! The context that a caller lends to its receiver.
 ghost use Rattle.std.specs.Prelude.{◌≡◌, ◌≢◌, Some};
 ghost use Rattle.base.specs.declared.ids.ObjId.{ObjId as Id};
-ghost use Rattle.machine.specs.{Machine.object_of, Step.Send.{called_through, lent_by}};
+ghost use Rattle.machine.specs.{Machine.object_of, Step.Send.{called_through, loan_made}};
 ghost use Rattle.machine.specs.WellFormed.{IsFree, IsWellFormed, kind_of};
 ghost use Rattle.machine.specs.declared.object.ObjectKind.TheVariants as kind;
 
@@ -13,8 +13,8 @@ use schedctl::{context_under, hand_over};
 
 /// What a caller lends to a receiver: the scheduling context that it runs on, where the receiver has
 /// none.
-fn lent_by(state: &State, caller: ObjId, receiver: ObjId) -> Option<Lent>
-    ensures { result ≡ lent_by state.now caller receiver }
+fn loan_made(state: &State, caller: ObjId, receiver: ObjId) -> Option<Lent>
+    ensures { result ≡ loan_made state.now caller receiver }
 {
     match (context_under(state, caller), context_under(state, receiver)) {
         (Some(context), None) => Some(Lent {
@@ -35,7 +35,7 @@ fn wait_and_lend(state: &mut State, caller: ObjId, receiver: ObjId, id: ObjId)
     requires free { IsFree state.old id }
     ensures { state.new ≡ called_through state.old caller receiver (Some id) }
 {
-    let lent = lent_by(state, caller, receiver);
+    let lent = loan_made(state, caller, receiver);
     halt(state, caller);
     link(state, caller, Calling { reply: id, lent });
     if let Some(lent) = lent {

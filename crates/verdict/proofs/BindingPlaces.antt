@@ -33,7 +33,7 @@ bindings t allowed lawful = record { covers = covers; rises = rises } where
       (d : Denial) → BreaksUnder t allowed (a4 ∷ []) d
       → (k : ℕ) × (b : Binding) × (slice_get t.bindings k ≡ Some b) × Begins (a4 ∷ b.thread.0 ∷ []) (place_of d)
   covers (denial.Binding thread context) h =
-      let b = bound_at t thread context (declared_bound t thread context h.1.runs) in
+      let b = bound_at t thread context (declared_bound t thread context h.1.there) in
       (b.at, b.element, b.here, (refl, (ap (λ x. x.0) b.key_is, tt)))
   covers (denial.Policy broken) h = absurd (begins_later (broken_place broken) (first_rules broken) h.0)
   covers _ h = absurd (omega (arith, h.0.0))

@@ -3,16 +3,16 @@ use Rattle.std.proofs.Common.{◌↔◌, ◌∙◌, ◌≡◌, None, Option, Som
 use Rattle.std.proofs.lemmas.Option.{get_or_from_slice_get, none-some, same_Some, slice_get_within}
 use Rattle.base.specs.declared.{ids.ObjId.ObjId, kind.Kind.Kind}
 use Rattle.machine.specs.{declared.{layout.Initial.Initial, object.Object.{Object, Object as o}}, Authority.holds_thread, Boot.IsBoot}
-use Rattle.machine.specs.declared.object.ObjectKind.TheVariants as kind
 use Rattle.machine.specs.{Boot.bound, Layout.{Layout, bound_context, initial_of}, Machine.Machine, Objects.kind_of_object}
-use Rattle.policy.{specs.{Closed.IsClosed, Domain.EdgeTest}, proofs.Unbroken.{closed_if, unbroken}}
+use Rattle.machine.specs.declared.object.ObjectKind.TheVariants as kind
 use Rattle.table.{specs.Rules.{IsBindingOf, IsBlank, IsLawful, kind_at}, proofs.AtBoot.{boot_kind, boot_label, initial_lawful, rest_lends}}
 use Rattle.table.proofs.{AtBoot.rest_links, Lookups.bound_at}
+use Rattle.policy.{specs.{Closed.IsClosed, Domain.EdgeTest}, proofs.Unbroken.{closed_if, unbroken}}
 use Rattle.integrity.specs.Confined.{IsConfined}
-use Rattle.verdict.specs.{declared.denial.Denial.Denial, Rules.{Exceeds, Excess, binding, capability, excess_place, holding, pair}}
-use Rattle.verdict.specs.{Rules.{recorded, root}, Sources.{Sources, context_in, holds_in, keeps_in, lends_in, of_machine, of_table}}
-use Rattle.verdict.{specs.Verdict.{Breaks, IsAccepted, IsLeastBroken, IsOutside, excess_of, place_of}, proofs.Outsides.confined_within}
-use Rattle.verdict.proofs.{Outsides.within_confined, RuleOrder.policy_first}
+use Rattle.verdict.specs.{declared.denial.Denial.Denial, Rules.{Exceeds, Excess}, Sources.{Sources, holds_in, keeps_in, lent_context_in}}
+use Rattle.verdict.specs.{Sources.{of_machine, of_table, own_context_in}, Verdict.{Breaks, IsAccepted, IsLeastBroken, IsOutside, excess_of}}
+use Rattle.verdict.proofs.{DenialPlaces.{denial_at, exceeded_at, exceeded_there, numbered}, Outsides.{confined_within, within_confined}}
+use Rattle.verdict.proofs.RuleOrder.{policy_first}
 use Rattle.verdict.specs.declared.denial.Denial.TheVariants as denial
 
 -- what a table binds is a thread
@@ -35,7 +35,7 @@ unbound t lawful thread other (Some context) is = absurd (other (bound_thread t 
 
 boot_context :
     (t : Layout) → IsLawful t → (id : ObjId) (initial : Option Initial) → initial_of t id ≡ initial
-    → context_in (option_map (λ (i : Initial). bound t id i.object) initial) ≡ bound_context t id
+    → own_context_in (option_map (λ (i : Initial). bound t id i.object) initial) ≡ bound_context t id
 unfolding kind_at
 boot_context t lawful id None declares = sym (unbound t lawful id no_thread (bound_context t id) refl) where
   no_thread : kind_at t id ≡ Some kind.Tcb → ⊥
@@ -48,11 +48,11 @@ boot_context t lawful id (Some initial) declares = by initial.object refl where
   other_kind object is other =
       sym (unbound t lawful id (λ e. other (ap kind_of_object (sym is) ∙ same_Some (kind_of_object initial.object) kind.Tcb (sym declared ∙ e))) (bound_context t id) refl)
 
-  by : (object : Object) → initial.object ≡ object → context_in (Some (bound t id object)) ≡ bound_context t id
+  by : (object : Object) → initial.object ≡ object → own_context_in (Some (bound t id object)) ≡ bound_context t id
   by (o.Tcb tcb) is = refl
   by object is = other_kind object is (λ e. cc)
 
-blank_lends : (t : Layout) (id : ObjId) (object : Object) → IsBlank object → lends_in (Some (bound t id object)) ≡ None
+blank_lends : (t : Layout) (id : ObjId) (object : Object) → IsBlank object → lent_context_in (Some (bound t id object)) ≡ None
 blank_lends t id (o.Tcb tcb) blank = rest_lends tcb.state blank.0
 blank_lends t id _ blank = refl
 
@@ -68,7 +68,7 @@ blank_keeps t id _ k end blank = refl
 
 boot_lends :
     (t : Layout) → IsLawful t → (id : ObjId) (initial : Option Initial) → initial_of t id ≡ initial
-    → lends_in (option_map (λ (i : Initial). bound t id i.object) initial) ≡ None
+    → lent_context_in (option_map (λ (i : Initial). bound t id i.object) initial) ≡ None
 boot_lends t lawful id None declares = refl
 boot_lends t lawful id (Some initial) declares =
     blank_lends t id initial.object (initial_lawful t lawful id initial declares).blank
@@ -88,45 +88,20 @@ boot_keeps t lawful id k end (Some initial) declares =
     blank_keeps t id initial.object k end (initial_lawful t lawful id initial declares).blank
 
 module _ (t : Layout) (allowed : EdgeTest) where
-  -- a denial by A1 to A6 names a place: by the same numbers, and it is broken where the table declares authority outside there
-  record Names (d : Denial) (place : Excess) : Type 0 where
-    numbers : place_of d ≡ excess_place place
-    broken : Breaks t allowed d ↔ Exceeds (of_table t) allowed place
-
-  names : (d : Denial) (place : Excess) → excess_of d ≡ Some place → Names d place
-  names (denial.Policy _) place is = absurd (none-some place is)
-  names (denial.Certificate _) place is = absurd (none-some place is)
-  names (denial.Capability slot k l) place is = rw (sym (same_Some (capability slot k l) place is)) (record { numbers = refl; broken = ((λ x. x), (λ x. x)) })
-  names (denial.Root slot l) place is = rw (sym (same_Some (root slot l) place is)) (record { numbers = refl; broken = ((λ x. x), (λ x. x)) })
-  names (denial.Pair child parent) place is = rw (sym (same_Some (pair child parent) place is)) (record { numbers = refl; broken = ((λ x. x), (λ x. x)) })
-  names (denial.Binding thread context) place is = rw (sym (same_Some (binding thread context) place is)) (record { numbers = refl; broken = ((λ x. x), (λ x. x)) })
-  names (denial.Holding reply thread) place is = rw (sym (same_Some (holding reply thread) place is)) (record { numbers = refl; broken = ((λ x. x), (λ x. x)) })
-  names (denial.Recorded thread k l) place is = rw (sym (same_Some (recorded thread k l) place is)) (record { numbers = refl; broken = ((λ x. x), (λ x. x)) })
+  -- a rule is broken at a place where the table declares authority outside there
+  broken_there : (d : Denial) (place : Excess) → excess_of d ≡ Some place → Breaks t allowed d ↔ Exceeds (of_table t) allowed place
+  broken_there (denial.Policy _) place is = absurd (none-some place is)
+  broken_there d place is = exceeded_there (of_table t) allowed d place is
 
   -- where it is the first that is broken, the policy is closed
   pub first_closed : (d : Denial) (place : Excess) → excess_of d ≡ Some place → IsLeastBroken t allowed d → IsClosed allowed
   first_closed d place is least = closed_if allowed (λ b broken.
-      least.first (denial.Policy b) broken (rw (names d place is).numbers (policy_first b place)))
+      least.first (denial.Policy b) broken (rw (numbered d place is) (policy_first b place)))
 
   -- and where it is, each denial of what is broken names a place
   named : (d : Denial) → IsClosed allowed → Breaks t allowed d → (place : Excess) × (excess_of d ≡ Some place)
   named (denial.Policy b) closed broken = absurd (unbroken allowed closed b broken)
-  named (denial.Certificate line) closed broken = absurd broken
-  named (denial.Capability slot k label) closed broken = (capability slot k label, refl)
-  named (denial.Root slot label) closed broken = (root slot label, refl)
-  named (denial.Pair child parent) closed broken = (pair child parent, refl)
-  named (denial.Binding thread context) closed broken = (binding thread context, refl)
-  named (denial.Holding reply thread) closed broken = (holding reply thread, refl)
-  named (denial.Recorded thread k label) closed broken = (recorded thread k label, refl)
-
-  -- each place that a table declares outside has its denial
-  declared : (place : Excess) → Exceeds (of_table t) allowed place → (d : Denial) × (excess_of d ≡ Some place) × Breaks t allowed d
-  declared (capability slot k label) out = (denial.Capability slot k label, refl, out)
-  declared (root slot label) out = (denial.Root slot label, refl, out)
-  declared (pair child parent) out = (denial.Pair child parent, refl, out)
-  declared (binding thread context) out = (denial.Binding thread context, refl, out)
-  declared (holding reply thread) out = (denial.Holding reply thread, refl, out)
-  declared (recorded thread k label) out = (denial.Recorded thread k label, refl, out)
+  named d closed broken = let at = exceeded_at (of_table t) allowed d broken in (at.0, at.1)
 
 module _ (t : Layout) (m : Machine) (lawful : IsLawful t) (boot : IsBoot t m) where
   -- the authority of a boot state is read off its table
@@ -136,8 +111,8 @@ module _ (t : Layout) (m : Machine) (lawful : IsLawful t) (boot : IsBoot t m) wh
     parent = λ slot. sym (boot.parents slot) i;
     kind = λ id. sym (boot_kind t m boot id) i;
     label = λ id. sym (boot_label t m boot id) i;
-    context = λ id. sym (ap context_in (boot.objects id) ∙ boot_context t lawful id (initial_of t id) refl) i;
-    lent = λ id. sym (ap lends_in (boot.objects id) ∙ boot_lends t lawful id (initial_of t id) refl) i;
+    context = λ id. sym (ap own_context_in (boot.objects id) ∙ boot_context t lawful id (initial_of t id) refl) i;
+    lent = λ id. sym (ap lent_context_in (boot.objects id) ∙ boot_lends t lawful id (initial_of t id) refl) i;
     holds = λ id thread.
         sym (ap (λ object. holds_in object thread) (boot.objects id) ∙ boot_holds t lawful id thread (initial_of t id) refl) i;
     keeps = λ id k end.
@@ -155,15 +130,16 @@ module _ (t : Layout) (m : Machine) (lawful : IsLawful t) (boot : IsBoot t m) wh
       (allowed : EdgeTest) (d : Denial) (place : Excess) → excess_of d ≡ Some place
       → Breaks t allowed d ↔ Exceeds (of_machine t m) allowed place
   broken_outside allowed d place is = (
-    λ broken. (exceeds_same allowed place).0 ((names t allowed d place is).broken.0 broken),
-    λ out. (names t allowed d place is).broken.1 ((exceeds_same allowed place).1 out),
+    λ broken. (exceeds_same allowed place).0 ((broken_there t allowed d place is).0 broken),
+    λ out. (broken_there t allowed d place is).1 ((exceeds_same allowed place).1 out),
   )
 
   -- and each such place has its denial
   pub outside_declared :
       (allowed : EdgeTest) (place : Excess) → Exceeds (of_machine t m) allowed place
       → (d : Denial) × (excess_of d ≡ Some place) × Breaks t allowed d
-  outside_declared allowed place out = declared t allowed place ((exceeds_same allowed place).1 out)
+  outside_declared allowed place out =
+      let d = denial_at place in (d.0, d.1, (broken_outside allowed d.0 place d.1).1 out)
 
   -- so the boot state of an accepted table is confined
   pub boot_confined : (allowed : EdgeTest) → IsAccepted t allowed → IsConfined t allowed m
@@ -185,7 +161,7 @@ module _ (t : Layout) (m : Machine) (lawful : IsLawful t) (boot : IsBoot t m) wh
     has = (broken_outside allowed d place is).0 least.has;
     first = λ other out before.
         let broken = outside_declared allowed other out in
-        least.first broken.0 broken.2 (rw ((names t allowed broken.0 other broken.1).numbers, (names t allowed d place is).numbers) before);
+        least.first broken.0 broken.2 (rw (numbered broken.0 other broken.1, numbered d place is) before);
   }
 
   -- and the other way round, where the policy is closed
@@ -197,5 +173,5 @@ module _ (t : Layout) (m : Machine) (lawful : IsLawful t) (boot : IsBoot t m) wh
     first = λ other broken before.
         let at = named t allowed other closed broken in
         outside.first at.0 ((broken_outside allowed other at.0 at.1).0 broken)
-        (rw (← (names t allowed other at.0 at.1).numbers, ← (names t allowed d place is).numbers) before);
+        (rw (← numbered other at.0 at.1, ← numbered d place is) before);
   }

@@ -1,18 +1,12 @@
 -- What an accepted system keeps, by how far a label goes with another; and that a system has one reach.
-use Rattle.std.proofs.Common.{ℕ, ◌∙◌, ◌≡◌, Bool, List, false, refl, subst, sym, true, ◌↔◌}
+use Rattle.std.proofs.Common.{ℕ, ◌↔◌, ◌∙◌, ◌≡◌, Bool, List, false, refl, subst, sym, true}
 use Rattle.base.specs.declared.edge.Edge.{Edge}
 use Rattle.machine.specs.Layout.{Layout}
-use Rattle.policy.specs.Policy.{allows}
-use Rattle.integrity.specs.Acting.{HoldsOfActors}
-use Rattle.integrity.specs.Safe.{KeepsNarrowBounds}
-use Rattle.integrity.proofs.Aparts.{never_changes, only_takes}
-use Rattle.verdict.specs.declared.extent.Extent.{Extent}
-use Rattle.verdict.specs.declared.extent.Extent.{Extent as extent}
-use Rattle.verdict.specs.Extents.{GoesTo, IsReachOf, KeepsTo, Reach, MayChangeIn, MayShrinkIn, IsActor}
-use Rattle.policy.specs.Change.{MayChange}
-use Rattle.policy.specs.NarrowTake.{MayShrink}
-use Rattle.integrity.specs.Apart.{NeverChanges, OnlyTakes}
-use Rattle.policy.specs.Domain.{EdgeTest}
+use Rattle.policy.specs.{Change.MayChange, Domain.EdgeTest, NarrowTake.MayShrink, Policy.allows}
+use Rattle.integrity.{specs.{Acting.HoldsOfActors, Apart.{NeverChanges, OnlyTakes}, Safe.KeepsNarrowBounds}, proofs.Aparts.never_changes}
+use Rattle.integrity.proofs.Aparts.{only_takes}
+use Rattle.verdict.specs.{declared.extent.Extent.{Extent, Extent as extent}, Extents.{GoesTo, IsActor, IsReachOf, KeepsTo, MayChangeIn}}
+use Rattle.verdict.specs.Extents.{MayShrinkIn, Reach}
 
 -- the test of a reach holds of all who may act and may have threads
 pub reach_holds :

@@ -1,6 +1,6 @@
 -- Denials are found place by place, and the first of the least rule is kept: it is the least of all that were looked at, where what is
 -- found later, of no lesser rule, doesn't come first.
-use Rattle.std.proofs.{Common.{◌<◌, ◌≡◌, ◌≤◌, ◌⊎◌, None, Option, Some, arith, inl, inr}, lemmas.{Bool.cases_order, Cmp.nat_list_cmp_total}}
+use Rattle.std.proofs.{Common.{◌<◌, ◌≤◌, ◌⊎◌, None, Option, Some, arith, inl, inr}, lemmas.{Bool.cases_order, Cmp.nat_list_cmp_total}}
 use Rattle.policy.specs.Places.{ComesBefore, FindsLeast}
 use Rattle.verdict.specs.{declared.denial.Denial.Denial, Verdict.{place_of, rule_number}}
 

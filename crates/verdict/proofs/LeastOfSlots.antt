@@ -2,18 +2,18 @@
 -- to A3 stands at one that is filled.
 use Rattle.std.specs.{declared.cmp.Ordering.TheVariants.Less, Cmp.tied_itself, List.find, Option.option_and_then, Ordering.is_eq}
 use Rattle.std.proofs.Common.{[], ℕ, ◌+◌, ◌<◌, ◌∙◌, ◌∷◌, ◌≡◌, ◌≤◌, ◌⊎◌, List, None, Option, Some, ap, arith, get_or, inl, inr, length, map}
-use Rattle.std.proofs.{Common.{option_map, refl, slice_get, subst, sym}, lemmas.{Bool.cases_order, Cmp.nat_list_cmp_total, List.get_or-map}}
+use Rattle.std.proofs.{Common.{option_map, refl, slice_get, subst, sym}, lemmas.{Bool.cases_order, List.get_or-map}}
 use Rattle.std.proofs.lemmas.Option.{get_or_from_slice_get, same_Some, slice_get_within}
 use Rattle.base.specs.{declared.{edge.Edge.Edge, ids.SlotRef.SlotRef}, Kinds.kind_number}
 use Rattle.machine.specs.{declared.{cap.Cap.Cap, layout.Filled.Filled}, Layout.{Layout, initial_cap}, Machine.{same_slot, slot_cmp}}
 use Rattle.machine.proofs.LookUps.{slot_total}
-use Rattle.policy.specs.{Domain.EdgeTest, Places.{ComesBefore, FindsLeast}}
 use Rattle.table.{specs.{Rules.IsLawful, Tree.IsPairOf}, proofs.Lookups.{filled_at, found_first, pair_at, parent_at}}
+use Rattle.policy.specs.{Domain.EdgeTest, Places.{ComesBefore, FindsLeast}}
 use Rattle.labels.specs.SlotEdges.{edges_with}
 use Rattle.verdict.specs.{declared.denial.Denial.Denial, Rules.{a1, a2, a3, a4}, Slots.{BreaksSlots, denial_by, is_missing, missing_edge}}
-use Rattle.verdict.specs.declared.denial.Denial.TheVariants as denial
 use Rattle.verdict.{specs.Verdict.{place_of, rule_number}, proofs.{LeastByRule.LooksFurther, RuleOrder.{before_by_rule, never_both}}}
 use Rattle.verdict.proofs.SlotPlaces.{BreaksAt, IsAt, slot_least}
+use Rattle.verdict.specs.declared.denial.Denial.TheVariants as denial
 
 -- a denial of a slot has the number of its rule first
 rule_is : (d : Denial) → rule_number (Some d) < a4 → get_or (place_of d) 0 0 ≡ rule_number (Some d)
@@ -135,10 +135,11 @@ module _ (t : Layout) (allowed : EdgeTest) where
         record { at = f.at; within = let within = slice_get_within t.caps f.at f.element f.here in omega (arith, within, all); filled = f.element; here = f.here; broken = broken f.element.slot f.key_is }
 
     covered : IsLawful t → (d : Denial) → BreaksSlots t allowed d → BrokenAmong n d
-    covered lawful (denial.Capability slot k l) h = of_slot slot h.1.held h.1.filled (denial.Capability slot k l) (λ s is. (sym is, h.1))
-    covered lawful (denial.Root slot l) h = of_slot slot h.1.held h.1.filled (denial.Root slot l) (λ s is. (sym is, h.1))
+    covered lawful (denial.Capability slot k l) h =
+        of_slot slot h.1.there.0 h.1.there.1 (denial.Capability slot k l) (λ s is. (sym is, h.1))
+    covered lawful (denial.Root slot l) h = of_slot slot h.1.there.0 h.1.there.1 (denial.Root slot l) (λ s is. (sym is, h.1))
     covered lawful (denial.Pair child parent) h =
-        let p = parent_at t child parent h.1.derived in
+        let p = parent_at t child parent h.1.there in
         let kin =
         subst (IsPairOf t) (get_or_from_slice_get t.pairs p.at p.element p.element p.here)
         (lawful.tree p.at p.element (slice_get_within t.pairs p.at p.element p.here)) in

@@ -1,6 +1,7 @@
 pub mod RuleOrder
 pub mod LeastByRule
 pub mod OneVerdict
+pub mod DenialPlaces
 pub mod SlotPlaces
 pub mod BindingPlaces
 pub mod LeastOfSlots

@@ -1,14 +1,13 @@
 -- What lies outside first in a machine is by the least rule of those that are broken at any object, at the first of its objects.
 use Rattle.std.proofs.Common.{[], ℕ, ◌+◌, ◌<◌, ◌∙◌, ◌∷◌, ◌≡◌, ◌≤◌, ◌⊎◌, IsSome, List, None, Option, Some, ap, arith, get_or, inl, inr}
-use Rattle.std.proofs.{Common.{is_some, refl, subst, sym}, lemmas.{Bool.cases_order, Cmp.nat_list_cmp_total, Option.none-some}}
+use Rattle.std.proofs.{Common.{is_some, refl, subst, sym}, lemmas.{Bool.cases_order, Option.none-some}}
 use Rattle.base.specs.{declared.ids.ObjId.ObjId, Kinds.kind_number}
 use Rattle.machine.specs.{declared.object.Object.Object, Authority.label_of, Layout.Layout, Machine.{Machine, object_of}}
 use Rattle.policy.{specs.{Domain.EdgeTest, Places.{ComesBefore, FindsLeast, IsLeast, IsNone}}, proofs.Places.decided}
-use Rattle.verdict.specs.{declared.denial.Denial.Denial, Outside.{LiesAt, LiesOutside}, Rules.{Exceeds, Excess, binding, c1}}
+use Rattle.verdict.specs.{declared.denial.Denial.Denial, Outside.{LiesAt, LiesOutside}, Rules.{Exceeds, Excess, c1, excess_place}}
+use Rattle.verdict.{specs.{Sources.of_machine, Verdict.{IsOutside, excess_of, place_of, rule_number}}, proofs.DenialPlaces.denial_at}
+use Rattle.verdict.proofs.{DenialPlaces.{exceeded_at, exceeded_there, numbered}, LeastByRule.LooksFurther, RuleOrder.before_by_rule}
 use Rattle.verdict.specs.declared.denial.Denial.TheVariants as denial
-use Rattle.verdict.specs.{Rules.{capability, excess_place, holding, pair, recorded, root}, Sources.of_machine, Verdict.IsOutside}
-use Rattle.verdict.specs.Verdict.{excess_of, place_of, rule_number}
-use Rattle.verdict.proofs.{LeastByRule.LooksFurther, OneVerdict.same_id, RuleOrder.before_by_rule}
 
 -- the object that a place names first
 abbrev pub object_in : Denial → ℕ
@@ -59,15 +58,18 @@ module _ (t : Layout) (allowed : EdgeTest) (m : Machine) where
 
   -- an object without a label has no authority
 
+  labelled :
+      (place : Excess) → Exceeds (of_machine t m) allowed place
+      → (l : ℕ) × (label_of t m (record { 0 = get_or (excess_place place) 1 0 }) ≡ Some l)
+  labelled (Excess.pair child p) out = (out.to, out.target)
+  labelled place out = (out.from, out.source)
+
   pub unlabelled : (id : ObjId) → label_of t m id ≡ None → IsNone (LiesAt t allowed m id)
-  unlabelled id none (denial.Policy b) h = absurd h.1
-  unlabelled id none (denial.Capability slot k l) h = none-some h.1.from (sym none ∙ ap (label_of t m) (same_id id slot.holder (sym h.0)) ∙ h.1.source)
-  unlabelled id none (denial.Root slot l) h = none-some h.1.from (sym none ∙ ap (label_of t m) (same_id id slot.holder (sym h.0)) ∙ h.1.source)
-  unlabelled id none (denial.Pair child p) h = none-some h.1.to (sym none ∙ ap (label_of t m) (same_id id child.holder (sym h.0)) ∙ h.1.target)
-  unlabelled id none (denial.Binding thread context) h = none-some h.1.from (sym none ∙ ap (label_of t m) (same_id id thread (sym h.0)) ∙ h.1.source)
-  unlabelled id none (denial.Holding reply thread) h = none-some h.1.from (sym none ∙ ap (label_of t m) (same_id id reply (sym h.0)) ∙ h.1.source)
-  unlabelled id none (denial.Recorded thread k l) h = none-some h.1.from (sym none ∙ ap (label_of t m) (same_id id thread (sym h.0)) ∙ h.1.source)
-  unlabelled id none (denial.Certificate line) h = absurd h.1
+  unlabelled id none d h =
+      let at = exceeded_at (of_machine t m) allowed d h.1 in
+      let label = labelled at.0 at.2 in
+      let number = sym h.0 ∙ ap (λ p. get_or p 1 0) (numbered d at.0 at.1) in
+      none-some label.0 (sym none ∙ (λ i. label_of t m (record { 0 = number i })) ∙ label.1)
 
   absent_label : (id : ObjId) → object_of m id ≡ None → label_of t m id ≡ None
   unfolding label_of
@@ -122,41 +124,23 @@ module _ (t : Layout) (allowed : EdgeTest) (m : Machine) where
   -- each place outside has its denial, and each denial its place
 
   denied : (place : Excess) → Exceeds (of_machine t m) allowed place → (d : Denial) × LiesOutside t allowed m d × (place_of d ≡ excess_place place)
-  denied (capability slot k l) out = (denial.Capability slot k l, out, refl)
-  denied (root slot l) out = (denial.Root slot l, out, refl)
-  denied (pair child p) out = (denial.Pair child p, out, refl)
-  denied (binding thread context) out = (denial.Binding thread context, out, refl)
-  denied (holding reply thread) out = (denial.Holding reply thread, out, refl)
-  denied (recorded thread k l) out = (denial.Recorded thread k l, out, refl)
-
-  record IsPlaceOf (d : Denial) (place : Excess) : Type 0 where
-    names : excess_of d ≡ Some place
-    exceeds : Exceeds (of_machine t m) allowed place
-    numbers : place_of d ≡ excess_place place
-
-  placed : (d : Denial) → LiesOutside t allowed m d → (place : Excess) × IsPlaceOf d place
-  placed (denial.Policy b) out = absurd out
-  placed (denial.Capability slot k l) out = (capability slot k l, record { names = refl; exceeds = out; numbers = refl })
-  placed (denial.Root slot l) out = (root slot l, record { names = refl; exceeds = out; numbers = refl })
-  placed (denial.Pair child p) out = (pair child p, record { names = refl; exceeds = out; numbers = refl })
-  placed (denial.Binding thread context) out = (binding thread context, record { names = refl; exceeds = out; numbers = refl })
-  placed (denial.Holding reply thread) out = (holding reply thread, record { names = refl; exceeds = out; numbers = refl })
-  placed (denial.Recorded thread k l) out = (recorded thread k l, record { names = refl; exceeds = out; numbers = refl })
-  placed (denial.Certificate line) out = absurd out
+  denied place out =
+      let d = denial_at place in (d.0, (exceeded_there (of_machine t m) allowed d.0 place d.1).1 out, numbered d.0 place d.1)
 
   pub nothing_outside : IsNone (LiesOutside t allowed m) → (place : Excess) → ¬ Exceeds (of_machine t m) allowed place
   nothing_outside none place out = let d = denied place out in none d.0 d.1
 
   pub first_place : (d : Denial) → IsLeast place_of (LiesOutside t allowed m) d → (place : Excess) × (excess_of d ≡ Some place) × IsOutside t allowed m place
   first_place d least =
-      let at = placed d least.has in (
+      let at = exceeded_at (of_machine t m) allowed d least.has in (
         at.0,
-        at.1.names,
+        at.1,
         record {
-          has = at.1.exceeds;
+          has = at.2;
           first = λ other out before.
               let e = denied other out in
               least.first e.0 e.1
-              (subst (λ place. ComesBefore place (place_of d)) (sym e.2) (subst (ComesBefore (excess_place other)) (sym at.1.numbers) before));
+              (subst (λ place. ComesBefore place (place_of d)) (sym e.2)
+              (subst (ComesBefore (excess_place other)) (sym (numbered d at.0 at.1)) before));
         },
       )

@@ -3,15 +3,14 @@ use Rattle.std.{specs.Prelude.◌↔◌, proofs.Common.{[], ℕ, ◌++◌, ◌<�
 use Rattle.std.proofs.{Common.{false, inl, inr, refl, subst, sym, true}, lemmas.{Bool.ltb-true, Option.{none-some, same_Some}}}
 use Rattle.base.specs.{declared.{ids.{ObjId.ObjId, SlotRef.SlotRef}, kind.Kind.{Kind, Kind as authority}}, Kinds.kind_number}
 use Rattle.machine.specs.{declared.{cap.Cap.Cap, object.Object.Object}, Authority.label_of, Capabilities.gives, Layout.Layout}
-use Rattle.machine.specs.declared.object.ObjectKind.TheVariants as kind
 use Rattle.machine.specs.{Machine.{Machine, cap_of, has_slot, object_of, parent_of}, Objects.slot_count, WellFormed.kind_of}
+use Rattle.machine.specs.declared.object.ObjectKind.TheVariants as kind
 use Rattle.policy.{specs.{Domain.EdgeTest, Places.{Begins, IsLeast, IsNone, IsUnder}}, proofs.KindNumbers.{all_kinds, kind_stands}}
 use Rattle.policy.proofs.{KindNumbers.{number_stands, same_kind}, Places.{IsMade, Searches, decided, least_made, none_made}}
 use Rattle.policy.proofs.{Places.{not_before_itself, only_least}, Sweep.{numbers, stands, stands_alone}}
-use Rattle.verdict.specs.{declared.denial.Denial.{Denial, Denial as denial}, Outside.{LiesOutside, LiesUnder}, Rules.BindingExceeds}
-use Rattle.verdict.specs.Rules.{CapabilityExceeds, HoldingExceeds, PairExceeds, RecordExceeds, RootExceeds, a1, a2, a3, a4, a5, a6}
-use Rattle.verdict.specs.{Sources.{Sources, context_in, holds_in, keeps_in, lends_in, of_machine}, Verdict.place_of}
-use Rattle.verdict.proofs.OneVerdict.{same_id}
+use Rattle.verdict.specs.{declared.denial.Denial.{Denial, Denial as denial}, Outside.{LiesOutside, LiesUnder}, Rules.{Exceeds, Excess, a1}}
+use Rattle.verdict.specs.{Rules.{a2, a3, a4, a5, a6}, Sources.{holds_in, keeps_in, lent_context_in, of_machine, own_context_in}}
+use Rattle.verdict.{specs.Verdict.place_of, proofs.OneVerdict.same_id}
 use mathlib.Core.Bool.{false≢true}
 
 -- searches over the numbers below n, and over the kinds
@@ -43,72 +42,69 @@ pub slot_below :
 slot_below m slot object is there = ltb-true _ _ (rw is at there)
 
 module _ (t : Layout) (allowed : EdgeTest) (m : Machine) where
-  abbrev held_by : Sources
-  held_by = of_machine t m
+  abbrev Out : Excess → Type 0
+  Out = Exceeds (of_machine t m) allowed
 
   -- what lies outside by a rule at an object
+
+  abbrev slot_at : ObjId → ℕ → SlotRef
+  slot_at id index = record { holder = id; index = index }
 
   pub by_a1 :
       (id : ObjId) (rest : List ℕ) (Q : Denial → Type 0)
       → ((index : ℕ) (k : Kind) (l : ℕ) → Begins rest (index ∷ kind_number k ∷ l ∷ [])
-      → CapabilityExceeds held_by allowed (record { holder = id; index = index }) k l → Q (denial.Capability (record { holder = id; index = index }) k l))
+      → Out (Excess.capability (slot_at id index) k l) → Q (denial.Capability (slot_at id index) k l))
       → (d : Denial) → LiesUnder t allowed m (a1 ∷ id.0 ∷ rest) d → Q d
   by_a1 id rest Q f (denial.Capability slot k l) h =
-      subst (λ (h : ObjId). CapabilityExceeds held_by allowed (record { holder = h; index = slot.index }) k l → Q (denial.Capability (record { holder = h; index = slot.index }) k l))
+      subst (λ (h : ObjId). Out (Excess.capability (slot_at h slot.index) k l) → Q (denial.Capability (slot_at h slot.index) k l))
       (same_id id slot.holder h.0.1.0) (f slot.index k l h.0.1.1) h.1
   by_a1 id rest Q f (denial.Policy b) h = absurd h.1
-  by_a1 id rest Q f (denial.Certificate line) h = absurd h.1
   by_a1 id rest Q f _ h = absurd (omega (arith, h.0.0))
 
   pub by_a2 :
       (id : ObjId) (Q : Denial → Type 0)
-      → ((index : ℕ) (l : ℕ) → RootExceeds held_by allowed (record { holder = id; index = index }) l → Q (denial.Root (record { holder = id; index = index }) l))
+      → ((index : ℕ) (l : ℕ) → Out (Excess.root (slot_at id index) l) → Q (denial.Root (slot_at id index) l))
       → (d : Denial) → LiesUnder t allowed m (a2 ∷ id.0 ∷ []) d → Q d
   by_a2 id Q f (denial.Root slot l) h =
-      subst (λ (h : ObjId). RootExceeds held_by allowed (record { holder = h; index = slot.index }) l → Q (denial.Root (record { holder = h; index = slot.index }) l))
+      subst (λ (h : ObjId). Out (Excess.root (slot_at h slot.index) l) → Q (denial.Root (slot_at h slot.index) l))
       (same_id id slot.holder h.0.1.0) (f slot.index l) h.1
   by_a2 id Q f (denial.Policy b) h = absurd h.1
-  by_a2 id Q f (denial.Certificate line) h = absurd h.1
   by_a2 id Q f _ h = absurd (omega (arith, h.0.0))
 
   pub by_a3 :
       (id : ObjId) (rest : List ℕ) (Q : Denial → Type 0)
       → ((index : ℕ) (p : SlotRef) → Begins rest (index ∷ p.holder.0 ∷ p.index ∷ [])
-      → PairExceeds held_by allowed (record { holder = id; index = index }) p → Q (denial.Pair (record { holder = id; index = index }) p))
+      → Out (Excess.pair (slot_at id index) p) → Q (denial.Pair (slot_at id index) p))
       → (d : Denial) → LiesUnder t allowed m (a3 ∷ id.0 ∷ rest) d → Q d
   by_a3 id rest Q f (denial.Pair child p) h =
-      subst (λ (h : ObjId). PairExceeds held_by allowed (record { holder = h; index = child.index }) p → Q (denial.Pair (record { holder = h; index = child.index }) p))
+      subst (λ (h : ObjId). Out (Excess.pair (slot_at h child.index) p) → Q (denial.Pair (slot_at h child.index) p))
       (same_id id child.holder h.0.1.0) (f child.index p h.0.1.1) h.1
   by_a3 id rest Q f (denial.Policy b) h = absurd h.1
-  by_a3 id rest Q f (denial.Certificate line) h = absurd h.1
   by_a3 id rest Q f _ h = absurd (omega (arith, h.0.0))
 
   pub by_a4 :
-      (id : ObjId) (Q : Denial → Type 0) → ((context : ObjId) → BindingExceeds held_by allowed id context → Q (denial.Binding id context))
+      (id : ObjId) (Q : Denial → Type 0) → ((context : ObjId) → Out (Excess.binding id context) → Q (denial.Binding id context))
       → (d : Denial) → LiesUnder t allowed m (a4 ∷ id.0 ∷ []) d → Q d
   by_a4 id Q f (denial.Binding thread context) h =
-      subst (λ (h : ObjId). BindingExceeds held_by allowed h context → Q (denial.Binding h context)) (same_id id thread h.0.1.0) (f context) h.1
+      subst (λ (h : ObjId). Out (Excess.binding h context) → Q (denial.Binding h context)) (same_id id thread h.0.1.0) (f context) h.1
   by_a4 id Q f (denial.Policy b) h = absurd h.1
-  by_a4 id Q f (denial.Certificate line) h = absurd h.1
   by_a4 id Q f _ h = absurd (omega (arith, h.0.0))
 
   pub by_a5 :
-      (id : ObjId) (Q : Denial → Type 0) → ((thread : ObjId) → HoldingExceeds held_by allowed id thread → Q (denial.Holding id thread))
+      (id : ObjId) (Q : Denial → Type 0) → ((thread : ObjId) → Out (Excess.holding id thread) → Q (denial.Holding id thread))
       → (d : Denial) → LiesUnder t allowed m (a5 ∷ id.0 ∷ []) d → Q d
   by_a5 id Q f (denial.Holding reply thread) h =
-      subst (λ (h : ObjId). HoldingExceeds held_by allowed h thread → Q (denial.Holding h thread)) (same_id id reply h.0.1.0) (f thread) h.1
+      subst (λ (h : ObjId). Out (Excess.holding h thread) → Q (denial.Holding h thread)) (same_id id reply h.0.1.0) (f thread) h.1
   by_a5 id Q f (denial.Policy b) h = absurd h.1
-  by_a5 id Q f (denial.Certificate line) h = absurd h.1
   by_a5 id Q f _ h = absurd (omega (arith, h.0.0))
 
   pub by_a6 :
       (id : ObjId) (rest : List ℕ) (Q : Denial → Type 0)
-      → ((k : Kind) (l : ℕ) → Begins rest (kind_number k ∷ l ∷ []) → RecordExceeds held_by allowed id k l → Q (denial.Recorded id k l))
+      → ((k : Kind) (l : ℕ) → Begins rest (kind_number k ∷ l ∷ []) → Out (Excess.recorded id k l) → Q (denial.Recorded id k l))
       → (d : Denial) → LiesUnder t allowed m (a6 ∷ id.0 ∷ rest) d → Q d
   by_a6 id rest Q f (denial.Recorded thread k l) h =
-      subst (λ (h : ObjId). RecordExceeds held_by allowed h k l → Q (denial.Recorded h k l)) (same_id id thread h.0.1.0) (f k l h.0.1.1) h.1
+      subst (λ (h : ObjId). Out (Excess.recorded h k l) → Q (denial.Recorded h k l)) (same_id id thread h.0.1.0) (f k l h.0.1.1) h.1
   by_a6 id rest Q f (denial.Policy b) h = absurd h.1
-  by_a6 id rest Q f (denial.Certificate line) h = absurd h.1
   by_a6 id rest Q f _ h = absurd (omega (arith, h.0.0))
 
   -- the policy lacks the edge of a kind from a label to that of an object
@@ -142,13 +138,12 @@ module _ (t : Layout) (allowed : EdgeTest) (m : Machine) where
         of_numbers place_of (LiesOutside t allowed m) (a1 ∷ id.0 ∷ []) n
         (by_a1 id [] (λ d. (k : ℕ) × (k < n) × Begins (a1 ∷ id.0 ∷ k ∷ []) (place_of d))
         (λ index k l at x.
-        let slot : SlotRef = record { holder = id; index = index } in
-        let below = slot_below m slot object is (in_slots slot x.held x.filled) in
+        let below = slot_below m (slot_at id index) object is (in_slots _ x.there.0 x.there.1) in
         (index, omega (arith, below, count), (refl, (refl, (refl, tt))))))
 
     module _ (index : ℕ) where
       abbrev slot : SlotRef
-      slot = record { holder = id; index = index }
+      slot = slot_at id index
 
       pub slot_kinds :
           Searches place_of (LiesOutside t allowed m) (a1 ∷ id.0 ∷ index ∷ []) all_kinds (λ k. kind_number k ∷ [])
@@ -158,16 +153,16 @@ module _ (t : Layout) (allowed : EdgeTest) (m : Machine) where
           (λ i k l at x. (k, (refl, (refl, (at.0, (refl, tt)))))))
 
       module _ (k : Kind) (held : Cap) (filled : cap_of m slot ≡ Some held) where
-        filled_same : (i : ℕ) → index ≡ i → (other : Cap) → cap_of m (record { holder = id; index = i }) ≡ Some other → held ≡ other
+        filled_same : (i : ℕ) → index ≡ i → (other : Cap) → cap_of m (slot_at id i) ≡ Some other → held ≡ other
         filled_same i same other is =
-            same_Some held other (sym filled ∙ ap (λ n. cap_of m (record { holder = id; index = n })) same ∙ is)
+            same_Some held other (sym filled ∙ ap (λ n. cap_of m (slot_at id n)) same ∙ is)
 
         pub not_given : gives held.detail k ≡ false → IsNone (LiesUnder t allowed m (a1 ∷ id.0 ∷ index ∷ kind_number k ∷ []))
         not_given not =
             by_a1 id (index ∷ kind_number k ∷ []) (λ d. ⊥)
             (λ i other l at x.
             false≢true (sym not ∙ ap (gives held.detail) (same_kind k other at.1.0)
-            ∙ ap (λ (c : Cap). gives c.detail other) (filled_same i at.0 x.held x.filled) ∙ x.given))
+            ∙ ap (λ (c : Cap). gives c.detail other) (filled_same i at.0 x.there.0 x.there.1) ∙ x.there.4))
 
         pub capability_by :
             kind_of m id ≡ Some kind.CNode → gives held.detail k ≡ true
@@ -175,23 +170,21 @@ module _ (t : Layout) (allowed : EdgeTest) (m : Machine) where
         capability_by node given = record {
           of = by_a1 id (index ∷ kind_number k ∷ []) (λ d. (l : ℕ) × (d ≡ denial.Capability slot k l) × Lacks from k held.object l)
               (λ i other l at x. (
-                l,
-                λ j. denial.Capability (record { holder = id; index = sym at.0 j }) (sym (same_kind k other at.1.0) j) l,
+                x.to,
+                λ j. denial.Capability (slot_at id (sym at.0 j)) (sym (same_kind k other at.1.0) j) (same_Some l x.to x.target j),
                 (
-                  ap (λ (c : Cap). label_of t m c.object) (filled_same i at.0 x.held x.filled) ∙ x.target,
-                  lacks k x.from l x.source (ap (λ k. allowed x.from k l) (same_kind k other at.1.0) ∙ x.missing),
+                  ap (λ (c : Cap). label_of t m c.object) (filled_same i at.0 x.there.0 x.there.1) ∙ x.there.3 ∙ x.target,
+                  lacks k x.from x.to x.source (ap (λ k. allowed x.from k x.to) (same_kind k other at.1.0) ∙ x.missing),
                 ),
               ));
           has = λ l lacking. (
             (refl, (refl, (refl, (refl, tt)))),
             record {
-              held = held;
               from = from;
-              filled = filled;
-              holder = node;
-              given = given;
+              to = l;
+              there = (held, filled, node, lacking.0, given);
               source = source;
-              target = lacking.0;
+              target = refl;
               missing = lacking.1;
             },
           );
@@ -202,29 +195,30 @@ module _ (t : Layout) (allowed : EdgeTest) (m : Machine) where
     module _
         (in_slots : (slot : SlotRef) (held : Cap) → cap_of m slot ≡ Some held → IsTrue (has_slot m slot)) (object : Object)
         (is : object_of m id ≡ Some object) (alone : slot_count object ≡ 1) where
-      only_slot : (index : ℕ) (held : Cap) → cap_of m (record { holder = id; index = index }) ≡ Some held → index ≡ 0
+      only_slot : (index : ℕ) (held : Cap) → cap_of m (slot_at id index) ≡ Some held → index ≡ 0
       only_slot index held filled =
-          let below = slot_below m (record { holder = id; index = index }) object is (in_slots _ held filled) in omega (arith, below, alone)
+          let below = slot_below m (slot_at id index) object is (in_slots _ held filled) in omega (arith, below, alone)
 
       pub root_by :
-          (held : Cap) → cap_of m (record { holder = id; index = 0 }) ≡ Some held → kind_of m id ≡ Some kind.Tcb
+          (held : Cap) → cap_of m (slot_at id 0) ≡ Some held → kind_of m id ≡ Some kind.Tcb
           → IsBy (LiesUnder t allowed m (a2 ∷ id.0 ∷ [])) from authority.Space held.object
-          (λ l. denial.Root (record { holder = id; index = 0 }) l)
+          (λ l. denial.Root (slot_at id 0) l)
       root_by held filled thread = record {
-        of = by_a2 id (λ d. (l : ℕ) × (d ≡ denial.Root (record { holder = id; index = 0 }) l) × Lacks from authority.Space held.object l)
+        of = by_a2 id (λ d. (l : ℕ) × (d ≡ denial.Root (slot_at id 0) l) × Lacks from authority.Space held.object l)
             (λ index l x.
-            let zero_is = only_slot index x.held x.filled in (
-              l,
-              λ j. denial.Root (record { holder = id; index = zero_is j }) l,
+            let zero_is = only_slot index x.there.0 x.there.1 in (
+              x.to,
+              λ j. denial.Root (slot_at id (zero_is j)) (same_Some l x.to x.target j),
               (
                 ap (λ (c : Cap). label_of t m c.object)
-                    (same_Some held x.held (sym filled ∙ ap (λ n. cap_of m (record { holder = id; index = n })) (sym zero_is) ∙ x.filled)) ∙ x.target,
-                lacks authority.Space x.from l x.source x.missing,
+                    (same_Some held x.there.0 (sym filled ∙ ap (λ n. cap_of m (slot_at id n)) (sym zero_is) ∙ x.there.1))
+                    ∙ x.there.3 ∙ x.target,
+                lacks authority.Space x.from x.to x.source x.missing,
               ),
             ));
         has = λ l lacking. (
           (refl, (refl, tt)),
-          record { held = held; from = from; filled = filled; holder = thread; source = source; target = lacking.0; missing = lacking.1 },
+          record { from = from; to = l; there = (held, filled, thread, lacking.0); source = source; target = refl; missing = lacking.1 },
         );
       }
 
@@ -238,8 +232,7 @@ module _ (t : Layout) (allowed : EdgeTest) (m : Machine) where
         of_numbers place_of (LiesOutside t allowed m) (a3 ∷ id.0 ∷ []) n
         (by_a3 id [] (λ d. (k : ℕ) × (k < n) × Begins (a3 ∷ id.0 ∷ k ∷ []) (place_of d))
         (λ index p at x.
-        let slot : SlotRef = record { holder = id; index = index } in
-        let below = slot_below m slot object is (in_slots slot p x.derived) in
+        let below = slot_below m (slot_at id index) object is (in_slots _ p x.there) in
         (index, omega (arith, below, count), (refl, (refl, (refl, tt))))))
 
     -- A4
@@ -257,27 +250,27 @@ module _ (t : Layout) (allowed : EdgeTest) (m : Machine) where
     -- the contexts that the thread is bound to, and that it lent, where each is lacking, and the lesser of them
     module _
         (bound lent first : Option ObjId)
-        (tells_bound : (context : ObjId) → (bound ≡ Some context) ↔ IsLacked (context_in (object_of m id)) context)
-        (tells_lent : (context : ObjId) → (lent ≡ Some context) ↔ IsLacked (lends_in (object_of m id)) context)
+        (tells_bound : (context : ObjId) → (bound ≡ Some context) ↔ IsLacked (own_context_in (object_of m id)) context)
+        (tells_lent : (context : ObjId) → (lent ≡ Some context) ↔ IsLacked (lent_context_in (object_of m id)) context)
         (is_one : (context : ObjId) → first ≡ Some context → (bound ≡ Some context) ⊎ (lent ≡ Some context))
         (is_lesser :
         (context : ObjId) → (bound ≡ Some context) ⊎ (lent ≡ Some context)
         → (least : ObjId) × (first ≡ Some least) × (least.0 ≤ context.0)) where
-      lacked : (context : ObjId) → BindingExceeds held_by allowed id context → (bound ≡ Some context) ⊎ (lent ≡ Some context)
+      lacked : (context : ObjId) → Out (Excess.binding id context) → (bound ≡ Some context) ⊎ (lent ≡ Some context)
       lacked context x =
           let lacking = lacks authority.Runs x.from x.to x.source x.missing in
-          elim x.runs [
+          elim x.there [
             | inl is ↦ inl ((tells_bound context).1 (is, (x.to, (x.target, lacking))))
             | inr is ↦ inr ((tells_lent context).1 (is, (x.to, (x.target, lacking))))
           ]
 
-      exceeds : (context : ObjId) → (bound ≡ Some context) ⊎ (lent ≡ Some context) → BindingExceeds held_by allowed id context
+      exceeds : (context : ObjId) → (bound ≡ Some context) ⊎ (lent ≡ Some context) → Out (Excess.binding id context)
       exceeds context (inl is) =
           let at = (tells_bound context).0 is in
-          record { from = from; to = at.1.0; runs = inl at.0; source = source; target = at.1.1.0; missing = at.1.1.1 }
+          record { from = from; to = at.1.0; there = inl at.0; source = source; target = at.1.1.0; missing = at.1.1.1 }
       exceeds context (inr is) =
           let at = (tells_lent context).0 is in
-          record { from = from; to = at.1.0; runs = inr at.0; source = source; target = at.1.1.0; missing = at.1.1.1 }
+          record { from = from; to = at.1.0; there = inr at.0; source = source; target = at.1.1.0; missing = at.1.1.1 }
 
       pub no_binding : first ≡ None → IsNone (LiesUnder t allowed m (a4 ∷ id.0 ∷ []))
       no_binding none =
@@ -305,11 +298,11 @@ module _ (t : Layout) (allowed : EdgeTest) (m : Machine) where
       holding_by thread is = record {
         of = by_a5 id (λ d. (l : ℕ) × (d ≡ denial.Holding id thread) × Lacks from authority.Holds thread l)
             (λ other x.
-            let same = same_Some thread other (sym is ∙ (tells other).1 x.holds) in
+            let same = same_Some thread other (sym is ∙ (tells other).1 x.there) in
             (x.to, ap (denial.Holding id) (sym same), (ap (label_of t m) same ∙ x.target, lacks authority.Holds x.from x.to x.source x.missing)));
         has = λ l lacking. (
           (refl, (refl, tt)),
-          record { from = from; to = l; holds = (tells thread).0 is; source = source; target = lacking.0; missing = lacking.1 },
+          record { from = from; to = l; there = (tells thread).0 is; source = source; target = lacking.0; missing = lacking.1 },
         );
       }
 
@@ -333,13 +326,16 @@ module _ (t : Layout) (allowed : EdgeTest) (m : Machine) where
         of = by_a6 id (kind_number k ∷ []) (λ d. (l : ℕ) × (d ≡ denial.Recorded id k l) × Lacks from k end l)
             (λ other l at x.
             let same = same_kind k other at.0 in
-            let there = same_Some end x.end (sym is ∙ kept_here other same x.end x.kept) in (
-              l,
-              ap (λ k. denial.Recorded id k l) (sym same),
-              (ap (label_of t m) there ∙ x.target, lacks k x.from l x.source (ap (λ k. allowed x.from k l) same ∙ x.missing)),
+            let there = same_Some end x.there.0 (sym is ∙ kept_here other same x.there.0 x.there.1) in (
+              x.to,
+              λ j. denial.Recorded id (sym same j) (same_Some l x.to x.target j),
+              (
+                ap (label_of t m) there ∙ x.there.2 ∙ x.target,
+                lacks k x.from x.to x.source (ap (λ k. allowed x.from k x.to) same ∙ x.missing),
+              ),
             ));
         has = λ l lacking. (
           (refl, (refl, (refl, tt))),
-          record { end = end; from = from; kept = (tells end).0 is; source = source; target = lacking.0; missing = lacking.1 },
+          record { from = from; to = l; there = (end, (tells end).0 is, lacking.0); source = source; target = refl; missing = lacking.1 },
         );
       }

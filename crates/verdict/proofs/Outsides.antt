@@ -6,8 +6,8 @@ use Rattle.machine.specs.Authority.{HasAuthority, label_of, links, state_links, 
 use Rattle.machine.{specs.{Layout.Layout, Machine.{Machine, object_of}}, proofs.RunsLinks.{runs_bound, runs_by, runs_lent}}
 use Rattle.policy.specs.Domain.{EdgeTest}
 use Rattle.integrity.specs.Confined.{IsConfined}
-use Rattle.verdict.specs.{Rules.{Exceeds, Excess, binding, capability, holding, pair, recorded, root}, Sources.{context_in, holds_in}}
-use Rattle.verdict.specs.Sources.{keeps_in, lends_in, of_machine}
+use Rattle.verdict.specs.Rules.{Exceeds, Excess, IsThere, binding, capability, ends_at, holding, pair, recorded, root}
+use Rattle.verdict.specs.Sources.{Sources, own_context_in, holds_in, keeps_in, lent_context_in, of_machine}
 use mathlib.Core.Bool.{false≢true}
 
 either : (b : Bool) → (b ≡ false → b ≡ true) → b ≡ true
@@ -15,93 +15,62 @@ either true has = refl
 either false has = has refl
 
 module _ (t : Layout) (allowed : EdgeTest) (m : Machine) where
-  -- a link of an object that goes outside, with its place
-  record LinkOutside : Type 0 where
+  abbrev held_by : Sources
+  held_by = of_machine t m
+
+  -- an edge is given by what lies at a place
+  record IsGiven (from : ℕ) (k : Kind) (to : ℕ) : Type 0 where
     place : Excess
-    exceeds : Exceeds (of_machine t m) allowed place
+    there : IsThere held_by place
+    source : (ends_at held_by place).from ≡ Some from
+    kind : (ends_at held_by place).kind ≡ k
+    target : (ends_at held_by place).to ≡ Some to
 
-  thread_outside :
+  thread_gives :
       (from to : ℕ) (k : Kind) (id end : ObjId) (tcb : Tcb) → object_of m id ≡ Some (o.Tcb tcb) → links (o.Tcb tcb) k end ≡ true
-      → label_of t m id ≡ Some from → label_of t m end ≡ Some to → allowed from k to ≡ false → LinkOutside
-  thread_outside from to authority.Runs id end tcb at linked source target missing = record {
+      → label_of t m id ≡ Some from → label_of t m end ≡ Some to → IsGiven from k to
+  thread_gives from to authority.Runs id end tcb at linked source target = record {
     place = binding id end;
-    exceeds = record {
-      from = from;
-      to = to;
-      runs = elim (runs_by tcb end linked) [ inl bound ↦ inl (ap context_in at ∙ bound) | inr lent ↦ inr (ap lends_in at ∙ lent) ];
-      source = source;
-      target = target;
-      missing = missing;
-    };
+    there = elim (runs_by tcb end linked) [ inl bound ↦ inl (ap own_context_in at ∙ bound) | inr lent ↦ inr (ap lent_context_in at ∙ lent) ];
+    source = source;
+    kind = refl;
+    target = target;
   }
-  thread_outside from to k id end tcb at linked source target missing = record {
+  thread_gives from to k id end tcb at linked source target = record {
     place = recorded id k to;
-    exceeds = record {
-      end = end;
-      from = from;
-      kept = ap (λ object. keeps_in object k end) at ∙ linked;
-      source = source;
-      target = target;
-      missing = missing;
-    };
+    there = (end, ap (λ object. keeps_in object k end) at ∙ linked, target);
+    source = source;
+    kind = refl;
+    target = refl;
   }
 
-  link_outside :
-      (from to : ℕ) (k : Kind) (id end : ObjId) (object : Object) → object_of m id ≡ Some object → links object k end ≡ true
-      → label_of t m id ≡ Some from → label_of t m end ≡ Some to → allowed from k to ≡ false → LinkOutside
-  link_outside from to k id end (o.Tcb tcb) at linked source target missing =
-      thread_outside from to k id end tcb at linked source target missing
-  link_outside from to authority.Holds id end (o.Reply answers) at linked source target missing = record {
-    place = holding id end;
-    exceeds = record {
-      from = from;
-      to = to;
-      holds = ap (λ object. holds_in object end) at ∙ linked;
-      source = source;
-      target = target;
-      missing = missing;
-    };
-  }
-  link_outside from to _ id end _ at linked source target missing = cc
+  -- all authority is given by what lies at some place
+  is_given : (from : ℕ) (k : Kind) (to : ℕ) → HasAuthority t m from k to → IsGiven from k to
+  is_given from k to (by_cap slot held filled node given source target) =
+      record { place = capability slot k to; there = (held, filled, node, target, given); source = source; kind = refl; target = refl }
+  is_given from k to (by_root slot held filled thread source target) =
+      record { place = root slot to; there = (held, filled, thread, target); source = source; kind = refl; target = refl }
+  is_given from k to (by_pair slot parent derived source target) =
+      record { place = pair slot parent; there = derived; source = source; kind = refl; target = target }
+  is_given from k to (by_link id end object at linked source target) = by k object at linked where
+    by : (k : Kind) (object : Object) → object_of m id ≡ Some object → links object k end ≡ true → IsGiven from k to
+    by k (o.Tcb tcb) at linked = thread_gives from to k id end tcb at linked source target
+    by authority.Holds (o.Reply answers) at linked =
+        let there = ap (λ object. holds_in object end) at ∙ linked in
+        record { place = holding id end; there = there; source = source; kind = refl; target = target }
+    by _ _ at linked = cc
 
-  pub confined_within : ((place : Excess) → Exceeds (of_machine t m) allowed place → ⊥) → IsConfined t allowed m
-  confined_within none from k to (by_cap slot held filled node given source target) =
-      either (allowed from k to) (λ missing.
-      absurd (none (capability slot k to) (record {
-        held = held;
-        from = from;
-        filled = filled;
-        holder = node;
-        given = given;
-        source = source;
-        target = target;
-        missing = missing;
-      })))
-  confined_within none from k to (by_root slot held filled thread source target) =
-      either (allowed from authority.Space to) (λ missing.
-      absurd (none (root slot to) (record {
-        held = held;
-        from = from;
-        filled = filled;
-        holder = thread;
-        source = source;
-        target = target;
-        missing = missing;
-      })))
-  confined_within none from k to (by_pair slot parent derived source target) =
-      either (allowed from authority.Derive to) (λ missing.
-      absurd (none (pair slot parent) (record {
+  pub confined_within : ((place : Excess) → Exceeds held_by allowed place → ⊥) → IsConfined t allowed m
+  confined_within none from k to has =
+      let at = is_given from k to has in
+      either (allowed from k to) (λ missing. absurd (none at.place (record {
         from = from;
         to = to;
-        derived = derived;
-        source = source;
-        target = target;
-        missing = missing;
+        there = at.there;
+        source = at.source;
+        target = at.target;
+        missing = ap (λ k. allowed from k to) at.kind ∙ missing;
       })))
-  confined_within none from k to (by_link id end object at linked source target) =
-      either (allowed from k to) (λ missing.
-      let outside = link_outside from to k id end object at linked source target missing in
-      absurd (none outside.place outside.exceeds))
 
   -- a thread's recorded links are no binding
   recorded_link :
@@ -119,7 +88,7 @@ module _ (t : Layout) (allowed : EdgeTest) (m : Machine) where
 
   runs_link :
       (id end : ObjId) (object : Option Object) → object_of m id ≡ object
-      → (context_in object ≡ Some end) ⊎ (lends_in object ≡ Some end)
+      → (own_context_in object ≡ Some end) ⊎ (lent_context_in object ≡ Some end)
       → (linked : Object) × (object_of m id ≡ Some linked) × (links linked authority.Runs end ≡ true)
   runs_link id end (Some (o.Tcb tcb)) at (inl bound) = (o.Tcb tcb, at, runs_bound tcb end bound)
   runs_link id end (Some (o.Tcb tcb)) at (inr lent) = (o.Tcb tcb, at, runs_lent tcb end lent)
@@ -138,27 +107,21 @@ module _ (t : Layout) (allowed : EdgeTest) (m : Machine) where
   keeps_link id end k (Some (o.Tcb tcb)) at is = (o.Tcb tcb, at, recorded_link tcb tcb.state k end refl is)
   keeps_link id end k _ at is = cc
 
-  outside_edge :
-      IsConfined t allowed m → (from : ℕ) (k : Kind) (to : ℕ) → allowed from k to ≡ false → HasAuthority t m from k to → ⊥
-  outside_edge confined from k to missing has = false≢true (sym missing ∙ confined from k to has)
+  -- what lies at a place gives its edge
+  gives_edge :
+      (place : Excess) (from to : ℕ) → IsThere held_by place → (ends_at held_by place).from ≡ Some from
+      → (ends_at held_by place).to ≡ Some to → HasAuthority t m from (ends_at held_by place).kind to
+  gives_edge (capability slot k label) from to at source target = by_cap slot at.0 at.1 at.2 at.4 source (at.3 ∙ target)
+  gives_edge (root slot label) from to at source target = by_root slot at.0 at.1 at.2 source (at.3 ∙ target)
+  gives_edge (pair child parent) from to at source target = by_pair child parent at source target
+  gives_edge (binding thread context) from to at source target =
+      let link = runs_link thread context (object_of m thread) refl at in by_link thread context link.0 link.1 link.2 source target
+  gives_edge (holding reply thread) from to at source target =
+      let link = holds_link reply thread (object_of m reply) refl at in by_link reply thread link.0 link.1 link.2 source target
+  gives_edge (recorded thread k label) from to at source target =
+      let link = keeps_link thread at.0 k (object_of m thread) refl at.1 in
+      by_link thread at.0 link.0 link.1 link.2 source (at.2 ∙ target)
 
-  pub within_confined : IsConfined t allowed m → (place : Excess) → Exceeds (of_machine t m) allowed place → ⊥
-  within_confined confined (capability slot k label) out =
-      outside_edge confined out.from k label out.missing
-      (by_cap slot out.held out.filled out.holder out.given out.source out.target)
-  within_confined confined (root slot label) out =
-      outside_edge confined out.from authority.Space label out.missing
-      (by_root slot out.held out.filled out.holder out.source out.target)
-  within_confined confined (pair child parent) out =
-      outside_edge confined out.from authority.Derive out.to out.missing (by_pair child parent out.derived out.source out.target)
-  within_confined confined (binding thread context) out =
-      let link = runs_link thread context (object_of m thread) refl out.runs in
-      outside_edge confined out.from authority.Runs out.to out.missing
-      (by_link thread context link.0 link.1 link.2 out.source out.target)
-  within_confined confined (holding reply thread) out =
-      let link = holds_link reply thread (object_of m reply) refl out.holds in
-      outside_edge confined out.from authority.Holds out.to out.missing
-      (by_link reply thread link.0 link.1 link.2 out.source out.target)
-  within_confined confined (recorded thread k label) out =
-      let link = keeps_link thread out.end k (object_of m thread) refl out.kept in
-      outside_edge confined out.from k label out.missing (by_link thread out.end link.0 link.1 link.2 out.source out.target)
+  pub within_confined : IsConfined t allowed m → (place : Excess) → Exceeds held_by allowed place → ⊥
+  within_confined confined place out =
+      false≢true (sym out.missing ∙ confined out.from _ out.to (gives_edge place out.from out.to out.there out.source out.target))

@@ -7,14 +7,13 @@ use Rattle.base.specs.{declared.{edge.Edge.Edge, ids.SlotRef.SlotRef, kind.Kind.
 use Rattle.base.specs.Kinds.{kind_number}
 use Rattle.machine.specs.{declared.{cap.Cap.Cap, object.ObjectKind.{ObjectKind, ObjectKind as object}}, Capabilities.gives, Layout.Layout}
 use Rattle.machine.{specs.Layout.{declared_label, initial_cap, initial_parent}, proofs.AuthorityLemmas.gives_no_structure}
+use Rattle.table.{specs.Rules.kind_at, proofs.Lookups.{FoundAt, found_at, none_found}}
 use Rattle.policy.{specs.{Domain.EdgeTest, Places.{ComesBefore, FindsLeast, IsLeast, IsNone}}, proofs.KindNumbers.{all_kinds, kind_stands}}
 use Rattle.policy.proofs.{KindNumbers.number_stands, Places.{decided, not_before_itself, only_least}}
-use Rattle.table.{specs.Rules.kind_at, proofs.Lookups.{FoundAt, found_at, none_found}}
 use Rattle.labels.specs.SlotEdges.{cap_edges, edge_between, kinds_in, pair_edges}
-use Rattle.verdict.specs.{declared.denial.Denial.Denial, Rules.{CapabilityExceeds, PairExceeds, RootExceeds, a1, a3}, Slots.denial_by}
+use Rattle.verdict.specs.{declared.denial.Denial.Denial, Rules.{Exceeds, Excess, a1, a3}, Slots.{denial_by, is_missing, slot_denial}}
+use Rattle.verdict.{specs.{Sources.of_table, Verdict.{Breaks, place_of, rule_number}}, proofs.RuleOrder.not_before_by_rule}
 use Rattle.verdict.specs.declared.denial.Denial.TheVariants as denial
-use Rattle.verdict.specs.{Slots.{is_missing, slot_denial}, Sources.of_table, Verdict.{Breaks, place_of, rule_number}}
-use Rattle.verdict.proofs.RuleOrder.{not_before_by_rule}
 use mathlib.Core.Bool.{false≢true}
 
 -- a denial names a slot
@@ -85,21 +84,18 @@ not_true true is = absurd (false≢true is)
 not_true false is = refl
 
 module _ (t : Layout) (allowed : EdgeTest) (slot : SlotRef) where
+  abbrev Out : Excess → Type 0
+  Out = Exceeds (of_table t) allowed
+
   -- what is broken at the slot, by its rule
   each :
-      (Q : Denial → Type 0) → ((k : Kind) (l : ℕ) → CapabilityExceeds (of_table t) allowed slot k l → Q (denial.Capability slot k l))
-      → ((l : ℕ) → RootExceeds (of_table t) allowed slot l → Q (denial.Root slot l))
-      → ((p : SlotRef) → PairExceeds (of_table t) allowed slot p → Q (denial.Pair slot p)) → (d : Denial)
-      → BreaksAt t allowed slot d → Q d
+      (Q : Denial → Type 0) → ((k : Kind) (l : ℕ) → Out (Excess.capability slot k l) → Q (denial.Capability slot k l))
+      → ((l : ℕ) → Out (Excess.root slot l) → Q (denial.Root slot l)) → ((p : SlotRef) → Out (Excess.pair slot p) → Q (denial.Pair slot p))
+      → (d : Denial) → BreaksAt t allowed slot d → Q d
   each Q cap root pair (denial.Capability place k l) h =
-      subst (λ (s : SlotRef). Q (denial.Capability s k l)) (sym h.0)
-      (cap k l (subst (λ (s : SlotRef). CapabilityExceeds (of_table t) allowed s k l) h.0 h.1))
-  each Q cap root pair (denial.Root place l) h =
-      subst (λ (s : SlotRef). Q (denial.Root s l)) (sym h.0)
-      (root l (subst (λ (s : SlotRef). RootExceeds (of_table t) allowed s l) h.0 h.1))
-  each Q cap root pair (denial.Pair child p) h =
-      subst (λ (s : SlotRef). Q (denial.Pair s p)) (sym h.0)
-      (pair p (subst (λ (s : SlotRef). PairExceeds (of_table t) allowed s p) h.0 h.1))
+      subst (λ (s : SlotRef). Out (Excess.capability s k l) → Q (denial.Capability s k l)) (sym h.0) (cap k l) h.1
+  each Q cap root pair (denial.Root place l) h = subst (λ (s : SlotRef). Out (Excess.root s l) → Q (denial.Root s l)) (sym h.0) (root l) h.1
+  each Q cap root pair (denial.Pair child p) h = subst (λ (s : SlotRef). Out (Excess.pair s p) → Q (denial.Pair s p)) (sym h.0) (pair p) h.1
   each Q cap root pair _ h = absurd h.0
 
   -- only the pair may be broken
@@ -113,8 +109,7 @@ module _ (t : Layout) (allowed : EdgeTest) (slot : SlotRef) where
       (λ edge. (d : Denial) × (denial_by t slot edge.kind edge.to ≡ Some d) × IsLeast place_of (BreaksAt t allowed slot) d)
 
   pair_only :
-      ((k : Kind) (l : ℕ) → CapabilityExceeds (of_table t) allowed slot k l → ⊥)
-      → ((l : ℕ) → RootExceeds (of_table t) allowed slot l → ⊥) → PairOnly
+      ((k : Kind) (l : ℕ) → Out (Excess.capability slot k l) → ⊥) → ((l : ℕ) → Out (Excess.root slot l) → ⊥) → PairOnly
   pair_only no_cap no_root = each (λ d. a3 ≤ rule_number (Some d)) (λ k l x. absurd (no_cap k l x)) (λ l x. absurd (no_root l x)) (λ p x. omega arith)
 
   by_use : (k : Kind) (l : ℕ) → is_structural k ≡ false → denial_by t slot k l ≡ Some (denial.Capability slot k l)
@@ -132,8 +127,8 @@ module _ (t : Layout) (allowed : EdgeTest) (slot : SlotRef) where
 
     no_target : declared_label t held.object ≡ None → PairOnly
     no_target none =
-        pair_only (λ k l x. none-some l (sym none ∙ target_is x.held x.filled ∙ x.target))
-        (λ l x. none-some l (sym none ∙ target_is x.held x.filled ∙ x.target))
+        pair_only (λ k l x. none-some l (sym none ∙ target_is x.there.0 x.there.1 ∙ x.there.3))
+        (λ l x. none-some l (sym none ∙ target_is x.there.0 x.there.1 ∙ x.there.3))
 
     module _ (from to : ℕ) (source : declared_label t slot.holder ≡ Some from) (target : declared_label t held.object ≡ Some to) where
       missing_is : (k : Kind) (x y : ℕ) → declared_label t slot.holder ≡ Some x → declared_label t held.object ≡ Some y → allowed x k y ≡ false → allowed from k to ≡ false
@@ -143,13 +138,13 @@ module _ (t : Layout) (allowed : EdgeTest) (slot : SlotRef) where
       abbrev given_missing : Kind → Bool
       given_missing k = gives held.detail k && not (allowed from k to)
 
-      exceeds : (k : Kind) (l : ℕ) → CapabilityExceeds (of_table t) allowed slot k l → (l ≡ to) × (given_missing k ≡ true)
+      exceeds : (k : Kind) (l : ℕ) → Out (Excess.capability slot k l) → (l ≡ to) × (given_missing k ≡ true)
       exceeds k l x =
-          let is = target_is x.held x.filled ∙ x.target in (
+          let is = target_is x.there.0 x.there.1 ∙ x.there.3 in (
             same_Some l to (sym is ∙ target),
             and_from (gives held.detail k) (not (allowed from k to))
-                (ap (λ (c : Cap). gives c.detail k) (same_Some held x.held (sym filled ∙ x.filled)) ∙ x.given)
-                (ap not (missing_is k x.from l x.source is x.missing)),
+                (ap (λ (c : Cap). gives c.detail k) (same_Some held x.there.0 (sym filled ∙ x.there.1)) ∙ x.there.4)
+                (ap not (missing_is k x.from x.to x.source (is ∙ x.target) x.missing)),
           )
 
       -- in a CNode, the least kind that is given and missing
@@ -162,8 +157,8 @@ module _ (t : Layout) (allowed : EdgeTest) (slot : SlotRef) where
           edge : Kind → Edge
           edge k = record { from = from; kind = k; to = to }
 
-          no_root : (l : ℕ) → RootExceeds (of_table t) allowed slot l → ⊥
-          no_root l x = let same = same_Some object.CNode object.Tcb (sym node ∙ x.holder) in cc
+          no_root : (l : ℕ) → Out (Excess.root slot l) → ⊥
+          no_root l x = let same = same_Some object.CNode object.Tcb (sym node ∙ x.there.2) in cc
 
           by : (found : Option Kind) → find given_missing all_kinds ≡ found → CapFound (option_map edge found)
           by None none = pair_only
@@ -178,13 +173,11 @@ module _ (t : Layout) (allowed : EdgeTest) (slot : SlotRef) where
                   has = (
                     refl,
                     record {
-                      held = held;
                       from = from;
-                      filled = filled;
-                      holder = node;
-                      given = parts.0;
+                      to = to;
+                      there = (held, filled, node, target, parts.0);
                       source = source;
-                      target = target;
+                      target = refl;
                       missing = not_true (allowed from k to) parts.1;
                     },
                   );
@@ -203,20 +196,23 @@ module _ (t : Layout) (allowed : EdgeTest) (slot : SlotRef) where
       in_thread :
           kind_at t slot.holder ≡ Some object.Tcb → CapFound (find (is_missing allowed) (flat_map (edge_between (Some from) (Some to)) (Space ∷ [])))
       in_thread thread = by (allowed from Space to) refl where
-        no_node : (k : Kind) (l : ℕ) → CapabilityExceeds (of_table t) allowed slot k l → ⊥
-        no_node k l x = let same = same_Some object.Tcb object.CNode (sym thread ∙ x.holder) in cc
+        no_node : (k : Kind) (l : ℕ) → Out (Excess.capability slot k l) → ⊥
+        no_node k l x = let same = same_Some object.Tcb object.CNode (sym thread ∙ x.there.2) in cc
 
-        label_is : (l : ℕ) → RootExceeds (of_table t) allowed slot l → declared_label t held.object ≡ Some l
-        label_is l x = target_is x.held x.filled ∙ x.target
+        label_is : (l : ℕ) → Out (Excess.root slot l) → declared_label t held.object ≡ Some l
+        label_is l x = target_is x.there.0 x.there.1 ∙ x.there.3
 
         by : (has : Bool) → allowed from Space to ≡ has → CapFound (cond (not has) (Some (record { from = from; kind = Space; to = to })) None)
         by true has = pair_only no_node
-            (λ l x. false≢true (sym (missing_is Space x.from l x.source (label_is l x) x.missing) ∙ has))
+            (λ l x. false≢true (sym (missing_is Space x.from x.to x.source (label_is l x ∙ x.target) x.missing) ∙ has))
         by false missing = (
           denial.Root slot to,
           refl,
           record {
-            has = (refl, record { held = held; from = from; filled = filled; holder = thread; source = source; target = target; missing = missing });
+            has = (
+              refl,
+              record { from = from; to = to; there = (held, filled, thread, target); source = source; target = refl; missing = missing },
+            );
             first = each (λ d. ComesBefore (place_of d) (place_of (denial.Root slot to)) → ⊥)
                 (λ k l x. absurd (no_node k l x))
                 (λ l x.
@@ -227,7 +223,8 @@ module _ (t : Layout) (allowed : EdgeTest) (slot : SlotRef) where
         )
 
   cap_found : (cap : Option Cap) → initial_cap t slot ≡ cap → CapFound (find (is_missing allowed) (cap_edges t slot cap))
-  cap_found None empty = pair_only (λ k l x. none-some x.held (sym empty ∙ x.filled)) (λ l x. none-some x.held (sym empty ∙ x.filled))
+  cap_found None empty =
+      pair_only (λ k l x. none-some x.there.0 (sym empty ∙ x.there.1)) (λ l x. none-some x.there.0 (sym empty ∙ x.there.1))
   cap_found (Some held) filled =
       by (kind_at t slot.holder) refl (declared_label t slot.holder) refl (declared_label t held.object) refl where
         by :
@@ -242,10 +239,10 @@ module _ (t : Layout) (allowed : EdgeTest) (slot : SlotRef) where
         by (Some object.CNode) is (Some from) source (Some to) target = in_node held filled from to source target is
         by (Some object.Tcb) is (Some from) source (Some to) target = in_thread held filled from to source target is
         by kind is (Some from) source (Some to) target =
-            pair_only (λ k l x. let same = sym is ∙ x.holder in cc) (λ l x. let same = sym is ∙ x.holder in cc)
+            pair_only (λ k l x. let same = sym is ∙ x.there.2 in cc) (λ l x. let same = sym is ∙ x.there.2 in cc)
 
   -- only a pair may be broken, and isn't
-  nothing : PairOnly → ((p : SlotRef) → PairExceeds (of_table t) allowed slot p → ⊥) → IsNone (BreaksAt t allowed slot)
+  nothing : PairOnly → ((p : SlotRef) → Out (Excess.pair slot p) → ⊥) → IsNone (BreaksAt t allowed slot)
   nothing only no_pair d h =
       each (λ e. a3 ≤ rule_number (Some e) → ⊥) (λ k l x le. omega (arith, le)) (λ l x le. omega (arith, le)) (λ p x le. no_pair p x) d h (only d h)
 
@@ -255,12 +252,12 @@ module _ (t : Layout) (allowed : EdgeTest) (slot : SlotRef) where
   pair_found :
       (p : Option SlotRef) → initial_parent t slot ≡ p → PairOnly
       → FindsLeast place_of (BreaksAt t allowed slot) (denied (find (is_missing allowed) (pair_edges t slot p)))
-  pair_found None none only = nothing only (λ p x. none-some p (sym none ∙ x.derived))
+  pair_found None none only = nothing only (λ p x. none-some p (sym none ∙ x.there))
   pair_found (Some parent) derived only = by (declared_label t parent.holder) refl (declared_label t slot.holder) refl where
-    parent_is : (p : SlotRef) → PairExceeds (of_table t) allowed slot p → p ≡ parent
-    parent_is p x = same_Some p parent (sym x.derived ∙ derived)
+    parent_is : (p : SlotRef) → Out (Excess.pair slot p) → p ≡ parent
+    parent_is p x = same_Some p parent (sym x.there ∙ derived)
 
-    source_is : (p : SlotRef) (x : PairExceeds (of_table t) allowed slot p) → declared_label t parent.holder ≡ Some x.from
+    source_is : (p : SlotRef) (x : Out (Excess.pair slot p)) → declared_label t parent.holder ≡ Some x.from
     source_is p x = ap (λ (s : SlotRef). declared_label t s.holder) (sym (parent_is p x)) ∙ x.source
 
     by_edge :
@@ -276,7 +273,7 @@ module _ (t : Layout) (allowed : EdgeTest) (slot : SlotRef) where
         subst (λ (found : Option SlotRef). FindsLeast place_of (BreaksAt t allowed slot) (option_map (λ p. denial.Pair slot p) found)) (sym derived)
         (only_least place_of (BreaksAt t allowed slot) (denial.Pair slot parent) (
           refl,
-          record { from = from; to = to; derived = derived; source = source; target = target; missing = missing },
+          record { from = from; to = to; there = derived; source = source; target = target; missing = missing },
         ) (λ d h.
         each (λ e. a3 ≤ rule_number (Some e) → e ≡ denial.Pair slot parent) (λ k l x le. absurd (omega (arith, le)))
         (λ l x le. absurd (omega (arith, le))) (λ p x le. ap (denial.Pair slot) (parent_is p x)) d h (only d h)))

@@ -1,33 +1,17 @@
 -- The search for the labels that act: those that act from boot on are the labels of ready threads that bindings name.
-use Rattle.std.proofs.Common.{[], ℕ, ◌+◌, ◌==◌, ◌||◌, ◌↔◌, ◌∙◌, ◌∷◌, ◌≡◌, ◌≤◌, ◌⊎◌, Bool, None, Option, Some, ap, arith, cond, false, inl, inr, length, refl, slice_get, sym, true, ◌&&◌}
-use Rattle.std.specs.Option.{option_and_then}
-use Rattle.std.proofs.lemmas.Bool.{eq-eqb, eqb-true, false≢true, or_cases, or_left, or_right, and_parts, and_from}
-use Rattle.std.proofs.lemmas.Option.{none-some, same_Some, slice_get_within}
-use Rattle.base.specs.declared.ids.ObjId.{ObjId}
-use Rattle.base.specs.declared.kind.Kind.TheVariants.{Control}
-use Rattle.base.specs.declared.labels.Labels.{Labels}
-use Rattle.base.specs.Labels.{is_in}
-use Rattle.machine.specs.declared.layout.Binding.{Binding}
-use Rattle.machine.specs.declared.layout.Initial.{Initial}
-use Rattle.machine.specs.declared.object.Object.{Object}
-use Rattle.machine.specs.declared.object.Object.{Object as o}
-use Rattle.machine.specs.declared.thread.RunState.{RunState}
-use Rattle.machine.specs.declared.thread.RunState.{RunState as state}
-use Rattle.machine.specs.declared.thread.Tcb.{Tcb}
-use Rattle.machine.specs.Authority.{label_of}
-use Rattle.machine.specs.Layout.{Layout, initial_of}
-use Rattle.machine.specs.Outcomes.{IsRefused}
-use Rattle.policy.specs.Domain.{EdgeTest}
-use Rattle.policy.specs.Steps.{IsTarget}
-use Rattle.policy.proofs.Stepping.{IsBelow, more_below, none_more, only_kind, target_by}
-use Rattle.table.specs.Rules.{IsLawful}
-use Rattle.table.proofs.Lookups.{bound_at, bound_from}
-use Rattle.integrity.specs.Acting.{MayAct, Starts, MayHaveThreads}
-use Rattle.integrity.specs.Safe.{RefusesOthers}
-use Rattle.verdict.specs.Acting.{RefusesAllBut, is_ready, is_ready_state, ready_label, has_threads}
+use Rattle.std.{specs.Option.option_and_then, proofs.Common.{[], ℕ, ◌&&◌, ◌+◌, ◌==◌, ◌||◌, ◌↔◌, ◌∙◌, ◌∷◌, ◌≡◌, ◌≤◌, ◌⊎◌, Bool, None}}
+use Rattle.std.proofs.{Common.{Option, Some, ap, arith, cond, false, inl, inr, length, refl, slice_get, sym, true}, lemmas.Bool.and_from}
+use Rattle.std.proofs.lemmas.{Bool.{and_parts, eq-eqb, eqb-true, false≢true, or_cases, or_left, or_right}, Option.{none-some, same_Some}}
+use Rattle.std.proofs.lemmas.Option.{slice_get_within}
+use Rattle.base.specs.{declared.{ids.ObjId.ObjId, kind.Kind.TheVariants.Control, labels.Labels.Labels}, Labels.is_in}
+use Rattle.machine.specs.declared.{layout.{Binding.Binding, Initial.Initial}, object.Object.{Object, Object as o}, thread.RunState.RunState}
+use Rattle.machine.specs.{declared.thread.{RunState.RunState as state, Tcb.Tcb}, Authority.label_of, Layout.{Layout, initial_of}}
+use Rattle.machine.specs.{Objects.kind_of_object, Outcomes.IsRefused}
 use Rattle.machine.specs.declared.object.ObjectKind.TheVariants as kind
-use Rattle.machine.specs.Objects.{kind_of_object}
-use Rattle.verdict.specs.Extents.{IsActor}
+use Rattle.table.{specs.Rules.IsLawful, proofs.Lookups.{bound_at, bound_from}}
+use Rattle.policy.{specs.{Domain.EdgeTest, Steps.IsTarget}, proofs.Stepping.{IsBelow, more_below, none_more, only_kind, target_by}}
+use Rattle.integrity.specs.{Acting.{MayAct, MayHaveThreads, Starts}, Safe.RefusesOthers}
+use Rattle.verdict.specs.{Acting.{RefusesAllBut, has_threads, is_ready, is_ready_state, ready_label}, Extents.IsActor}
 
 -- what it is to be ready
 

@@ -32,63 +32,6 @@ a6 = 14
 abbrev pub c1 : ℕ
 c1 = 15
 
--- A1: the capability in a slot of a CNode gives a kind of authority over its object that the policy doesn't have
-pub record CapabilityExceeds (s : Sources) (allowed : EdgeTest) (slot : SlotRef) (kind : Kind) (label : ℕ) : Type 0 where
-  pub held : Cap
-  pub from : ℕ
-  pub filled : s.cap slot ≡ Some held
-  pub holder : s.kind slot.holder ≡ Some object.CNode
-  pub given : gives held.detail kind ≡ true
-  pub source : s.label slot.holder ≡ Some from
-  pub target : s.label held.object ≡ Some label
-  pub missing : allowed from kind label ≡ false
-
--- A2: the policy doesn't have the edge of a capability in a thread's root slot, which gives space alone
-pub record RootExceeds (s : Sources) (allowed : EdgeTest) (slot : SlotRef) (label : ℕ) : Type 0 where
-  pub held : Cap
-  pub from : ℕ
-  pub filled : s.cap slot ≡ Some held
-  pub holder : s.kind slot.holder ≡ Some object.Tcb
-  pub source : s.label slot.holder ≡ Some from
-  pub target : s.label held.object ≡ Some label
-  pub missing : allowed from authority.Space label ≡ false
-
--- A3: a pair of the derivation tree, and the policy doesn't have the edge of kind derive
-pub record PairExceeds (s : Sources) (allowed : EdgeTest) (child parent : SlotRef) : Type 0 where
-  pub from : ℕ
-  pub to : ℕ
-  pub derived : s.parent child ≡ Some parent
-  pub source : s.label parent.holder ≡ Some from
-  pub target : s.label child.holder ≡ Some to
-  pub missing : allowed from authority.Derive to ≡ false
-
--- A4: a thread is bound to a context, or lent it, and the policy doesn't have the edge of kind runs
-pub record BindingExceeds (s : Sources) (allowed : EdgeTest) (thread context : ObjId) : Type 0 where
-  pub from : ℕ
-  pub to : ℕ
-  pub runs : (s.context thread ≡ Some context) ⊎ (s.lent thread ≡ Some context)
-  pub source : s.label thread ≡ Some from
-  pub target : s.label context ≡ Some to
-  pub missing : allowed from authority.Runs to ≡ false
-
--- A5: a reply holds a thread, and the policy doesn't have the edge of kind holds
-pub record HoldingExceeds (s : Sources) (allowed : EdgeTest) (reply thread : ObjId) : Type 0 where
-  pub from : ℕ
-  pub to : ℕ
-  pub holds : s.holds reply thread ≡ true
-  pub source : s.label reply ≡ Some from
-  pub target : s.label thread ≡ Some to
-  pub missing : allowed from authority.Holds to ≡ false
-
--- A6: a blocked thread keeps a kind of authority that the policy doesn't have
-pub record RecordExceeds (s : Sources) (allowed : EdgeTest) (thread : ObjId) (kind : Kind) (label : ℕ) : Type 0 where
-  pub end : ObjId
-  pub from : ℕ
-  pub kept : s.keeps thread kind end ≡ true
-  pub source : s.label thread ≡ Some from
-  pub target : s.label end ≡ Some label
-  pub missing : allowed from kind label ≡ false
-
 -- a place where authority may lie outside a policy, by the rules A1 to A6
 pub data Excess : Type 0 where
   -- a capability in a slot of a CNode, a kind that it gives, and its object's label
@@ -104,14 +47,47 @@ pub data Excess : Type 0 where
   -- a blocked thread, a kind that it keeps, and the label of what it keeps it over
   recorded : ObjId → Kind → ℕ → Excess
 
--- authority lies outside the policy at a place
-abbrev pub Exceeds : Sources → EdgeTest → Excess → Type 0
-Exceeds s allowed (capability slot kind label) = CapabilityExceeds s allowed slot kind label
-Exceeds s allowed (root slot label) = RootExceeds s allowed slot label
-Exceeds s allowed (pair child parent) = PairExceeds s allowed child parent
-Exceeds s allowed (binding thread context) = BindingExceeds s allowed thread context
-Exceeds s allowed (holding reply thread) = HoldingExceeds s allowed reply thread
-Exceeds s allowed (recorded thread kind label) = RecordExceeds s allowed thread kind label
+-- what lies at a place, and gives an edge of authority
+abbrev pub IsThere : Sources → Excess → Type 0
+-- A1: a capability in a slot of a CNode gives each of its kinds
+IsThere s (capability slot kind label) =
+    (held : Cap) × (s.cap slot ≡ Some held) × (s.kind slot.holder ≡ Some object.CNode) × (s.label held.object ≡ Some label)
+    × (gives held.detail kind ≡ true)
+-- A2: a capability in a thread's root slot gives space alone
+IsThere s (root slot label) =
+    (held : Cap) × (s.cap slot ≡ Some held) × (s.kind slot.holder ≡ Some object.Tcb) × (s.label held.object ≡ Some label)
+-- A3: a pair of the derivation tree gives derive
+IsThere s (pair child parent) = s.parent child ≡ Some parent
+-- A4: a thread that is bound to a context, or lent it, has runs
+IsThere s (binding thread context) = (s.context thread ≡ Some context) ⊎ (s.lent thread ≡ Some context)
+-- A5: a reply that holds a thread has holds
+IsThere s (holding reply thread) = s.holds reply thread ≡ true
+-- A6: a blocked thread has each kind that it keeps
+IsThere s (recorded thread kind label) = (end : ObjId) × (s.keeps thread kind end ≡ true) × (s.label end ≡ Some label)
+
+-- an edge of authority, as far as its objects have labels
+pub record Ends : Type 0 where
+  pub from : Option ℕ
+  pub kind : Kind
+  pub to : Option ℕ
+
+-- the edge that what lies at a place gives
+abbrev pub ends_at : Sources → Excess → Ends
+ends_at s (capability slot kind label) = record { from = s.label slot.holder; kind = kind; to = Some label }
+ends_at s (root slot label) = record { from = s.label slot.holder; kind = authority.Space; to = Some label }
+ends_at s (pair child parent) = record { from = s.label parent.holder; kind = authority.Derive; to = s.label child.holder }
+ends_at s (binding thread context) = record { from = s.label thread; kind = authority.Runs; to = s.label context }
+ends_at s (holding reply thread) = record { from = s.label reply; kind = authority.Holds; to = s.label thread }
+ends_at s (recorded thread kind label) = record { from = s.label thread; kind = kind; to = Some label }
+
+-- authority lies outside the policy at a place: what lies there gives an edge that the policy doesn't have
+pub record Exceeds (s : Sources) (allowed : EdgeTest) (place : Excess) : Type 0 where
+  pub from : ℕ
+  pub to : ℕ
+  pub there : IsThere s place
+  pub source : (ends_at s place).from ≡ Some from
+  pub target : (ends_at s place).to ≡ Some to
+  pub missing : allowed from (ends_at s place).kind to ≡ false
 
 -- the edge of a kind between two labels, where there are both
 abbrev pub joined : Option ℕ → Kind → Option ℕ → Option Edge
@@ -120,12 +96,7 @@ joined _ kind _ = None
 
 -- the edge that a policy has to have for what is at a place
 abbrev pub edge_needed_at : Sources → Excess → Option Edge
-edge_needed_at s (capability slot kind label) = joined (s.label slot.holder) kind (Some label)
-edge_needed_at s (root slot label) = joined (s.label slot.holder) authority.Space (Some label)
-edge_needed_at s (pair child parent) = joined (s.label parent.holder) authority.Derive (s.label child.holder)
-edge_needed_at s (binding thread context) = joined (s.label thread) authority.Runs (s.label context)
-edge_needed_at s (holding reply thread) = joined (s.label reply) authority.Holds (s.label thread)
-edge_needed_at s (recorded thread kind label) = joined (s.label thread) kind (Some label)
+edge_needed_at s place = joined (ends_at s place).from (ends_at s place).kind (ends_at s place).to
 
 -- a place as numbers: its rule, then the objects, slots, kinds and labels that it names, from left to right
 abbrev pub excess_place : Excess → List ℕ

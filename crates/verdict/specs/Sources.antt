@@ -3,7 +3,7 @@
 use Rattle.std.specs.Prelude.{ℕ, Bool, None, Option, Some, false}
 use Rattle.base.specs.declared.{ids.{ObjId.ObjId, SlotRef.SlotRef}, kind.Kind.Kind}
 use Rattle.machine.specs.{declared.{cap.Cap.Cap, object.{Object.{Object, Object as o}, ObjectKind.ObjectKind}}, Authority.holds_thread}
-use Rattle.machine.specs.{Authority.{label_of, lent_of, state_links}, Layout.{Layout, bound_context, declared_label, initial_cap}}
+use Rattle.machine.specs.{Authority.{label_of, context_lent, state_links}, Layout.{Layout, bound_context, declared_label, initial_cap}}
 use Rattle.machine.specs.{Layout.initial_parent, Machine.{Machine, cap_of, object_of, parent_of}, WellFormed.kind_of}
 use Rattle.table.specs.Rules.{kind_at}
 
@@ -34,13 +34,13 @@ of_table t = record {
   keeps = λ thread k end. false;
 }
 
-abbrev pub context_in : Option Object → Option ObjId
-context_in (Some (o.Tcb tcb)) = tcb.context
-context_in _ = None
+abbrev pub own_context_in : Option Object → Option ObjId
+own_context_in (Some (o.Tcb tcb)) = tcb.context
+own_context_in _ = None
 
-abbrev pub lends_in : Option Object → Option ObjId
-lends_in (Some (o.Tcb tcb)) = lent_of tcb.state
-lends_in _ = None
+abbrev pub lent_context_in : Option Object → Option ObjId
+lent_context_in (Some (o.Tcb tcb)) = context_lent tcb.state
+lent_context_in _ = None
 
 abbrev pub holds_in : Option Object → ObjId → Bool
 holds_in (Some (o.Reply answers)) thread = holds_thread answers.state thread
@@ -56,8 +56,8 @@ of_machine t m = record {
   parent = parent_of m;
   kind = kind_of m;
   label = label_of t m;
-  context = λ thread. context_in (object_of m thread);
-  lent = λ thread. lends_in (object_of m thread);
+  context = λ thread. own_context_in (object_of m thread);
+  lent = λ thread. lent_context_in (object_of m thread);
   holds = λ reply. holds_in (object_of m reply);
   keeps = λ thread. keeps_in (object_of m thread);
 }

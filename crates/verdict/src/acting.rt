@@ -3,8 +3,7 @@ ghost use Rattle.std.specs.Prelude.{ℕ, ◌↔◌, ◌≡◌, false, true};
 ghost use Rattle.base.specs.Labels.{is_in};
 ghost use Rattle.policy.specs.{Closed.IsClosed, Policy.allows};
 ghost use Rattle.integrity.specs.{Acting.{MayAct, MayHaveThreads, Starts}, Apart.NeverChanges};
-ghost use Rattle.verdict.specs.Acting.{RefusesAllBut, has_threads, is_ready, ready_label};
-ghost use Rattle.verdict.specs.Extents.{IsActor};
+ghost use Rattle.verdict.specs.{Acting.{RefusesAllBut, has_threads, is_ready, ready_label}, Extents.IsActor};
 
 use crate::Accepted;
 use base::{Kind, Label, Labels, ObjId};

@@ -3,8 +3,7 @@ ghost use Rattle.std.specs.Prelude.{◌≡◌, IfNone, IfSome, Some};
 ghost use Rattle.machine.specs.Machine.{object_of};
 ghost use Rattle.policy.specs.{Places.FindsLeast, Policy.allows};
 ghost use Rattle.integrity.specs.Confined.{IsConfined};
-ghost use Rattle.verdict.specs.{Outside.{LiesAt, LiesOutside}, Rules.Excess};
-ghost use Rattle.verdict.specs.Verdict.{IsOutside, excess_of, place_of};
+ghost use Rattle.verdict.specs.{Outside.{LiesAt, LiesOutside}, Rules.Excess, Verdict.{IsOutside, excess_of, place_of}};
 
 mod links;
 mod slots;

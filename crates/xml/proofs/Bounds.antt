@@ -1,19 +1,14 @@
 -- What is read is within the limits.
-use Rattle.std.specs.{List.AllByRecursion, Prelude.{IfOk}}
-use Rattle.std.proofs.Common.{[], ℕ, ◌++◌, ◌+◌, ◌<◌, ◌&&◌, ◌==◌, ◌∷◌, ◌≡◌, ◌≤◌, ◌||◌, Bool, Err, Global}
-use Rattle.std.proofs.Common.{List, Ok, Result, Vec, ap, arith, codes, cond, length, length-append, false, nat_le, nat_lt}
-use Rattle.std.proofs.Common.{subst, suc, true, zero}
-use Rattle.std.proofs.lemmas.Bool.{leb-false}
-use Rattle.words.specs.{Fault.fault_at, Reading.{Reads, bind}, declared.faults.{Fault.{Fault}, Wrong.TheVariants.{Syntax}}}
+use Rattle.std.{specs.{List.AllByRecursion, Prelude.IfOk}, proofs.Common.{[], ℕ, ◌&&◌, ◌++◌, ◌+◌, ◌<◌, ◌==◌, ◌||◌, ◌∷◌, ◌≡◌, ◌≤◌, Bool}}
+use Rattle.std.proofs.Common.{Err, Global, List, Ok, Result, Vec, ap, arith, codes, cond, false, length, length-append, nat_le, nat_lt}
+use Rattle.std.proofs.{Common.{subst, suc, true, zero}, lemmas.Bool.leb-false}
+use Rattle.words.specs.{declared.faults.{Fault.Fault, Wrong.TheVariants.Syntax}, Fault.fault_at, Reading.{Reads, bind}}
 use Rattle.words.proofs.WordLaws.{bind_ok}
-use Rattle.xml.specs.Document.{Draft, Node, begin_at, closed_at, comment_at, declaration_at, document_of, end_at}
-use Rattle.xml.specs.Document.{finished_at, is_whole, item_at, items_at, no_nodes, room_at, with_node}
-use Rattle.xml.specs.{Characters.begins_with, Limits.{AreLimited, IsLimited}}
-use Rattle.xml.specs.Place.{Place, after_spaces, expected_at, spaced_at, start_of}
-use Rattle.xml.specs.Tag.{Pair, admitted, attribute_at, attributes_at, ends_tag, is_given, name_at, tag_end_at}
-use Rattle.xml.specs.{View.{nodes_of}}
-use Rattle.xml.specs.declared.{document.TheConstants.{MAX_TEXT_LENGTH}, element.Element.{Element}}
-use Rattle.xml.proofs.Spelled.{chosen, neither, ok_is}
+use Rattle.xml.specs.{declared.{document.TheConstants.MAX_TEXT_LENGTH, element.Element.Element}, Characters.begins_with, Document.Draft}
+use Rattle.xml.specs.Document.{Node, begin_at, closed_at, comment_at, declaration_at, document_of, end_at, finished_at, is_whole, item_at}
+use Rattle.xml.specs.{Document.{items_at, no_nodes, room_at, with_node}, Limits.{AreLimited, IsLimited}, Place.{Place, after_spaces}}
+use Rattle.xml.specs.{Place.{expected_at, spaced_at, start_of}, Tag.{Pair, admitted, attribute_at, attributes_at, ends_tag, is_given}}
+use Rattle.xml.{specs.{Tag.{name_at, tag_end_at}, View.nodes_of}, proofs.Spelled.{chosen, neither, ok_is}}
 
 -- an attribute more is one of those that may be
 attribute_few : (found : List Pair) (place : Place) (y : Pair × Place) → attribute_at found place ≡ Ok y → length found < 32

@@ -1,8 +1,7 @@
 -- How the digits of a number are read one after another.
-use Rattle.std.proofs.Common.{[], ℕ, ◌&&◌, ◌*◌, ◌+◌, ◌<◌, ◌∙◌, ◌∷◌, ◌≡◌, ◌≤◌, Bool, List, None, Some, add-one, ap, arith}
-use Rattle.std.proofs.Common.{cond, drop, drop-cons, false, get_or, length, refl, sym, true}
-use Rattle.std.proofs.{Math.Nat.{mul-le-mul_left}, lemmas.List.drop_all}
-use Rattle.std.specs.{Char.{digit_value, is_digit}, List.list_all, Str.Parse.{digits_value, digits_value_after}}
+use Rattle.std.{specs.{Char.{digit_value, is_digit}, List.list_all, Str.Parse.{digits_value, digits_value_after}}, proofs.Common.{[], ℕ}}
+use Rattle.std.proofs.Common.{◌&&◌, ◌*◌, ◌+◌, ◌<◌, ◌∙◌, ◌∷◌, ◌≡◌, ◌≤◌, Bool, List, None, Some, add-one, ap, arith, cond, drop, drop-cons}
+use Rattle.std.proofs.{Common.{false, get_or, length, refl, sym, true}, Math.Nat.mul-le-mul_left, lemmas.List.drop_all}
 use Rattle.xml.specs.{Characters.is_printable, Value.code_of}
 
 -- the digits, and the number that all spell, when so many were read and spelled a number

@@ -1,7 +1,6 @@
 -- A test of what a list shows is a test of the list.
-use Rattle.std.{specs.{List.list_any, Str.bytes_eq}, proofs.Common.{[], ℕ, ◌++◌, ◌∷◌, ◌≡◌, ◌||◌, List, ap, map, refl}}
-use Rattle.std.specs.Borrow.{Bor}
-use Rattle.xml.specs.{declared.element.Attribute.{Attribute}, Tag.Pair, View.{pair_of, pairs_of}}
+use Rattle.std.{specs.{Borrow.Bor, List.list_any, Str.bytes_eq}, proofs.Common.{[], ℕ, ◌++◌, ◌||◌, ◌∷◌, ◌≡◌, List, ap, map, refl}}
+use Rattle.xml.specs.{declared.element.Attribute.Attribute, Tag.Pair, View.{pair_of, pairs_of}}
 
 pub any_pair : (name : List ℕ) (found : List Attribute)
     → list_any (λ (pair : Pair). bytes_eq pair.name name) (pairs_of found)

@@ -1,6 +1,5 @@
 -- How the count of the bytes of a comment goes on by one byte, or ends.
-use Rattle.std.proofs.Common.{ℕ, ◌+◌, ◌-◌, ◌<◌, ◌∷◌, ◌≡◌, ◌≤◌, List, add-one, drop, drop-cons, false, get_or, length, refl}
-use Rattle.std.proofs.Common.{take, true}
+use Rattle.std.proofs.Common.{ℕ, ◌+◌, ◌-◌, ◌<◌, ◌∷◌, ◌≡◌, ◌≤◌, List, add-one, drop, drop-cons, false, get_or, length, refl, take, true}
 use Rattle.std.proofs.lemmas.List.{drop_all, take_rest}
 use Rattle.xml.specs.Characters.{comment_length, in_comment}
 

@@ -1,12 +1,10 @@
 -- The line of an element is 1 and the line feeds before its tag.
-use Rattle.std.{specs.{Prelude.{IfOk}}, proofs.Common.{[], ℕ, ◌++◌, ◌∙◌, ◌∷◌, Bool, Err, Global, List, Ok}}
-use Rattle.std.proofs.Common.{Result, Vec, ap, append_assoc, codes, cond, subst, sym, true, false}
-use Rattle.words.specs.{Reading.{Reads}, declared.faults.{Fault.{Fault}}}
-use Rattle.xml.specs.{Document.{Node, document_of}, Lines.{AreAtLines, IsAtLine}, Place.{Place, start_of}, Spelling.{Stands}}
-use Rattle.xml.specs.View.{nodes_of}
-use Rattle.xml.specs.Grammar.{IsContent, IsDocument, IsElement, IsStartTag, branch, comment, empty, leaf, nothing, whole}
-use Rattle.xml.specs.declared.element.Element.{Element}
-use Rattle.xml.proofs.{Nesting.{is_document}, Spelled.{stands_then}}
+use Rattle.std.{specs.Prelude.IfOk, proofs.Common.{[], ℕ, ◌++◌, ◌∙◌, ◌∷◌, Bool, Err, Global, List, Ok, Result, Vec, ap, append_assoc}}
+use Rattle.std.proofs.Common.{codes, cond, false, subst, sym, true}
+use Rattle.words.specs.{declared.faults.Fault.Fault, Reading.Reads}
+use Rattle.xml.specs.{declared.element.Element.Element, Document.{Node, document_of}, Grammar.{IsContent, IsDocument, IsElement}}
+use Rattle.xml.specs.{Grammar.{IsStartTag, branch, comment, empty, leaf, nothing, whole}, Lines.{AreAtLines, IsAtLine}, Place.Place}
+use Rattle.xml.{specs.{Place.start_of, Spelling.Stands, View.nodes_of}, proofs.{Nesting.is_document, Spelled.stands_then}}
 
 -- what stands before a place of a text
 Reached : List ℕ → Place → Type 0

@@ -1,9 +1,8 @@
 -- How the attributes of a tag, and the comments and tags of a text, go on by one, or end.
-use Rattle.std.proofs.Common.{[], ℕ, ◌++◌, ◌+◌, ◌-◌, ◌<◌, ◌==◌, ◌∷◌, ◌≡◌, ◌≤◌, Err, List, Ok, arith, false, length}
-use Rattle.std.proofs.Common.{refl, suc, true, zero}
-use Rattle.words.specs.{Reading.bind, declared.faults.Fault.{Fault}}
-use Rattle.xml.specs.{Document.{Draft, finished_at, item_at, items_at}, Place.{Place, after_spaces}}
-use Rattle.xml.specs.Tag.{Pair, attribute_at, attributes_at, ends_tag}
+use Rattle.std.proofs.Common.{[], ℕ, ◌++◌, ◌+◌, ◌-◌, ◌<◌, ◌==◌, ◌∷◌, ◌≡◌, ◌≤◌, Err, List, Ok, arith, false, length, refl, suc, true, zero}
+use Rattle.words.specs.{declared.faults.Fault.Fault, Reading.bind}
+use Rattle.xml.specs.{Document.{Draft, finished_at, item_at, items_at}, Place.{Place, after_spaces}, Tag.{Pair, attribute_at}}
+use Rattle.xml.specs.Tag.{attributes_at, ends_tag}
 
 -- the tag ends
 pub attributes_end : (room n : ℕ) (found : List Pair) (place : Place) → n < room → ends_tag (after_spaces place).rest ≡ true

@@ -1,24 +1,16 @@
 -- What is read is nested as the grammar has it: the names that are open say which end tags are still to come.
-use Rattle.std.{specs.Str.bytes_eq, proofs.Common.{[], ℕ, ◌&&◌, ◌++◌, ◌+◌, ◌<◌, ◌==◌, ◌∙◌, ◌∷◌, ◌≡◌, Bool, Err, List, Ok}}
-use Rattle.std.proofs.Common.{Result, ap, append_assoc, arith, codes, cond, false, length, length-append, length-drop}
-use Rattle.std.proofs.Common.{ltb-false, ltb-true, nat_lt, refl, subst, suc}
-use Rattle.std.proofs.{Common.{sym, true, zero}, lemmas.Slice.Eq.{bytes_eq-Decides}}
-use Rattle.std.{specs.Prelude.{IfOk}, proofs.Common.{Global, Vec}}
-use Rattle.xml.specs.{View.{nodes_of}, declared.element.Element.{Element}}
-use Rattle.words.specs.{Fault.fault_at, Reading.{Reads, bind}, declared.faults.{Fault.{Fault}, Wrong.TheVariants.{Syntax}}}
+use Rattle.std.{specs.{List.prefix_len, Prelude.IfOk, Str.bytes_eq}, proofs.Common.{[], ℕ, ◌&&◌, ◌++◌, ◌+◌, ◌<◌, ◌==◌, ◌∙◌, ◌∷◌, ◌≡◌, Bool}}
+use Rattle.std.proofs.Common.{Err, Global, List, Ok, Result, Vec, ap, append_assoc, arith, codes, cond, false, length, length-append}
+use Rattle.std.proofs.{Common.{length-drop, ltb-false, ltb-true, nat_lt, refl, subst, suc, sym, true, zero}, lemmas.Bool.eqb-true}
+use Rattle.std.proofs.lemmas.{List.nil_from_length, Slice.Eq.bytes_eq-Decides}
+use Rattle.words.specs.{declared.faults.{Fault.Fault, Wrong.TheVariants.Syntax}, Fault.fault_at, Reading.{Reads, bind}}
 use Rattle.words.proofs.WordLaws.{bind_ok}
-use Rattle.xml.specs.Characters.{begins_with, is_space}
-use Rattle.std.specs.List.{prefix_len}
-use Rattle.std.proofs.lemmas.Bool.{eqb-true}
-use Rattle.std.proofs.lemmas.List.{nil_from_length}
-use Rattle.xml.specs.Document.{Draft, Node, begin_at, closed_at, comment_at, end_at, finished_at, is_whole, item_at}
-use Rattle.xml.specs.Document.{items_at, no_nodes}
-use Rattle.xml.specs.Document.{room_at, with_node, document_of, declaration_at}
+use Rattle.xml.specs.{declared.{document.TheConstants.MAX_TEXT_LENGTH, element.Element.Element}, Characters.{begins_with, is_space}}
+use Rattle.xml.specs.Document.{Draft, Node, begin_at, closed_at, comment_at, declaration_at, document_of, end_at, finished_at, is_whole}
+use Rattle.xml.specs.{Document.{item_at, items_at, no_nodes, room_at, with_node}, Grammar.{IsComment, IsContent, IsDocument, IsElement}}
+use Rattle.xml.specs.{Grammar.{IsEndTag, IsGap, IsStartTag, branch, comment, empty, leaf, nothing, whole}, Place.{Place, after}}
+use Rattle.xml.specs.{Place.{after_spaces, expected_at, start_of}, Tag.{attributes_at, name_at, tag_end_at}, View.nodes_of}
 use Rattle.xml.proofs.Spelled.{chosen, ok_is, stands_comment, stands_declaration, stands_end, stands_spaces, stands_start}
-use Rattle.xml.specs.Grammar.{IsComment, IsContent, IsDocument, IsElement, IsEndTag, IsGap, IsStartTag, branch, comment}
-use Rattle.xml.specs.Grammar.{empty, leaf, nothing, whole}
-use Rattle.xml.specs.{Place.{Place, after, after_spaces, expected_at, start_of}, Tag.{attributes_at, name_at, tag_end_at}}
-use Rattle.xml.specs.declared.document.TheConstants.{MAX_TEXT_LENGTH}
 
 -- white space up to where it ends
 gap : (place : Place) → IsGap place (after_spaces place)
@@ -341,10 +333,6 @@ root_step place nodes y (a_start node is_empty goes is added opens) again next =
           later = k.1;
           ended = k.2;
         }
-
-not_whole : is_whole no_nodes ≡ false
-unfolding is_whole
-not_whole = refl
 
 root_sound : (n : ℕ) (place : Place) (nodes : List Node) → items_at n no_nodes place ≡ Ok nodes → Behind place nodes
 unfolding items_at

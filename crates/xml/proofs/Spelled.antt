@@ -1,21 +1,17 @@
 -- What the parts of a document are read from is spelled as they are.
-use Rattle.std.proofs.Common.{[], ℕ, ◌&&◌, ◌++◌, ◌+◌, ◌<◌, ◌==◌, ◌∙◌, ◌∷◌, ◌≡◌, ◌≢◌, ◌≤◌, ◌||◌, ◌⊎◌, Bool, Err, List, None}
-use Rattle.std.proofs.Common.{Ok, Option, Result, Some}
-use Rattle.std.proofs.Common.{ap, append_assoc, arith, codes, cond, eqb-true, false, inl, inr, length, length-append}
-use Rattle.std.proofs.Common.{length-take, ltb-false, nat_lt, not, refl, subst, suc, sym, take, true, zero}
-use Rattle.std.specs.{List.{count_by, list_all, list_any, prefix_len}, Str.bytes_eq}
-use Rattle.std.proofs.lemmas.{List.{take-append-drop}, List.Sums.{sum_by-append}, Slice.Eq.{bytes_eq-Decides}}
-use Rattle.words.specs.{Reading.bind, declared.faults.{Fault.{Fault}}}
-use Rattle.words.proofs.WordLaws.{bind_ok}
-use Rattle.xml.specs.Characters.{begins_with, comment_length, in_comment, is_comment_byte, is_name_byte, is_name_start}
-use Rattle.xml.specs.Characters.{is_space, is_value_byte, name_length}
-use Rattle.xml.specs.Document.{comment_at, declaration_at, declared_at, encoding_at, is_one_of}
-use Rattle.xml.specs.Place.{Place, after, after_spaces, expected_at, spaced_at}
-use Rattle.xml.specs.Spelling.{AreAttributes, IsAttribute, IsEquals, IsName, IsQuoted, IsSpaces, IsValue, SpellsComment}
-use Rattle.xml.specs.Spelling.{SpellsDeclaration, SpellsDeclared, SpellsEnd, SpellsStart, Stands, encodings}
-use Rattle.xml.specs.Tag.{Pair, admitted, attribute_at, attributes_at, ends_tag, is_given, name_at, tag_end_at}
-use Rattle.xml.specs.Value.{equals_at, quote_at, quoted_at, text_of, value_at, value_of}
-use Rattle.xml.specs.declared.{values.TheConstants.{MAX_VALUE_LENGTH}}
+use Rattle.std.{specs.{List.{count_by, list_all, list_any, prefix_len}, Str.bytes_eq}, proofs.Common.{[], ℕ, ◌&&◌, ◌++◌, ◌+◌, ◌<◌, ◌==◌}}
+use Rattle.std.proofs.Common.{◌||◌, ◌∙◌, ◌∷◌, ◌≡◌, ◌≢◌, ◌≤◌, ◌⊎◌, Bool, Err, List, None, Ok, Option, Result, Some, ap, append_assoc, arith}
+use Rattle.std.proofs.Common.{codes, cond, eqb-true, false, inl, inr, length, length-append, length-take, ltb-false, nat_lt, not, refl}
+use Rattle.std.proofs.{Common.{subst, suc, sym, take, true, zero}, lemmas.List.{take-append-drop, Sums.sum_by-append}}
+use Rattle.std.proofs.lemmas.Slice.Eq.{bytes_eq-Decides}
+use Rattle.words.{specs.{declared.faults.Fault.Fault, Reading.bind}, proofs.WordLaws.bind_ok}
+use Rattle.xml.specs.{declared.values.TheConstants.MAX_VALUE_LENGTH, Characters.{begins_with, comment_length, in_comment, is_comment_byte}}
+use Rattle.xml.specs.{Characters.{is_name_byte, is_name_start, is_space, is_value_byte, name_length}, Document.{comment_at, declaration_at}}
+use Rattle.xml.specs.{Document.{declared_at, encoding_at, is_one_of}, Place.{Place, after, after_spaces, expected_at, spaced_at}}
+use Rattle.xml.specs.Spelling.{AreAttributes, IsAttribute, IsEquals, IsName, IsQuoted, IsSpaces, IsValue, SpellsComment, SpellsDeclaration}
+use Rattle.xml.specs.{Spelling.{SpellsDeclared, SpellsEnd, SpellsStart, Stands, encodings}, Tag.{Pair, admitted, attribute_at}}
+use Rattle.xml.specs.{Tag.{attributes_at, ends_tag, is_given, name_at, tag_end_at}, Value.{equals_at, quote_at, quoted_at, text_of}}
+use Rattle.xml.specs.Value.{value_at, value_of}
 
 abbrev done : {X : Type 0} → X → Result X Fault
 done x = Ok x

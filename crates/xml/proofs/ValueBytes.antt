@@ -1,8 +1,7 @@
 -- How the text of a value, and the number of a reference, go on by one byte.
-use Rattle.std.proofs.Common.{[], ℕ, ◌++◌, ◌+◌, ◌<◌, ◌≡◌, ◌≤◌, ◌∷◌, List, None, Some, add-one, drop}
-use Rattle.std.proofs.Common.{drop-cons, get_or, length, refl, ◌==◌, true, false}
-use Rattle.std.proofs.lemmas.List.{drop_all}
-use Rattle.xml.specs.{Value.{character_of, text_of}}
+use Rattle.std.proofs.Common.{[], ℕ, ◌++◌, ◌+◌, ◌<◌, ◌==◌, ◌∷◌, ◌≡◌, ◌≤◌, List, None, Some, add-one, drop, drop-cons, false, get_or, length}
+use Rattle.std.proofs.{Common.{refl, true}, lemmas.List.drop_all}
+use Rattle.xml.specs.Value.{character_of, text_of}
 
 -- a byte that stands for itself
 pub plain_byte : (text bytes : List ℕ) (i : ℕ) → i < length bytes → (get_or bytes i 0 == 38) ≡ false

@@ -1,7 +1,6 @@
 -- Which bytes may stand where in a description: white space, names, values and comments (XML 1.0, for ASCII alone).
-use Rattle.std.specs.{Char.{is_ascii_alphabetic, is_ascii_alphanumeric}, Int.is_in_range}
-use Rattle.std.specs.Prelude.{[], ℕ, ◌+◌, ◌&&◌, ◌==◌, ◌||◌, ◌∷◌, Bool, List, codes, false, length, nat_le, not, take}
-use Rattle.std.specs.{List.prefix_len, Str.bytes_eq, Prelude.if◌then◌else◌}
+use Rattle.std.specs.{Char.{is_ascii_alphabetic, is_ascii_alphanumeric}, Int.is_in_range, List.prefix_len, Prelude.{[], ℕ, ◌&&◌, ◌+◌, ◌==◌}}
+use Rattle.std.specs.{Prelude.{◌||◌, ◌∷◌, Bool, List, codes, false, if◌then◌else◌, length, nat_le, not, take}, Str.bytes_eq}
 
 -- space, tab, line feed and carriage return
 abbrev pub is_space : ℕ → Bool

@@ -1,13 +1,11 @@
 -- Documents: a declaration, comments, white space and one element, whose elements are listed in the order of their tags, each with
 -- its level (XML 1.0, but for what is refused).
-use Rattle.std.specs.{Prelude.{[], ℕ, ◌&&◌, ◌++◌, ◌+◌, ◌==◌, ◌||◌, ◌∷◌, Bool, Err, List, Ok, Result, codes}, Str.bytes_eq}
-use Rattle.std.specs.{List.list_any, Prelude.{if◌then◌else◌, length, nat_le, nat_lt, suc, zero}}
-use Rattle.words.specs.{Fault.fault_at, Reading.{◌>>=◌}, declared.faults.{Fault.Fault, Wrong.TheVariants.{Limit, Syntax}}}
-use Rattle.xml.specs.Characters.{begins_with, comment_length}
-use Rattle.xml.specs.Place.{Place, after, after_spaces, expected_at, spaced_at, start_of}
+use Rattle.std.specs.{List.list_any, Prelude.{[], ℕ, ◌&&◌, ◌++◌, ◌+◌, ◌==◌, ◌||◌, ◌∷◌, Bool, Err, List, Ok, Result, codes, if◌then◌else◌}}
+use Rattle.std.specs.{Prelude.{length, nat_le, nat_lt, suc, zero}, Str.bytes_eq}
+use Rattle.words.specs.{declared.faults.{Fault.Fault, Wrong.TheVariants.{Limit, Syntax}}, Fault.fault_at, Reading.◌>>=◌}
+use Rattle.xml.specs.declared.{document.TheConstants.{MAX_ELEMENTS, MAX_LEVELS, MAX_TEXT_LENGTH}, tags.TheConstants.MAX_ATTRIBUTES}
+use Rattle.xml.specs.{Characters.{begins_with, comment_length}, Place.{Place, after, after_spaces, expected_at, spaced_at, start_of}}
 use Rattle.xml.specs.{Tag.{Pair, attributes_at, name_at, tag_end_at}, Value.{equals_at, quoted_at}}
-use Rattle.xml.specs.declared.document.TheConstants.{MAX_ELEMENTS, MAX_LEVELS, MAX_TEXT_LENGTH}
-use Rattle.xml.specs.declared.tags.TheConstants.{MAX_ATTRIBUTES}
 
 -- an element: its level, which is 1 at the root, the line of its tag, its name and its attributes
 pub record Node : Type 0 where

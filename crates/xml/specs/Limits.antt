@@ -1,7 +1,6 @@
 -- The limits within which the elements of a document are (confine's own).
 use Rattle.std.specs.{List.AllByRecursion, Prelude.{◌≤◌, List, length}}
-use Rattle.xml.specs.Document.{Node}
-use Rattle.xml.specs.declared.{document.TheConstants.{MAX_ELEMENTS, MAX_LEVELS}, tags.TheConstants.{MAX_ATTRIBUTES}}
+use Rattle.xml.specs.{declared.{document.TheConstants.{MAX_ELEMENTS, MAX_LEVELS}, tags.TheConstants.MAX_ATTRIBUTES}, Document.Node}
 
 -- an element
 pub record IsLimited (node : Node) : Type 0 where

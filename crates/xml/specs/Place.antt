@@ -1,7 +1,6 @@
 -- A place in a text: the line it stands in, and the bytes that are left. Reading goes from place to place (confine's own).
-use Rattle.std.specs.List.{count_by, prefix_len}
-use Rattle.std.specs.Prelude.{ℕ, ◌+◌, ◌==◌, Err, List, Ok, Result, drop, if◌then◌else◌, length, take}
-use Rattle.words.specs.{Fault.fault_at, declared.faults.{Fault.Fault, Wrong.{TheVariants.Syntax}}}
+use Rattle.std.specs.{List.{count_by, prefix_len}, Prelude.{ℕ, ◌+◌, ◌==◌, Err, List, Ok, Result, drop, if◌then◌else◌, length, take}}
+use Rattle.words.specs.{declared.faults.{Fault.Fault, Wrong.TheVariants.Syntax}, Fault.fault_at}
 use Rattle.xml.specs.Characters.{begins_with, is_space}
 
 pub record Place : Type 0 where

@@ -1,10 +1,8 @@
 -- How the parts of a document are spelled: names, attributes, tags and comments as grammars of texts (XML 1.0).
-use Rattle.std.specs.{List.{count_by, list_all, list_any}, Str.bytes_eq}
-use Rattle.std.specs.Prelude.{[], ℕ, ◌++◌, ◌+◌, ◌<◌, ◌==◌, ◌∷◌, ◌≡◌, ◌≢◌, ◌≤◌, ◌⊎◌, Bool, List, None, Some, codes, false}
-use Rattle.std.specs.Prelude.{if◌then◌else◌}
-use Rattle.std.specs.Prelude.{length, true}
-use Rattle.xml.specs.{Characters.{is_comment_byte, is_name_byte, is_name_start, is_space, is_value_byte}, Place.{Place}}
-use Rattle.xml.specs.{Document.{is_one_of}, Tag.{Pair}, Value.{text_of}, declared.values.TheConstants.{MAX_VALUE_LENGTH}}
+use Rattle.std.specs.{List.{count_by, list_all, list_any}, Prelude.{[], ℕ, ◌++◌, ◌+◌, ◌<◌, ◌==◌, ◌∷◌, ◌≡◌, ◌≢◌, ◌≤◌, ◌⊎◌, Bool, List, None}}
+use Rattle.std.specs.{Prelude.{Some, codes, false, if◌then◌else◌, length, true}, Str.bytes_eq}
+use Rattle.xml.specs.{declared.values.TheConstants.MAX_VALUE_LENGTH, Characters.{is_comment_byte, is_name_byte, is_name_start, is_space}}
+use Rattle.xml.specs.{Characters.is_value_byte, Document.is_one_of, Place.Place, Tag.Pair, Value.text_of}
 
 -- a text stands between two places; each of its line feeds ends a line
 pub record Stands (text : List ℕ) (place end : Place) : Type 0 where

@@ -1,11 +1,9 @@
 -- Tags: names, attributes, and the tags that begin and end an element (XML 1.0).
-use Rattle.std.specs.Prelude.{[], ℕ, ◌++◌, ◌==◌, ◌||◌, ◌∷◌, Bool, Err, List, Ok, Result, codes, false, if◌then◌else◌, length}
-use Rattle.std.specs.{List.list_any, Prelude.{nat_le, suc, take, true, zero}, Str.bytes_eq}
-use Rattle.words.specs.{Fault.fault_at, Reading.{◌>>=◌}}
-use Rattle.words.specs.declared.faults.{Fault.Fault, Wrong.TheVariants.{Double, Limit, Syntax}}
-use Rattle.xml.specs.{Characters.{begins_with, name_length}, Place.{Place, after, after_spaces, expected_at, spaced_at}}
-use Rattle.xml.specs.Value.{equals_at, value_at}
-use Rattle.xml.specs.declared.tags.TheConstants.{MAX_ATTRIBUTES}
+use Rattle.std.specs.{List.list_any, Prelude.{[], ℕ, ◌++◌, ◌==◌, ◌||◌, ◌∷◌, Bool, Err, List, Ok, Result, codes, false, if◌then◌else◌}}
+use Rattle.std.specs.{Prelude.{length, nat_le, suc, take, true, zero}, Str.bytes_eq}
+use Rattle.words.specs.{declared.faults.{Fault.Fault, Wrong.TheVariants.{Double, Limit, Syntax}}, Fault.fault_at, Reading.◌>>=◌}
+use Rattle.xml.specs.{declared.tags.TheConstants.MAX_ATTRIBUTES, Characters.{begins_with, name_length}, Place.{Place, after, after_spaces}}
+use Rattle.xml.specs.{Place.{expected_at, spaced_at}, Value.{equals_at, value_at}}
 
 -- an attribute
 pub record Pair : Type 0 where

@@ -1,11 +1,10 @@
 -- Values of attributes: what stands between two quotes, and which characters its references stand for (XML 1.0).
-use Rattle.std.specs.{Char.is_digit, List.{list_all, prefix_len}}
-use Rattle.std.specs.Prelude.{[], ℕ, ◌&&◌, ◌++◌, ◌==◌, ◌||◌, ◌∷◌, Err, List, None, Ok, Option}
+use Rattle.std.specs.{Char.is_digit, List.{list_all, prefix_len}, Prelude.{[], ℕ, ◌&&◌, ◌++◌, ◌==◌, ◌||◌, ◌∷◌, Err, List, None, Ok, Option}}
 use Rattle.std.specs.{Prelude.{Result, Some, codes, drop, if◌then◌else◌, length, nat_lt, option_and_then, take}, Str.bytes_eq}
 use Rattle.std.specs.Str.Parse.{digits_value}
-use Rattle.words.specs.{Fault.fault_at, Reading.{◌>>=◌}, declared.faults.{Fault.Fault, Wrong.TheVariants.{Limit, Syntax}}}
-use Rattle.xml.specs.{Characters.{begins_with, is_printable, is_value_byte}, Place.{Place, after, after_spaces, expected_at}}
-use Rattle.xml.specs.declared.values.TheConstants.{MAX_VALUE_LENGTH}
+use Rattle.words.specs.{declared.faults.{Fault.Fault, Wrong.TheVariants.{Limit, Syntax}}, Fault.fault_at, Reading.◌>>=◌}
+use Rattle.xml.specs.{declared.values.TheConstants.MAX_VALUE_LENGTH, Characters.{begins_with, is_printable, is_value_byte}, Place.Place}
+use Rattle.xml.specs.Place.{after, after_spaces, expected_at}
 
 -- the printable ASCII character whose code these digits spell
 unfoldable pub code_of : ℕ → List ℕ → Option ℕ

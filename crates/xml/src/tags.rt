@@ -1,9 +1,8 @@
 //! Names, attributes and the ends of tags.
 ghost use Rattle.std.specs.{List.list_any, Prelude.{[], ℕ, ◌+◌, ◌<◌, ◌≡◌, List, OnOk, length, map}, Str.bytes_eq};
 ghost use Rattle.words.specs.Reading.{Gives, Reads};
-ghost use Rattle.xml.specs.{Place.after_spaces};
-ghost use Rattle.xml.specs.Tag.{admitted, attribute_at, attributes_at, ends_tag, is_given, name_at, tag_end_at};
-ghost use Rattle.xml.specs.View.{pair_of, pairs_of};
+ghost use Rattle.xml.specs.{Place.after_spaces, Tag.{admitted, attribute_at, attributes_at, ends_tag, is_given}};
+ghost use Rattle.xml.specs.{Tag.{name_at, tag_end_at}, View.{pair_of, pairs_of}};
 
 use crate::characters::{name_length, space_length};
 use crate::cursor::Cursor;

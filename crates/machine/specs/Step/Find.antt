@@ -3,9 +3,8 @@
 use Rattle.std.specs.Prelude.{ℕ, Bool, Err, None, Ok, Option, Result, Some, if◌then◌else◌}
 use Rattle.base.specs.declared.{ids.{ObjId.ObjId, SlotRef.SlotRef}, refusal.Cause.Cause}
 use Rattle.base.specs.declared.refusal.Cause.TheVariants as cause
-use Rattle.machine.specs.{declared.cap.{Cap.Cap, Detail.{Detail, Detail as d}}, Lookup.lookup_of, Machine.{Machine, cap_of}}
-use Rattle.machine.specs.declared.object.ObjectKind.{ObjectKind, ObjectKind as kind}
-use Rattle.machine.specs.Refusing.{◌>>=◌}
+use Rattle.machine.specs.declared.{cap.{Cap.Cap, Detail.{Detail, Detail as d}}, object.ObjectKind.{ObjectKind, ObjectKind as kind}}
+use Rattle.machine.specs.{Lookup.lookup_of, Machine.{Machine, cap_of}, Refusing.◌>>=◌}
 
 -- what a slot holds; an empty one is an invalid capability
 abbrev pub held_in : Option Cap → Result Cap Cause

@@ -18,12 +18,12 @@ caller_in (Some (o.Reply holding)) = by_state holding.state where
 caller_in _ = None
 
 -- what a thread lent that called and waits for its answer
-abbrev pub lent_in : Option Object → Option Lent
-lent_in (Some (o.Tcb tcb)) = by_state tcb.state where
+abbrev pub loan_in : Option Object → Option Lent
+loan_in (Some (o.Tcb tcb)) = by_state tcb.state where
   by_state : RunState → Option Lent
   by_state (state.Called calling) = calling.lent
   by_state _ = None
-lent_in _ = None
+loan_in _ = None
 
 -- whether a thread that runs on a context has it by a loan from a thread that has none
 abbrev pub has_on_loan : ObjId → Option ObjId → Option Lent → Option ObjId → Bool
@@ -33,7 +33,7 @@ has_on_loan borrower _ _ _ = false
 -- whether a thread that answers gives its context back: the called thread lent it to it, and has none now
 abbrev pub gives_back : Machine → ObjId → ObjId → Bool
 gives_back m invoker called =
-    has_on_loan invoker (context_under (object_of m invoker)) (lent_in (object_of m called)) (context_under (object_of m called))
+    has_on_loan invoker (context_under (object_of m invoker)) (loan_in (object_of m called)) (context_under (object_of m called))
 
 -- a context that is given back goes over to the called thread
 abbrev pub with_returned : Machine → ObjId → ObjId → Machine

@@ -31,8 +31,8 @@ loan (Some context) None borrower = Some (record { context = context; borrower =
 loan _ _ borrower = None
 
 -- what a caller lends to a receiver: the scheduling context that it runs on, where the receiver has none
-abbrev pub lent_by : Machine → ObjId → ObjId → Option Lent
-lent_by m caller receiver = loan (context_under (object_of m caller)) (context_under (object_of m receiver)) receiver
+abbrev pub loan_made : Machine → ObjId → ObjId → Option Lent
+loan_made m caller receiver = loan (context_under (object_of m caller)) (context_under (object_of m receiver)) receiver
 
 -- the context that is lent, if one is, goes over from the caller to its borrower
 abbrev pub with_lent : Machine → ObjId → Option Lent → Machine
@@ -43,8 +43,8 @@ with_lent m caller (Some lent) = with_handed m caller lent.borrower
 abbrev pub called_through : Machine → ObjId → ObjId → Option ObjId → Machine
 called_through m caller receiver None = with_halted m caller
 called_through m caller receiver (Some reply) =
-    with_lent (with_called (with_halted m caller) caller (record { reply = reply; lent = lent_by m caller receiver })) caller
-    (lent_by m caller receiver)
+    with_lent (with_called (with_halted m caller) caller (record { reply = reply; lent = loan_made m caller receiver })) caller
+    (loan_made m caller receiver)
 
 -- a call goes to a receiver, and waits for the answer through the receiver's reply; or it waits for a receiver
 abbrev pub called_or_waits : Machine → ObjId → Sending → Option (ObjId × Receiving) → Machine

@@ -2,10 +2,10 @@
 ghost use Rattle.std.specs.Prelude.{[], ℕ, ◌↔◌, ◌∷◌, ◌≡◌, ◌≤◌, ◌⊎◌, Some, false, true};
 ghost use Rattle.base.specs.{declared.ids.ObjId.ObjId as Id, Kinds.kind_number};
 ghost use Rattle.base.specs.declared.kind.Kind.TheVariants as authority;
-ghost use Rattle.machine.specs.{Authority.{label_of, lent_of, state_links}, Machine.object_of};
+ghost use Rattle.machine.specs.{Authority.{label_of, context_lent, state_links}, Machine.object_of};
 ghost use Rattle.policy.specs.{Places.FindsLeast, Policy.allows};
 ghost use Rattle.verdict.specs.{Outside.LiesUnder, Rules.{a4, a5, a6}};
-ghost use Rattle.verdict.specs.{Sources.{context_in, holds_in, keeps_in, lends_in}, Verdict.place_of};
+ghost use Rattle.verdict.specs.{Sources.{own_context_in, holds_in, keeps_in, lent_context_in}, Verdict.place_of};
 
 use crate::Denial;
 use base::{Edge, Kind, Label, ObjId};
@@ -28,7 +28,7 @@ pub(crate) fn binding_at(
     ensures { FindsLeast place_of (LiesUnder table.now (allows policy.now) state.now (a4 ∷ thread.0 ∷ [])) result }
 {
     let bound = lacking(table, policy, state, from, context_of(state, thread));
-    let lent = lacking(table, policy, state, from, lent_by(state, thread));
+    let lent = lacking(table, policy, state, from, lent_context(state, thread));
     let context = lesser(bound, lent)?;
     Some(Denial::Binding { thread, context })
 }
@@ -123,7 +123,7 @@ fn record_at(
 
 // The context that a thread is bound to.
 fn context_of(state: &State, thread: ObjId) -> Option<ObjId>
-    ensures { result ≡ context_in (object_of state.now thread) }
+    ensures { result ≡ own_context_in (object_of state.now thread) }
 {
     match state.object(thread) {
         Some(Object::Tcb(tcb)) => tcb.context,
@@ -132,18 +132,18 @@ fn context_of(state: &State, thread: ObjId) -> Option<ObjId>
 }
 
 // The context that a thread lent.
-fn lent_by(state: &State, thread: ObjId) -> Option<ObjId>
-    ensures { result ≡ lends_in (object_of state.now thread) }
+fn lent_context(state: &State, thread: ObjId) -> Option<ObjId>
+    ensures { result ≡ lent_context_in (object_of state.now thread) }
 {
     match state.object(thread) {
-        Some(Object::Tcb(tcb)) => lent_in(&tcb.state),
+        Some(Object::Tcb(tcb)) => context_lent(&tcb.state),
         _ => None,
     }
 }
 
 // The same of what it waits for.
-fn lent_in(state: &RunState) -> Option<ObjId>
-    ensures { result ≡ lent_of state.now }
+fn context_lent(state: &RunState) -> Option<ObjId>
+    ensures { result ≡ context_lent state.now }
 {
     match state {
         RunState::Called(calling) => calling.lent.map(|lent| lent.context),

@@ -1,8 +1,7 @@
 -- The claim at which the search ends is the first that doesn't hold, and each before it does.
 use Rattle.std.proofs.{Common.{◌<◌, ◌∙◌, ◌≡◌, ap, arith, false, get_or, inl, inr, length, refl, subst, sym, true}, lemmas.Bool.cases_lt}
 use Rattle.std.proofs.lemmas.{List.get_or_default, Option.{get_or_from_slice_get, slice_get_read}}
-use Rattle.verdict.specs.Extents.{reach_of}
-use Rattle.verdict.specs.Extents.{GoesTo}
+use Rattle.verdict.specs.Extents.{GoesTo, reach_of}
 use Rattle.claims.{specs.Holding.{Holds, is_within}, proofs.HoldingLaws.{outside_breaks, within_holds}}
 use Rattle.claims.proofs.holding.first_broken_by.Goals as goal
 

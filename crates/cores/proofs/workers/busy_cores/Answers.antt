@@ -1,4 +1,5 @@
-use Rattle.std.{specs.Prelude.{Bool, slice_set, true}, proofs.{Common.{◌+◌, ◌<◌, ◌∙◌, All, List, arith, length, subst, sym, take}, lemmas.List.{Elements.All-more, take_all}}}
+use Rattle.std.{specs.Prelude.{slice_set, true}, proofs.{Common.{◌+◌, ◌<◌, ◌∙◌, All, List, arith, subst, sym, take}, lemmas.List.take_all}}
+use Rattle.std.proofs.lemmas.List.Elements.{All-more}
 use Rattle.base.specs.declared.core_number.TheConstants.CoreNo as CoreNo
 use Rattle.machine.specs.declared.call.Event.{Event}
 use Rattle.cores.{specs.Workers.AreBusy, proofs.BusyCores.one_busy}

@@ -1,4 +1,4 @@
-use Rattle.std.{specs.Prelude.slice_get, proofs.Common.{ℕ, ◌<◌, ◌≡◌, All, Some, take}}
+use Rattle.std.proofs.Common.{◌<◌, All, take}
 use Rattle.base.specs.declared.core_number.TheConstants.CoreNo as CoreNo
 use Rattle.cores.specs.Workers.{AreBusy}
 use Rattle.cores.proofs.workers.busy_cores.Given as goal

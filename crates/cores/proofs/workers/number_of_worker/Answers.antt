@@ -1,7 +1,6 @@
 use Rattle.std.{specs.Prelude.{false, true}, proofs.Common.arith}
-use Rattle.cores.proofs.BusyCores.{next_number}
+use Rattle.cores.proofs.{BusyCores.next_number, workers.number_of_worker.Goals.{else-busy-below, then-busy-below}}
 use Rattle.cores.proofs.workers.number_of_worker.Goals as goal
-use Rattle.cores.proofs.workers.number_of_worker.Goals.{else-busy-below, then-busy-below}
 
 pub loop-below-preserved : goal.loop-below-preserved
 loop-below-preserved c = record {

@@ -1,7 +1,6 @@
-use Rattle.std.proofs.Common.{◌∙◌, List, ap}
-use Rattle.std.specs.Global.{Vec}
-use Rattle.microkit.specs.declared.{description.Map.{Map}, labels.Subject.{Subject}}
-use Rattle.importing.specs.{Groups.{leader_of}, Plan.{label_of}, PlanView.{maps_of}}
+use Rattle.std.{specs.Global.Vec, proofs.Common.{◌∙◌, List, ap}}
+use Rattle.microkit.specs.declared.{description.Map.Map, labels.Subject.Subject}
+use Rattle.importing.specs.{Groups.leader_of, Plan.label_of, PlanView.maps_of}
 use Rattle.importing.proofs.builder.piece_label.Goals as goal
 
 pub returns : goal.returns

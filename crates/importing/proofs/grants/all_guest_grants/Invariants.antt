@@ -1,6 +1,5 @@
 -- The capabilities so far are those of the first virtual machines.
-use Rattle.std.specs.List.{flat_map, range_with_len}
-use Rattle.std.proofs.Common.{◌≡◌}
+use Rattle.std.{specs.List.{flat_map, range_with_len}, proofs.Common.◌≡◌}
 use Rattle.microkit.specs.View.{description_of}
 use Rattle.importing.specs.Grants.{guest_grants}
 use Rattle.importing.proofs.grants.all_guest_grants.Given as goal

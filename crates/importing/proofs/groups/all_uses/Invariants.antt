@@ -1,7 +1,6 @@
 -- The maps found so far are those of the first regions.
-use Rattle.std.specs.List.{range_with_len}
-use Rattle.std.proofs.Common.{◌≡◌, map}
-use Rattle.importing.specs.{Groups.{uses_of}, PlanView.{maps_of}}
+use Rattle.std.{specs.List.range_with_len, proofs.Common.{◌≡◌, map}}
+use Rattle.importing.specs.{Groups.uses_of, PlanView.maps_of}
 use Rattle.importing.proofs.groups.all_uses.Given as goal
 
 abbrev pub invariant-loop-region : goal.invariant-loop-region

@@ -1,7 +1,6 @@
 use Rattle.std.proofs.Common.{◌∙◌, sym}
 use Rattle.microkit.specs.View.{domain_of}
-use Rattle.importing.specs.Slots.{is_child}
-use Rattle.importing.proofs.Items.{position_seen}
+use Rattle.importing.{specs.Slots.is_child, proofs.Items.position_seen}
 use Rattle.importing.proofs.slots.child_number.Goals as goal
 
 pub returns : goal.returns

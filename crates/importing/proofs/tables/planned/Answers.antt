@@ -1,7 +1,6 @@
 use Rattle.std.proofs.Common.{◌∙◌}
 use Rattle.microkit.specs.View.{description_of}
-use Rattle.importing.specs.PlanView.{maps_of}
-use Rattle.importing.proofs.Places.{labels_distinct, labels_spelled}
+use Rattle.importing.{specs.PlanView.maps_of, proofs.Places.{labels_distinct, labels_spelled}}
 use Rattle.importing.proofs.tables.planned.Goals as goal
 
 pub returns-clause-names : goal.returns-clause-names

@@ -1,13 +1,10 @@
-use Rattle.std.specs.List.{flat_map}
-use Rattle.std.proofs.Common.{ℕ, ◌++◌, ◌-◌, ◌<◌, ◌∙◌, ◌≡◌, List, ap, arith, get_or, sym, take}
+use Rattle.std.{specs.List.flat_map, proofs.Common.{ℕ, ◌++◌, ◌-◌, ◌<◌, ◌∙◌, ◌≡◌, List, ap, arith, get_or, sym, take}}
 use Rattle.std.proofs.lemmas.List.{append-nil, take_all}
-use Rattle.microkit.specs.{Description.{Description}, View.{description_of, domains_of}}
-use Rattle.microkit.specs.declared.description.{Map.{Map}}
+use Rattle.microkit.specs.{declared.description.Map.Map, Description.Description, View.{description_of, domains_of}}
 use Rattle.microkit.specs.declared.description.Domain as domain
 use Rattle.microkit.specs.declared.description.User.TheVariants as user
-use Rattle.importing.specs.Tails.{children_of, maps_held, slots_held}
-use Rattle.importing.specs.declared.slots.Held.{Held}
-use Rattle.importing.proofs.Copies.{all_copied, child_has, child_more}
+use Rattle.importing.{specs.{declared.slots.Held.Held, Tails.{children_of, maps_held, slots_held}}, proofs.Copies.{all_copied, child_has}}
+use Rattle.importing.proofs.Copies.{child_more}
 use Rattle.importing.proofs.tails.+tail_down.Goals as goal
 
 pub loop-child-init : goal.loop-child-init

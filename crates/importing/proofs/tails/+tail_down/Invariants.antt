@@ -1,10 +1,8 @@
 -- The maps and what the first children have are there, and each generation down is one less to go.
-use Rattle.std.specs.List.{flat_map}
-use Rattle.std.proofs.Common.{◌++◌, ◌-◌, ◌≡◌, take}
+use Rattle.std.{specs.List.flat_map, proofs.Common.{◌++◌, ◌-◌, ◌≡◌, take}}
 use Rattle.microkit.specs.View.{description_of}
 use Rattle.microkit.specs.declared.description.User.TheVariants as user
-use Rattle.importing.specs.Tails.{maps_held}
-use Rattle.importing.proofs.Copies.{child_has}
+use Rattle.importing.{specs.Tails.maps_held, proofs.Copies.child_has}
 use Rattle.importing.proofs.tails.+tail_down.Given as goal
 
 abbrev pub decreases-tail_down : goal.decreases-tail_down

@@ -1,6 +1,5 @@
 -- What was found is what the first virtual machines have.
-use Rattle.std.specs.List.{flat_map}
-use Rattle.std.proofs.Common.{◌≡◌, take}
+use Rattle.std.{specs.List.flat_map, proofs.Common.{◌≡◌, take}}
 use Rattle.microkit.specs.View.{description_of}
 use Rattle.importing.specs.Tails.{guest_held}
 use Rattle.importing.proofs.tails.guests_held.Given as goal

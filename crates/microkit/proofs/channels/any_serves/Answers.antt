@@ -1,7 +1,5 @@
-use Rattle.std.proofs.Common.{◌∙◌, sym}
-use Rattle.std.specs.Prelude.{is_some}
-use Rattle.microkit.specs.{Description.{Domain}, View.{domain_of}}
-use Rattle.microkit.proofs.Items.{any_seen}
+use Rattle.std.{specs.Prelude.is_some, proofs.Common.{◌∙◌, sym}}
+use Rattle.microkit.{specs.{Description.Domain, View.domain_of}, proofs.Items.any_seen}
 use Rattle.microkit.proofs.channels.any_serves.Goals as goal
 
 pub returns : goal.returns

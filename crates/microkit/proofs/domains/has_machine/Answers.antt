@@ -1,7 +1,5 @@
-use Rattle.std.proofs.Common.{◌==◌, ◌∙◌, ◌||◌, sym}
-use Rattle.std.specs.Str.{bytes_eq}
-use Rattle.microkit.specs.{Description.{Machine}, View.{machine_of}}
-use Rattle.microkit.proofs.Items.{any_seen}
+use Rattle.std.{specs.Str.bytes_eq, proofs.Common.{◌==◌, ◌||◌, ◌∙◌, sym}}
+use Rattle.microkit.{specs.{Description.Machine, View.machine_of}, proofs.Items.any_seen}
 use Rattle.microkit.proofs.domains.has_machine.Goals as goal
 
 pub returns : goal.returns

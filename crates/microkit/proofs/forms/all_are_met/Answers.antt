@@ -1,7 +1,6 @@
 use Rattle.std.proofs.Common.{◌∙◌, sym}
 use Rattle.xml.specs.View.{pairs_of}
-use Rattle.microkit.specs.{Forms.{is_met}, FormView.{rule_of}}
-use Rattle.microkit.proofs.Items.{all_seen}
+use Rattle.microkit.{specs.{FormView.rule_of, Forms.is_met}, proofs.Items.all_seen}
 use Rattle.microkit.proofs.forms.all_are_met.Goals as goal
 
 pub returns : goal.returns

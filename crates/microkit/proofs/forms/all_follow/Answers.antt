@@ -1,7 +1,6 @@
 use Rattle.std.proofs.Common.{◌∙◌}
 use Rattle.xml.specs.View.{pair_of}
-use Rattle.microkit.specs.{Forms.{follows}, FormView.{rule_of}}
-use Rattle.microkit.proofs.Items.{all_any_seen}
+use Rattle.microkit.{specs.{FormView.rule_of, Forms.follows}, proofs.Items.all_any_seen}
 use Rattle.microkit.proofs.forms.all_follow.Goals as goal
 
 pub returns : goal.returns

@@ -1,5 +1,4 @@
-use Rattle.std.proofs.Common.{ℕ, ◌∙◌, List, sym}
-use Rattle.std.specs.{Global.{Vec}, Str.{bytes_eq}}
+use Rattle.std.{specs.{Global.Vec, Str.bytes_eq}, proofs.Common.{ℕ, ◌∙◌, List, sym}}
 use Rattle.microkit.proofs.Items.{any_seen}
 use Rattle.microkit.proofs.labels.is_known.Goals as goal
 

@@ -1,7 +1,6 @@
 -- The next label has its name, or none.
-use Rattle.std.proofs.{Common.{◌∙◌, sym}, lemmas.Result.{err_from_is_err_and}}
-use Rattle.microkit.specs.{LabelView.{bytes_of}, View.{description_of}}
-use Rattle.microkit.proofs.LabelSteps.{one_named, one_refused}
+use Rattle.std.proofs.{Common.{◌∙◌, sym}, lemmas.Result.err_from_is_err_and}
+use Rattle.microkit.{specs.{LabelView.bytes_of, View.description_of}, proofs.LabelSteps.{one_named, one_refused}}
 use Rattle.microkit.proofs.labels.names_of.Goals as goal
 
 pub returns-in_err-add_name : goal.returns-in_err-add_name

@@ -1,9 +1,8 @@
 use Rattle.std.proofs.Common.{ℕ, Err, IfOk, List, Ok, Result}
-use Rattle.words.specs.{Reading.{Reads}, declared.faults.Fault.{Fault}}
-use Rattle.microkit.specs.{Reading.{description_of_text}, Sound.{IsSound}, View.{description_of}}
-use Rattle.microkit.specs.declared.description.Description as read
-use Rattle.microkit.proofs.Sound.{texts_are_sound}
+use Rattle.words.specs.{declared.faults.Fault.Fault, Reading.Reads}
+use Rattle.microkit.{specs.{Reading.description_of_text, Sound.IsSound, View.description_of}, proofs.Sound.texts_are_sound}
 use Rattle.microkit.proofs.reading.read_description.Goals as goal
+use Rattle.microkit.specs.declared.description.Description as read
 
 sound_of : (text : List ℕ) (r : Result read.Description Fault) → Reads description_of r (description_of_text text)
     → IfOk r (λ d. IsSound (description_of d))

@@ -1,6 +1,5 @@
 use Rattle.std.proofs.Common.{◌∙◌, sym}
-use Rattle.microkit.specs.{Regions.{regions_meet}, View.{region_of}}
-use Rattle.microkit.proofs.Items.{any_seen}
+use Rattle.microkit.{specs.{Regions.regions_meet, View.region_of}, proofs.Items.any_seen}
 use Rattle.microkit.proofs.regions.meets_any.Goals as goal
 
 pub returns : goal.returns

@@ -1,7 +1,5 @@
-use Rattle.std.proofs.Common.{◌∙◌, sym}
-use Rattle.std.specs.Str.{bytes_eq}
-use Rattle.microkit.specs.{Description.{Region}, View.{region_of}}
-use Rattle.microkit.proofs.Items.{position_seen}
+use Rattle.std.{specs.Str.bytes_eq, proofs.Common.{◌∙◌, sym}}
+use Rattle.microkit.{specs.{Description.Region, View.region_of}, proofs.Items.position_seen}
 use Rattle.microkit.proofs.regions.position_of.Goals as goal
 
 pub returns : goal.returns

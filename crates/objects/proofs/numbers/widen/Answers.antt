@@ -1,7 +1,6 @@
-use Rattle.std.specs.{HashMap.get, Prelude.{ℕ, ◌++◌, ◌≡◌, Err, List, None, Ok, OnErr, OnOk, Option, Result, length, nat_eq, replicate, slice_get}}
-use Rattle.std.proofs.Common.{◌∙◌, ap}
-use Rattle.objects.specs.{declared.numbers.Places.Places, Places.{from_either, places_in}}
-use Rattle.objects.proofs.NumberLemmas.{widened}
+use Rattle.std.specs.{HashMap.get, Prelude.{ℕ, ◌++◌, ◌≡◌, Err, List, None, Ok, OnErr, OnOk, Option, Result, length, nat_eq, replicate}}
+use Rattle.std.{specs.Prelude.slice_get, proofs.Common.{◌∙◌, ap}}
+use Rattle.objects.{specs.{declared.numbers.Places.Places, Places.{from_either, places_in}}, proofs.NumberLemmas.widened}
 use Rattle.objects.proofs.numbers.widen.Goals as goal
 
 -- a table that is wider, or stays as it is, tells the same

@@ -1,16 +1,15 @@
 -- Of the bounds that are those of the system.
-use Rattle.std.proofs.Common.{[], ℕ, ◌∙◌, ◌∷◌, ◌≡◌, ◌==◌, List, Option, Some, ap, arith, false, length, refl, subst, suc, sym, true}
+use Rattle.std.proofs.Common.{[], ℕ, ◌==◌, ◌∙◌, ◌∷◌, ◌≡◌, List, Option, ap, arith, false, length, refl, subst, suc, true}
 use Rattle.std.proofs.lemmas.Bool.Decides.{nat_tests}
 use Rattle.base.specs.declared.edge.Edge.{Edge}
 use Rattle.machine.specs.Layout.{Layout}
 use Rattle.policy.specs.Policy.{allows}
 use Rattle.verdict.specs.{Extents.{IsReachOf, Reach, reach_of}, System.System, Verdict.IsAccepted}
-use Rattle.stated.specs.declared.{claim.Stated.Stated, deciding.Broken.Broken}
+use Rattle.stated.specs.{declared.{claim.Stated.Stated, deciding.Broken.Broken}, Holding.{AreBroken, Holds, IsKept}}
 use Rattle.stated.specs.declared.lines.TheConstants.StatedLines as StatedLines
-use Rattle.stated.specs.Holding.{AreBroken, Holds, IsKept}
 use Rattle.reptext.specs.{Breaches.breaches_data, Reports.{hold_data, line_of}}
-use Rattle.report.specs.Claimed as claimed
 use Rattle.report.proofs.claiming.second_answer.Goals as goal
+use Rattle.report.specs.Claimed as claimed
 
 -- some claims are broken
 some : (t : Layout) (edges : List Edge) (lines : List (Option Stated)) → IsAccepted t (allows edges) → (reach : Reach) → IsReachOf t edges reach

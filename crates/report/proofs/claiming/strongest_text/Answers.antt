@@ -1,11 +1,8 @@
 -- The strongest claims are those of the system, whose labels have their names in the table.
-use Rattle.std.specs.declared.alloc.Global.{Global}
-use Rattle.std.specs.Prelude.{Vec}
-use Rattle.std.proofs.Common.{ℕ, ◌≡◌, Err, IfOk, Ok, Result, subst, sym}
+use Rattle.std.{specs.{declared.alloc.Global.Global, Prelude.Vec}, proofs.Common.{ℕ, ◌≡◌, Err, IfOk, Ok, Result, subst}}
+use Rattle.verdict.specs.{Extents.reach_of, System.System}
 use Rattle.stated.specs.Text.{lines_text}
 use Rattle.report.specs.Claimed.{TellsStrongest}
-use Rattle.verdict.specs.Extents.{reach_of}
-use Rattle.verdict.specs.System.{System}
 use Rattle.report.proofs.claiming.strongest_text.Goals as goal
 
 -- of a value a fact gives another

@@ -1,10 +1,8 @@
-use Rattle.std.specs.declared.alloc.Global.{Global}
-use Rattle.std.specs.Prelude.{Vec}
-use Rattle.std.proofs.Common.{◌∙◌, ap, arith, refl}
+use Rattle.std.{specs.{declared.alloc.Global.Global, Prelude.Vec}, proofs.Common.{◌∙◌, ap, arith, refl}}
 use Rattle.machine.specs.declared.call.Event.{Event}
 use Rattle.evtext.specs.Script.{script_text}
-use Rattle.report.specs.Shows as shows
 use Rattle.report.proofs.showing.found_answer.Goals as goal
+use Rattle.report.specs.Shows as shows
 
 pub returns-then-most-eq0-clause-told : goal.returns-then-most-eq0-clause-told
 returns-then-most-eq0-clause-told c =

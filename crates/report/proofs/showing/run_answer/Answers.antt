@@ -1,10 +1,9 @@
 -- What is told is of the bounds of the system.
-use Rattle.std.proofs.Common.{ℕ, subst}
-use Rattle.std.proofs.lemmas.Result.{IfOk-weaker}
+use Rattle.std.proofs.{Common.{ℕ, subst}, lemmas.Result.IfOk-weaker}
 use Rattle.machine.specs.Layout.{Layout}
 use Rattle.verdict.specs.{Extents.reach_of, System.System}
-use Rattle.report.specs.Shows as shows
 use Rattle.report.proofs.showing.run_answer.Goals as goal
+use Rattle.report.specs.Shows as shows
 
 pub returns-clause-right : goal.returns-clause-right
 returns-clause-right c =

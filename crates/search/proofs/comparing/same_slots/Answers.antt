@@ -1,5 +1,4 @@
-use Rattle.std.proofs.Common.{arith, refl}
-use Rattle.std.proofs.lemmas.List.{same_lists}
+use Rattle.std.proofs.{Common.{arith, refl}, lemmas.List.same_lists}
 use Rattle.search.proofs.comparing.same_slots.Goals as goal
 
 pub returns : goal.returns

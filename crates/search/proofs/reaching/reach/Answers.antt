@@ -1,11 +1,8 @@
-use Rattle.std.proofs.Common.{[], ◌++◌, ◌+◌, ◌∙◌, ◌∷◌, ◌≡◌, List, ap, sym, subst, take}
-use mathlib.Core.Bool.{false≢true}
-use Rattle.std.proofs.lemmas.List.{take_all, take_more}
-use Rattle.machine.specs.declared.call.{Event.Event, Outcome.{Outcome as o}}
-use Rattle.machine.specs.Step.{Step}
-use Rattle.search.specs.Shown.{IsReachedBy}
-use Rattle.search.proofs.Reached.{made_unless, reached_first, reached_further, stopped_at}
+use Rattle.std.proofs.{Common.{[], ◌++◌, ◌+◌, ◌∙◌, ◌∷◌, ◌≡◌, List, ap, subst, sym, take}, lemmas.List.{take_all, take_more}}
+use Rattle.machine.specs.{declared.call.{Event.Event, Outcome.Outcome as o}, Step.Step}
+use Rattle.search.{specs.Shown.IsReachedBy, proofs.Reached.{made_unless, reached_first, reached_further, stopped_at}}
 use Rattle.search.proofs.reaching.reach.Goals as goal
+use mathlib.Core.Bool.{false≢true}
 
 pub loop-event-init : goal.loop-event-init
 loop-event-init c = record {

@@ -1,7 +1,5 @@
-use Rattle.std.proofs.Common.{[], ℕ, ◌++◌, ◌<◌, ◌∙◌, ◌∷◌, ◌≡◌, List, Option, ap, arith, get_or, length, option_and_then, slice_get, sym}
-use Rattle.std.specs.Option.{unwrap_or}
-use Rattle.std.proofs.lemmas.List.{take_more}
-use Rattle.std.proofs.lemmas.Option.{unwrap_or-slice_get}
+use Rattle.std.{specs.Option.unwrap_or, proofs.Common.{[], ℕ, ◌++◌, ◌<◌, ◌∙◌, ◌∷◌, ◌≡◌, List, Option, ap, arith, get_or, length}}
+use Rattle.std.proofs.{Common.{option_and_then, slice_get, sym}, lemmas.{List.take_more, Option.unwrap_or-slice_get}}
 use Rattle.search.proofs.sight.words.Goals as goal
 
 pub loop-index-preserved : goal.loop-index-preserved

@@ -1,8 +1,7 @@
 -- A domain is within itself, and any other one as its parent is.
-use Rattle.std.proofs.Common.{◌∙◌, ◌-◌, ◌≡◌, ◌≤◌, arith, ap, eq-eqb, sym}
+use Rattle.std.proofs.Common.{◌-◌, ◌∙◌, ◌≡◌, ◌≤◌, ap, arith, eq-eqb, sym}
 use Rattle.microkit.specs.View.{description_of}
-use Rattle.separation.specs.Users.{is_within}
-use Rattle.separation.proofs.Levels.{within_else, within_here}
+use Rattle.separation.{specs.Users.is_within, proofs.Levels.{within_else, within_here}}
 use Rattle.separation.proofs.users.+is_within.Goals as goal
 
 pub returns-then-domain-outer : goal.returns-then-domain-outer

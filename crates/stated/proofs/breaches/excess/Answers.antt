@@ -1,6 +1,6 @@
 use Rattle.std.proofs.Common.{◌||◌, ◌≡◌, ◌≢◌, subst, sym, true}
 use Rattle.base.specs.Labels.{is_in}
-use Rattle.claims.specs.{declared.claim.Most.Most, Holding.HasAtMost}
+use Rattle.claims.specs.Holding.{HasAtMost}
 use Rattle.stated.proofs.FirstBreach.{nothing_excess, take_excess}
 use Rattle.stated.proofs.breaches.excess.Goals as goal
 

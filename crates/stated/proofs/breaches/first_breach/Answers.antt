@@ -1,8 +1,6 @@
 -- The first label with a breach has the first breach of all.
-use Rattle.std.proofs.Common.{◌∙◌, arith, inl, inr, subst, sym}
-use Rattle.std.proofs.lemmas.Bool.{cases_order, false≢true}
-use Rattle.stated.specs.Breaches.{HoldsOf}
-use Rattle.stated.proofs.FirstBreach.{HoldsBelow, bounded_within, first_of_all}
+use Rattle.std.proofs.{Common.{◌∙◌, arith, inl, inr, subst, sym}, lemmas.Bool.{cases_order, false≢true}}
+use Rattle.stated.{specs.Breaches.HoldsOf, proofs.FirstBreach.{HoldsBelow, bounded_within, first_of_all}}
 use Rattle.stated.proofs.breaches.first_breach.Goals.{in-Some+in_default-first_breach_by, in_default}
 use Rattle.stated.proofs.breaches.first_breach.Goals as goal
 

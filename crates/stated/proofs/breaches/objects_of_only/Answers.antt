@@ -1,5 +1,4 @@
-use Rattle.std.proofs.Common.{◌∙◌, sym}
-use Rattle.std.proofs.lemmas.Bool.{false≢true}
+use Rattle.std.proofs.{Common.{◌∙◌, sym}, lemmas.Bool.false≢true}
 use Rattle.stated.proofs.FirstBreach.{among}
 use Rattle.stated.proofs.breaches.objects_of_only.Goals as goal
 

@@ -1,10 +1,9 @@
 -- What holds of an accepted system is kept.
-use Rattle.std.proofs.Common.{subst, sym}
+use Rattle.std.proofs.Common.{subst}
 use Rattle.verdict.specs.Extents.{reach_of}
-use Rattle.stated.specs.declared.lines.TheConstants.StatedLines as StatedLines
-use Rattle.stated.specs.Holding.{AreBroken}
-use Rattle.stated.proofs.{Gathered.all_hold, Kept.claim_kept}
+use Rattle.stated.{specs.Holding.AreBroken, proofs.{Gathered.all_hold, Kept.claim_kept}}
 use Rattle.stated.proofs.deciding.all_broken.Goals as goal
+use Rattle.stated.specs.declared.lines.TheConstants.StatedLines as StatedLines
 
 pub returns-clause-broken : goal.returns-clause-broken
 returns-clause-broken c =

@@ -1,14 +1,12 @@
 -- Line by line.
-use Rattle.std.proofs.Common.{[], ◌++◌, ◌+◌, ◌∙◌, ◌∷◌, ◌≡◌, None, Option, Some, ap, arith, get_or, length, refl, subst, sym, take}
-use Rattle.std.proofs.lemmas.Grind.{common_steps}
+use Rattle.std.proofs.{Common.{[], ◌++◌, ◌+◌, ◌∙◌, ◌∷◌, ◌≡◌, ap, arith, get_or, refl, subst, sym, take}, lemmas.Grind.common_steps}
 use Rattle.std.proofs.lemmas.List.{append-nil}
 use Rattle.verdict.specs.Extents.{reach_of}
-use Rattle.stated.specs.declared.{claim.Stated.Stated, deciding.Broken.Broken}
-use Rattle.stated.specs.declared.lines.TheConstants.StatedLines as StatedLines
-use Rattle.stated.specs.Holding.{AreBroken, AreBroken.{broke, ended, held, silent}}
-use Rattle.stated.proofs.{Gathered.one_line, Kept.fails_breaks}
-use Rattle.stated.proofs.deciding.broken_by.Goals.{in-Some+in-Some-failure_of+in_ok-push, in-Some+in_default-failure_of, in_default}
+use Rattle.stated.specs.{declared.deciding.Broken.Broken, Holding.{AreBroken, AreBroken.{broke, ended, held, silent}}}
+use Rattle.stated.proofs.{Gathered.one_line, Kept.fails_breaks, deciding.broken_by.Goals.in-Some+in-Some-failure_of+in_ok-push}
+use Rattle.stated.proofs.deciding.broken_by.Goals.{in-Some+in_default-failure_of, in_default}
 use Rattle.stated.proofs.deciding.broken_by.Goals as goal
+use Rattle.stated.specs.declared.lines.TheConstants.StatedLines as StatedLines
 
 pub loop-index-init : goal.loop-index-init
 loop-index-init c =

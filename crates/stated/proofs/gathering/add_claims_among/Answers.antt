@@ -1,8 +1,6 @@
 -- The claims of one label more, by its row.
-use Rattle.std.specs.List.{flat_map}
-use Rattle.std.proofs.Common.{◌++◌, ◌∙◌, ap, arith, map, Some}
-use Rattle.stated.specs.{Rows.extents_of, Strongest.{claims_of, claims_on}}
-use Rattle.stated.proofs.StrongestLaws.{row_at, said_more}
+use Rattle.std.{specs.List.flat_map, proofs.Common.{◌++◌, ◌∙◌, Some, ap, arith, map}}
+use Rattle.stated.{specs.{Rows.extents_of, Strongest.{claims_of, claims_on}}, proofs.StrongestLaws.{row_at, said_more}}
 use Rattle.stated.proofs.gathering.add_claims_among.Goals as goal
 
 pub loop-actor-preserved : goal.loop-actor-preserved

@@ -1,6 +1,5 @@
 -- The claims of the labels so far.
-use Rattle.std.specs.List.{flat_map}
-use Rattle.std.proofs.Common.{◌++◌, ◌≡◌, Some, map, take}
+use Rattle.std.{specs.List.flat_map, proofs.Common.{◌++◌, ◌≡◌, Some, map, take}}
 use Rattle.stated.specs.{Rows.extents_of, Strongest.claims_of}
 use Rattle.stated.proofs.gathering.add_claims_among.Given as goal
 

@@ -1,6 +1,5 @@
 -- The claims on the labels so far.
-use Rattle.std.specs.List.{flat_map}
-use Rattle.std.proofs.Common.{◌++◌, ◌≡◌, Some, map, take}
+use Rattle.std.{specs.List.flat_map, proofs.Common.{◌++◌, ◌≡◌, Some, map, take}}
 use Rattle.stated.specs.{Rows.row_extent, Strongest.claims_on}
 use Rattle.stated.proofs.gathering.add_claims_of.Given as goal
 

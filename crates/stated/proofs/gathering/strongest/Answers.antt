@@ -1,10 +1,9 @@
 -- The strongest claims hold of an accepted system, and so they are kept.
 use Rattle.std.proofs.Common.{refl, subst}
 use Rattle.verdict.specs.Extents.{reach_of}
-use Rattle.stated.specs.declared.lines.TheConstants.StatedLines as StatedLines
-use Rattle.stated.specs.Strongest.{AreStrongest}
-use Rattle.stated.proofs.{Gathered.all_hold, Kept.claim_kept, StrongestLaws.strongest_hold}
+use Rattle.stated.{specs.Strongest.AreStrongest, proofs.{Gathered.all_hold, Kept.claim_kept, StrongestLaws.strongest_hold}}
 use Rattle.stated.proofs.gathering.strongest.Goals as goal
+use Rattle.stated.specs.declared.lines.TheConstants.StatedLines as StatedLines
 
 pub returns-clause-strongest : goal.returns-clause-strongest
 returns-clause-strongest c =

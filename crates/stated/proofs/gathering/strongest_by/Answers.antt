@@ -1,11 +1,9 @@
 -- By the rows, of which each label has one.
-use Rattle.std.proofs.Common.{◌∙◌, ◌≡◌, ◌≤◌, arith, length}
-use Rattle.std.proofs.lemmas.Grind.{common_steps}
+use Rattle.std.proofs.{Common.{◌∙◌, ◌≡◌, ◌≤◌, arith, length}, lemmas.Grind.common_steps}
 use Rattle.base.specs.declared.label.TheConstants.Label as Label
 use Rattle.machine.specs.{declared.layout.Version.{Version, Version as version}, Layout.most_labels}
 use Rattle.verdict.specs.Extents.{reach_of}
-use Rattle.stated.specs.Rows.{extents_of}
-use Rattle.stated.proofs.StrongestLaws.{all_said, rows_go}
+use Rattle.stated.{specs.Rows.extents_of, proofs.StrongestLaws.{all_said, rows_go}}
 use Rattle.stated.proofs.gathering.strongest_by.Goals as goal
 
 most_few : (v : Version) → most_labels v ≤ Label.COUNT

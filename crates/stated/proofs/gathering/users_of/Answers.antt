@@ -1,10 +1,8 @@
 -- Label by label.
-use Rattle.std.proofs.Common.{ℕ, ◌∙◌, Bool, ap, arith, sym}
-use Rattle.std.proofs.lemmas.Bool.{false≢true}
+use Rattle.std.proofs.{Common.{ℕ, ◌∙◌, Bool, ap, arith, sym}, lemmas.Bool.false≢true}
 use Rattle.summary.proofs.Pieces.{number_fails, number_passes}
-use Rattle.stated.specs.{Rows.extents_of, Strongest.is_user}
-use Rattle.stated.proofs.StrongestLaws.{row_at}
-use Rattle.stated.proofs.gathering.users_of.Goals.{in-Some+else-is_user, in-Some+then-is_user+in_ok-push, in_default}
+use Rattle.stated.{specs.{Rows.extents_of, Strongest.is_user}, proofs.{StrongestLaws.row_at, gathering.users_of.Goals.in-Some+else-is_user}}
+use Rattle.stated.proofs.gathering.users_of.Goals.{in-Some+then-is_user+in_ok-push, in_default}
 use Rattle.stated.proofs.gathering.users_of.Goals as goal
 
 pub loop-number-preserved : goal.loop-number-preserved

@@ -1,9 +1,8 @@
 -- Label by label, until those that were reached are all done.
-use Rattle.std.proofs.Common.{◌<◌, ◌||◌, ◌∙◌, ◌≡◌, Bool, ap, false, not, refl, subst, sym, true}
-use Rattle.std.proofs.lemmas.Bool.{and_parts, eq-eqb, or_left, or_right}
+use Rattle.std.proofs.{Common.{◌<◌, ◌||◌, ◌∙◌, ◌≡◌, Bool, ap, false, not, refl, subst, sym, true}, lemmas.Bool.{and_parts, eq-eqb, or_left}}
+use Rattle.std.proofs.lemmas.Bool.{or_right}
 use Rattle.base.specs.Labels.{is_in}
-use Rattle.stated.specs.Holding.{MayAffect}
-use Rattle.stated.proofs.{Chains.{all_reached, fewer_left, first_reached, more_reached}, FirstBreach.affects}
+use Rattle.stated.{specs.Holding.MayAffect, proofs.{Chains.{all_reached, fewer_left, first_reached, more_reached}, FirstBreach.affects}}
 use Rattle.stated.proofs.reaching.reached.Goals as goal
 
 pub loop-actor-init : goal.loop-actor-init

@@ -1,5 +1,4 @@
 -- A chain leads to each label that was reached, and from the labels that are done only to such.
-use Rattle.std.proofs.Common.{◌≡◌}
 use Rattle.base.specs.Labels.{is_in}
 use Rattle.verdict.specs.Extents.{Reach}
 use Rattle.stated.{specs.Rows.AreRows, proofs.Chains.{AreReached, left}}

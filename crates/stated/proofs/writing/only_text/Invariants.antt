@@ -1,6 +1,5 @@
 -- The words so far.
-use Rattle.std.specs.List.{join_with_byte}
-use Rattle.std.proofs.Common.{◌∷◌, ◌≡◌, codes, map, string_bytes, take}
+use Rattle.std.{specs.List.join_with_byte, proofs.Common.{◌∷◌, ◌≡◌, codes, map, string_bytes, take}}
 use Rattle.captext.specs.PolicyText.{label_name}
 use Rattle.stated.proofs.writing.only_text.Given as goal
 

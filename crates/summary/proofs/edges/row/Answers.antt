@@ -1,5 +1,4 @@
-use Rattle.std.proofs.{Common.{◌∙◌, subst, true}, lemmas.Bool.{eq-eqb, eqb-true}}
-use Rattle.std.proofs.Common.{ℕ, ◌≡◌, refl, sym}
+use Rattle.std.proofs.{Common.{ℕ, ◌∙◌, ◌≡◌, refl, subst, sym, true}, lemmas.Bool.{eq-eqb, eqb-true}}
 use Rattle.base.specs.Labels.{is_in}
 use Rattle.policy.{specs.Policy.allows, proofs.Stepping.{only_kind, target_by}}
 use Rattle.summary.proofs.Waiting.{same_truth}

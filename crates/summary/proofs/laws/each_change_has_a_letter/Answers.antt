@@ -1,8 +1,7 @@
 -- Way by way.
 use Rattle.std.proofs.Common.{ℕ, ◌≡◌, inl, inr, true}
 use Rattle.verdict.specs.Extents.{Reach}
-use Rattle.summary.specs.Letters.{HasLetter, Letter, by_answer, by_call, by_other, by_signal}
-use Rattle.summary.proofs.LetterSets.{WaysOf, lettered}
+use Rattle.summary.{specs.Letters.{HasLetter, Letter, by_answer, by_call, by_other, by_signal}, proofs.LetterSets.{WaysOf, lettered}}
 use Rattle.summary.proofs.laws.each_change_has_a_letter.Goals as goal
 
 by_way : (reach : Reach) (letter : Letter) (a l : ℕ) → reach.acts a ≡ true → WaysOf reach.test reach.acts a l letter → HasLetter letter reach a l

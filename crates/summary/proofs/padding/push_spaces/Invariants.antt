@@ -1,5 +1,4 @@
-use Rattle.std.proofs.Common.{◌++◌, ◌≡◌, string_bytes}
-use Rattle.std.specs.Prelude.{replicate}
+use Rattle.std.{specs.Prelude.replicate, proofs.Common.{◌++◌, ◌≡◌, string_bytes}}
 use Rattle.summary.proofs.padding.push_spaces.Given as goal
 
 -- the spaces so far are written

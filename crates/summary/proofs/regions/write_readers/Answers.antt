@@ -1,5 +1,4 @@
-use Rattle.std.proofs.{Common.{◌++◌, ◌∙◌, ap, string_bytes, sym}, lemmas.Result.on_ok_weaker}
-use Rattle.std.specs.Prelude.{codes}
+use Rattle.std.{specs.Prelude.codes, proofs.{Common.{◌++◌, ◌∙◌, ap, string_bytes, sym}, lemmas.Result.on_ok_weaker}}
 use Rattle.summary.{specs.Regions.names_text, proofs.Written.{pushed, readers_there, two_more}}
 use Rattle.summary.proofs.regions.write_readers.Goals as goal
 

@@ -1,5 +1,4 @@
-use Rattle.std.proofs.{Common.{◌++◌, ◌∙◌, ap, string_bytes, sym}, lemmas.Result.on_ok_weaker}
-use Rattle.std.specs.Prelude.{codes}
+use Rattle.std.{specs.Prelude.codes, proofs.{Common.{◌++◌, ◌∙◌, ap, string_bytes, sym}, lemmas.Result.on_ok_weaker}}
 use Rattle.summary.{specs.Regions.{also_text, names_text}, proofs.Written.{pushed, three_more, users_there}}
 use Rattle.summary.proofs.regions.write_users.Goals as goal
 

@@ -2,8 +2,7 @@
 use Rattle.std.proofs.Common.{ℕ, ◌↔◌, ◌≡◌, subst, true}
 use Rattle.base.specs.Labels.{is_in}
 use Rattle.verdict.specs.Extents.{reach_by}
-use Rattle.summary.specs.Letters.{HasLetter, by_answer, by_call, by_other, by_signal}
-use Rattle.summary.specs.Ways.{WaysOf}
+use Rattle.summary.specs.{Letters.{HasLetter, by_answer, by_call, by_other, by_signal}, Ways.WaysOf}
 use Rattle.summary.proofs.rows.row_of.Goals as goal
 
 pub returns-clause-row : goal.returns-clause-row

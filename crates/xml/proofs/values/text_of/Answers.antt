@@ -1,6 +1,5 @@
-use Rattle.std.{specs.Option.option_map, proofs.Common.{◌∙◌, Global, Option, Vec, ap, drop, sym, ℕ}}
-use Rattle.xml.specs.Value.{text_of}
-use Rattle.xml.proofs.ValueBytes.{reference_cut, text_ends}
+use Rattle.std.{specs.Option.option_map, proofs.Common.{ℕ, ◌∙◌, Global, Option, Vec, ap, drop, sym}}
+use Rattle.xml.{specs.Value.text_of, proofs.ValueBytes.{reference_cut, text_ends}}
 use Rattle.xml.proofs.values.text_of.Goals as goal
 
 pub returns-in-None-pending : goal.returns-in-None-pending

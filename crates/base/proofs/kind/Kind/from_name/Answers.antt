@@ -1,5 +1,4 @@
-use Rattle.std.proofs.Common.{◌∙◌, ap, arith, sym}
-use Rattle.std.specs.Prelude.{bytes_eq}
+use Rattle.std.{specs.Prelude.bytes_eq, proofs.Common.{◌∙◌, ap, arith, sym}}
 use Rattle.base.proofs.KindNames.{named_by, named_by_none, not_named, number_below}
 use Rattle.base.proofs.kind.Kind.from_name.Goals as goal
 

@@ -1,5 +1,4 @@
-use Rattle.std.proofs.Common.{◌<◌, ◌≡◌, false}
-use Rattle.std.specs.Prelude.{bytes_eq}
+use Rattle.std.{specs.Prelude.bytes_eq, proofs.Common.{◌<◌, ◌≡◌, false}}
 use Rattle.base.specs.{declared.kind.Kind.Kind, Kinds.{kind_name, kind_number}}
 use Rattle.base.proofs.kind.Kind.from_name.Given as goal
 

@@ -1,7 +1,5 @@
-use Rattle.std.proofs.Common.{◌+◌, ◌<◌, ◌≡◌, ◌∙◌, ap, subst, sym}
-use Rattle.std.specs.Prelude.{bytes_eq}
-use Rattle.base.specs.Rights.{rights_with, rights_word}
-use Rattle.base.proofs.RightsWords.{letters_below, letters_of, named_by, named_by_none}
+use Rattle.std.{specs.Prelude.bytes_eq, proofs.Common.{◌+◌, ◌<◌, ◌∙◌, ◌≡◌, ap, subst, sym}}
+use Rattle.base.{specs.Rights.{rights_with, rights_word}, proofs.RightsWords.{letters_below, letters_of, named_by, named_by_none}}
 use Rattle.base.proofs.rights.Rights.from_word.Goals as goal
 
 pub returns-then-eq : goal.returns-then-eq

@@ -1,8 +1,7 @@
 -- The labels so far are the first ones.
 use Rattle.std.proofs.Common.{◌≡◌}
 use Rattle.microkit.specs.LabelView.{bytes_of}
-use Rattle.importing.specs.Groups.{labels_at}
-use Rattle.importing.proofs.Labels.{first_labels}
+use Rattle.importing.{specs.Groups.labels_at, proofs.Labels.first_labels}
 use Rattle.importing.proofs.builder.Builder.new.Given as goal
 
 abbrev pub invariant-loop-place : goal.invariant-loop-place

@@ -1,6 +1,5 @@
 use Rattle.std.proofs.Common.{◌∙◌, sym}
-use Rattle.objects.proofs.Emptied.{one_at_least, sound_emptied, sound_taken, taken_gives}
-use Rattle.objects.proofs.TreeState.{take_cap_gives}
+use Rattle.objects.proofs.{Emptied.{one_at_least, sound_emptied, sound_taken, taken_gives}, TreeState.take_cap_gives}
 use Rattle.objects.proofs.state.State.take_cap.Goals as goal
 
 pub count_less-requires : goal.count_less-requires

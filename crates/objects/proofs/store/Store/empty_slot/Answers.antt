@@ -1,6 +1,5 @@
 use Rattle.std.proofs.Common.{None, refl}
-use Rattle.objects.specs.Entries.{change_slot_in}
-use Rattle.objects.proofs.PlaceLemmas.{IsPlaced-changed, by_number, changed_by_number}
+use Rattle.objects.{specs.Entries.change_slot_in, proofs.PlaceLemmas.{IsPlaced-changed, by_number, changed_by_number}}
 use Rattle.objects.proofs.store.Store.empty_slot.Goals as goal
 
 pub invariant_of-self : goal.invariant_of-self

@@ -1,5 +1,4 @@
-use Rattle.std.proofs.Common.{◌∙◌, sym}
-use Rattle.std.proofs.lemmas.Bool.{false≢true}
+use Rattle.std.proofs.{Common.{◌∙◌, sym}, lemmas.Bool.false≢true}
 use Rattle.stated.proofs.rows.Row.on.Goals as goal
 
 pub returns-then-has-clause-goes_to : goal.returns-then-has-clause-goes_to

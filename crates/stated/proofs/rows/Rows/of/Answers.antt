@@ -1,11 +1,7 @@
 -- One row more, that of the label whose number is next.
-use Rattle.std.proofs.Common.{◌++◌, ◌∷◌, [], ◌≡◌, Some, arith, length, rules, slice_get, subst}
-use Rattle.std.proofs.lemmas.Bool.{false≢true}
-use Rattle.std.proofs.lemmas.Grind.{common_steps}
+use Rattle.std.proofs.{Common.{[], ◌++◌, ◌∷◌, ◌≡◌, Some, arith, length, slice_get, subst}, lemmas.{Bool.false≢true, Grind.common_steps}}
 use Rattle.verdict.specs.Extents.{reach_of}
-use Rattle.stated.specs.Rows.{IsRow}
-use Rattle.stated.proofs.FirstBreach.{row_more}
-use Rattle.stated.proofs.rows.Rows.of.Goals.{in-Some+in_ok-push, in_default}
+use Rattle.stated.{specs.Rows.IsRow, proofs.{FirstBreach.row_more, rows.Rows.of.Goals.{in-Some+in_ok-push, in_default}}}
 use Rattle.stated.proofs.rows.Rows.of.Goals as goal
 
 pub loop-number-preserved : goal.loop-number-preserved

@@ -1,6 +1,5 @@
-use Rattle.std.proofs.Common.{[], ◌∷◌, subst}
+use Rattle.std.{specs.Prelude.List, proofs.Common.{[], ◌∷◌, subst}}
 use Rattle.base.specs.{declared.labels.Labels.Labels, Labels.is_in}
-use Rattle.std.specs.Prelude.{List}
 use Rattle.policy.{specs.{Policy.allows, Steps.IsSource}, proofs.Gathering.Tells}
 use Rattle.summary.{specs.Sources.{IsJoint, SourcesOf}, proofs.Waiting.joint_sources}
 use Rattle.summary.proofs.sources.Sources.of.Goals as goal

@@ -1,9 +1,8 @@
 use Rattle.std.proofs.Common.{ℕ, ◌↔◌, ◌∙◌, ◌≡◌, subst, sym, true}
 use Rattle.base.specs.{declared.kind.Kind.TheVariants.{Call, Receive, Reply, Send}, Labels.is_in}
-use Rattle.policy.{specs.Policy.allows, proofs.Gathering.{both, target_tells, either, row_tells, told_as, waiting_tells}}
+use Rattle.policy.{specs.Policy.allows, proofs.Gathering.{both, either, row_tells, target_tells, told_as, waiting_tells}}
 use Rattle.verdict.specs.Extents.{reach_by}
-use Rattle.summary.specs.{Letters.{HasLetter, by_call}, Ways.WaysOf}
-use Rattle.summary.proofs.{LetterSets.{call_from, call_to}, Waiting.of_kind}
+use Rattle.summary.{specs.{Letters.{HasLetter, by_call}, Ways.WaysOf}, proofs.{LetterSets.{call_from, call_to}, Waiting.of_kind}}
 use Rattle.summary.proofs.ways.Ways.calls.Goals as goal
 use mathlib.Core.Bool.{false≢true}
 

@@ -1,9 +1,8 @@
 use Rattle.std.proofs.Common.{ℕ, ◌↔◌, ◌∙◌, ◌≡◌, subst, sym, true}
 use Rattle.base.specs.{declared.kind.Kind.TheVariants.{Await, Control, Grant, Receive, Write}, Labels.is_in}
-use Rattle.policy.{specs.Policy.allows, proofs.Gathering.{target_tells, either, row_tells, told_as, waiting_tells}}
+use Rattle.policy.{specs.Policy.allows, proofs.Gathering.{either, row_tells, target_tells, told_as, waiting_tells}}
 use Rattle.verdict.specs.Extents.{reach_by}
-use Rattle.summary.specs.{Letters.{HasLetter, by_other}, Ways.WaysOf}
-use Rattle.summary.proofs.{LetterSets.{other_from, other_to}, Waiting.of_kind}
+use Rattle.summary.{specs.{Letters.{HasLetter, by_other}, Ways.WaysOf}, proofs.{LetterSets.{other_from, other_to}, Waiting.of_kind}}
 use Rattle.summary.proofs.ways.Ways.others.Goals as goal
 use mathlib.Core.Bool.{false≢true}
 

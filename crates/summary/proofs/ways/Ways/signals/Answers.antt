@@ -2,8 +2,7 @@ use Rattle.std.proofs.Common.{◌↔◌, ◌∙◌, ◌≡◌, subst, sym, true}
 use Rattle.base.specs.{declared.kind.Kind.TheVariants.{Await, Notify}, Labels.is_in}
 use Rattle.policy.{specs.Policy.allows, proofs.Gathering.{either, row_tells, told_as, waiting_tells}}
 use Rattle.verdict.specs.Extents.{reach_by}
-use Rattle.summary.specs.{Letters.{HasLetter, by_signal}, Ways.WaysOf}
-use Rattle.summary.proofs.{LetterSets.{signal_from, signal_to}, Waiting.of_kind}
+use Rattle.summary.{specs.{Letters.{HasLetter, by_signal}, Ways.WaysOf}, proofs.{LetterSets.{signal_from, signal_to}, Waiting.of_kind}}
 use Rattle.summary.proofs.ways.Ways.signals.Goals as goal
 use mathlib.Core.Bool.{false≢true}
 

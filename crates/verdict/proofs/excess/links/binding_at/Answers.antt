@@ -19,7 +19,7 @@ returns c =
     (subst (λ (looked : Option ObjId). (end : ObjId) → (bound ≡ Some end) ↔ IsLacked t allowed m id from c.requires looked end)
     c.context_of.ensures c.lacking-bound.ensures)
     (subst (λ (looked : Option ObjId). (end : ObjId) → (lent ≡ Some end) ↔ IsLacked t allowed m id from c.requires looked end)
-    c.lent_by.ensures c.lacking-lent.ensures)
+    c.lent_context.ensures c.lacking-lent.ensures)
     c.lesser.ensures.is_one c.lesser.ensures.is_lesser c.in_ok-context.context c.in_ok-context.was
 
 pub returns-in_err-context : goal.returns-in_err-context
@@ -36,5 +36,5 @@ returns-in_err-context c =
     (subst (λ (looked : Option ObjId). (end : ObjId) → (bound ≡ Some end) ↔ IsLacked t allowed m id from c.requires looked end)
     c.context_of.ensures c.lacking-bound.ensures)
     (subst (λ (looked : Option ObjId). (end : ObjId) → (lent ≡ Some end) ↔ IsLacked t allowed m id from c.requires looked end)
-    c.lent_by.ensures c.lacking-lent.ensures)
+    c.lent_context.ensures c.lacking-lent.ensures)
     c.lesser.ensures.is_one c.lesser.ensures.is_lesser c.in_err-context.was)

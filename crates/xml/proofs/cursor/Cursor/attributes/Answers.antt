@@ -1,9 +1,8 @@
 -- Each place where the loop over the attributes goes on or ends.
 use Rattle.std.proofs.Common.{◌+◌, ◌-◌, ◌<◌, ◌∙◌, ◌≡◌, ◌≤◌, List, Ok, ap, arith, false, sym, true, vec_len}
 use Rattle.std.proofs.lemmas.Result.{err_from_is_err_and}
-use Rattle.xml.specs.{Place.{Place, after_spaces}, Tag.{Pair, attribute_at, attributes_at, ends_tag}, View.{pair_of, pairs_of}}
-use Rattle.xml.specs.declared.element.Attribute.{Attribute}
-use Rattle.xml.proofs.{Items.{pairs_more}, Loops.{attributes_end, attributes_fault, attributes_more}}
+use Rattle.xml.specs.{declared.element.Attribute.Attribute, Place.{Place, after_spaces}, Tag.{Pair, attribute_at, attributes_at, ends_tag}}
+use Rattle.xml.{specs.View.{pair_of, pairs_of}, proofs.{Items.pairs_more, Loops.{attributes_end, attributes_fault, attributes_more}}}
 use Rattle.xml.proofs.cursor.Cursor.attributes.Goals as goal
 
 pub returns-in_err-attribute : goal.returns-in_err-attribute

@@ -1,0 +1,34 @@
+-- A denial by A1 to A6 names a place, and each place has its denial.
+use Rattle.std.specs.Option.{option_map_or}
+use Rattle.std.proofs.{Common.{[], ◌↔◌, ◌≡◌, MatchOption, None, Option, Some, ap, refl, subst, sym}, lemmas.Option.none-some}
+use Rattle.policy.specs.Domain.{EdgeTest}
+use Rattle.verdict.specs.{declared.denial.Denial.{Denial, Denial as denial}, Sources.Sources, Verdict.{IsExceeded, excess_of, place_of}}
+use Rattle.verdict.specs.Rules.{Exceeds, Excess, binding, capability, excess_place, holding, pair, recorded, root}
+
+-- by the same numbers
+pub numbered : (d : Denial) (place : Excess) → excess_of d ≡ Some place → place_of d ≡ excess_place place
+numbered (denial.Policy _) place is = absurd (none-some place is)
+numbered (denial.Certificate _) place is = absurd (none-some place is)
+numbered d place is = ap (λ e. option_map_or excess_place e []) is
+
+pub denial_at : (place : Excess) → (d : Denial) × (excess_of d ≡ Some place)
+denial_at (capability slot k l) = (denial.Capability slot k l, refl)
+denial_at (root slot l) = (denial.Root slot l, refl)
+denial_at (pair child parent) = (denial.Pair child parent, refl)
+denial_at (binding thread context) = (denial.Binding thread context, refl)
+denial_at (holding reply thread) = (denial.Holding reply thread, refl)
+denial_at (recorded thread k l) = (denial.Recorded thread k l, refl)
+
+-- the policy is exceeded as a denial says where it is at the place
+module _ (s : Sources) (allowed : EdgeTest) (d : Denial) where
+  pub exceeded_there : (place : Excess) → excess_of d ≡ Some place → IsExceeded s allowed d ↔ Exceeds s allowed place
+  exceeded_there place is =
+      let At : Option Excess → Type 0 = λ e. MatchOption e ⊥ (Exceeds s allowed) in (subst At is, subst At (sym is))
+
+  pub exceeded_at : IsExceeded s allowed d → (place : Excess) × (excess_of d ≡ Some place) × Exceeds s allowed place
+  exceeded_at = by (excess_of d) refl where
+    by :
+        (e : Option Excess) → excess_of d ≡ e → MatchOption e ⊥ (Exceeds s allowed)
+        → (place : Excess) × (excess_of d ≡ Some place) × Exceeds s allowed place
+    by None is out = absurd out
+    by (Some place) is out = (place, is, out)
