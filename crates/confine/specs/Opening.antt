@@ -1,5 +1,5 @@
 -- What is done with files that were opened by the names that a request gives (confine's own).
-use Rattle.std.specs.{declared.io.Error.Error, Borrow.Bor, Prelude.{ℕ, ◌≡◌, List, Option, Result, false}}
+use Rattle.std.specs.{declared.io.Error.Error, Borrow.Bor, Global.Vec, Prelude.{[], ℕ, ◌≡◌, ◌⊎◌, List, Option, Result, Some, false}}
 use Rattle.devices.specs.{declared.{opened.Unopened.Unopened, watched.Watched.Watched}, Opened.{bytes_left, opened}, Watched.device_of}
 use Rattle.devices.specs.Watched.{failed_of, is_flushed_of}
 use Rattle.commands.specs.{declared.end.End.End, Commands.{Input, Output, input, output}, Ends.status_of}
@@ -85,3 +85,22 @@ pub record IsServed
   pub opened : AreOpenedBy opens names files
   pub done : does files left end
   pub exit : status_of end ≡ status
+
+-- bytes in memory that are written to, before and after
+abbrev pub written_here : Watched (Vec ℕ) → Watched (Vec ℕ) → Output (Watched (Vec ℕ))
+written_here = written (λ bytes. Some bytes.items)
+
+-- the same where the answer is kept in memory, and lines on it are written in its place: the exit status is that of how the request
+-- ended, or 2, as where the lines can't be written
+pub record IsServedInShort
+    {F : Type 0} (opens : List ℕ → Result F Error → Type 0)
+    (does : Output (Watched (Vec ℕ)) → Request (Opened F) → Request (Opened F) → End → Type 0)
+    (names : Request (Bor (List ℕ))) (left : Request (Opened F)) (status : ℕ) : Type 0 where
+  pub files : Request (Opened F)
+  pub end : End
+  pub before : Watched (Vec ℕ)
+  pub after : Watched (Vec ℕ)
+  pub opened : AreOpenedBy opens names files
+  pub empty : (device_of before).items ≡ []
+  pub done : does (written_here before after) files left end
+  pub exit : (status ≡ status_of end) ⊎ (status ≡ 2)

@@ -6,7 +6,7 @@
 ghost use Rattle.std.specs.{Fn.FnReturnsAt, Prelude.{◌≡◌, ◌≤◌, IfOk, IsErr, OnErr, false}};
 ghost use Rattle.devices.specs.Watched.{failed_of};
 ghost use Rattle.commands.specs.{Commands.{input, output}, Ends.status_of};
-ghost use Rattle.confine.specs.Opening.{AreSound, IsServed, RunsSplit, Serves, ServesSystem};
+ghost use Rattle.confine.specs.Opening.{AreSound, IsServed, IsServedInShort, RunsSplit, Serves, ServesSystem};
 ghost use Rattle.confine.specs.Opening.{ServesTable, ServesThree, written};
 ghost use Rattle.invocation.specs.Requests.{HasFewWorkers, HaveArrived, IsWithinLimits, OnInTurn, SystemHasArrived};
 ghost use Rattle.invocation.specs.Requests.{names_of};
@@ -141,7 +141,10 @@ where
     requires opener { O.IsAlwaysCallable opener.now }
     requires limits { IsWithinLimits invocation.request }
     requires out { failed_of out.old ≡ false }
+    ensures served { IsServedInShort (FnReturnsAt O.Fn opener.now) (Serves F.remaining)
+        invocation.entry.request result.1 result.0 }
     ensures exit { result.0 ≤ 2 }
+    ensures arrived { result.0 ≡ 0 → HaveArrived (G.HasArrived gate.now) invocation.entry.request }
 {
     let files = open_all(opener, invocation.request);
     let mut shortener = Shortener::new(rt, invocation);
@@ -207,6 +210,8 @@ where
     W: Write,
     requires opener { O.IsAlwaysCallable opener.now }
     requires out { failed_of out.old ≡ false }
+    ensures served { IsServedInShort (FnReturnsAt O.Fn opener.now) (RunsSplit F.remaining)
+        (names_of run.entry) result.1 result.0 }
     ensures exit { result.0 ≤ 2 }
 {
     let mut table = open_by(opener, run.table);
