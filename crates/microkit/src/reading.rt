@@ -116,25 +116,3 @@ impl Draft {
         }
     }
 }
-
-#[cfg(test)]
-mod tests {
-    use super::*;
-
-    #[test]
-    fn reads_a_channel(rt: HostRuntime) -> Result<(), Fault> {
-        let text = b"<system>
-<protection_domain name='low' priority='1'/>
-<protection_domain name='high' priority='0x2'/>
-<channel><end pd='low' id='1' pp='true'/><end pd='high' id='2'/></channel>
-</system>";
-        let description = read_description(rt.alloc(), text)?;
-        assert_eq!(rt; description.domains.len(), 2);
-        assert_eq!(rt; description.channels.len(), 1);
-        let channel = description.channels[0];
-        assert!(rt; channel.first.may_call && !channel.second.may_call);
-        assert_eq!(rt; channel.second.id.domain, 1);
-        assert_eq!(rt; channel.line, 4);
-        Ok(())
-    }
-}

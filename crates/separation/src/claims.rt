@@ -185,37 +185,3 @@ fn add_lines(text: &mut Vec<u8>, names: &[Vec<u8>], pairs: &[Pair]) -> Result<()
     }
     Ok(())
 }
-
-#[cfg(test)]
-mod tests {
-    use super::*;
-    use microkit::{label_names, read_description};
-    use words::Fault;
-
-    #[test]
-    fn a_copier_is_kept_apart_from_a_client_of_the_driver(rt: HostRuntime) -> Result<(), Fault> {
-        let text = b"<system>
-<memory_region name='data' size='0x1000'/>
-<protection_domain name='driver' priority='3'>
-<map mr='data' vaddr='0x1000'/>
-</protection_domain>
-<protection_domain name='copier' priority='2'/>
-<protection_domain name='client' priority='1'/>
-<channel><end pd='client' id='1' pp='true'/><end pd='copier' id='1' notify='false'/></channel>
-<channel><end pd='copier' id='2'/><end pd='driver' id='1'/></channel>
-</system>";
-        let description = read_description(rt.alloc(), text)?;
-        let names = label_names(rt.alloc(), &description)?;
-        let claims = write_claims(rt.alloc(), &names, &description, Children::Control)?;
-        let wanted = b"confine-claims 2
-none driver client
-none driver client_time
-none copier data
-none client driver
-none client data
-end
-";
-        assert_eq!(rt; claims.as_slice(), wanted.as_slice());
-        Ok(())
-    }
-}
