@@ -1,6 +1,6 @@
 //! The sentences on a run that leaves a policy that breaks a rule of closed policies, or that no such run was found.
 use crate::asked::asked_edge;
-use crate::runs::explain_run;
+use crate::scripts::explain_run;
 use crate::sentences::{EdgeLine, Reason};
 use base::{Edge, Kind, Label, ObjId, Refusal};
 use captext::label_name;
@@ -8,7 +8,8 @@ use labels::label_of;
 use machine::Event;
 use objects::State;
 use policy::Policy;
-use search::{MOST_CALLS, find_escape, leaves, place_outside, reach};
+use runs::{MOST_CALLS, leaves, place_outside, reach};
+use search::find_escape;
 use std::alloc::{AllocError, Global};
 use table::Table;
 use verdict::Denial;

@@ -19,7 +19,7 @@ mod nothing;
 mod origins;
 mod premises;
 mod reach;
-mod runs;
+mod scripts;
 mod sentences;
 mod unlabelled;
 
@@ -35,5 +35,5 @@ pub use lines::{
 pub use notes::explain_notes;
 pub use origins::explain_why;
 pub use reach::explain_reach;
-pub use runs::explain_run;
+pub use scripts::explain_run;
 pub use unlabelled::explain_unlabelled;

@@ -8,7 +8,7 @@ use Rattle.policy.specs.Policy.{allows}
 use Rattle.verdict.specs.{declared.{denial.Denial.Denial, extent.Extent.Extent}, Extents.{GoesTo, IsReachOf, KeepsTo, Reach}}
 use Rattle.verdict.specs.Verdict.{IsAccepted, IsLeastBroken, rule_name}
 use Rattle.verdict.specs.declared.extent.Extent.TheVariants as extent
-use Rattle.search.specs.{declared.question.Question.Question, Shown.Answers}
+use Rattle.runs.specs.{declared.question.Question.Question, Shown.Answers}
 use Rattle.evtext.specs.Script.{script_text}
 use Rattle.reptext.specs.{Places.place_names, Reports.{denial_report, impossible_data, line_of, unfound_data}}
 use Rattle.commands.specs.{declared.{choices.Search.Search, end.End.End}, Commands.{Input, IsDoneOnSystem, Output}}

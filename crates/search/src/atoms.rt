@@ -1,10 +1,10 @@
 //! Atoms: the single facts of a state by which a search finds what is new in it.
-use crate::seeming::changes;
 use base::{ObjId, SlotRef};
 use bitflags::Flags;
 use labels::label_of;
 use machine::{Cap, Detail, Inbox, Object, ObjectKind, ReplyState, RunState, Tcb};
 use objects::State;
+use runs::changes;
 use std::alloc::{AllocError, Global};
 use std::collections::{BTreeMap, BTreeSet};
 use table::Table;

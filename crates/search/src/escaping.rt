@@ -1,24 +1,19 @@
 //! The search for a run that leaves a policy: one that ends in a state whose authority lies outside of it.
-ghost use Rattle.std.specs.Prelude.{◌≡◌, ◌≤◌, IfErr, IfOk, IfSome, IsTrue};
+ghost use Rattle.std.specs.Prelude.{◌≡◌, ◌≤◌, IfErr, IfOk, IfSome};
 ghost use Rattle.base.specs.Refusals.{plain};
 ghost use Rattle.policy.specs.Policy.{allows};
-ghost use Rattle.search.specs.Escapes.{IsAnywhereOutside, Leaves, LeavesAt};
+ghost use Rattle.runs.specs.Escapes.{Leaves};
 
 use crate::atoms::{Known, News};
 use crate::finding::{Found, copied, longer, made_after, within};
-use crate::reaching::reach;
-use crate::seeming::changes;
 use crate::trying::{Callers, Choice, calls_in};
 use base::Refusal;
 use machine::Event;
 use objects::State;
 use policy::Policy;
+use runs::{MOST_CALLS, changes, leaves, lies_outside, reach};
 use std::alloc::{AllocError, Global};
 use table::Table;
-use verdict::{Denial, outside};
-
-/// The most calls that a run has which leaves a policy.
-pub const MOST_CALLS: usize = 8;
 
 /// The scripts after which calls are tried, in this order, and what the search has seen.
 #[derive(Drop)]
@@ -74,32 +69,6 @@ pub fn find_escape(
         script: None,
         steps: spent,
     })
-}
-
-/// Returns where the authority after a script first lies outside a policy.
-///
-/// The answer is `None` if it doesn't, if a call of the script is refused, or if the script has
-/// more than [`MOST_CALLS`] calls.
-///
-/// # Errors
-///
-/// 40 where memory is refused.
-pub fn place_outside(
-    alloc: Global,
-    table: &Table,
-    policy: &Policy,
-    script: &[Event],
-) -> Result<Option<Denial>, Refusal>
-    ensures left { IfOk result (λ found. IfSome found (LeavesAt table.now (allows policy.now) script.now)) }
-    ensures refused { IfErr result (λ refusal. refusal ≡ plain 40) }
-{
-    if script.len() > MOST_CALLS {
-        return Ok(None);
-    }
-    match reach(alloc, table, script)? {
-        Some(state) => Ok(outside(table, policy, &state)),
-        None => Ok(None),
-    }
 }
 
 // A search that has tried nothing.
@@ -225,37 +194,4 @@ fn judge(
         queue.scripts.push(longer)?;
     }
     Ok(None)
-}
-
-/// Returns whether a script that isn't too long leaves a policy.
-///
-/// # Errors
-///
-/// 40 where memory is refused.
-pub fn leaves(
-    alloc: Global,
-    table: &Table,
-    policy: &Policy,
-    script: &[Event],
-) -> Result<bool, Refusal>
-    ensures left { IfOk result (λ left. IsTrue left → Leaves table.now (allows policy.now) script.now) }
-    ensures refused { IfErr result (λ refusal. refusal ≡ plain 40) }
-{
-    if script.len() > MOST_CALLS {
-        return Ok(false);
-    }
-    match reach(alloc, table, script)? {
-        Some(state) => Ok(lies_outside(table, policy, &state)),
-        None => Ok(false),
-    }
-}
-
-// Whether some authority of a state lies outside a policy.
-fn lies_outside(table: &Table, policy: &Policy, state: &State) -> bool
-    ensures { IsTrue result → IsAnywhereOutside table.now (allows policy.now) state.now }
-{
-    match outside(table, policy, state) {
-        Some(_) => true,
-        None => false,
-    }
 }

@@ -2,17 +2,14 @@
 ghost use Rattle.std.specs.Prelude.{[], ◌++◌, ◌<◌, ◌∷◌, ◌≡◌, ◌≤◌, IfErr, IfOk, IfSome, length};
 ghost use Rattle.base.specs.Refusals.{plain};
 ghost use Rattle.machine.specs.WellFormed.{IsWellFormed};
-ghost use Rattle.search.specs.Shown.{Answers};
+ghost use Rattle.runs.specs.Shown.{Answers};
 
 use crate::atoms::{Known, News};
-use crate::question::Question;
-use crate::reaching::reach;
-use crate::seeming::{answering, changes, is_near};
-use crate::showing::{makes, shows};
 use crate::trying::{Callers, Choice, calls_in};
 use base::{Label, Refusal};
 use machine::Event;
 use objects::State;
+use runs::{Question, answering, changes, is_near, makes, reach, shows};
 use std::alloc::{AllocError, Global};
 use table::Table;
 

@@ -1,0 +1,9 @@
+pub mod AsShown
+pub mod ByKind
+pub mod Equalities
+pub mod Looking
+pub mod Outside
+pub mod Parts
+pub mod Popping
+pub mod Reached
+pub mod Seen

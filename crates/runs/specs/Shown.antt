@@ -1,0 +1,92 @@
+-- What a script of kernel calls shows of two labels: its last call is made by a thread of the one and changes an object of the
+-- other (compare integrity in 'seL4 Enforces Integrity', section 4; that a run shows where it ends is confine's own).
+use Rattle.std.specs.Prelude.{[], ℕ, ◌++◌, ◌∷◌, ◌≡◌, ◌≢◌, All, Bool, List, Some}
+use Rattle.base.specs.{declared.{ids.ObjId.ObjId, refusal.Refusal.Refusal}, Refusals.out_of_memory}
+use Rattle.machine.specs.{declared.call.{Event.Event, Outcome.{Outcome, TheVariants.Refused}}, Authority.label_of, Boot.IsBoot, Layout.Layout, Machine.Machine}
+use Rattle.machine.specs.{Outcomes.IsRefused, Run.Run, Step.Step}
+use Rattle.integrity.specs.{Allowed.IsLabelled, Shrinks.{IsSame, Shrinks}}
+use Rattle.runs.specs.declared.question.Question.{Question}
+
+-- a call was made: it is done, or its thread waits
+abbrev pub IsMade : Outcome → Type 0
+IsMade outcome = ¬ (IsRefused outcome)
+
+-- the events lead from the table's boot state to the machine, and none of them is refused
+pub record IsReachedBy (t : Layout) (events : List Event) (m : Machine) : Type 0 where
+  pub boot : Machine
+  pub booted : IsBoot t boot
+  pub outcomes : List Outcome
+  pub run : Run boot events outcomes m
+  pub made : All IsMade outcomes
+
+-- one of the events is refused where those before it lead, and not for want of memory
+pub record IsStopped (t : Layout) (events : List Event) : Type 0 where
+  pub before : List Event
+  pub event : Event
+  pub after : List Event
+  pub are : events ≡ before ++ event ∷ after
+  pub m : Machine
+  pub reached : IsReachedBy t before m
+  pub refusal : Refusal
+  pub next : Machine
+  pub step : Step m event (Refused refusal) next
+  pub condition : refusal ≢ out_of_memory
+
+-- an event that isn't refused, by a thread of one label, changes, makes or removes an object of another
+pub record IsChange (t : Layout) (m : Machine) (event : Event) (next : Machine) (actor object : ℕ) (id : ObjId) : Type 0 where
+  pub outcome : Outcome
+  pub step : Step m event outcome next
+  pub made : IsMade outcome
+  pub caller : label_of t m event.thread ≡ Some actor
+  pub labelled : IsLabelled t m next id object
+  pub changed : ¬ (IsSame m next id)
+
+-- the object only shrinks
+pub record IsLoss (t : Layout) (m : Machine) (event : Event) (next : Machine) (actor object : ℕ) (id : ObjId) : Type 0 where
+  pub change : IsChange t m event next actor object id
+  pub shrinks : Shrinks m next id
+
+-- the object changes other than by shrinking
+pub record IsGain (t : Layout) (m : Machine) (event : Event) (next : Machine) (actor object : ℕ) (id : ObjId) : Type 0 where
+  pub change : IsChange t m event next actor object id
+  pub grows : ¬ (Shrinks m next id)
+
+-- the script leads from the table's boot state to a last event that changes an object of a label so
+pub record EndsIn
+    (t : Layout) (script : List Event) (Changes : Machine → Event → Machine → ObjId → Type 0)
+    : Type 0 where
+  pub before : List Event
+  pub last : Event
+  pub is : script ≡ before ++ last ∷ []
+  pub m : Machine
+  pub reached : IsReachedBy t before m
+  pub next : Machine
+  pub id : ObjId
+  pub changes : Changes m last next id
+
+-- the last event of a script is by a thread of one label and changes an object of another, other than by shrinking it
+abbrev pub IsShown : Layout → List Event → ℕ → ℕ → Type 0
+IsShown t script actor object = EndsIn t script (λ m last next id. IsGain t m last next actor object id)
+
+-- the last event of a script is by a thread of one label and shrinks an object of another
+abbrev pub IsTaken : Layout → List Event → ℕ → ℕ → Type 0
+IsTaken t script actor object = EndsIn t script (λ m last next id. IsLoss t m last next actor object id)
+
+-- an object shrinks, or changes in another way
+abbrev pub GoesSo : Bool → Machine → Machine → ObjId → Type 0
+GoesSo Bool.true m next id = Shrinks m next id
+GoesSo Bool.false m next id = ¬ (Shrinks m next id)
+
+-- an event is as a question asks
+abbrev pub IsAsked : Layout → Question → Machine → Event → Machine → ObjId → Type 0
+IsAsked t question m event next id = by question.taking where
+  by : Bool → Type 0
+  by Bool.true = IsLoss t m event next question.actor question.object id
+  by Bool.false = IsGain t m event next question.actor question.object id
+
+-- a script answers a question: it shows that one label changes objects of the other, or that it takes from them
+abbrev pub Answers : Layout → Question → List Event → Type 0
+Answers t question script = by question.taking where
+  by : Bool → Type 0
+  by Bool.true = IsTaken t script question.actor question.object
+  by Bool.false = IsShown t script question.actor question.object

@@ -1,0 +1,174 @@
+//! How an object differs between two states.
+ghost use Rattle.std.specs.Prelude.{◌↔◌, ◌∷◌, ◌≡◌, ◌⊎◌, IsTrue, List, None};
+ghost use Rattle.base.specs.declared.ids.ObjId.{ObjId as Id};
+ghost use Rattle.machine.specs.Machine.{Machine};
+ghost use Rattle.integrity.specs.Shrinks.{IsPart, IsSame, Shrinks};
+ghost use Rattle.runs.specs.{Comparing.{AreAlike, HaveLess, IsAlike, IsLess, LoseCaps}, Sights.{IsSeen, held_at}};
+
+use crate::lessening::{lessens, same_content};
+use crate::sight::Sight;
+use base::ObjId;
+use machine::Cap;
+
+/// Returns whether the object isn't the same in the second sight of it as in the first.
+///
+/// That is its absence too: an object that was made or removed differs.
+pub fn differs(was: &Option<Sight>, is: &Option<Sight>) -> bool
+    ensures { (m next : Machine) (id : Id) → IsSeen m id was.now → IsSeen next id is.now
+        → IsTrue result ↔ ¬ (IsSame m next id) }
+{
+    !are_alike(was, is)
+}
+
+/// Returns whether the object shrank between the first sight of it and the second.
+///
+/// It shrank if it is gone, or has at most lost capabilities, waiting threads and links.
+pub fn shrinks(was: &Option<Sight>, is: &Option<Sight>) -> bool
+    ensures { (m next : Machine) (id : Id) → IsSeen m id was.now → IsSeen next id is.now
+        → IsTrue result ↔ Shrinks m next id }
+{
+    have_less(was, is)
+}
+
+// Whether two sights are the same.
+fn are_alike(was: &Option<Sight>, is: &Option<Sight>) -> bool
+    ensures { IsTrue result ↔ AreAlike was.now is.now }
+{
+    match (was, is) {
+        (None, None) => true,
+        (Some(was), Some(is)) => is_alike(was, is),
+        _ => false,
+    }
+}
+
+// Whether the parts of two sights are the same.
+fn is_alike(was: &Sight, is: &Sight) -> bool
+    ensures { IsTrue result ↔ IsAlike was.now is.now }
+{
+    same_content(&was.content, &is.content)
+        && same_threads(&was.queue, &is.queue)
+        && same_words(&was.words, &is.words)
+        && same_slots(&was.slots, &is.slots)
+}
+
+// Whether the same threads wait.
+fn same_threads(was: &[ObjId], is: &[ObjId]) -> bool
+    ensures { IsTrue result ↔ (is.now ≡ was.now) }
+{
+    is == was
+}
+
+// Whether the words are the same.
+fn same_words(was: &[u64], is: &[u64]) -> bool
+    ensures { IsTrue result ↔ (is.now ≡ was.now) }
+{
+    is == was
+}
+
+// Whether the slots hold the same.
+fn same_slots(was: &[Option<Cap>], is: &[Option<Cap>]) -> bool
+    ensures { IsTrue result ↔ (is.now ≡ was.now) }
+{
+    if is.len() != was.len() {
+        return false;
+    }
+    for (index, held) in is.iter().enumerate() {
+        if !same_held(&was[index], held) {
+            return false;
+        }
+    }
+    true
+}
+
+// Whether two slots hold the same.
+fn same_held(was: &Option<Cap>, is: &Option<Cap>) -> bool
+    ensures { IsTrue result ↔ (is.now ≡ was.now) }
+{
+    is == was
+}
+
+// Whether nothing is there afterwards, or less than before.
+fn have_less(was: &Option<Sight>, is: &Option<Sight>) -> bool
+    ensures { IsTrue result ↔ HaveLess was.now is.now }
+{
+    match (was, is) {
+        (_, None) => true,
+        (None, Some(_)) => false,
+        (Some(was), Some(is)) => is_less(was, is),
+    }
+}
+
+// Whether a sight has no more than another.
+fn is_less(was: &Sight, is: &Sight) -> bool
+    ensures { IsTrue result ↔ IsLess was.now is.now }
+{
+    if !lessens(&was.content, &is.content) {
+        return false;
+    }
+    if !is_part(&is.queue, &was.queue) {
+        return false;
+    }
+    if !same_words(&was.words, &is.words) {
+        return false;
+    }
+    lose_caps(&was.slots, &is.slots)
+}
+
+// Whether the first list has some members of the second, in their order.
+fn is_part(part: &[ObjId], all: &[ObjId]) -> bool
+    ensures { IsTrue result ↔ IsPart part.now all.now }
+{
+    let mut rest = part;
+    for thread in all {
+        rest = rest_after(rest, *thread);
+    }
+    rest.is_empty()
+}
+
+// The members that are still to come after this one.
+fn rest_after(part: &[ObjId], thread: ObjId) -> &[ObjId]
+    ensures { (all : List Id) → IsPart part.now (thread ∷ all) ↔ IsPart result.now all }
+{
+    match part.split_first() {
+        Some((first, rest)) => {
+            if same_thread(*first, thread) {
+                rest
+            } else {
+                part
+            }
+        }
+        None => part,
+    }
+}
+
+// Whether two threads are one.
+fn same_thread(one: ObjId, other: ObjId) -> bool
+    ensures { IsTrue result ↔ (one ≡ other) }
+{
+    one == other
+}
+
+// Whether each slot holds what it held, or nothing.
+fn lose_caps(was: &[Option<Cap>], is: &[Option<Cap>]) -> bool
+    ensures { IsTrue result ↔ LoseCaps was.now is.now }
+{
+    for (index, held) in is.iter().enumerate() {
+        if !loses_cap(was, index, held) {
+            return false;
+        }
+    }
+    true
+}
+
+// Whether a slot holds what the slot at the index held, or nothing.
+fn loses_cap(was: &[Option<Cap>], index: usize, held: &Option<Cap>) -> bool
+    ensures { IsTrue result ↔ ((held.now ≡ held_at was.now index) ⊎ (held.now ≡ None)) }
+{
+    if held.is_none() {
+        return true;
+    }
+    match was.get(index) {
+        Some(before) => same_held(before, held),
+        None => false,
+    }
+}

@@ -1,9 +1,0 @@
-pub mod AsShown
-pub mod ByKind
-pub mod Equalities
-pub mod Leaving
-pub mod Looking
-pub mod Parts
-pub mod Popping
-pub mod Reached
-pub mod Seen

@@ -1,9 +1,0 @@
-use Rattle.std.proofs.Common.{arith}
-use Rattle.policy.specs.Policy.{allows}
-use Rattle.search.proofs.Leaving.{leaves_somewhere}
-use Rattle.search.proofs.escaping.leaves.Goals as goal
-
-pub returns-in-Some-clause-left : goal.returns-in-Some-clause-left
-returns-in-Some-clause-left c = λ out.
-    leaves_somewhere c.args.table.now (allows c.args.policy.now) c.args.script.now c.in-Some.state
-    (omega (arith, c.if-script-gt-MOST_CALLS.false)) (rw c.in-Some.is at c.in_ok-state.ensures.reached) (c.lies_outside.ensures out)

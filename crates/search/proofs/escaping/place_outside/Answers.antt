@@ -1,9 +1,0 @@
-use Rattle.std.proofs.Common.{arith}
-use Rattle.policy.specs.Policy.{allows}
-use Rattle.search.proofs.Leaving.{leaves_at}
-use Rattle.search.proofs.escaping.place_outside.Goals as goal
-
-pub returns-in-Some-clause-left : goal.returns-in-Some-clause-left
-returns-in-Some-clause-left c =
-    leaves_at c.args.table.now (allows c.args.policy.now) c.args.script.now c.in-Some.state c.outside.result
-    (omega (arith, c.if-script-gt-MOST_CALLS.false)) (rw c.in-Some.is at c.in_ok-state.ensures.reached) c.outside.ensures.first
