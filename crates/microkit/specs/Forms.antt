@@ -3,9 +3,9 @@ use Rattle.std.specs.{List.{list_all, list_any}, Prelude.{[], ℕ, ◌&&◌, ◌
 use Rattle.std.specs.{Prelude.{codes, false, if◌then◌else◌, is_some, nat_le, not, true}, Str.bytes_eq}
 use Rattle.words.specs.{declared.faults.{Fault.Fault, Wrong.TheVariants.{Limit, Syntax}}, Fault.fault_at}
 use Rattle.xml.specs.{Document.Node, Tag.{Pair, is_given}}
-use Rattle.microkit.specs.declared.forms.{Form.Form, Need.{Need, TheVariants.{Optional, Required}}, TheConstants.{MAX_ID, MAX_PRIORITY}}
-use Rattle.microkit.specs.{declared.kinds.Kind.Kind, Attributes.number_or, Values.{flag_of, number_of}}
-use Rattle.microkit.specs.declared.forms.Form.TheVariants as form
+use Rattle.microkit.specs.declared.{forms.TheConstants.{MAX_ID, MAX_PRIORITY}, kinds.Kind.Kind, rules.{Form.Form, Need.Need}}
+use Rattle.microkit.specs.{declared.rules.Need.TheVariants.{Optional, Required}, Attributes.number_or, Values.{flag_of, number_of}}
+use Rattle.microkit.specs.declared.rules.Form.TheVariants as form
 use Rattle.microkit.specs.declared.kinds.Kind.TheVariants as kind
 
 -- an attribute that an element may have
@@ -46,18 +46,28 @@ required name form = record { name = name; form = form; need = Required }
 abbrev pub optional : List ℕ → Form → Rule
 optional name form = record { name = name; form = form; need = Optional }
 
--- the attributes of each kind
+-- what may be mapped, by a domain or by a virtual machine
+abbrev pub map_rules : List Rule
+map_rules =
+    required (codes "mr") form.Text
+    ∷ required (codes "vaddr") form.Number
+    ∷ optional (codes "perms") form.Rights
+    ∷ optional (codes "cached") form.Flag
+    ∷ optional (codes "setvar_vaddr") form.Text
+    ∷ optional (codes "setvar_size") form.Text
+    ∷ optional (codes "setvar_prefill_size") form.Text
+    ∷ []
 
-unfoldable pub region_rules : List Rule
-region_rules =
+-- the attributes of each kind. A child has besides those of a domain the id by which its parent knows it. Before version 1.4 a virtual
+-- machine has one processor, of the id that it may have itself.
+unfoldable pub rules_of : Kind → List Rule
+rules_of kind.Region =
     required (codes "name") form.Text
     ∷ required (codes "size") form.Number
     ∷ optional (codes "page_size") form.PageSize
     ∷ optional (codes "phys_addr") form.Number
     ∷ []
-
-unfoldable pub domain_rules : List Rule
-domain_rules =
+rules_of kind.Domain =
     required (codes "name") form.Text
     ∷ optional (codes "priority") form.Number
     ∷ optional (codes "budget") form.Number
@@ -69,10 +79,7 @@ domain_rules =
     ∷ optional (codes "fpu") form.Flag
     ∷ optional (codes "pp") form.Flag
     ∷ []
-
--- a child has besides the id by which its parent knows it
-unfoldable pub child_rules : List Rule
-child_rules =
+rules_of kind.Child =
     required (codes "id") form.Number
     ∷ optional (codes "setvar_id") form.Text
     ∷ required (codes "name") form.Text
@@ -86,80 +93,42 @@ child_rules =
     ∷ optional (codes "fpu") form.Flag
     ∷ optional (codes "pp") form.Flag
     ∷ []
-
-unfoldable pub image_rules : List Rule
-image_rules = required (codes "path") form.Text ∷ []
-
-unfoldable pub map_rules : List Rule
-map_rules =
-    required (codes "mr") form.Text
-    ∷ required (codes "vaddr") form.Number
-    ∷ optional (codes "perms") form.Rights
-    ∷ optional (codes "cached") form.Flag
-    ∷ optional (codes "setvar_vaddr") form.Text
-    ∷ optional (codes "setvar_size") form.Text
-    ∷ optional (codes "setvar_prefill_size") form.Text
-    ∷ []
-
-unfoldable pub interrupt_rules : List Rule
-interrupt_rules =
+rules_of kind.Image = required (codes "path") form.Text ∷ []
+rules_of kind.Map = map_rules
+rules_of kind.MachineMap = map_rules
+rules_of kind.Interrupt =
     required (codes "irq") form.Number
     ∷ required (codes "id") form.Number
     ∷ optional (codes "trigger") form.Trigger
     ∷ optional (codes "setvar_id") form.Text
     ∷ []
-
-unfoldable pub port_rules : List Rule
-port_rules =
+rules_of kind.Port =
     required (codes "id") form.Number
     ∷ required (codes "addr") form.Number
     ∷ required (codes "size") form.Number
     ∷ optional (codes "setvar_id") form.Text
     ∷ optional (codes "setvar_addr") form.Text
     ∷ []
-
-unfoldable pub variable_rules : List Rule
-variable_rules = required (codes "symbol") form.Text ∷ required (codes "region_paddr") form.Text ∷ []
-
--- before version 1.4 a virtual machine has one processor, of this id
-unfoldable pub machine_rules : List Rule
-machine_rules =
+rules_of kind.Variable = required (codes "symbol") form.Text ∷ required (codes "region_paddr") form.Text ∷ []
+rules_of kind.Machine =
     required (codes "name") form.Text
     ∷ optional (codes "priority") form.Number
     ∷ optional (codes "budget") form.Number
     ∷ optional (codes "period") form.Number
     ∷ optional (codes "id") form.Number
     ∷ []
-
-unfoldable pub processor_rules : List Rule
-processor_rules =
+rules_of kind.Processor =
     required (codes "id") form.Number
     ∷ optional (codes "setvar_id") form.Text
     ∷ optional (codes "cpu") form.Number
     ∷ []
-
-unfoldable pub end_rules : List Rule
-end_rules =
+rules_of kind.End =
     required (codes "pd") form.Text
     ∷ required (codes "id") form.Number
     ∷ optional (codes "pp") form.Flag
     ∷ optional (codes "notify") form.Flag
     ∷ optional (codes "setvar_id") form.Text
     ∷ []
-
-unfoldable pub rules_of : Kind → List Rule
-rules_of kind.Region = region_rules
-rules_of kind.Domain = domain_rules
-rules_of kind.Child = child_rules
-rules_of kind.Image = image_rules
-rules_of kind.Map = map_rules
-rules_of kind.MachineMap = map_rules
-rules_of kind.Interrupt = interrupt_rules
-rules_of kind.Port = port_rules
-rules_of kind.Variable = variable_rules
-rules_of kind.Machine = machine_rules
-rules_of kind.Processor = processor_rules
-rules_of kind.End = end_rules
 rules_of _ = []
 
 -- an attribute follows a rule

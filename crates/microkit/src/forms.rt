@@ -1,14 +1,13 @@
-//! Which attributes an element has, and of which form their values are.
+//! Whether an element has its form: its attributes, and the forms of their values.
 ghost use Rattle.std.specs.{List.{list_all, list_any}, Prelude.{◌&&◌, ◌≡◌, codes, map}, Str.bytes_eq};
 ghost use Rattle.xml.specs.{Tag.is_given, View.{node_of, pair_of, pairs_of}};
-ghost use Rattle.microkit.specs.{FormView.rule_of, Forms.{child_rules, domain_rules, end_rules, follows, form_at}};
-ghost use Rattle.microkit.specs.Forms.{has_byte, has_form, image_rules, interrupt_rules, is_formed, is_met};
-ghost use Rattle.microkit.specs.Forms.{is_page_size, is_right, is_rights, is_within, machine_rules, map_rules};
-ghost use Rattle.microkit.specs.Forms.{port_rules, processor_rules, region_rules, rules_of, variable_rules};
+ghost use Rattle.microkit.specs.{FormView.rule_of, Forms.{follows, form_at, has_byte, has_form, is_formed, is_met}};
+ghost use Rattle.microkit.specs.Forms.{is_page_size, is_right, is_rights, is_within};
 
 use crate::attributes::number_or;
 use crate::kinds::Kind;
 use crate::numbers::{flag_of, number_of};
+use crate::rules::{Form, Need, Rule, rules_of};
 use words::{Fault, Wrong};
 use xml::{Attribute, Element};
 
@@ -17,28 +16,6 @@ pub const MAX_ID: u64 = 61;
 
 /// The largest priority.
 pub const MAX_PRIORITY: u64 = 254;
-
-/// The form of a value.
-#[derive(Clone, Copy)]
-pub(crate) enum Form {
-    Text,
-    Number,
-    Flag,
-    PageSize,
-    Rights,
-    Trigger,
-}
-
-/// Whether an attribute must be given.
-#[derive(Clone, Copy)]
-pub(crate) enum Need {
-    Required,
-    Optional,
-}
-
-/// An attribute that an element may have: its name, its form, and whether it must be given.
-#[derive(Clone, Copy)]
-pub(crate) struct Rule<'a>(pub &'a [u8], pub Form, pub Need);
 
 /// Checks that an element has its form.
 ///
@@ -50,7 +27,7 @@ pub(crate) struct Rule<'a>(pub &'a [u8], pub Form, pub Need);
 pub(crate) fn check_form(kind: Kind, element: &Element<'_>) -> Result<(), Fault>
     ensures { result ≡ form_at kind (node_of element.now) }
 {
-    if !is_formed_as(kind, element) {
+    if !is_formed(rules_of(kind), element) {
         return Err(Fault::at(Wrong::Syntax, element.line));
     }
     if !is_within(element) {
@@ -66,197 +43,22 @@ fn is_within(element: &Element<'_>) -> bool
     number_or(element, b"id", 0) <= MAX_ID && number_or(element, b"priority", 0) <= MAX_PRIORITY
 }
 
-#[tactic(auto, unfolding(crate::specs::Forms::rules_of))]
-fn is_formed_as(kind: Kind, element: &Element<'_>) -> bool
-    ensures { result ≡ is_formed (rules_of kind) (node_of element.now).attributes }
-{
-    match kind {
-        Kind::Region => is_region(element),
-        Kind::Domain => is_domain(element),
-        Kind::Child => is_child(element),
-        Kind::Image => is_image(element),
-        Kind::Map | Kind::MachineMap => is_map(element),
-        Kind::Interrupt => is_interrupt(element),
-        Kind::Port => is_port(element),
-        Kind::Variable => is_variable(element),
-        Kind::Machine => is_machine(element),
-        Kind::Processor => is_processor(element),
-        Kind::End => is_end(element),
-        Kind::Document | Kind::System | Kind::Channel => is_formed(&[], element),
-    }
-}
-
-#[tactic(auto, unfolding(crate::specs::Forms::region_rules))]
-fn is_region(element: &Element<'_>) -> bool
-    ensures { result ≡ is_formed region_rules (node_of element.now).attributes }
-{
-    let rules = [
-        Rule(b"name", Form::Text, Need::Required),
-        Rule(b"size", Form::Number, Need::Required),
-        Rule(b"page_size", Form::PageSize, Need::Optional),
-        Rule(b"phys_addr", Form::Number, Need::Optional),
-    ];
-    is_formed(&rules, element)
-}
-
-#[tactic(auto, unfolding(crate::specs::Forms::domain_rules))]
-fn is_domain(element: &Element<'_>) -> bool
-    ensures { result ≡ is_formed domain_rules (node_of element.now).attributes }
-{
-    let rules = [
-        Rule(b"name", Form::Text, Need::Required),
-        Rule(b"priority", Form::Number, Need::Optional),
-        Rule(b"budget", Form::Number, Need::Optional),
-        Rule(b"period", Form::Number, Need::Optional),
-        Rule(b"passive", Form::Flag, Need::Optional),
-        Rule(b"stack_size", Form::Number, Need::Optional),
-        Rule(b"smc", Form::Flag, Need::Optional),
-        Rule(b"cpu", Form::Number, Need::Optional),
-        Rule(b"fpu", Form::Flag, Need::Optional),
-        Rule(b"pp", Form::Flag, Need::Optional),
-    ];
-    is_formed(&rules, element)
-}
-
-#[tactic(auto, unfolding(crate::specs::Forms::child_rules))]
-fn is_child(element: &Element<'_>) -> bool
-    ensures { result ≡ is_formed child_rules (node_of element.now).attributes }
-{
-    let rules = [
-        Rule(b"id", Form::Number, Need::Required),
-        Rule(b"setvar_id", Form::Text, Need::Optional),
-        Rule(b"name", Form::Text, Need::Required),
-        Rule(b"priority", Form::Number, Need::Optional),
-        Rule(b"budget", Form::Number, Need::Optional),
-        Rule(b"period", Form::Number, Need::Optional),
-        Rule(b"passive", Form::Flag, Need::Optional),
-        Rule(b"stack_size", Form::Number, Need::Optional),
-        Rule(b"smc", Form::Flag, Need::Optional),
-        Rule(b"cpu", Form::Number, Need::Optional),
-        Rule(b"fpu", Form::Flag, Need::Optional),
-        Rule(b"pp", Form::Flag, Need::Optional),
-    ];
-    is_formed(&rules, element)
-}
-
-#[tactic(auto, unfolding(crate::specs::Forms::image_rules))]
-fn is_image(element: &Element<'_>) -> bool
-    ensures { result ≡ is_formed image_rules (node_of element.now).attributes }
-{
-    let rules = [Rule(b"path", Form::Text, Need::Required)];
-    is_formed(&rules, element)
-}
-
-#[tactic(auto, unfolding(crate::specs::Forms::map_rules))]
-fn is_map(element: &Element<'_>) -> bool
-    ensures { result ≡ is_formed map_rules (node_of element.now).attributes }
-{
-    let rules = [
-        Rule(b"mr", Form::Text, Need::Required),
-        Rule(b"vaddr", Form::Number, Need::Required),
-        Rule(b"perms", Form::Rights, Need::Optional),
-        Rule(b"cached", Form::Flag, Need::Optional),
-        Rule(b"setvar_vaddr", Form::Text, Need::Optional),
-        Rule(b"setvar_size", Form::Text, Need::Optional),
-        Rule(b"setvar_prefill_size", Form::Text, Need::Optional),
-    ];
-    is_formed(&rules, element)
-}
-
-#[tactic(auto, unfolding(crate::specs::Forms::interrupt_rules))]
-fn is_interrupt(element: &Element<'_>) -> bool
-    ensures { result ≡ is_formed interrupt_rules (node_of element.now).attributes }
-{
-    let rules = [
-        Rule(b"irq", Form::Number, Need::Required),
-        Rule(b"id", Form::Number, Need::Required),
-        Rule(b"trigger", Form::Trigger, Need::Optional),
-        Rule(b"setvar_id", Form::Text, Need::Optional),
-    ];
-    is_formed(&rules, element)
-}
-
-#[tactic(auto, unfolding(crate::specs::Forms::port_rules))]
-fn is_port(element: &Element<'_>) -> bool
-    ensures { result ≡ is_formed port_rules (node_of element.now).attributes }
-{
-    let rules = [
-        Rule(b"id", Form::Number, Need::Required),
-        Rule(b"addr", Form::Number, Need::Required),
-        Rule(b"size", Form::Number, Need::Required),
-        Rule(b"setvar_id", Form::Text, Need::Optional),
-        Rule(b"setvar_addr", Form::Text, Need::Optional),
-    ];
-    is_formed(&rules, element)
-}
-
-#[tactic(auto, unfolding(crate::specs::Forms::variable_rules))]
-fn is_variable(element: &Element<'_>) -> bool
-    ensures { result ≡ is_formed variable_rules (node_of element.now).attributes }
-{
-    let rules = [
-        Rule(b"symbol", Form::Text, Need::Required),
-        Rule(b"region_paddr", Form::Text, Need::Required),
-    ];
-    is_formed(&rules, element)
-}
-
-#[tactic(auto, unfolding(crate::specs::Forms::machine_rules))]
-fn is_machine(element: &Element<'_>) -> bool
-    ensures { result ≡ is_formed machine_rules (node_of element.now).attributes }
-{
-    let rules = [
-        Rule(b"name", Form::Text, Need::Required),
-        Rule(b"priority", Form::Number, Need::Optional),
-        Rule(b"budget", Form::Number, Need::Optional),
-        Rule(b"period", Form::Number, Need::Optional),
-        Rule(b"id", Form::Number, Need::Optional),
-    ];
-    is_formed(&rules, element)
-}
-
-#[tactic(auto, unfolding(crate::specs::Forms::processor_rules))]
-fn is_processor(element: &Element<'_>) -> bool
-    ensures { result ≡ is_formed processor_rules (node_of element.now).attributes }
-{
-    let rules = [
-        Rule(b"id", Form::Number, Need::Required),
-        Rule(b"setvar_id", Form::Text, Need::Optional),
-        Rule(b"cpu", Form::Number, Need::Optional),
-    ];
-    is_formed(&rules, element)
-}
-
-#[tactic(auto, unfolding(crate::specs::Forms::end_rules))]
-fn is_end(element: &Element<'_>) -> bool
-    ensures { result ≡ is_formed end_rules (node_of element.now).attributes }
-{
-    let rules = [
-        Rule(b"pd", Form::Text, Need::Required),
-        Rule(b"id", Form::Number, Need::Required),
-        Rule(b"pp", Form::Flag, Need::Optional),
-        Rule(b"notify", Form::Flag, Need::Optional),
-        Rule(b"setvar_id", Form::Text, Need::Optional),
-    ];
-    is_formed(&rules, element)
-}
-
 // Whether each attribute follows a rule, and none is missing that is required.
 #[tactic(auto, unfolding(crate::specs::Forms::is_formed))]
-fn is_formed(rules: &[Rule<'_>], element: &Element<'_>) -> bool
+fn is_formed(rules: &[Rule], element: &Element<'_>) -> bool
     ensures { result ≡ is_formed (map rule_of rules.now) (node_of element.now).attributes }
 {
     all_follow(rules, &element.attributes) && all_are_met(rules, &element.attributes)
 }
 
-fn all_follow(rules: &[Rule<'_>], attributes: &[Attribute<'_>]) -> bool
+fn all_follow(rules: &[Rule], attributes: &[Attribute<'_>]) -> bool
     ensures { result ≡ list_all (λ pair. list_any (follows pair) (map rule_of rules.now)) (pairs_of attributes.now) }
 {
     each_follows(rules, attributes)
 }
 
 // The same, of the rules and attributes as they lie in memory.
-fn each_follows(rules: &[Rule<'_>], attributes: &[Attribute<'_>]) -> bool
+fn each_follows(rules: &[Rule], attributes: &[Attribute<'_>]) -> bool
     ensures { result ≡ list_all
         (λ attribute. list_any (λ rule. follows (pair_of attribute) (rule_of rule)) rules.now)
         attributes.now }
@@ -266,37 +68,37 @@ fn each_follows(rules: &[Rule<'_>], attributes: &[Attribute<'_>]) -> bool
         .all(|attribute| is_allowed(rules, attribute))
 }
 
-fn is_allowed(rules: &[Rule<'_>], attribute: &Attribute<'_>) -> bool
+fn is_allowed(rules: &[Rule], attribute: &Attribute<'_>) -> bool
     ensures { result ≡ list_any (λ rule. follows (pair_of attribute.now) (rule_of rule)) rules.now }
 {
     rules.iter().any(|rule| follows(attribute, rule))
 }
 
-fn follows(attribute: &Attribute<'_>, rule: &Rule<'_>) -> bool
+fn follows(attribute: &Attribute<'_>, rule: &Rule) -> bool
     ensures { result ≡ follows (pair_of attribute.now) (rule_of rule.now) }
 {
-    rule.0 == attribute.name && has_form(rule.1, &attribute.value)
+    rule.0.as_bytes() == attribute.name && has_form(rule.1, &attribute.value)
 }
 
-fn all_are_met(rules: &[Rule<'_>], attributes: &[Attribute<'_>]) -> bool
+fn all_are_met(rules: &[Rule], attributes: &[Attribute<'_>]) -> bool
     ensures { result ≡ list_all (is_met (pairs_of attributes.now)) (map rule_of rules.now) }
 {
     each_is_met(rules, attributes)
 }
 
 // The same, of the rules as they lie in memory.
-fn each_is_met(rules: &[Rule<'_>], attributes: &[Attribute<'_>]) -> bool
+fn each_is_met(rules: &[Rule], attributes: &[Attribute<'_>]) -> bool
     ensures { result ≡ list_all (λ rule. is_met (pairs_of attributes.now) (rule_of rule)) rules.now }
 {
     rules.iter().all(|rule| is_met(attributes, rule))
 }
 
-fn is_met(attributes: &[Attribute<'_>], rule: &Rule<'_>) -> bool
+fn is_met(attributes: &[Attribute<'_>], rule: &Rule) -> bool
     ensures { result ≡ is_met (pairs_of attributes.now) (rule_of rule.now) }
 {
     match rule.2 {
         Need::Optional => true,
-        Need::Required => is_given(attributes, rule.0),
+        Need::Required => is_given(attributes, rule.0.as_bytes()),
     }
 }
 
@@ -313,8 +115,9 @@ fn has_name(attributes: &[Attribute<'_>], name: &[u8]) -> bool
     attributes.iter().any(|attribute| attribute.name == name)
 }
 
+/// Returns whether a value has a form.
 #[tactic(auto, unfolding(crate::specs::Forms::has_form))]
-fn has_form(form: Form, value: &[u8]) -> bool
+pub fn has_form(form: Form, value: &[u8]) -> bool
     ensures { result ≡ has_form form value.now }
 {
     match form {

@@ -5,7 +5,7 @@ ghost use Rattle.microkit.specs.Kinds.{kind_in_system, kind_within};
 
 /// The kind of an element. The text as a whole is a kind too, within which the root stands.
 #[derive(Clone, Copy)]
-pub(crate) enum Kind {
+pub enum Kind {
     Document,
     System,
     Region,
@@ -23,9 +23,9 @@ pub(crate) enum Kind {
     End,
 }
 
-/// Which kind an element of this name is within one of this kind.
+/// Returns which kind an element of this name is within one of this kind, if it may stand there.
 #[tactic(auto, unfolding(crate::specs::Kinds::kind_within))]
-pub(crate) fn kind_within(outer: Kind, name: &[u8]) -> Option<Kind>
+pub fn kind_within(outer: Kind, name: &[u8]) -> Option<Kind>
     ensures { result ≡ kind_within outer name.now }
 {
     match outer {

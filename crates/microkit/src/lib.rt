@@ -16,13 +16,17 @@ mod names;
 mod numbers;
 mod reading;
 mod regions;
+mod rules;
 
 pub use description::{
     Channel, Description, Domain, End, Id, Interrupt, Machine, Map, Page, Port, Processor, Region,
     Schedule, User,
 };
 pub use domains::MAX_DOMAINS;
-pub use forms::{MAX_ID, MAX_PRIORITY};
+pub use forms::{MAX_ID, MAX_PRIORITY, has_form};
+pub use kinds::{Kind, kind_within};
 pub use labels::{Subject, label_names, subjects_of};
 pub use names::{MAX_LABEL_LENGTH, Part, objects_have_names_of_their_own};
+pub use numbers::number_of;
 pub use reading::read_description;
+pub use rules::{Form, Need, Rule, rules_of};

@@ -4,9 +4,9 @@ ghost use Rattle.std.specs.Prelude.{ℕ, ◌*◌, ◌+◌, ◌<◌, ◌≡◌, �
 ghost use Rattle.words.specs.Number.{below_limit};
 ghost use Rattle.microkit.specs.Values.{bare, digits_of, flag_of, number_of};
 
-/// The number that a value spells, in decimal or, after `0x`, in hexadecimal.
+/// Returns the number that a value spells, in decimal or, after `0x`, in hexadecimal, if it is below 2 ^ 64.
 #[tactic(auto, unfolding(crate::specs::Values::number_of))]
-pub(crate) fn number_of(value: &[u8]) -> Option<u64>
+pub fn number_of(value: &[u8]) -> Option<u64>
     ensures { result ≡ number_of value.now }
 {
     match value.strip_prefix(b"0x") {

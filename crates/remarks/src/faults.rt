@@ -3,9 +3,9 @@ use crate::elements::Place;
 use crate::flaws::Flaw;
 use crate::limits::limit_flaw;
 use crate::naming::{join_flaw, known_flaw, twice_flaw};
-use crate::rules::{Need, elements_in, rules_of};
-use crate::values::has_form;
+use crate::rules::{elements_in, outer_kind};
 use forms::{Shown, text_of};
+use microkit::{Need, has_form, kind_within, rules_of};
 use std::alloc::{AllocError, Global};
 use std::fmt;
 use words::Fault;
@@ -123,11 +123,14 @@ fn form_flaw<'a>(place: Place<'a, '_>) -> Option<(Option<&'a [u8]>, Flaw<'a>)> {
         Some(outer) => outer.name(),
         None => b"",
     };
-    let inner = elements_in(outer);
-    if !is_among(inner, element.name) {
-        return Some((None, Flaw::Element(outer, inner)));
-    }
-    let rules = rules_of(element.name, outer == b"protection_domain".as_slice());
+    let kind = match outer_kind(outer) {
+        Some(kind) => kind_within(kind, element.name),
+        None => None,
+    };
+    let Some(kind) = kind else {
+        return Some((None, Flaw::Element(outer, elements_in(outer))));
+    };
+    let rules = rules_of(kind);
     for attribute in &element.attributes {
         match rules
             .iter()
@@ -146,11 +149,6 @@ fn form_flaw<'a>(place: Place<'a, '_>) -> Option<(Option<&'a [u8]>, Flaw<'a>)> {
         }
     }
     None
-}
-
-// Whether a name is one of those that are separated by commas.
-fn is_among(names: &str, name: &[u8]) -> bool {
-    names.split(", ").any(|one| one.as_bytes() == name)
 }
 
 // What is wrong with a text that isn't a document as it is read here.

@@ -1,6 +1,6 @@
 //! What is said of an element that has a fault.
-use crate::rules::Form;
 use forms::Shown;
+use microkit::Form;
 use std::fmt;
 
 /// What is wrong with an element.

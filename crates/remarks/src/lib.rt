@@ -10,7 +10,6 @@ mod limits;
 mod naming;
 mod notes;
 mod rules;
-mod values;
 
 pub use faults::explain_fault;
 pub use notes::{Matter, Note, explain_notes, notes_of};

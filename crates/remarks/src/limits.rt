@@ -2,8 +2,7 @@
 use crate::elements::Place;
 use crate::flaws::Flaw;
 use crate::naming::Found;
-use crate::values::number_of;
-use microkit::{MAX_DOMAINS, MAX_ID, MAX_PRIORITY};
+use microkit::{MAX_DOMAINS, MAX_ID, MAX_PRIORITY, number_of};
 
 /// Returns the limit that an element passes: one of its own, of the number of domains, or of its table.
 pub(crate) fn limit_flaw<'a>(place: Place<'a, '_>) -> Option<Found<'a>> {

@@ -1,7 +1,7 @@
 //! Names that aren't known, what is given twice, and what doesn't go together.
 use crate::elements::Place;
 use crate::flaws::Flaw;
-use crate::values::number_of;
+use microkit::number_of;
 
 /// An attribute with what is wrong with it, or what is wrong with the element.
 pub(crate) type Found<'a> = (Option<&'a [u8]>, Flaw<'a>);
