@@ -1,16 +1,18 @@
 //! What `--explain` prints on standard error: the sentences on what a command finds.
 use crate::files::Opened;
 use base::Refusal;
+use breaches::{
+    Judged, breach_lines, explain_breaches, explain_broken, explain_escape, explain_run,
+};
 use captext::object_name;
 use causes::{Caller, explain_illegal, explain_refusal};
 use explain::{
-    Names, breach_lines, explain_breaches, explain_broken, explain_closing, explain_denial,
-    explain_escape, explain_notes, explain_outside, explain_reach, explain_run, explain_unlabelled,
-    explain_why,
+    Names, explain_closing, explain_denial, explain_outside, explain_unlabelled, explain_why,
 };
 use invocation::{Invocation, OfSystem, OfTable, OfThree, Request};
 use machine::{Event, Outcome};
 use microkit::Description;
+use notes::{explain_notes, explain_reach};
 use policy::Policy;
 use remarks::{explain_notes as explain_left_out, notes_of};
 use report::{
@@ -116,14 +118,9 @@ impl<'a, R: AllocGlobal + Eprint> Explainer<'a, R> {
 
     /// Tells what is found wrong.
     fn tell_finding(&self, leave: &(impl Threads + Sync), heard: &Heard<'_>, finding: &Finding) {
-        match (finding, heard.policy, heard.claims) {
-            (Finding::BrokenLines(broken), Some(policy), Some(lines)) => {
-                let (alloc, table) = (self.rt.alloc(), heard.table);
-                let names = self.names();
-                let claims = self.invocation.request.name_of(File::Claims);
-                self.tell_lines(explain_breaches(
-                    leave, alloc, &names, claims, table, policy, lines, broken,
-                ));
+        match (finding, self.judged(heard)) {
+            (Finding::BrokenLines(broken), Some(judged)) => {
+                self.tell_lines(explain_breaches(leave, self.rt.alloc(), &judged, broken));
             }
             _ => self.tell(self.sentence_on(heard, finding)),
         }
@@ -136,7 +133,7 @@ impl<'a, R: AllocGlobal + Eprint> Explainer<'a, R> {
     /// each claim that doesn't hold.
     pub fn sentence_on(&self, heard: &Heard<'_>, finding: &Finding) -> Result<String, Refusal> {
         let (alloc, table) = (self.rt.alloc(), heard.table);
-        match (finding, heard.policy, heard.claims) {
+        match (finding, heard.policy, self.judged(heard)) {
             (Finding::Denied(denial), Some(policy), _) => {
                 explain_denial(alloc, &self.names(), table, policy, denial)
             }
@@ -152,13 +149,23 @@ impl<'a, R: AllocGlobal + Eprint> Explainer<'a, R> {
             (Finding::Broken(broken), Some(policy), _) => {
                 explain_broken(alloc, table, policy, broken)
             }
-            (Finding::BrokenLines(broken), Some(policy), Some(lines)) => {
-                let claims = self.invocation.request.name_of(File::Claims);
-                breach_lines(alloc, &self.names(), claims, table, policy, lines, broken)
+            (Finding::BrokenLines(broken), _, Some(judged)) => {
+                breach_lines(alloc, &judged, broken)
             }
             // Who finds one of the others has read a policy, and claims.
             _ => Ok(String::new(alloc)),
         }
+    }
+
+    /// The system on which claims of version 2 were judged, if they were.
+    fn judged(&self, heard: &Heard<'a>) -> Option<Judged<'a>> {
+        Some(Judged {
+            names: self.names(),
+            table: heard.table,
+            policy: heard.policy?,
+            claims: self.invocation.request.name_of(File::Claims),
+            lines: heard.claims?,
+        })
     }
 
     /// Returns the sentence on a fault of a file's text, without a line feed.

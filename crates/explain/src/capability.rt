@@ -1,6 +1,5 @@
 //! The sentence on a capability that gives more than the policy has.
-use crate::broken::push_edges;
-use crate::sentences::{comes_by_right, name_of_label, verb};
+use crate::sentences::{EdgeList, comes_by_right, name_of_label, separator, verb};
 use base::{Edge, Kind, Label, Refusal, SlotRef};
 use captext::{label_name, object_name};
 use labels::slot_edges;
@@ -19,9 +18,23 @@ pub(crate) fn push_capability(
     label: Label,
 ) -> Result<usize, Refusal> {
     let missing = missing_edges(alloc, table, policy, slot)?;
-    push_deeds(sentence, table, slot, label, &missing)?;
-    push_ways(alloc, sentence, table, &missing)?;
+    push_missing(alloc, sentence, table, slot, label, &missing)?;
     Ok(missing.len())
+}
+
+/// The same, for the edges that are missing.
+fn push_missing(
+    alloc: Global,
+    sentence: &mut String,
+    table: &Table,
+    slot: SlotRef,
+    label: Label,
+    missing: &[Edge],
+) -> Result<(), AllocError> {
+    push_deeds(sentence, table, slot, label, missing)?;
+    let always = edges_by(alloc, missing, false)?;
+    let by_rights = edges_by(alloc, missing, true)?;
+    push_ways(sentence, table, &always, &by_rights)
 }
 
 /// Returns the edges that the capability in a slot gives and the policy lacks.
@@ -63,47 +76,31 @@ fn push_deeds(
     write!(sentence, " `{name}`, but the policy has no such {edges}. ")
 }
 
-/// Returns what stands before an item of a list of so many.
-pub(crate) fn separator(number: usize, count: usize) -> &'static str {
-    if number == 0 {
-        ""
-    } else if number < count.saturating_sub(1) {
-        ", "
-    } else {
-        " and "
-    }
-}
-
-/// Adds what may be done: fewer rights serve for the kinds that come by rights, and the edges for all.
-fn push_ways(
-    alloc: Global,
-    sentence: &mut String,
-    table: &Table,
-    missing: &[Edge],
-) -> Result<(), AllocError> {
-    let mut by_rights = Vec::new(alloc);
-    let mut always = Vec::new(alloc);
+/// The edges of these that come by rights, or those that come whatever the rights.
+fn edges_by(alloc: Global, missing: &[Edge], by_right: bool) -> Result<Vec<Edge>, AllocError> {
+    let mut edges = Vec::new(alloc);
     for edge in missing {
-        if comes_by_right(edge.kind) {
-            by_rights.push(*edge)?;
-        } else {
-            always.push(*edge)?;
+        if comes_by_right(edge.kind) == by_right {
+            edges.push(*edge)?;
         }
     }
-    push_both_ways(sentence, table, &always, &by_rights)
+    Ok(edges)
 }
 
 /// Adds what may be done about edges that the capability gives whatever its rights, and about those
 /// that come by rights.
-fn push_both_ways(
+fn push_ways(
     sentence: &mut String,
     table: &Table,
     always: &[Edge],
     by_rights: &[Edge],
 ) -> Result<(), AllocError> {
     if !always.is_empty() {
-        sentence.push_str("Add ")?;
-        push_edges(sentence, table, always)?;
+        let edges = EdgeList {
+            table,
+            edges: always,
+        };
+        write!(sentence, "Add {edges}")?;
     }
     if !by_rights.is_empty() {
         let (before, between) = if always.is_empty() {
@@ -111,11 +108,14 @@ fn push_both_ways(
         } else {
             (", and give", "")
         };
+        let edges = EdgeList {
+            table,
+            edges: by_rights,
+        };
         write!(
             sentence,
-            "{before} the capability fewer rights{between} or add "
+            "{before} the capability fewer rights{between} or add {edges}"
         )?;
-        push_edges(sentence, table, by_rights)?;
     }
     sentence.push_str(".")
 }

@@ -1,10 +1,11 @@
 //! The lines on the edges that closing adds to a policy.
 use crate::asked::asked_edge;
-use crate::denials::explain_edge;
+use crate::lines::{Start, line_of_place};
+use crate::sentences::{EdgeLine, PlaceNames};
 use base::{Edge, Kind, Label, Refusal};
 use deal::Open;
 use policy::{Broken, Policy};
-use std::alloc::{AllocError, Global};
+use std::alloc::Global;
 use std::thread::Threads;
 use table::Table;
 use verdict::{Denial, judge};
@@ -72,41 +73,45 @@ fn push_line<R: Threads + Sync>(
     closed: &mut Policy,
     lines: &mut String,
 ) -> Result<bool, Refusal> {
-    match first_line(rt, alloc, file, table, closed)? {
-        Some((edge, line)) => {
-            closed.add(edge)?;
-            writeln!(lines, "{line}")?;
-            Ok(true)
-        }
+    match first_denial(rt, alloc, table, closed)? {
+        Some(denial) => push_edge(file, table, &denial, closed, lines),
         None => Ok(false),
     }
 }
 
-/// The edge that the verdict asks for first, and the line for it, if the policy lacks one.
-fn first_line<R: Threads + Sync>(
+/// The verdict's denial, if it denies.
+fn first_denial<R: Threads + Sync>(
     rt: &R,
     alloc: Global,
-    file: &str,
     table: &Table,
     policy: &Policy,
-) -> Result<Option<(Edge, String)>, Refusal> {
+) -> Result<Option<Denial>, Refusal> {
     match judge(rt, alloc, table, policy, 1, &Open)? {
         Ok(_) => Ok(None),
-        Err(denial) => Ok(line_of(alloc, file, table, policy, &denial)?),
+        Err(denial) => Ok(Some(denial)),
     }
 }
 
-/// The edge that a denial asks for, and the line for it, if one edge would mend it.
-fn line_of(
-    alloc: Global,
+/// Adds the edge that a denial asks for, and the line for it, if one edge would mend it.
+fn push_edge(
     file: &str,
     table: &Table,
-    policy: &Policy,
     denial: &Denial,
-) -> Result<Option<(Edge, String)>, AllocError> {
-    match mending_edge(table, policy, denial) {
-        Some(edge) => Ok(Some((edge, explain_edge(alloc, file, table, denial, edge)?))),
-        None => Ok(None),
+    closed: &mut Policy,
+    lines: &mut String,
+) -> Result<bool, Refusal> {
+    match mending_edge(table, closed, denial) {
+        Some(edge) => {
+            closed.add(edge)?;
+            let line = line_of_place(table, denial);
+            let start = Start { file, line };
+            let rule = denial.rule();
+            let place = PlaceNames { table, denial };
+            let edge = EdgeLine { table, edge };
+            writeln!(lines, "{start}{rule} {place}: {edge}")?;
+            Ok(true)
+        }
+        None => Ok(false),
     }
 }
 

@@ -4,8 +4,8 @@ use crate::capability::push_capability;
 use crate::closing::mending_edge;
 use crate::lines::{Start, line_of_edge, line_of_place};
 use crate::premises::premises;
-use crate::sentences::{EdgeLine, OtherWay, PlaceNames, Reason};
-use base::{Edge, Refusal};
+use crate::sentences::{EdgeLine, OtherWay, Reason};
+use base::Refusal;
 use policy::{Broken, Policy};
 use std::alloc::{AllocError, Global};
 use std::fmt;
@@ -191,22 +191,4 @@ pub fn explain_outside(
              the policy lacks, or is under such authority. The report has the object's number, after `#`."
         ),
     }
-}
-
-/// Returns the line for an edge that closing adds: the rule and the place that ask for it, and the
-/// edge, as `table:11: A1 space.0: edge app await bell`. It begins with the place's line, where
-/// that is one of the table of this name.
-pub(crate) fn explain_edge(
-    alloc: Global,
-    file: &str,
-    table: &Table,
-    denial: &Denial,
-    edge: Edge,
-) -> Result<String, AllocError> {
-    let line = line_of_place(table, denial);
-    let start = Start { file, line };
-    let rule = denial.rule();
-    let place = PlaceNames { table, denial };
-    let edge = EdgeLine { table, edge };
-    format!(in alloc; "{start}{rule} {place}: {edge}")
 }

@@ -78,7 +78,7 @@ fn line_after(before: usize, place: usize) -> usize {
 
 /// A line of a file before a sentence on it, as `table:12: `. Nothing, if there is no such line.
 #[derive(Clone, Copy)]
-pub(crate) struct Start<'a> {
+pub struct Start<'a> {
     pub file: &'a str,
     pub line: Option<usize>,
 }

@@ -1,5 +1,5 @@
 //! The sentence on why a label has no authority on another.
-use crate::broken::push_edges;
+use crate::sentences::EdgeList;
 use base::{Edge, Label, Labels, Refusal};
 use captext::label_name;
 use machine::ObjectKind;
@@ -81,13 +81,17 @@ fn push_none_by(
     joining: &[Edge],
 ) -> Result<(), AllocError> {
     let (actor, object) = (label_name(table, actor), label_name(table, object));
-    write!(
+    let even = if joining.is_empty() {
+        ""
+    } else {
+        ", not even "
+    };
+    let edges = EdgeList {
+        table,
+        edges: joining,
+    };
+    writeln!(
         lines,
-        "no edges of the policy let `{actor}` change objects of `{object}` or make them smaller"
-    )?;
-    if !joining.is_empty() {
-        lines.push_str(", not even ")?;
-        push_edges(lines, table, joining)?;
-    }
-    lines.push('\n')
+        "no edges of the policy let `{actor}` change objects of `{object}` or make them smaller{even}{edges}"
+    )
 }

@@ -1,16 +1,15 @@
 //! The sentences on where the edges of a reason come from: a place of the table, by a rule from other edges,
 //! or the policy alone; and, for labels with no reason, why there is none.
 use crate::asked::asked_edge;
-use crate::broken::push_edges;
 use crate::closing::{MOST_EDGES, mending_edge};
+use crate::label_sets::labels_of;
 use crate::lines::{Start, line_of_place};
 use crate::nothing::push_nothing;
 use crate::premises::premises;
-use crate::reach::labels_of;
-use crate::sentences::{EdgeLine, Reason};
+use crate::sentences::{EdgeLine, EdgeList, Reason};
 use base::{Edge, Kind, Label, Labels, Refusal, SlotRef};
 use labels::{authority, filled_edges};
-use policy::{Broken, Policy, Why, first_broken};
+use policy::{Policy, Why, first_broken};
 use std::alloc::{AllocError, Global};
 use std::thread::Threads;
 use table::Table;
@@ -63,34 +62,41 @@ fn push_why<R: Threads + Sync>(
     object: Label,
 ) -> Result<(), Refusal> {
     match policy.why_among(alloc, actors, actor, object)? {
-        Why::Full(edges) | Why::Take(edges) => {
-            push_origins(rt, alloc, lines, file, table, policy, edges)
+        Why::Full(mut edges) | Why::Take(mut edges) => {
+            push_origins(rt, alloc, lines, file, table, policy, &mut edges)
         }
         Why::Nothing => push_nothing(alloc, lines, table, policy, actors, actor, object),
     }
 }
 
-/// Adds where these edges come from, and then where those come from by which a rule asks for one of those before.
-pub(crate) fn push_origins<R: Threads + Sync>(
+/// Adds a line for each of these edges: where it comes from. The edges by which a rule asks for one of them are added
+/// to `edges`, and get lines too. `file` is the table's name.
+///
+/// # Errors
+///
+/// 40 where memory is refused. Then some of the lines may have been added.
+pub fn push_origins<R: Threads + Sync>(
     rt: &R,
     alloc: Global,
     lines: &mut String,
     file: &str,
     table: &Table,
     policy: &Policy,
-    mut edges: Vec<Edge>,
+    edges: &mut Vec<Edge>,
 ) -> Result<(), Refusal> {
     for number in 0..MOST_EDGES {
-        let asking = match edges.get(number) {
-            Some(edge) => push_origin(rt, alloc, lines, file, table, policy, edge)?,
+        match edges.get(number) {
+            Some(edge) => {
+                let edge = *edge;
+                push_origin(rt, alloc, lines, file, table, policy, edge, edges)?;
+            }
             None => break,
-        };
-        push_new(&mut edges, &asking)?;
+        }
     }
     Ok(())
 }
 
-/// Adds where an edge comes from, and gives the edges by which a rule asks for the edge, if one does.
+/// Adds where an edge comes from, and to `edges` those by which a rule asks for the edge, if one does.
 fn push_origin<R: Threads + Sync>(
     rt: &R,
     alloc: Global,
@@ -98,31 +104,28 @@ fn push_origin<R: Threads + Sync>(
     file: &str,
     table: &Table,
     policy: &Policy,
-    edge: &Edge,
-) -> Result<Vec<Edge>, Refusal> {
-    let line = EdgeLine { table, edge: *edge };
-    write!(lines, "`{line}` ")?;
-    match place_of(alloc, table, edge)? {
-        Some(denial) => {
-            let denial = &denial;
-            let line = line_of_place(table, denial);
-            let start = Start { file, line };
-            let reason = Reason { table, denial };
-            writeln!(lines, "comes from {start}{reason}")?;
-            Ok(Vec::new(alloc))
-        }
-        None => push_rule(rt, alloc, lines, table, policy, edge),
+    edge: Edge,
+    edges: &mut Vec<Edge>,
+) -> Result<(), Refusal> {
+    match place_of(alloc, table, &edge)? {
+        Some(denial) => Ok(push_place(lines, file, table, edge, &denial)?),
+        None => push_rule(rt, alloc, lines, table, policy, edge, edges),
     }
 }
 
-/// Adds those edges to a list that it doesn't have.
-fn push_new(edges: &mut Vec<Edge>, others: &[Edge]) -> Result<(), AllocError> {
-    for edge in others {
-        if !edges.contains(edge) {
-            edges.push(*edge)?;
-        }
-    }
-    Ok(())
+/// Adds that an edge comes from a place of the table.
+fn push_place(
+    lines: &mut String,
+    file: &str,
+    table: &Table,
+    edge: Edge,
+    denial: &Denial,
+) -> Result<(), AllocError> {
+    let edge = EdgeLine { table, edge };
+    let line = line_of_place(table, denial);
+    let start = Start { file, line };
+    let reason = Reason { table, denial };
+    writeln!(lines, "`{edge}` comes from {start}{reason}")
 }
 
 /// The place of a table that gives an edge first, as the denial of a policy that lacks the edge.
@@ -164,27 +167,61 @@ fn place_at(table: &Table, slot: SlotRef, edge: &Edge) -> Option<Denial> {
     }
 }
 
-/// Adds by which rule an edge comes, from which others, and gives these; or that the policy alone has it.
+/// Adds by which rule an edge comes, and from which others, which become part of `edges`; or that the policy alone
+/// has it.
 fn push_rule<R: Threads + Sync>(
     rt: &R,
     alloc: Global,
     lines: &mut String,
     table: &Table,
     policy: &Policy,
-    edge: &Edge,
-) -> Result<Vec<Edge>, Refusal> {
-    match asked_by(rt, alloc, table, policy, edge)? {
-        Some(Asked { rule, by }) => {
-            write!(lines, "follows by {rule} from ")?;
-            push_edges(lines, table, &by)?;
-            lines.push('\n')?;
-            Ok(by)
-        }
+    edge: Edge,
+    edges: &mut Vec<Edge>,
+) -> Result<(), Refusal> {
+    match asked_by(rt, alloc, table, policy, &edge)? {
+        Some(asked) => Ok(push_asked(alloc, lines, table, edge, &asked, edges)?),
         None => {
-            lines.push_str("comes from the policy alone\n")?;
-            Ok(Vec::new(alloc))
+            let edge = EdgeLine { table, edge };
+            writeln!(lines, "`{edge}` comes from the policy alone")?;
+            Ok(())
         }
     }
+}
+
+/// Adds by which rule an edge comes, and from which others, which become part of `edges`.
+fn push_asked(
+    alloc: Global,
+    lines: &mut String,
+    table: &Table,
+    edge: Edge,
+    asked: &Asked,
+    edges: &mut Vec<Edge>,
+) -> Result<(), AllocError> {
+    let rule = asked.rule;
+    let by = present(alloc, &asked.by)?;
+    let edge = EdgeLine { table, edge };
+    let list = EdgeList { table, edges: &by };
+    writeln!(lines, "`{edge}` follows by {rule} from {list}")?;
+    push_new(edges, &by)
+}
+
+/// The edges that are there, of these.
+fn present(alloc: Global, edges: &[Option<Edge>]) -> Result<Vec<Edge>, AllocError> {
+    let mut present = Vec::new(alloc);
+    for edge in edges {
+        present.extend(*edge)?;
+    }
+    Ok(present)
+}
+
+/// Adds those edges to a list that it doesn't have.
+fn push_new(edges: &mut Vec<Edge>, others: &[Edge]) -> Result<(), AllocError> {
+    for edge in others {
+        if !edges.contains(edge) {
+            edges.push(*edge)?;
+        }
+    }
+    Ok(())
 }
 
 /// By which rule an edge is asked for: what the table asks for comes before what the policy does.
@@ -223,10 +260,10 @@ fn asked_by_policy<R: Threads + Sync>(
 }
 
 /// By which rule an edge is asked for, and the edges by which it is.
-#[derive(Drop)]
+#[derive(Clone, Copy)]
 struct Asked {
     rule: &'static str,
-    by: Vec<Edge>,
+    by: [Option<Edge>; 4],
 }
 
 /// The rule by which closing comes to an edge, from edges without it, if it comes to it.
@@ -238,7 +275,7 @@ fn rule_for<R: Threads + Sync>(
     wanted: &Edge,
 ) -> Result<Option<Asked>, Refusal> {
     let mut policy = Policy::new(alloc);
-    let asked = rule_of(rt, alloc, table, edges, wanted, &mut policy);
+    let asked = rule_of(rt, table, edges, wanted, &mut policy);
     drop(policy);
     asked
 }
@@ -246,7 +283,6 @@ fn rule_for<R: Threads + Sync>(
 /// The same, where an empty policy is given the edges.
 fn rule_of<R: Threads + Sync>(
     rt: &R,
-    alloc: Global,
     table: &Table,
     edges: &[Edge],
     wanted: &Edge,
@@ -262,20 +298,15 @@ fn rule_of<R: Threads + Sync>(
             return Ok(None);
         };
         match mending_edge(table, policy, &Denial::Policy(broken)) {
-            Some(edge) if edge == *wanted => return Ok(Some(asked_of(alloc, policy, broken)?)),
+            Some(edge) if edge == *wanted => {
+                return Ok(Some(Asked {
+                    rule: broken.rule(),
+                    by: premises(policy, broken),
+                }));
+            }
             Some(edge) => policy.add(edge)?,
             None => return Ok(None),
         }
     }
     Ok(None)
-}
-
-/// The rule that is broken, and the edges of the policy by which it asks for another.
-fn asked_of(alloc: Global, policy: &Policy, broken: Broken) -> Result<Asked, AllocError> {
-    let mut by = Vec::new(alloc);
-    for premise in premises(policy, broken) {
-        by.extend(premise)?;
-    }
-    let rule = broken.rule();
-    Ok(Asked { rule, by })
 }

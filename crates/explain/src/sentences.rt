@@ -10,7 +10,7 @@ use verdict::Denial;
 
 /// An edge as a line of a policy has it.
 #[derive(Clone, Copy)]
-pub(crate) struct EdgeLine<'a> {
+pub struct EdgeLine<'a> {
     pub table: &'a Table,
     pub edge: Edge,
 }
@@ -21,6 +21,38 @@ impl fmt::Display for EdgeLine<'_> {
         let kind = self.edge.kind;
         let to = label_name(self.table, self.edge.to);
         write!(f, "edge {from} {kind} {to}")
+    }
+}
+
+/// Edges as a sentence has them: as in `edge a send b`, `edge a call b` and `edge a read b`.
+#[derive(Clone, Copy)]
+pub struct EdgeList<'a> {
+    pub table: &'a Table,
+    pub edges: &'a [Edge],
+}
+
+impl fmt::Display for EdgeList<'_> {
+    fn fmt<W: fmt::Write>(&self, f: &mut fmt::Formatter<W>) -> fmt::Result {
+        for (number, edge) in self.edges.iter().enumerate() {
+            let separator = separator(number, self.edges.len());
+            let line = EdgeLine {
+                table: self.table,
+                edge: *edge,
+            };
+            write!(f, "{separator}`{line}`")?;
+        }
+        Ok(())
+    }
+}
+
+/// Returns what stands before an item of a list of so many.
+pub(crate) fn separator(number: usize, count: usize) -> &'static str {
+    if number == 0 {
+        ""
+    } else if number < count.saturating_sub(1) {
+        ", "
+    } else {
+        " and "
     }
 }
 
@@ -72,7 +104,7 @@ pub(crate) fn comes_by_right(kind: Kind) -> bool {
 
 /// Why a rule is broken.
 #[derive(Clone, Copy)]
-pub(crate) struct Reason<'a> {
+pub struct Reason<'a> {
     pub table: &'a Table,
     pub denial: &'a Denial,
 }

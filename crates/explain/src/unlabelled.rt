@@ -1,5 +1,6 @@
 //! The sentence on a word that is no label.
-use crate::reach::{labels_of, names_of};
+use crate::label_sets::{LabelNames, labels_of};
+use base::Labels;
 use forms::Shown;
 use std::alloc::{AllocError, Global};
 use table::Table;
@@ -13,11 +14,12 @@ pub fn explain_unlabelled(alloc: Global, table: &Table, word: &str) -> Result<St
     let word = Shown {
         bytes: word.as_bytes(),
     };
-    let labels = names_of(alloc, table, labels_of(table))?;
-    let which = if labels.is_empty() {
+    let labels = labels_of(table);
+    let which = if labels == Labels::none() {
         ", nor any other label"
     } else {
         ": its labels are "
     };
-    format!(in alloc; "the table has no label `{word}`{which}{labels}")
+    let names = LabelNames { table, labels };
+    format!(in alloc; "the table has no label `{word}`{which}{names}")
 }

@@ -1,8 +1,8 @@
 -- The report of claims that don't hold has no number with a fraction.
 use Rattle.std.{specs.List.flat_map, proofs.Common.{[], ℕ, ◌++◌, ◌∷◌, ◌≡◌, Bool, List, None, Option, Some, false, refl, true}}
 use Rattle.machine.specs.Layout.{Layout}
-use Rattle.stated.specs.declared.{claim.Stated.Stated, deciding.{Broken.Broken, Failure.{Failure, Failure as failure}}}
-use Rattle.reptext.specs.Breaches.{breaches_data, claim_at, failure_data, names_both, told, told_of}
+use Rattle.stated.specs.{Lines.claim_at, declared.{claim.Stated.Stated, deciding.{Broken.Broken, Failure.{Failure, Failure as failure}}}}
+use Rattle.reptext.specs.Breaches.{breaches_data, failure_data, names_both, told, told_of}
 use Rattle.serde_json.specs.{Data.Data, View.items_of, Written.{has_float, items_have_float}}
 
 one : (t : Layout) (claim : Stated) (line : ℕ) (why : Failure) → has_float (failure_data t claim line why) ≡ false

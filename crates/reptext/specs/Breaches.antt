@@ -1,11 +1,9 @@
 -- The report of claims that don't hold: each with its line, and the authority that breaks it (confine's own).
-use Rattle.std.specs.{List.flat_map, Prelude.{[], ℕ, ◌-◌, ◌∷◌, Bool, List, None, Option, Some, codes, false, if◌then◌else◌, nat_lt}}
-use Rattle.std.specs.Prelude.{slice_get, true}
+use Rattle.std.specs.{List.flat_map, Prelude.{[], ℕ, ◌∷◌, Bool, List, None, Option, Some, codes, false, if◌then◌else◌, true}}
 use Rattle.machine.specs.Layout.{Layout}
 use Rattle.captext.specs.PolicyText.{label_name}
 use Rattle.stated.specs.declared.{breaches.Breach.Breach, claim.{Stated.{Stated, Stated as stated}, Who.Who as who}, deciding.Broken.Broken}
-use Rattle.stated.specs.{declared.deciding.Failure.{Failure, Failure as failure}, Text.stated_text}
-use Rattle.stated.specs.declared.lines.TheConstants.StatedLines as StatedLines
+use Rattle.stated.specs.{declared.deciding.Failure.{Failure, Failure as failure}, Lines.claim_at, Text.stated_text}
 use Rattle.reptext.specs.Reports.{extent_word, names_data}
 use Rattle.serde_json.specs.{Data.{Data, array, member, no_members, number, object, string, unsigned}, View.items_of}
 
@@ -34,14 +32,6 @@ abbrev pub failure_data : Layout → Stated → ℕ → Failure → Data
 failure_data t claim line (failure.Pair breach) = pair_data t claim line breach
 failure_data t claim line failure.Chain = plain_data t claim line
 failure_data t claim line failure.Edge = plain_data t claim line
-
--- the claim of a line, if it has one
-abbrev pub claim_of : Option (Option Stated) → Option Stated
-claim_of (Some entry) = entry
-claim_of None = None
-
-abbrev pub claim_at : List (Option Stated) → ℕ → Option Stated
-claim_at lines line = if nat_lt line StatedLines.FIRST then None else claim_of (slice_get lines (line - StatedLines.FIRST))
 
 -- what is told of a line, which is one of the text's claims
 abbrev pub told_of : Layout → Broken → Option Stated → List Data

@@ -1,7 +1,7 @@
 //! The report of claims that don't hold.
-ghost use Rattle.std.specs.{List.flat_map, Prelude.{[], ◌++◌, ◌∷◌, ◌≡◌, IfOk, OnOk, map, option_copied}};
+ghost use Rattle.std.specs.{List.flat_map, Prelude.{[], ◌++◌, ◌∷◌, ◌≡◌, IfOk, OnOk, map}};
 ghost use Rattle.captext.specs.PolicyText.{label_name as label_name_of};
-ghost use Rattle.reptext.specs.Breaches.{breaches_data, claim_at, failure_data, names_both, pair_data, plain_data};
+ghost use Rattle.reptext.specs.Breaches.{breaches_data, failure_data, names_both, pair_data, plain_data};
 ghost use Rattle.reptext.specs.{Breaches.told, Reports.{line_of, names_data}};
 ghost use Rattle.serde_json.specs.View.{view};
 
@@ -29,14 +29,14 @@ pub fn breaches_report(
 ) -> Result<Vec<u8>, AllocError>
     ensures { IfOk result (λ report. report.items ≡ line_of (breaches_data table.now lines.now broken.now)) }
 {
-    let value = breaches_value(alloc, table, lines.as_slice(), broken)?;
+    let value = breaches_value(alloc, table, lines, broken)?;
     line_of(alloc, &value)
 }
 
 fn breaches_value(
     alloc: Global,
     table: &Table,
-    lines: &[Option<Stated>],
+    lines: &StatedLines,
     broken: &[Broken],
 ) -> Result<Value, AllocError>
     ensures { IfOk result (λ value. view value ≡ breaches_data table.now lines.now broken.now) }
@@ -49,7 +49,7 @@ fn breaches_value(
 fn values_of(
     alloc: Global,
     table: &Table,
-    lines: &[Option<Stated>],
+    lines: &StatedLines,
     broken: &[Broken],
 ) -> Result<Vec<Value>, AllocError>
     ensures { IfOk result (λ values. map view values.items ≡ flat_map (told table.now lines.now) broken.now) }
@@ -65,30 +65,17 @@ fn values_of(
 fn push_value(
     alloc: Global,
     table: &Table,
-    lines: &[Option<Stated>],
+    lines: &StatedLines,
     broken: &Broken,
     values: &mut Vec<Value>,
 ) -> Result<(), AllocError>
     ensures { OnOk result (map view values.new.items
         ≡ map view values.old.items ++ told table.now lines.now broken.now) }
 {
-    if let Some(claim) = claim_at(lines, broken.line) {
+    if let Some(claim) = lines.claim_at(broken.line) {
         values.push(value_of(alloc, table, claim, broken)?)?;
     }
     Ok(())
-}
-
-// The claim of the line of this number, if it has one.
-fn claim_at(lines: &[Option<Stated>], line: usize) -> Option<&Stated>
-    ensures { option_copied result ≡ claim_at lines.now line }
-{
-    if line < StatedLines::FIRST {
-        return None;
-    }
-    match lines.get(line - StatedLines::FIRST) {
-        Some(Some(claim)) => Some(claim),
-        _ => None,
-    }
 }
 
 // What is told of a claim that doesn't hold.

@@ -3,7 +3,7 @@
 //! The first are scripts whose last call, by a thread of the one label, changes an object of the
 //! other. Each script that is found is shown to be such a run.
 //!
-//! `explain` and `report` stand on it. It knows no text, and what a run shows only by `runs`.
+//! `breaches` and `report` stand on it. It knows no text, and what a run shows only by `runs`.
 #![tactic(auto)]
 
 mod atoms;

@@ -1,4 +1,5 @@
 pub mod Claims
+pub mod Lines
 pub mod Reading
 pub mod Holding
 pub mod Strongest

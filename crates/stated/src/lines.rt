@@ -1,6 +1,6 @@
 //! The lines of a text of claims.
-ghost use Rattle.std.specs.{List.list_any, Prelude.{[], ◌++◌, ◌∷◌, ◌≡◌, OnErr, OnOk}};
-ghost use Rattle.stated.specs.{Reading.says};
+ghost use Rattle.std.specs.{List.list_any, Prelude.{[], ◌++◌, ◌∷◌, ◌≡◌, OnErr, OnOk, option_copied}};
+ghost use Rattle.stated.specs.{Lines.claim_at, Reading.says};
 
 use crate::claim::Stated;
 use std::alloc::{AllocError, Global};
@@ -40,6 +40,19 @@ impl StatedLines {
         ensures { result.now ≡ self.now }
     {
         self.lines.as_slice()
+    }
+
+    /// Returns the claim of the line of this number, if the text has such a line and the line says one.
+    pub fn claim_at(&self, line: usize) -> Option<&Stated>
+        ensures { option_copied result ≡ claim_at self.now line }
+    {
+        if line < StatedLines::FIRST {
+            return None;
+        }
+        match self.lines.get(line - StatedLines::FIRST) {
+            Some(Some(claim)) => Some(claim),
+            _ => None,
+        }
     }
 
     /// Adds a line behind the others.

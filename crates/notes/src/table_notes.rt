@@ -1,9 +1,8 @@
 //! Notes on an accepted table: what is no fault, and may not be meant.
-use crate::lines::{line_of_label, line_of_object, line_of_slot};
-use crate::reach::{label_numbered, labels_of};
 use base::{Edge, Kind, Label, Labels, ObjId, Refusal, Rights, SlotRef};
 use bitflags::Flags;
 use captext::{SlotName, label_name, object_name};
+use explain::{Start, label_in, labels_of, line_of_label, line_of_object, line_of_slot};
 use machine::{Detail, Filled, Initial, Object, ObjectKind};
 use policy::Policy;
 use std::alloc::{AllocError, Global};
@@ -60,147 +59,212 @@ pub fn explain_notes(
     table: &Table,
     policy: &Policy,
 ) -> Result<String, Refusal> {
-    let notes = notes_of(alloc, table, policy)?;
-    let mut lines = String::new(alloc);
-    for note in &notes {
-        let told = Told {
-            table,
-            matter: note.matter,
-        };
-        match note.line {
-            Some(line) => writeln!(lines, "{file}:{line}: note: {told}")?,
-            None => writeln!(lines, "{file}: note: {told}")?,
-        }
-    }
-    Ok(lines)
+    let mut notes = Vec::new(alloc);
+    add_notes(alloc, &mut notes, table, policy)?;
+    Ok(lines_of(alloc, file, table, &notes)?)
 }
 
-/// The notes, by their lines.
-fn notes_of(alloc: Global, table: &Table, policy: &Policy) -> Result<Vec<Note>, AllocError> {
-    let mut notes = Vec::new(alloc);
-    add_labels(&mut notes, table)?;
-    add_objects(alloc, &mut notes, table)?;
-    add_threads(&mut notes, table, policy)?;
-    add_receivers(alloc, &mut notes, table)?;
-    add_badges(alloc, &mut notes, table)?;
-    add_roots(&mut notes, table)?;
-    notes.sort_by_key(|note| note.line)?;
-    Ok(notes)
+/// A line for each note.
+fn lines_of(
+    alloc: Global,
+    file: &str,
+    table: &Table,
+    notes: &[Note],
+) -> Result<String, AllocError> {
+    let mut lines = String::new(alloc);
+    for Note { line, matter } in notes {
+        let start = Start { file, line: *line };
+        let told = Told {
+            table,
+            matter: *matter,
+        };
+        writeln!(lines, "{start}note: {told}")?;
+    }
+    Ok(lines)
 }
 
 impl fmt::Display for Told<'_> {
     fn fmt<W: fmt::Write>(&self, f: &mut fmt::Formatter<W>) -> fmt::Result {
         let table = self.table;
-        match self.matter {
-            Matter::Unused(label) => {
-                let name = label_name(table, label);
-                write!(f, "no object has the label `{name}`")
-            }
-            Matter::Unnamed(object) => {
-                let name = object_name(table, object);
-                write!(
-                    f,
-                    "there is no capability for `{name}`, so no thread can use it"
-                )
-            }
-            Matter::Rootless(thread) => {
-                let name = object_name(table, thread);
-                write!(
-                    f,
-                    "`{name}` has no root: it finds no capabilities, and each call that needs one is refused 6 1"
-                )
-            }
-            Matter::Unbound(thread, true) => {
-                let name = object_name(table, thread);
-                write!(
-                    f,
-                    "`{name}` has no context: each of its calls is refused 32 0 until it has one"
-                )
-            }
-            Matter::Unbound(thread, false) => {
-                let name = object_name(table, thread);
-                write!(
-                    f,
-                    "`{name}` never runs: it has no context, and no label whose threads make calls may control it"
-                )
-            }
-            Matter::Unanswering(slot) => {
-                let holder = object_name(table, slot.holder);
-                let slot = SlotName { table, slot };
-                write!(
-                    f,
-                    "calls arrive through `{slot}`, but `{holder}` has no capability for a reply object: these calls \
-                     are never answered"
-                )
-            }
-            Matter::Alike(slot, other) => {
-                let slot = SlotName { table, slot };
-                let other = SlotName { table, slot: other };
-                write!(
-                    f,
-                    "`{slot}` has the same badge as `{other}`: a receiver can't tell the two senders apart"
-                )
-            }
-            Matter::Short(slot, bits) => {
-                let slot = SlotName { table, slot };
-                let unread = 64u64.saturating_sub(bits);
-                write!(
-                    f,
-                    "the guard and the radix of `{slot}` take {bits} of the 64 bits of an address, and leave the low \
-                     {unread} unread: addresses that differ only there find the same slot"
-                )
-            }
-        }
+        let (before, name, after) = match self.matter {
+            Matter::Unused(label) => ("no object has the label ", label_name(table, label), ""),
+            Matter::Unnamed(object) => (
+                "there is no capability for ",
+                object_name(table, object),
+                ", so no thread can use it",
+            ),
+            Matter::Rootless(thread) => (
+                "",
+                object_name(table, thread),
+                " has no root: it finds no capabilities, and each call that needs one is refused 6 1",
+            ),
+            Matter::Unbound(thread, true) => (
+                "",
+                object_name(table, thread),
+                " has no context: each of its calls is refused 32 0 until it has one",
+            ),
+            Matter::Unbound(thread, false) => (
+                "",
+                object_name(table, thread),
+                " never runs: it has no context, and no label whose threads make calls may control it",
+            ),
+            Matter::Unanswering(slot) => return tell_unanswering(f, table, slot),
+            Matter::Alike(slot, other) => return tell_alike(f, table, slot, other),
+            Matter::Short(slot, bits) => return tell_short(f, table, slot, bits),
+        };
+        write!(f, "{before}`{name}`{after}")
     }
+}
+
+/// That calls arrive through a slot, and aren't answered.
+fn tell_unanswering<W: fmt::Write>(
+    f: &mut fmt::Formatter<W>,
+    table: &Table,
+    slot: SlotRef,
+) -> fmt::Result {
+    let holder = object_name(table, slot.holder);
+    let slot = SlotName { table, slot };
+    write!(
+        f,
+        "calls arrive through `{slot}`, but `{holder}` has no capability for a reply object: these calls \
+         are never answered"
+    )
+}
+
+/// That two slots have one badge.
+fn tell_alike<W: fmt::Write>(
+    f: &mut fmt::Formatter<W>,
+    table: &Table,
+    slot: SlotRef,
+    other: SlotRef,
+) -> fmt::Result {
+    let slot = SlotName { table, slot };
+    let other = SlotName { table, slot: other };
+    write!(
+        f,
+        "`{slot}` has the same badge as `{other}`: a receiver can't tell the two senders apart"
+    )
+}
+
+/// That lookups from a root end after so many bits.
+fn tell_short<W: fmt::Write>(
+    f: &mut fmt::Formatter<W>,
+    table: &Table,
+    slot: SlotRef,
+    bits: u64,
+) -> fmt::Result {
+    let slot = SlotName { table, slot };
+    let unread = 64u64.saturating_sub(bits);
+    write!(
+        f,
+        "the guard and the radix of `{slot}` take {bits} of the 64 bits of an address, and leave the low \
+         {unread} unread: addresses that differ only there find the same slot"
+    )
+}
+
+/// Adds the notes, and sorts them by their lines.
+fn add_notes(
+    alloc: Global,
+    notes: &mut Vec<Note>,
+    table: &Table,
+    policy: &Policy,
+) -> Result<(), AllocError> {
+    add_labels(notes, table)?;
+    add_objects(alloc, notes, table)?;
+    add_threads(notes, table, policy)?;
+    add_receivers(alloc, notes, table)?;
+    add_badges(alloc, notes, table)?;
+    add_roots(notes, table)?;
+    notes.sort_by_key(|note| note.line)
+}
+
+/// Adds a note on this.
+fn push_note(notes: &mut Vec<Note>, table: &Table, matter: Matter) -> Result<(), AllocError> {
+    let line = match matter {
+        Matter::Unused(label) => line_of_label(table, label),
+        Matter::Unnamed(id) | Matter::Rootless(id) | Matter::Unbound(id, _) => {
+            line_of_object(table, id)
+        }
+        Matter::Unanswering(slot) | Matter::Alike(slot, _) | Matter::Short(slot, _) => {
+            line_of_slot(table, slot)
+        }
+    };
+    notes.push(Note { line, matter })?;
+    Ok(())
 }
 
 /// Adds the labels without an object.
 fn add_labels(notes: &mut Vec<Note>, table: &Table) -> Result<(), AllocError> {
-    let mut used = Labels::none();
+    let mut unused = labels_of(table);
     for initial in table.objects() {
-        used = used.union(Labels::only(initial.label));
+        unused = unused.difference(Labels::only(initial.label));
     }
-    let unused = labels_of(table).difference(used);
     let mut told = 0;
     for number in 0..Label::COUNT {
-        if let Some(label) = label_numbered(table, number) {
-            if unused.has(label) && told < MOST {
+        match label_in(unused, number) {
+            Some(label) if told < MOST => {
                 told += 1;
-                notes.push(Note {
-                    line: line_of_label(table, label),
-                    matter: Matter::Unused(label),
-                })?;
+                push_note(notes, table, Matter::Unused(label))?;
             }
+            _ => {}
         }
     }
     Ok(())
 }
 
+/// Objects that are listed by the capabilities.
+#[derive(Clone, Copy)]
+enum Listed {
+    /// Those that capabilities are for.
+    Named,
+    /// The endpoints that may be called.
+    Called,
+    /// The holders of capabilities for reply objects.
+    Answering,
+}
+
+/// The objects of such a list, rising.
+fn list_of(alloc: Global, table: &Table, listed: Listed) -> Result<Vec<ObjId>, AllocError> {
+    let mut list = Vec::new(alloc);
+    for filled in table.caps() {
+        list.extend(object_by(filled, listed))?;
+    }
+    list.sort()?;
+    Ok(list)
+}
+
+/// The object that a capability adds to such a list, if it adds one.
+fn object_by(filled: &Filled, listed: Listed) -> Option<ObjId> {
+    let (is_there, object) = match listed {
+        Listed::Named => (true, filled.cap.object),
+        Listed::Called => (calls(filled), filled.cap.object),
+        Listed::Answering => {
+            (
+                filled.cap.detail.kind() == ObjectKind::Reply,
+                filled.slot.holder,
+            )
+        }
+    };
+    if is_there { Some(object) } else { None }
+}
+
 /// Adds the endpoints, notifications, frames and untyped memories for which there is no capability.
 fn add_objects(alloc: Global, notes: &mut Vec<Note>, table: &Table) -> Result<(), AllocError> {
-    let named = named_objects(alloc, table)?;
+    let named = list_of(alloc, table, Listed::Named)?;
+    add_unnamed(notes, table, &named)
+}
+
+/// The same, where these objects have capabilities.
+fn add_unnamed(notes: &mut Vec<Note>, table: &Table, named: &[ObjId]) -> Result<(), AllocError> {
     let mut told = 0;
     for (id, initial) in table.objects().iter().enumerate() {
         let id = ObjId(id as u64);
         if told < MOST && is_for_use(initial.object.kind()) && named.binary_search(&id).is_err() {
             told += 1;
-            notes.push(Note {
-                line: line_of_object(table, id),
-                matter: Matter::Unnamed(id),
-            })?;
+            push_note(notes, table, Matter::Unnamed(id))?;
         }
     }
     Ok(())
-}
-
-/// The objects that capabilities are for, rising.
-fn named_objects(alloc: Global, table: &Table) -> Result<Vec<ObjId>, AllocError> {
-    let mut named = Vec::new(alloc);
-    for filled in table.caps() {
-        named.push(filled.cap.object)?;
-    }
-    named.sort()?;
-    Ok(named)
 }
 
 /// Whether objects of a kind are of use by a capability alone.
@@ -238,34 +302,30 @@ fn add_thread(
     thread: ObjId,
     label: Label,
 ) -> Result<(), AllocError> {
-    let line = line_of_object(table, thread);
     let root = SlotRef {
         holder: thread,
         index: 0,
     };
     if table.cap(root).is_none() {
-        notes.push(Note {
-            line,
-            matter: Matter::Rootless(thread),
-        })?;
+        push_note(notes, table, Matter::Rootless(thread))?;
     }
     if table.bound_context(thread).is_none() {
-        let matter = Matter::Unbound(thread, is_controlled(table, policy, actors, label));
-        notes.push(Note { line, matter })?;
+        let is_controlled = is_controlled(policy, actors, label);
+        push_note(notes, table, Matter::Unbound(thread, is_controlled))?;
     }
     Ok(())
 }
 
 /// Whether a label whose threads make calls may control threads of this label.
-fn is_controlled(table: &Table, policy: &Policy, actors: Labels, label: Label) -> bool {
+fn is_controlled(policy: &Policy, actors: Labels, label: Label) -> bool {
     for number in 0..Label::COUNT {
-        if let Some(actor) = label_numbered(table, number) {
+        if let Some(actor) = label_in(actors, number) {
             let edge = Edge {
                 from: actor,
                 kind: Kind::Control,
                 to: label,
             };
-            if actors.has(actor) && policy.has(edge) {
+            if policy.has(edge) {
                 return true;
             }
         }
@@ -275,8 +335,18 @@ fn is_controlled(table: &Table, policy: &Policy, actors: Labels, label: Label) -
 
 /// Adds the capabilities by which calls arrive where their holder has no capability for a reply object.
 fn add_receivers(alloc: Global, notes: &mut Vec<Note>, table: &Table) -> Result<(), AllocError> {
-    let called = called_endpoints(alloc, table)?;
-    let answering = answering_holders(alloc, table)?;
+    let called = list_of(alloc, table, Listed::Called)?;
+    let answering = list_of(alloc, table, Listed::Answering)?;
+    add_unanswering(notes, table, &called, &answering)
+}
+
+/// The same, where these endpoints are called, and these objects have capabilities for reply objects.
+fn add_unanswering(
+    notes: &mut Vec<Note>,
+    table: &Table,
+    called: &[ObjId],
+    answering: &[ObjId],
+) -> Result<(), AllocError> {
     let mut told = 0;
     for filled in table.caps() {
         if told < MOST
@@ -285,37 +355,10 @@ fn add_receivers(alloc: Global, notes: &mut Vec<Note>, table: &Table) -> Result<
             && answering.binary_search(&filled.slot.holder).is_err()
         {
             told += 1;
-            notes.push(Note {
-                line: line_of_slot(table, filled.slot),
-                matter: Matter::Unanswering(filled.slot),
-            })?;
+            push_note(notes, table, Matter::Unanswering(filled.slot))?;
         }
     }
     Ok(())
-}
-
-/// The endpoints that may be called, rising.
-fn called_endpoints(alloc: Global, table: &Table) -> Result<Vec<ObjId>, AllocError> {
-    let mut called = Vec::new(alloc);
-    for filled in table.caps() {
-        if calls(filled) {
-            called.push(filled.cap.object)?;
-        }
-    }
-    called.sort()?;
-    Ok(called)
-}
-
-/// The holders of capabilities for reply objects, rising.
-fn answering_holders(alloc: Global, table: &Table) -> Result<Vec<ObjId>, AllocError> {
-    let mut answering = Vec::new(alloc);
-    for filled in table.caps() {
-        if filled.cap.detail.kind() == ObjectKind::Reply {
-            answering.push(filled.slot.holder)?;
-        }
-    }
-    answering.sort()?;
-    Ok(answering)
 }
 
 /// Whether a capability calls at an endpoint.
@@ -349,17 +392,20 @@ struct Sender {
 /// Adds the capabilities that signal or send with the badge of another holder's.
 fn add_badges(alloc: Global, notes: &mut Vec<Note>, table: &Table) -> Result<(), AllocError> {
     let senders = senders_of(alloc, table)?;
-    let mut last: Option<Sender> = None;
+    add_alike(notes, table, &senders)
+}
+
+/// The same, where these signal or send, by object and badge.
+fn add_alike(notes: &mut Vec<Note>, table: &Table, senders: &[Sender]) -> Result<(), AllocError> {
     let mut told = 0;
-    for sender in &senders {
-        if let Some(last) = last {
-            if told < MOST && are_alike(last, *sender) {
+    let mut last: Option<Sender> = None;
+    for sender in senders {
+        match last {
+            Some(last) if told < MOST && are_alike(last, *sender) => {
                 told += 1;
-                notes.push(Note {
-                    line: line_of_slot(table, sender.slot),
-                    matter: Matter::Alike(sender.slot, last.slot),
-                })?;
+                push_note(notes, table, Matter::Alike(sender.slot, last.slot))?;
             }
+            _ => {}
         }
         last = Some(*sender);
     }
@@ -406,10 +452,7 @@ fn add_roots(notes: &mut Vec<Note>, table: &Table) -> Result<(), AllocError> {
             Some(bits) if bits < 64 && short < MOST => {
                 short += 1;
                 if !leads_on(table, filled.cap.object) {
-                    notes.push(Note {
-                        line: line_of_slot(table, filled.slot),
-                        matter: Matter::Short(filled.slot, bits),
-                    })?;
+                    push_note(notes, table, Matter::Short(filled.slot, bits))?;
                 }
             }
             _ => {}

@@ -1,9 +1,8 @@
 //! The sentences on a run that leaves a policy that breaks a rule of closed policies, or that no such run was found.
-use crate::asked::asked_edge;
-use crate::scripts::explain_run;
-use crate::sentences::{EdgeLine, Reason};
-use base::{Edge, Kind, Label, ObjId, Refusal};
+use crate::scripts::push_run;
+use base::{Edge, Kind, Refusal};
 use captext::label_name;
+use explain::{EdgeLine, Reason, asked_edge};
 use labels::label_of;
 use machine::Event;
 use objects::State;
@@ -27,12 +26,22 @@ const STEPS: u64 = 2_000;
 /// 40 where memory is refused.
 pub fn explain_escape(alloc: Global, table: &Table, policy: &Policy) -> Result<String, Refusal> {
     let mut lines = String::new(alloc);
-    if leaves(alloc, table, policy, &[])? {
-        return Ok(lines);
+    if !leaves(alloc, table, policy, &[])? {
+        push_found(alloc, &mut lines, table, policy)?;
     }
+    Ok(lines)
+}
+
+/// Adds what a search for a run that leaves the policy finds.
+fn push_found(
+    alloc: Global,
+    lines: &mut String,
+    table: &Table,
+    policy: &Policy,
+) -> Result<(), Refusal> {
     let found = find_escape(alloc, table, policy, STEPS)?;
-    match found.script {
-        Some(script) => push_escape(alloc, &mut lines, table, policy, &script)?,
+    match &found.script {
+        Some(script) => push_escape(alloc, lines, table, policy, script),
         None => {
             let steps = found.steps;
             writeln!(
@@ -40,9 +49,9 @@ pub fn explain_escape(alloc: Global, table: &Table, policy: &Policy) -> Result<S
                 "no run of at most {MOST_CALLS} calls that leaves the policy was found ({steps} calls tried). The rule \
                  is broken all the same: the rules exclude such runs, but a broken rule doesn't mean that there is one."
             )?;
+            Ok(())
         }
     }
-    Ok(lines)
 }
 
 /// Adds the calls of a run, and which authority lies outside the policy afterwards.
@@ -56,13 +65,25 @@ fn push_escape(
     let count = script.len();
     let calls = if count == 1 { "call" } else { "calls" };
     writeln!(lines, "a run of {count} {calls} leaves the policy:")?;
-    let run = explain_run(alloc, table, script)?;
-    lines.push_str(&run)?;
-    let place = place_outside(alloc, table, policy, script)?;
-    if let (Some(place), Some(state)) = (place, reach(alloc, table, script)?) {
-        push_excess(lines, table, &state, &place)?;
+    push_run(alloc, lines, table, script)?;
+    match place_outside(alloc, table, policy, script)? {
+        Some(place) => push_excess_after(alloc, lines, table, script, &place),
+        None => Ok(()),
     }
-    Ok(())
+}
+
+/// Adds which authority lies outside a policy after a script.
+fn push_excess_after(
+    alloc: Global,
+    lines: &mut String,
+    table: &Table,
+    script: &[Event],
+    place: &Denial,
+) -> Result<(), Refusal> {
+    match reach(alloc, table, script)? {
+        Some(state) => Ok(push_excess(lines, table, &state, place)?),
+        None => Ok(()),
+    }
 }
 
 /// Adds which authority lies outside a policy in a state.
@@ -97,32 +118,29 @@ fn push_excess(
 
 /// The edge that a place outside of a policy asks for, by the labels that objects have in a state.
 fn edge_in(table: &Table, state: &State, place: &Denial) -> Option<Edge> {
-    let label = |id: ObjId| label_of(table, state, id);
-    match *place {
-        Denial::Capability {
-            slot,
-            kind,
-            label: to,
-        } => joined(label(slot.holder), kind, Some(to)),
-        Denial::Root { slot, label: to } => joined(label(slot.holder), Kind::Space, Some(to)),
+    let (from, kind, to) = match *place {
+        Denial::Capability { slot, kind, label } => (slot.holder, kind, Some(label)),
+        Denial::Root { slot, label } => (slot.holder, Kind::Space, Some(label)),
         Denial::Pair { child, parent } => {
-            joined(label(parent.holder), Kind::Derive, label(child.holder))
+            (
+                parent.holder,
+                Kind::Derive,
+                label_of(table, state, child.holder),
+            )
         }
-        Denial::Binding { thread, context } => joined(label(thread), Kind::Runs, label(context)),
-        Denial::Holding { reply, thread } => joined(label(reply), Kind::Holds, label(thread)),
+        Denial::Binding { thread, context } => {
+            (thread, Kind::Runs, label_of(table, state, context))
+        }
+        Denial::Holding { reply, thread } => (reply, Kind::Holds, label_of(table, state, thread)),
         Denial::Recorded {
             thread,
             kind,
-            label: to,
-        } => joined(label(thread), kind, Some(to)),
-        Denial::Policy(_) | Denial::Certificate { .. } => None,
-    }
-}
-
-/// The edge between two labels, where there are both.
-fn joined(from: Option<Label>, kind: Kind, to: Option<Label>) -> Option<Edge> {
+            label,
+        } => (thread, kind, Some(label)),
+        Denial::Policy(_) | Denial::Certificate { .. } => return None,
+    };
     Some(Edge {
-        from: from?,
+        from: label_of(table, state, from)?,
         kind,
         to: to?,
     })

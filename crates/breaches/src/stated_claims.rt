@@ -1,0 +1,303 @@
+//! The lines on claims of version 2 that don't hold.
+use crate::scripts::push_run;
+use base::{Edge, Label, Labels, Refusal};
+use captext::label_name;
+use explain::{EdgeLine, EdgeList, Names, Start, line_of_edge, push_origins};
+use policy::{Policy, Why};
+use runs::Question;
+use search::find;
+use stated::{Breach, Broken, Failure, Stated, StatedLines, claim_text};
+use std::alloc::{AllocError, Global};
+use std::thread::Threads;
+use table::Table;
+use verdict::{Extent, actors};
+
+/// How many calls a search for a run tries.
+const STEPS: u64 = 1_000;
+
+/// For how many of the broken claims, the first ones, a run is searched.
+const SEARCHES: usize = 10;
+
+/// What is said in place of a run of a later claim.
+const NOT_SEARCHED: &str =
+    "no run was looked for: that is done for the first 10 broken claims. `confine show` looks for one.\n";
+
+/// An accepted system on which claims were judged, with the names of the files.
+#[derive(Clone, Copy)]
+pub struct Judged<'a> {
+    pub names: Names<'a>,
+    pub table: &'a Table,
+    pub policy: &'a Policy,
+    /// The name of the file of the claims.
+    pub claims: &'a str,
+    pub lines: &'a StatedLines,
+}
+
+/// Returns why claims don't hold, and what may be done: for each its line, where each edge of the reason comes
+/// from, and a run that shows it, if one is found. A run is looked for where the claim is one of the first ten.
+///
+/// # Errors
+///
+/// 40 where memory is refused.
+pub fn explain_breaches<R: Threads + Sync>(
+    rt: &R,
+    alloc: Global,
+    judged: &Judged<'_>,
+    broken: &[Broken],
+) -> Result<String, Refusal> {
+    let mut lines = String::new(alloc);
+    for (number, one) in broken.iter().enumerate() {
+        push_claim(rt, alloc, &mut lines, judged, number, one)?;
+    }
+    Ok(lines)
+}
+
+/// Returns a line for each claim that doesn't hold: the first of those that [`explain_breaches`] has for the claim.
+///
+/// # Errors
+///
+/// 40 where memory is refused.
+pub fn breach_lines(
+    alloc: Global,
+    judged: &Judged<'_>,
+    broken: &[Broken],
+) -> Result<String, Refusal> {
+    let mut lines = String::new(alloc);
+    for one in broken {
+        push_line(alloc, &mut lines, judged, one)?;
+    }
+    Ok(lines)
+}
+
+/// Adds all lines on the broken claim of this number, from 0.
+fn push_claim<R: Threads + Sync>(
+    rt: &R,
+    alloc: Global,
+    lines: &mut String,
+    judged: &Judged<'_>,
+    number: usize,
+    broken: &Broken,
+) -> Result<(), Refusal> {
+    let Judged {
+        names,
+        table,
+        policy,
+        ..
+    } = *judged;
+    let mut edges = push_line(alloc, lines, judged, broken)?;
+    push_origins(rt, alloc, lines, names.table, table, policy, &mut edges)?;
+    match broken.failure {
+        Failure::Pair(breach) if number < SEARCHES => push_shown(alloc, lines, table, breach),
+        Failure::Pair(_) => Ok(lines.push_str(NOT_SEARCHED)?),
+        Failure::Chain | Failure::Edge => Ok(()),
+    }
+}
+
+/// Adds the line on a broken claim, and gives the edges of the reason.
+fn push_line(
+    alloc: Global,
+    lines: &mut String,
+    judged: &Judged<'_>,
+    broken: &Broken,
+) -> Result<Vec<Edge>, Refusal> {
+    match judged.lines.claim_at(broken.line) {
+        Some(claim) => {
+            push_start(alloc, lines, judged, claim, broken.line)?;
+            push_failure(alloc, lines, judged, claim, broken.failure)
+        }
+        None => Ok(Vec::new(alloc)),
+    }
+}
+
+/// Adds which claim it is, by its line.
+fn push_start(
+    alloc: Global,
+    lines: &mut String,
+    judged: &Judged<'_>,
+    claim: &Stated,
+    line: usize,
+) -> Result<(), AllocError> {
+    let file = judged.claims;
+    let text = claim_text(alloc, claim, judged.table)?;
+    write!(lines, "{file}:{line}: `{text}` doesn't hold: ")
+}
+
+/// Adds why a claim doesn't hold, and gives the edges of the reason.
+fn push_failure(
+    alloc: Global,
+    lines: &mut String,
+    judged: &Judged<'_>,
+    claim: &Stated,
+    failure: Failure,
+) -> Result<Vec<Edge>, Refusal> {
+    let Judged { table, policy, .. } = *judged;
+    match (failure, claim) {
+        (Failure::Pair(breach), _) => push_breach(alloc, lines, table, policy, breach),
+        (Failure::Chain, Stated::Apart(from, to)) => {
+            push_chain(lines, table, policy, *from, *to)?;
+            Ok(Vec::new(alloc))
+        }
+        (Failure::Edge, Stated::Without(actor, kind, object)) => {
+            let edge = Edge {
+                from: *actor,
+                kind: *kind,
+                to: *object,
+            };
+            push_edge(alloc, lines, judged, edge)
+        }
+        _ => {
+            lines.push('\n')?;
+            Ok(Vec::new(alloc))
+        }
+    }
+}
+
+/// Adds what a label may do to another, and gives the edges by which it may.
+fn push_breach(
+    alloc: Global,
+    lines: &mut String,
+    table: &Table,
+    policy: &Policy,
+    breach: Breach,
+) -> Result<Vec<Edge>, Refusal> {
+    let actor = label_name(table, breach.actor);
+    let object = label_name(table, breach.object);
+    let why = policy.why_among(alloc, actors(table, policy), breach.actor, breach.object)?;
+    let (does, edges) = match why {
+        Why::Full(edges) => ("may change objects of", edges),
+        Why::Take(edges) => ("may take from", edges),
+        Why::Nothing => ("has no authority on", Vec::new(alloc)),
+    };
+    let list = EdgeList {
+        table,
+        edges: &edges,
+    };
+    writeln!(
+        lines,
+        "`{actor}` {does} `{object}`, by {list}. Change the claim, or remove an edge from the policy and what requires \
+         that edge from the table."
+    )?;
+    Ok(edges)
+}
+
+/// Adds that a policy has an edge, and gives it.
+fn push_edge(
+    alloc: Global,
+    lines: &mut String,
+    judged: &Judged<'_>,
+    edge: Edge,
+) -> Result<Vec<Edge>, Refusal> {
+    let start = Start {
+        file: judged.names.policy,
+        line: line_of_edge(alloc, judged.policy, edge)?,
+    };
+    let line = EdgeLine {
+        table: judged.table,
+        edge,
+    };
+    writeln!(
+        lines,
+        "{start}the policy has `{line}`. Change the claim, or remove the edge from the policy and what requires the \
+         edge from the table."
+    )?;
+    Ok(vec![in alloc; edge]?)
+}
+
+/// Adds the labels on a chain of changes from one label to another, a shortest one.
+fn push_chain(
+    lines: &mut String,
+    table: &Table,
+    policy: &Policy,
+    from: Label,
+    to: Label,
+) -> Result<(), AllocError> {
+    let actors = actors(table, policy);
+    let mut here = from;
+    let mut separator = "";
+    for _ in 0..Label::COUNT {
+        match next_on_chain(policy, actors, here, to) {
+            Some(next) => {
+                let (actor, object) = (label_name(table, here), label_name(table, next));
+                write!(
+                    lines,
+                    "{separator}`{actor}` may change objects of `{object}` or take from them"
+                )?;
+                separator = ", ";
+                here = next;
+            }
+            None => break,
+        }
+    }
+    lines.push_str(
+        ". Change the claim, or change what makes one of these steps possible. \
+         `confine why` prints the edges of a step.\n",
+    )
+}
+
+/// The label after this one on a shortest chain to another, if this isn't that other one.
+fn next_on_chain(policy: &Policy, actors: Labels, here: Label, to: Label) -> Option<Label> {
+    if here == to {
+        return None;
+    }
+    // Labels from which the chain to the last is shorter and shorter; the first that the first label affects.
+    let reached = affected(policy, actors, here);
+    let mut near = Labels::only(to);
+    for _ in 0..Label::COUNT {
+        let next = reached.intersection(near);
+        if let Some(label) = next.first() {
+            return Some(label);
+        }
+        near = near.union(affecting(policy, actors, near));
+    }
+    None
+}
+
+/// The labels that a label affects.
+fn affected(policy: &Policy, actors: Labels, actor: Label) -> Labels {
+    policy
+        .change_labels(actors, actor)
+        .union(policy.shrink_labels(actors, actor))
+}
+
+/// The labels that affect one of these.
+fn affecting(policy: &Policy, actors: Labels, objects: Labels) -> Labels {
+    let mut labels = Labels::none();
+    for number in 0..Label::COUNT {
+        if let Some(label) = Label::new(number) {
+            if affected(policy, actors, label).intersection(objects) != Labels::none() {
+                labels = labels.union(Labels::only(label));
+            }
+        }
+    }
+    labels
+}
+
+/// Adds the calls of a run that shows a breach, or that none was found.
+fn push_shown(
+    alloc: Global,
+    lines: &mut String,
+    table: &Table,
+    breach: Breach,
+) -> Result<(), Refusal> {
+    let question = Question {
+        actor: breach.actor,
+        object: breach.object,
+        taking: breach.extent == Extent::Take,
+    };
+    let found = find(alloc, table, &question, STEPS)?;
+    match &found.script {
+        Some(script) => {
+            lines.push_str("a run that shows it:\n")?;
+            push_run(alloc, lines, table, script)
+        }
+        None => {
+            let steps = found.steps;
+            writeln!(
+                lines,
+                "no run that shows it was found ({steps} calls tried). The claim is broken all the same: the policy's \
+                 bound doesn't exclude such a run."
+            )?;
+            Ok(())
+        }
+    }
+}

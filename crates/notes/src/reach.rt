@@ -1,0 +1,151 @@
+//! The sentences on what each label of an accepted system may do to the others.
+use base::{Label, Labels};
+use captext::label_name;
+use explain::{LabelNames, label_in, labels_of};
+use machine::ObjectKind;
+use policy::Policy;
+use std::alloc::{AllocError, Global};
+use table::Table;
+use verdict::actors;
+
+/// Returns lines on the labels of an accepted system that have a thread: whose objects each of them may change,
+/// and whose it may make smaller, as far as these have a thread too. `table_file` and `policy_file` are what the
+/// files are called.
+///
+/// # Errors
+///
+/// [`AllocError`] where memory is refused.
+pub fn explain_reach(
+    alloc: Global,
+    table_file: &str,
+    policy_file: &str,
+    table: &Table,
+    policy: &Policy,
+) -> Result<String, AllocError> {
+    let mut lines = String::new(alloc);
+    let programs = programs_of(table);
+    push_programs(&mut lines, table, policy, programs)?;
+    let others = count(labels_of(table).difference(programs));
+    push_others(&mut lines, table_file, policy_file, others)?;
+    Ok(lines)
+}
+
+/// The labels that have a thread.
+fn programs_of(table: &Table) -> Labels {
+    let mut programs = Labels::none();
+    for initial in table.objects() {
+        if initial.object.kind() == ObjectKind::Tcb {
+            programs = programs.union(Labels::only(initial.label));
+        }
+    }
+    programs
+}
+
+/// How many labels are in a set.
+fn count(labels: Labels) -> usize {
+    let mut count = 0usize;
+    for number in 0..Label::COUNT {
+        if label_in(labels, number).is_some() {
+            count = count.saturating_add(1);
+        }
+    }
+    count
+}
+
+/// Adds a line for each label that reaches others of these, and one for those that reach none.
+fn push_programs(
+    lines: &mut String,
+    table: &Table,
+    policy: &Policy,
+    programs: Labels,
+) -> Result<(), AllocError> {
+    let actors = actors(table, policy);
+    let mut apart = Labels::none();
+    for number in 0..Label::COUNT {
+        if let Some(actor) = label_in(programs, number) {
+            if !push_reach(lines, table, policy, actors, programs, actor)? {
+                apart = apart.union(Labels::only(actor));
+            }
+        }
+    }
+    push_apart(lines, table, programs, apart)
+}
+
+/// Adds the line of a label that reaches others of these; gives whether it does.
+fn push_reach(
+    lines: &mut String,
+    table: &Table,
+    policy: &Policy,
+    actors: Labels,
+    programs: Labels,
+    actor: Label,
+) -> Result<bool, AllocError> {
+    let others = programs.difference(Labels::only(actor));
+    let changed = policy.change_labels(actors, actor).intersection(others);
+    let taken = policy
+        .shrink_labels(actors, actor)
+        .intersection(others)
+        .difference(changed);
+    let name = label_name(table, actor);
+    let changes = LabelNames {
+        table,
+        labels: changed,
+    };
+    let takes = LabelNames {
+        table,
+        labels: taken,
+    };
+    match (changed == Labels::none(), taken == Labels::none()) {
+        (true, true) => return Ok(false),
+        (false, true) => writeln!(lines, "`{name}` may change {changes}")?,
+        (true, false) => writeln!(lines, "`{name}` may take from {takes}")?,
+        (false, false) => {
+            writeln!(
+                lines,
+                "`{name}` may change {changes}; it may take from {takes}"
+            )?
+        }
+    }
+    Ok(true)
+}
+
+/// Adds which labels that have a thread reach none of the others, if there are such.
+fn push_apart(
+    lines: &mut String,
+    table: &Table,
+    programs: Labels,
+    apart: Labels,
+) -> Result<(), AllocError> {
+    if apart == Labels::none() {
+        return Ok(());
+    }
+    let names = LabelNames {
+        table,
+        labels: apart,
+    };
+    let (only, what) = if count(programs) < 2 {
+        ("only ", " has a thread")
+    } else {
+        ("", " can't reach the other labels that have a thread")
+    };
+    writeln!(lines, "{only}{names}{what}")
+}
+
+/// Adds that so many labels have no thread, if there are such.
+fn push_others(
+    lines: &mut String,
+    table_file: &str,
+    policy_file: &str,
+    others: usize,
+) -> Result<(), AllocError> {
+    let (have, them) = match others {
+        0 => return Ok(()),
+        1 => ("label has", "it"),
+        _ => ("labels have", "them"),
+    };
+    writeln!(
+        lines,
+        "{others} more {have} no thread. `confine summary {table_file} {policy_file}` prints who changes and reads \
+         {them}."
+    )
+}
