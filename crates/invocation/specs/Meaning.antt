@@ -6,10 +6,10 @@ use Rattle.importing.specs.declared.pieces.{Children.{Children, Children as chil
 use Rattle.commands.specs.declared.choices.{Basis.{Basis, Basis as basis}, Imported.{Imported, Imported as imported}, OnAccept.OnAccept}
 use Rattle.commands.specs.declared.choices.{OnAccept.OnAccept as on_accept, OnClose.{OnClose, OnClose as on_close}, OnImport.OnImport}
 use Rattle.commands.specs.declared.choices.{Picture.{Picture, Picture as picture}, Search.Search}
-use Rattle.invocation.specs.declared.{meaning.{Verb.{Verb, Verb as verb}, Words.Words}, request.CommandLine.CommandLine}
-use Rattle.invocation.specs.declared.request.{CommandLine.TheVariants.{InTurn, Split}, Format.{Format, Format as format}, Manner.Manner}
-use Rattle.invocation.specs.declared.request.{OfSystem.{OfSystem, OfSystem as of_system}, OfTable.{OfTable, OfTable as on_table}}
-use Rattle.invocation.specs.declared.request.{OfThree.{OfThree, OfThree as of_three}, Request.{Request, Request as request}}
+use Rattle.requests.specs.declared.request.{CommandLine.{CommandLine, TheVariants.{InTurn, Split}}, Format.{Format, Format as format}}
+use Rattle.requests.specs.declared.request.{OfSystem.{OfSystem, OfSystem as of_system}, OfTable.{OfTable, OfTable as on_table}}
+use Rattle.requests.specs.declared.request.{Manner.Manner, OfThree.{OfThree, OfThree as of_three}, Request.{Request, Request as request}}
+use Rattle.invocation.specs.declared.meaning.{Verb.{Verb, Verb as verb}, Words.Words}
 use Rattle.clap.specs.{declared.parser.matches.{ArgMatches.ArgMatches, Found.Found}, Matches.{first_value, one_text, subcommand_name_of}}
 use Rattle.clap.specs.{Simple.subcommand_rows_of, Walk.rows_of}
 

@@ -1,14 +1,14 @@
 //! Which request the words of a command line make.
 ghost use Rattle.std.specs.Prelude.{◌≡◌, ◌≢◌, ◌≤◌, IfNone, IfSome};
+ghost use Rattle.requests.specs.Requests.{HasFewWorkers, IsWithinLimits, OnInTurn};
 ghost use Rattle.invocation.specs.Meaning.{basis_of, children_of, command_line_of, format_of, imported_of, in_turn};
 ghost use Rattle.invocation.specs.Meaning.{manner_of, minting_of, number_to, of_all, of_table, of_two, on_accept_of};
 ghost use Rattle.invocation.specs.Meaning.{on_close_of, on_import_of, picture_of, search_of, split_of, verb_name};
-ghost use Rattle.invocation.specs.Requests.{HasFewWorkers, IsWithinLimits, OnInTurn};
 
-use crate::request::{
+use commands::{Basis, Children, Imported, Minting, OnAccept, OnClose, OnImport, Picture, Search};
+use requests::{
     CommandLine, Format, Invocation, Manner, OfSystem, OfTable, OfThree, Request, SplitRun,
 };
-use commands::{Basis, Children, Imported, Minting, OnAccept, OnClose, OnImport, Picture, Search};
 use words::decimal_of;
 
 /// A command of the program.

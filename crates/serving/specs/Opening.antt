@@ -6,9 +6,9 @@ use Rattle.commands.specs.{declared.end.End.End, Commands.{Input, Output, input,
 use Rattle.report.specs.{Answers.{IsChecked, IsRun, IsRunSplit, IsVerifiedWith}, Claimed.{AreJudged, AreWritten}, Closings.IsClosedOver}
 use Rattle.report.specs.{Closings.IsStarted, Imports.IsImported, Questions.{IsDrawn, IsListed, IsTold}, Replays.IsReplayed, Shows.IsShownTo}
 use Rattle.report.specs.Summaries.{AreSummed}
-use Rattle.invocation.specs.declared.request.OfSystem.{OfSystem, TheVariants.{Check, Close, Draw, Show, Strongest, Summary, Why}}
-use Rattle.invocation.specs.declared.request.{OfTable.{OfTable, OfTable as of_table}, OfThree.{OfThree, TheVariants.{Claims, Replay, Run}}}
-use Rattle.invocation.specs.{declared.request.{OfThree.TheVariants.Verify, Request.{Request, Request as request}}, Requests.OnEach}
+use Rattle.requests.specs.declared.request.OfSystem.{OfSystem, TheVariants.{Check, Close, Draw, Show, Strongest, Summary, Why}}
+use Rattle.requests.specs.declared.request.{OfTable.{OfTable, OfTable as of_table}, OfThree.{OfThree, TheVariants.{Claims, Replay, Run}}}
+use Rattle.requests.specs.{declared.request.{OfThree.TheVariants.Verify, Request.{Request, Request as request}}, Requests.OnEach}
 use Rattle.either.specs.declared.Either.{Either}
 
 -- what is written to, before and after

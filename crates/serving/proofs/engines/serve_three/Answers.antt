@@ -1,4 +1,4 @@
-use Rattle.confine.proofs.serve_three.Goals as goal
+use Rattle.serving.proofs.engines.serve_three.Goals as goal
 
 pub returns-in-Verify-clause-served : goal.returns-in-Verify-clause-served
 returns-in-Verify-clause-served g c = rw c.in-Verify.is c.verify.ensures

@@ -1,5 +1,5 @@
 use Rattle.std.proofs.Common.{refl}
-use Rattle.confine.proofs.files.open_by.Goals as goal
+use Rattle.serving.proofs.opening.open_by.Goals as goal
 
 -- the file is what opening it gave
 pub returns-clause-opened : goal.returns-clause-opened

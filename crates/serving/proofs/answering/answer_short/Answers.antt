@@ -2,9 +2,9 @@
 use Rattle.std.{specs.Global.Vec, proofs.Common.{ℕ, ◌∙◌, ◌≡◌, ◌⊎◌, ap, inl, inr, subst, sym}}
 use Rattle.devices.specs.{declared.watched.Watched.Watched, Watched.device_of}
 use Rattle.commands.specs.{declared.end.End.End, Ends.status_of}
-use Rattle.invocation.specs.declared.request.Request.{Request, TheVariants.{OfDescription, OfSystem, OfTable, OfThree}}
-use Rattle.invocation.specs.Requests.{HaveArrived, OnEach, SystemHasArrived}
-use Rattle.confine.proofs.answer_short.Goals as goal
+use Rattle.requests.specs.declared.request.Request.{Request, TheVariants.{OfDescription, OfSystem, OfTable, OfThree}}
+use Rattle.requests.specs.Requests.{HaveArrived, OnEach, SystemHasArrived}
+use Rattle.serving.proofs.answering.answer_short.Goals as goal
 
 status_is :
     {told : ℕ} (written end : End) → told ≡ status_of written → (status_of written ≡ status_of end) ⊎ (status_of written ≡ 2)

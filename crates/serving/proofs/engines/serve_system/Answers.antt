@@ -1,4 +1,4 @@
-use Rattle.confine.proofs.serve_system.Goals as goal
+use Rattle.serving.proofs.engines.serve_system.Goals as goal
 
 pub returns-in-Check-clause-served : goal.returns-in-Check-clause-served
 returns-in-Check-clause-served g c = rw c.in-Check.is c.check.ensures.checked

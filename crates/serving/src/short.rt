@@ -4,10 +4,10 @@ ghost use Rattle.devices.specs.Watched.{failed_of};
 ghost use Rattle.commands.specs.Ends.{status_of};
 
 use crate::explaining::Explainer;
-use crate::files::Opened;
+use crate::opening::Opened;
 use base::Refusal;
-use invocation::{Invocation, OfSystem, OfThree, Request};
 use report::{Asked, End, Fault, File, Finding, Heard, Listener, OnAccept, Sink, Watched};
+use requests::{Invocation, OfSystem, OfThree, Request};
 use std::alloc::{AllocError, Global};
 use std::io::Write;
 use std::thread::Threads;

@@ -1,13 +1,13 @@
 //! How the files of a request are opened.
 ghost use Rattle.std.specs.{Fn.FnReturnsAt, Prelude.{◌≡◌, IfOk, Some, false}};
 ghost use Rattle.devices.specs.{Bounded.bytes_allowed, Watched.failed_of};
-ghost use Rattle.invocation.specs.Requests.{IsWithinLimits};
-ghost use Rattle.confine.specs.{declared.files.TheConstants.MOST_BYTES, Opening.{AreOpenedBy, AreSound, IsOpenedBy}};
+ghost use Rattle.requests.specs.Requests.{IsWithinLimits};
+ghost use Rattle.serving.specs.{declared.opening.TheConstants.MOST_BYTES, Opening.{AreOpenedBy, AreSound, IsOpenedBy}};
 
 use devices::Bounded;
 use either::Either;
-use invocation::Request;
 use report::{Unopened, Watched, open_result};
+use requests::Request;
 use std::fs::{self, Files};
 use std::io;
 

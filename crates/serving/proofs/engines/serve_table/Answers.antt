@@ -1,4 +1,4 @@
-use Rattle.confine.proofs.serve_table.Goals as goal
+use Rattle.serving.proofs.engines.serve_table.Goals as goal
 
 pub returns-in-Start-clause-served : goal.returns-in-Start-clause-served
 returns-in-Start-clause-served g c = rw c.in-Start.is c.start.ensures

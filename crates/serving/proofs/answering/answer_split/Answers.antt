@@ -1,6 +1,6 @@
 use Rattle.std.proofs.Common.{refl, sym}
-use Rattle.invocation.specs.declared.request.{OfThree.TheVariants.Run, Request.TheVariants.OfThree}
-use Rattle.confine.proofs.answer_split.Goals as goal
+use Rattle.requests.specs.declared.request.{OfThree.TheVariants.Run, Request.TheVariants.OfThree}
+use Rattle.serving.proofs.answering.answer_split.Goals as goal
 
 pub returns-clause-served : goal.returns-clause-served
 returns-clause-served g c = record {

@@ -1,5 +1,5 @@
 //! What `--explain` prints on standard error: the sentences on what a command finds.
-use crate::files::Opened;
+use crate::opening::Opened;
 use base::Refusal;
 use breaches::{
     Judged, breach_lines, explain_breaches, explain_broken, explain_escape, explain_run,
@@ -9,7 +9,6 @@ use causes::{Caller, explain_illegal, explain_refusal};
 use explain::{
     Names, explain_closing, explain_denial, explain_outside, explain_unlabelled, explain_why,
 };
-use invocation::{Invocation, OfSystem, OfTable, OfThree, Request};
 use machine::{Event, Outcome};
 use microkit::Description;
 use notes::{explain_notes, explain_reach};
@@ -18,6 +17,7 @@ use remarks::{explain_notes as explain_left_out, notes_of};
 use report::{
     Asked, Basis, End, Fault, File, Finding, Heard, Listener, OnClose, Outcomes, answer_at,
 };
+use requests::{Invocation, OfSystem, OfTable, OfThree, Request};
 use slips::explain_fault;
 use std::alloc::AllocError;
 use std::fmt;

@@ -2,9 +2,9 @@
 use Rattle.std.specs.{Borrow.Bor, Option.option_map_or, Prelude.{[], ℕ, ◌<◌, ◌≡◌, ◌≤◌, List, None, Option, Some}}
 use Rattle.forms.specs.declared.file.File.{File, File as file}
 use Rattle.commands.specs.declared.end.Asked.{Asked, Asked as label}
-use Rattle.invocation.specs.declared.request.{CommandLine.{CommandLine, TheVariants.{InTurn, Split}}, OfSystem.OfSystem}
-use Rattle.invocation.specs.declared.request.{OfSystem.TheVariants.{Check, Show, Why}, OfThree.TheVariants.Run, Request.Request}
-use Rattle.invocation.specs.declared.request.{Request.Request as request, SplitRun.SplitRun}
+use Rattle.requests.specs.declared.request.{CommandLine.{CommandLine, TheVariants.{InTurn, Split}}, OfSystem.OfSystem}
+use Rattle.requests.specs.declared.request.{OfSystem.TheVariants.{Check, Show, Why}, OfThree.TheVariants.Run, Request.Request}
+use Rattle.requests.specs.declared.request.{Request.Request as request, SplitRun.SplitRun}
 
 -- a check has 1 to 16 workers
 abbrev pub HasFewWorkers : OfSystem → Type 0

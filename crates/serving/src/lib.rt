@@ -1,0 +1,14 @@
+//! A request is carried out, and a person is told what it finds.
+//!
+//! `confine` stands on it. It knows no command line, and no code of the kernel.
+#![tactic(auto)]
+
+mod answering;
+mod engines;
+mod explaining;
+mod opening;
+mod short;
+
+pub use answering::{answer, answer_short, answer_split, answer_split_short, tell};
+pub use opening::{MOST_BYTES, Opened, open};
+pub use report::{End, Open, Watched};
