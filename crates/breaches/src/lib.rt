@@ -1,7 +1,6 @@
-//! Words on claims that don't hold, and on runs: who makes each call of a run and what the call
-//! changes, and where a run leaves a policy.
+//! Words on claims that don't hold, and on runs that show it or leave a policy.
 //!
-//! `confine` stands on it. It knows no device and no command.
+//! `serving` stands on it. It knows no device and no command.
 #![tactic(auto)]
 
 mod broken;

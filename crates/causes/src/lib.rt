@@ -1,6 +1,6 @@
 //! Words on the entries of a log: why a call is refused, or what the kernel answers to it.
 //!
-//! `confine` stands on it. It knows no table and no policy.
+//! `serving` stands on it. It knows no table and no policy.
 #![tactic(auto)]
 
 mod calls;

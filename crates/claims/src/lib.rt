@@ -1,6 +1,6 @@
 //! Claims: at most how much authority a label has on another; their text, and whether they hold.
 //!
-//! `stated`, `explain` and the commands stand on it. It knows no code of the kernel's calls.
+//! `stated`, `breaches` and the commands stand on it. It knows no code of the kernel's calls.
 #![tactic(auto)]
 
 mod claim;

@@ -1,6 +1,6 @@
 //! What a program reads from and writes to: devices that report whether they failed.
 //!
-//! The program stands on it: `commands`, `report` and `confine`. It knows nothing of a kernel or a
+//! The program stands on it: `commands`, `report` and `serving`. It knows nothing of a kernel or a
 //! policy.
 #![tactic(auto)]
 

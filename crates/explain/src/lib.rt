@@ -1,7 +1,7 @@
 //! Words to a person: why a table and a policy are denied, and what may be done; where edges of a
 //! policy come from, or why there are none; and that a word is no label.
 //!
-//! `breaches`, `notes` and `confine` stand on it. It knows no claim, no run, no device and no command.
+//! `breaches`, `notes` and `serving` stand on it. It knows no claim, no run, no device and no command.
 #![tactic(auto)]
 
 mod asked;

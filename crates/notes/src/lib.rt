@@ -1,7 +1,6 @@
-//! Words on an accepted system: what each label may do to which others, and what its table has that is no
-//! fault, but may not be meant.
+//! Words on an accepted system: what each label may do, and what in its table may not be meant.
 //!
-//! `confine` stands on it. It knows no claim, no run, no device and no command.
+//! `serving` stands on it. It knows no claim, no run, no device and no command.
 #![tactic(auto)]
 
 mod reach;

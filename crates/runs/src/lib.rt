@@ -4,7 +4,7 @@
 //! A script's run begins in a table's boot state. What is shown of it is proved. Only `changes`,
 //! `answering` and `is_near` promise nothing: they are a first look, by which a search chooses.
 //!
-//! `search`, `explain` and `report` stand on it. It looks for no run, and knows no text.
+//! `search`, `breaches` and `report` stand on it. It looks for no run, and knows no text.
 #![tactic(auto)]
 
 mod comparing;

@@ -1,4 +1,4 @@
-//! A request is carried out, and a person is told what it finds.
+//! A request is done, and a person is told what it finds.
 //!
 //! `confine` stands on it. It knows no command line, and no code of the kernel.
 #![tactic(auto)]
