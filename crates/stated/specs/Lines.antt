@@ -1,6 +1,7 @@
 -- The claim of a line of a text of claims of version 2, by the line's number (confine's own).
 use Rattle.std.specs.Prelude.{ℕ, ◌-◌, List, None, Option, Some, if◌then◌else◌, nat_lt, slice_get}
-use Rattle.stated.specs.declared.{claim.Stated.Stated, lines.TheConstants.StatedLines as StatedLines}
+use Rattle.stated.specs.declared.claim.Stated.{Stated}
+use Rattle.stated.specs.declared.lines.TheConstants.StatedLines as StatedLines
 
 -- what a line that there may be says, if it says a claim
 abbrev pub claim_of : Option (Option Stated) → Option Stated
