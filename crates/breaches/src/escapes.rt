@@ -81,7 +81,7 @@ fn push_excess_after(
     place: &Denial,
 ) -> Result<(), Refusal> {
     match reach(alloc, table, script)? {
-        Some(state) => Ok(push_excess(lines, table, &state, place)?),
+        Some(state) => push_excess(lines, table, &state, place),
         None => Ok(()),
     }
 }
@@ -92,28 +92,29 @@ fn push_excess(
     table: &Table,
     state: &State,
     place: &Denial,
-) -> Result<(), AllocError> {
+) -> Result<(), Refusal> {
     if let Some(edge) = asked_edge(table, place) {
         let reason = Reason {
             table,
             denial: place,
         };
         let edge = EdgeLine { table, edge };
-        return writeln!(lines, "then {reason}, but the policy has no `{edge}`");
+        writeln!(lines, "then {reason}, but the policy has no `{edge}`")?;
+    } else if let Some(edge) = edge_in(table, state, place) {
+        push_made(lines, table, edge)?;
     }
-    match edge_in(table, state, place) {
-        Some(edge) => {
-            let (from, to) = (label_name(table, edge.from), label_name(table, edge.to));
-            let kind = edge.kind;
-            let edge = EdgeLine { table, edge };
-            writeln!(
-                lines,
-                "then `{from}` has `{kind}` on `{to}` through an object that the run made, but the policy has no \
-                 `{edge}`"
-            )
-        }
-        None => Ok(()),
-    }
+    Ok(())
+}
+
+/// Adds that an edge is missing for an object that the run made.
+fn push_made(lines: &mut String, table: &Table, edge: Edge) -> Result<(), AllocError> {
+    let (from, to) = (label_name(table, edge.from), label_name(table, edge.to));
+    let kind = edge.kind;
+    let edge = EdgeLine { table, edge };
+    writeln!(
+        lines,
+        "then `{from}` has `{kind}` on `{to}` through an object that the run made, but the policy has no `{edge}`"
+    )
 }
 
 /// The edge that a place outside of a policy asks for, by the labels that objects have in a state.

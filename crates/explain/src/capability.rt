@@ -1,10 +1,11 @@
 //! The sentence on a capability that gives more than the policy has.
-use crate::sentences::{EdgeList, comes_by_right, name_of_label, separator, verb};
+use crate::sentences::{EdgeList, Lets, comes_by_right, separator, verb};
 use base::{Edge, Kind, Label, Refusal, SlotRef};
-use captext::{label_name, object_name};
+use captext::label_name;
 use labels::slot_edges;
 use policy::Policy;
 use std::alloc::{AllocError, Global};
+use std::fmt;
 use table::Table;
 
 /// Adds what the capability in a slot gives over a label that the policy lacks, and what may be
@@ -62,18 +63,30 @@ fn push_deeds(
     label: Label,
     missing: &[Edge],
 ) -> Result<(), AllocError> {
-    let index = slot.index;
-    let holder = object_name(table, slot.holder);
-    let from = name_of_label(table, slot.holder);
-    write!(sentence, "slot {index} of `{holder}` lets `{from}` ")?;
-    for (number, edge) in missing.iter().enumerate() {
-        let separator = separator(number, missing.len());
-        let verb = verb(edge.kind);
-        write!(sentence, "{separator}{verb}")?;
-    }
+    let lets = Lets { table, slot };
+    let deeds = Deeds { edges: missing };
     let name = label_name(table, label);
     let edges = if missing.len() == 1 { "edge" } else { "edges" };
-    write!(sentence, " `{name}`, but the policy has no such {edges}. ")
+    write!(
+        sentence,
+        "{lets} {deeds} `{name}`, but the policy has no such {edges}. "
+    )
+}
+
+/// What edges let a label do, before the name of another label.
+#[derive(Clone, Copy)]
+struct Deeds<'a> {
+    edges: &'a [Edge],
+}
+
+impl fmt::Display for Deeds<'_> {
+    fn fmt<W: fmt::Write>(&self, f: &mut fmt::Formatter<W>) -> fmt::Result {
+        for (number, edge) in self.edges.iter().enumerate() {
+            f.write_str(separator(number, self.edges.len()))?;
+            f.write_str(verb(edge.kind))?;
+        }
+        Ok(())
+    }
 }
 
 /// The edges of these that come by rights, or those that come whatever the rights.

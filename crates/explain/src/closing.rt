@@ -5,7 +5,7 @@ use crate::sentences::{EdgeLine, PlaceNames};
 use base::{Edge, Kind, Label, Refusal};
 use deal::Open;
 use policy::{Broken, Policy};
-use std::alloc::Global;
+use std::alloc::{AllocError, Global};
 use std::thread::Threads;
 use table::Table;
 use verdict::{Denial, judge};
@@ -102,17 +102,28 @@ fn push_edge(
 ) -> Result<bool, Refusal> {
     match mending_edge(table, closed, denial) {
         Some(edge) => {
+            push_edge_line(lines, file, table, denial, &edge)?;
             closed.add(edge)?;
-            let line = line_of_place(table, denial);
-            let start = Start { file, line };
-            let rule = denial.rule();
-            let place = PlaceNames { table, denial };
-            let edge = EdgeLine { table, edge };
-            writeln!(lines, "{start}{rule} {place}: {edge}")?;
             Ok(true)
         }
         None => Ok(false),
     }
+}
+
+/// Adds the line for an edge that a denial asks for. It begins with the place's line, if the table has it.
+fn push_edge_line(
+    lines: &mut String,
+    file: &str,
+    table: &Table,
+    denial: &Denial,
+    edge: &Edge,
+) -> Result<(), AllocError> {
+    let line = line_of_place(table, denial);
+    let start = Start { file, line };
+    let rule = denial.rule();
+    let place = PlaceNames { table, denial };
+    let edge = EdgeLine { table, edge: *edge };
+    writeln!(lines, "{start}{rule} {place}: {edge}")
 }
 
 /// The edge that a policy lacks where it is denied so: of the two for which P1 asks, the one that isn't there.

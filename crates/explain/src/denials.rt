@@ -4,7 +4,7 @@ use crate::capability::push_capability;
 use crate::closing::mending_edge;
 use crate::lines::{Start, line_of_edge, line_of_place};
 use crate::premises::premises;
-use crate::sentences::{EdgeLine, OtherWay, Reason};
+use crate::sentences::{EdgeAfter, EdgeLine, OtherWay, Reason};
 use base::Refusal;
 use policy::{Broken, Policy};
 use std::alloc::{AllocError, Global};
@@ -50,8 +50,6 @@ fn push_denial(
     denial: &Denial,
 ) -> Result<(), Refusal> {
     push_start(alloc, sentence, names, table, policy, denial)?;
-    let rule = denial.rule();
-    write!(sentence, "denied by {rule}: ")?;
     let missing = match *denial {
         Denial::Capability { slot, label, .. } => {
             push_capability(alloc, sentence, table, policy, slot, label)?
@@ -62,7 +60,7 @@ fn push_denial(
     Ok(())
 }
 
-/// Adds the line of the place of a denial, of the file that it is in.
+/// Adds the line of the place of a denial, of the file that it is in, and the rule.
 fn push_start(
     alloc: Global,
     sentence: &mut String,
@@ -78,7 +76,8 @@ fn push_start(
         _ => (names.table, line_of_place(table, denial)),
     };
     let start = Start { file, line };
-    write!(sentence, "{start}")?;
+    let rule = denial.rule();
+    write!(sentence, "{start}denied by {rule}: ")?;
     Ok(())
 }
 
@@ -108,22 +107,20 @@ fn push_place(
         policy,
         denial,
     };
-    let lacks = match *denial {
+    let edge = mending_edge(table, policy, denial);
+    let (lacks, missing) = match (*denial, edge) {
+        (_, None) => ("", 0),
         // P1 asks for one of two edges, and its reason says that only one is there.
-        Denial::Policy(Broken::SubjectsDisagree { .. }) => "",
-        _ => ", but the policy has no such edge",
+        (Denial::Policy(Broken::SubjectsDisagree { .. }), _) => ("", 1),
+        _ => (", but the policy has no such edge", 1),
     };
-    match mending_edge(table, policy, denial) {
-        Some(edge) => {
-            let edge = EdgeLine { table, edge };
-            write!(sentence, "{reason}{lacks}. {other}, or add `{edge}`.")?;
-            Ok(1)
-        }
-        None => {
-            write!(sentence, "{reason}. {other}.")?;
-            Ok(0)
-        }
-    }
+    let added = EdgeAfter {
+        words: ", or add ",
+        table,
+        edge,
+    };
+    write!(sentence, "{reason}{lacks}. {other}{added}.")?;
+    Ok(missing)
 }
 
 /// Adds the command that adds the missing edges, if there are any.
@@ -178,17 +175,30 @@ pub fn explain_outside(
     let rule = denial.rule();
     // The header is a line too.
     let line = entries.saturating_add(1);
-    match asked_edge(table, denial) {
-        Some(edge) => {
-            let reason = Reason { table, denial };
-            let edge = EdgeLine { table, edge };
-            format!(in alloc;
-                "{log}:{line}: outside by {rule}: after the last entry, {reason}, but the policy has no `{edge}`"
-            )
+    let excess = Excess { table, denial };
+    format!(in alloc; "{log}:{line}: outside by {rule}: after the last entry, {excess}")
+}
+
+/// What lies outside a policy at a place.
+#[derive(Clone, Copy)]
+struct Excess<'a> {
+    table: &'a Table,
+    denial: &'a Denial,
+}
+
+impl fmt::Display for Excess<'_> {
+    fn fmt<W: fmt::Write>(&self, f: &mut fmt::Formatter<W>) -> fmt::Result {
+        let (table, denial) = (self.table, self.denial);
+        match asked_edge(table, denial) {
+            Some(edge) => {
+                let reason = Reason { table, denial };
+                let edge = EdgeLine { table, edge };
+                write!(f, "{reason}, but the policy has no `{edge}`")
+            }
+            None => f.write_str(
+                "an object that the log made gives authority that the policy lacks, or is under such authority. The \
+                 report has the object's number, after `#`.",
+            ),
         }
-        None => format!(in alloc;
-            "{log}:{line}: outside by {rule}: after the last entry, an object that the log made gives authority that \
-             the policy lacks, or is under such authority. The report has the object's number, after `#`."
-        ),
     }
 }

@@ -9,7 +9,7 @@ use crate::premises::premises;
 use crate::sentences::{EdgeLine, EdgeList, Reason};
 use base::{Edge, Kind, Label, Labels, Refusal, SlotRef};
 use labels::{authority, filled_edges};
-use policy::{Policy, Why, first_broken};
+use policy::{Broken, Policy, Why, first_broken};
 use std::alloc::{AllocError, Global};
 use std::thread::Threads;
 use table::Table;
@@ -179,7 +179,7 @@ fn push_rule<R: Threads + Sync>(
     edges: &mut Vec<Edge>,
 ) -> Result<(), Refusal> {
     match asked_by(rt, alloc, table, policy, &edge)? {
-        Some(asked) => Ok(push_asked(alloc, lines, table, edge, &asked, edges)?),
+        Some(asked) => push_asked(lines, table, edge, &asked, edges),
         None => {
             let edge = EdgeLine { table, edge };
             writeln!(lines, "`{edge}` comes from the policy alone")?;
@@ -190,28 +190,21 @@ fn push_rule<R: Threads + Sync>(
 
 /// Adds by which rule an edge comes, and from which others, which become part of `edges`.
 fn push_asked(
-    alloc: Global,
     lines: &mut String,
     table: &Table,
     edge: Edge,
     asked: &Asked,
     edges: &mut Vec<Edge>,
-) -> Result<(), AllocError> {
+) -> Result<(), Refusal> {
     let rule = asked.rule;
-    let by = present(alloc, &asked.by)?;
     let edge = EdgeLine { table, edge };
-    let list = EdgeList { table, edges: &by };
+    let list = EdgeList {
+        table,
+        edges: &asked.by,
+    };
     writeln!(lines, "`{edge}` follows by {rule} from {list}")?;
-    push_new(edges, &by)
-}
-
-/// The edges that are there, of these.
-fn present(alloc: Global, edges: &[Option<Edge>]) -> Result<Vec<Edge>, AllocError> {
-    let mut present = Vec::new(alloc);
-    for edge in edges {
-        present.extend(*edge)?;
-    }
-    Ok(present)
+    push_new(edges, &asked.by)?;
+    Ok(())
 }
 
 /// Adds those edges to a list that it doesn't have.
@@ -260,10 +253,10 @@ fn asked_by_policy<R: Threads + Sync>(
 }
 
 /// By which rule an edge is asked for, and the edges by which it is.
-#[derive(Clone, Copy)]
+#[derive(Drop)]
 struct Asked {
     rule: &'static str,
-    by: [Option<Edge>; 4],
+    by: Vec<Edge>,
 }
 
 /// The rule by which closing comes to an edge, from edges without it, if it comes to it.
@@ -275,7 +268,7 @@ fn rule_for<R: Threads + Sync>(
     wanted: &Edge,
 ) -> Result<Option<Asked>, Refusal> {
     let mut policy = Policy::new(alloc);
-    let asked = rule_of(rt, table, edges, wanted, &mut policy);
+    let asked = rule_of(rt, alloc, table, edges, wanted, &mut policy);
     drop(policy);
     asked
 }
@@ -283,30 +276,42 @@ fn rule_for<R: Threads + Sync>(
 /// The same, where an empty policy is given the edges.
 fn rule_of<R: Threads + Sync>(
     rt: &R,
+    alloc: Global,
     table: &Table,
     edges: &[Edge],
     wanted: &Edge,
     policy: &mut Policy,
 ) -> Result<Option<Asked>, Refusal> {
-    for edge in edges {
-        if edge != wanted {
-            policy.add(*edge)?;
-        }
-    }
+    add_others(policy, edges, wanted)?;
     for _ in 0..MOST_EDGES {
         let Some(broken) = first_broken(rt, policy) else {
             return Ok(None);
         };
         match mending_edge(table, policy, &Denial::Policy(broken)) {
-            Some(edge) if edge == *wanted => {
-                return Ok(Some(Asked {
-                    rule: broken.rule(),
-                    by: premises(policy, broken),
-                }));
-            }
+            Some(edge) if edge == *wanted => return Ok(Some(asked_of(alloc, policy, broken)?)),
             Some(edge) => policy.add(edge)?,
             None => return Ok(None),
         }
     }
     Ok(None)
+}
+
+/// Adds these edges to a policy, but for one.
+fn add_others(policy: &mut Policy, edges: &[Edge], left_out: &Edge) -> Result<(), Refusal> {
+    for edge in edges {
+        if edge != left_out {
+            policy.add(*edge)?;
+        }
+    }
+    Ok(())
+}
+
+/// The rule that is broken, and the edges of the policy by which it asks for another.
+fn asked_of(alloc: Global, policy: &Policy, broken: Broken) -> Result<Asked, AllocError> {
+    let mut by = Vec::new(alloc);
+    for premise in premises(policy, broken) {
+        by.extend(premise)?;
+    }
+    let rule = broken.rule();
+    Ok(Asked { rule, by })
 }

@@ -24,6 +24,27 @@ impl fmt::Display for EdgeLine<'_> {
     }
 }
 
+/// An edge after some words, if there is one.
+#[derive(Clone, Copy)]
+pub(crate) struct EdgeAfter<'a> {
+    pub words: &'a str,
+    pub table: &'a Table,
+    pub edge: Option<Edge>,
+}
+
+impl fmt::Display for EdgeAfter<'_> {
+    fn fmt<W: fmt::Write>(&self, f: &mut fmt::Formatter<W>) -> fmt::Result {
+        let (words, table) = (self.words, self.table);
+        match self.edge {
+            Some(edge) => {
+                let edge = EdgeLine { table, edge };
+                write!(f, "{words}`{edge}`")
+            }
+            None => Ok(()),
+        }
+    }
+}
+
 /// Edges as a sentence has them: as in `edge a send b`, `edge a call b` and `edge a read b`.
 #[derive(Clone, Copy)]
 pub struct EdgeList<'a> {
@@ -118,32 +139,19 @@ impl fmt::Display for Reason<'_> {
                 tell_capability(f, table, slot, kind, label)
             }
             Denial::Root { slot, label } => tell_root(f, table, slot, label),
-            Denial::Pair { child, parent } => {
-                tell_slot(f, table, "the capability in", child)?;
-                tell_slot(f, table, " is derived from the one in", parent)
-            }
+            Denial::Pair { child, parent } => tell_derived(f, table, child, parent),
             Denial::Binding { thread, context } => {
-                tell_object(f, table, "the thread", thread)?;
-                tell_object(f, table, " runs on the context", context)
+                tell_objects(f, table, "thread", thread, "runs on the context", context)
             }
             Denial::Holding { reply, thread } => {
-                tell_object(f, table, "the reply", reply)?;
-                tell_object(f, table, " holds the thread", thread)
+                tell_objects(f, table, "reply", reply, "holds the thread", thread)
             }
             Denial::Recorded {
                 thread,
                 kind,
                 label,
-            } => {
-                tell_object(f, table, "the thread", thread)?;
-                f.write_str(" waits and keeps the right to ")?;
-                tell_deed(f, table, kind, label)
-            }
-            Denial::Certificate { line } => write!(
-                f,
-                "line {line} after the certificate's header differs from what the table gives, is missing, \
-                 or is one line too many"
-            ),
+            } => tell_waiting(f, table, thread, kind, label),
+            Denial::Certificate { line } => tell_certificate(f, line),
         }
     }
 }
@@ -156,11 +164,9 @@ fn tell_capability<W: fmt::Write>(
     kind: Kind,
     label: Label,
 ) -> fmt::Result {
-    let index = slot.index;
-    let holder = object_name(table, slot.holder);
-    let from = name_of_label(table, slot.holder);
-    write!(f, "slot {index} of `{holder}` lets `{from}` ")?;
-    tell_deed(f, table, kind, label)
+    let lets = Lets { table, slot };
+    let deed = Deed { table, kind, label };
+    write!(f, "{lets} {deed}")
 }
 
 /// Where a thread finds its capabilities.
@@ -179,40 +185,123 @@ fn tell_root<W: fmt::Write>(
     )
 }
 
-/// A slot after some words, and its holder's label.
-fn tell_slot<W: fmt::Write>(
+/// That one capability is derived from another.
+fn tell_derived<W: fmt::Write>(
     f: &mut fmt::Formatter<W>,
     table: &Table,
-    words: &str,
-    slot: SlotRef,
+    child: SlotRef,
+    parent: SlotRef,
 ) -> fmt::Result {
-    let label = name_of_label(table, slot.holder);
-    let slot = SlotName { table, slot };
-    write!(f, "{words} `{slot}` of `{label}`")
+    let child = OwnedSlot { table, slot: child };
+    let parent = OwnedSlot {
+        table,
+        slot: parent,
+    };
+    write!(
+        f,
+        "the capability in {child} is derived from the one in {parent}"
+    )
 }
 
-/// An object after some words, and its label.
-fn tell_object<W: fmt::Write>(
+/// What an object does with another.
+fn tell_objects<W: fmt::Write>(
     f: &mut fmt::Formatter<W>,
     table: &Table,
-    words: &str,
-    id: ObjId,
+    what: &str,
+    one: ObjId,
+    does: &str,
+    other: ObjId,
 ) -> fmt::Result {
-    let name = object_name(table, id);
-    let label = name_of_label(table, id);
-    write!(f, "{words} `{name}` of `{label}`")
+    let one = Owned { table, id: one };
+    let other = Owned { table, id: other };
+    write!(f, "the {what} {one} {does} {other}")
 }
 
-/// What an edge of the kind lets a label do to another.
-fn tell_deed<W: fmt::Write>(
+/// Which right a thread keeps while it waits.
+fn tell_waiting<W: fmt::Write>(
     f: &mut fmt::Formatter<W>,
     table: &Table,
+    thread: ObjId,
     kind: Kind,
     label: Label,
 ) -> fmt::Result {
-    let verb = verb(kind);
-    let name = label_name(table, label);
-    write!(f, "{verb} `{name}`")
+    let thread = Owned { table, id: thread };
+    let deed = Deed { table, kind, label };
+    write!(f, "the thread {thread} waits and keeps the right to {deed}")
+}
+
+/// Which line of a certificate is wrong.
+fn tell_certificate<W: fmt::Write>(f: &mut fmt::Formatter<W>, line: usize) -> fmt::Result {
+    write!(
+        f,
+        "line {line} after the certificate's header differs from what the table gives, is missing, \
+         or is one line too many"
+    )
+}
+
+/// The beginning of what the capability in a slot lets the label of its holder do.
+#[derive(Clone, Copy)]
+pub(crate) struct Lets<'a> {
+    pub table: &'a Table,
+    pub slot: SlotRef,
+}
+
+impl fmt::Display for Lets<'_> {
+    fn fmt<W: fmt::Write>(&self, f: &mut fmt::Formatter<W>) -> fmt::Result {
+        let index = self.slot.index;
+        let holder = object_name(self.table, self.slot.holder);
+        let from = name_of_label(self.table, self.slot.holder);
+        write!(f, "slot {index} of `{holder}` lets `{from}`")
+    }
+}
+
+/// What an edge of the kind lets a label do to another.
+#[derive(Clone, Copy)]
+struct Deed<'a> {
+    table: &'a Table,
+    kind: Kind,
+    label: Label,
+}
+
+impl fmt::Display for Deed<'_> {
+    fn fmt<W: fmt::Write>(&self, f: &mut fmt::Formatter<W>) -> fmt::Result {
+        let verb = verb(self.kind);
+        let name = label_name(self.table, self.label);
+        write!(f, "{verb} `{name}`")
+    }
+}
+
+/// A slot, and its holder's label.
+#[derive(Clone, Copy)]
+struct OwnedSlot<'a> {
+    table: &'a Table,
+    slot: SlotRef,
+}
+
+impl fmt::Display for OwnedSlot<'_> {
+    fn fmt<W: fmt::Write>(&self, f: &mut fmt::Formatter<W>) -> fmt::Result {
+        let label = name_of_label(self.table, self.slot.holder);
+        let slot = SlotName {
+            table: self.table,
+            slot: self.slot,
+        };
+        write!(f, "`{slot}` of `{label}`")
+    }
+}
+
+/// An object, and its label.
+#[derive(Clone, Copy)]
+struct Owned<'a> {
+    table: &'a Table,
+    id: ObjId,
+}
+
+impl fmt::Display for Owned<'_> {
+    fn fmt<W: fmt::Write>(&self, f: &mut fmt::Formatter<W>) -> fmt::Result {
+        let name = object_name(self.table, self.id);
+        let label = name_of_label(self.table, self.id);
+        write!(f, "`{name}` of `{label}`")
+    }
 }
 
 /// Why a rule of closed policies is broken.
@@ -222,87 +311,98 @@ fn tell_rule<W: fmt::Write>(
     broken: &Broken,
 ) -> fmt::Result {
     let (one, two) = names_of_ends(table, broken);
-    let (before, first, between, second, after) = match *broken {
-        Broken::SubjectsDisagree { .. } => (
-            "",
-            two,
-            " is in the domain of ",
-            one,
-            ", but only one of the two may ",
-        ),
-        Broken::ControlLacks { .. } => ("", one, " controls ", two, ", and so may get to "),
-        Broken::GrantLacks { .. } => (
-            "",
-            one,
-            " may grant its capabilities to ",
-            two,
-            ", including one to ",
-        ),
-        Broken::DomainLacks { parent, child } if parent == child => return tell_itself(f, one),
-        Broken::DomainLacks { .. } => (
-            "",
-            one,
-            " and ",
-            two,
-            " are in the domain of one label, which may copy capabilities from one to the other",
-        ),
-        Broken::DeriveLacks { .. } => (
-            "capabilities of ",
-            two,
-            " may be derived from capabilities of ",
-            one,
-            ", by a grant or in two steps",
-        ),
-        Broken::ContextLacks { .. } => (
-            "",
-            one,
-            " may bind a context of ",
-            two,
-            " and then runs on it",
-        ),
-        Broken::ReplyLacks { .. } => (
-            "a reply object of ",
-            one,
-            " may get to hold a thread of ",
-            two,
-            ", which receives with that object or calls a thread that does",
-        ),
-        Broken::LentLacks { .. } => return tell_lent(f, one, two),
-    };
-    write!(f, "{before}`{first}`{between}")?;
-    write!(f, "`{second}`{after}")?;
-    tell_rule_deed(f, table, broken)
+    tell_words(f, &rule_words(broken, one, two))?;
+    tell_rule_end(f, table, broken, one)
 }
 
-/// That a label is in a domain, which copies its capabilities.
-fn tell_itself<W: fmt::Write>(f: &mut fmt::Formatter<W>, one: &str) -> fmt::Result {
-    write!(
-        f,
-        "`{one}` is in the domain of a label, and that label may copy capabilities of `{one}` within `{one}`"
-    )
+/// These words, with nothing between them.
+fn tell_words<W: fmt::Write>(f: &mut fmt::Formatter<W>, words: &[&str]) -> fmt::Result {
+    for word in words {
+        f.write_str(word)?;
+    }
+    Ok(())
 }
 
-/// That a label may be lent a context.
-fn tell_lent<W: fmt::Write>(f: &mut fmt::Formatter<W>, one: &str, two: &str) -> fmt::Result {
-    write!(
-        f,
-        "`{one}` may be lent a context of `{two}` by a thread that runs on it and calls where `{one}` receives"
-    )
+/// The words on why a rule is broken, with the names of the two labels in their places, up to the end.
+fn rule_words<'a>(broken: &Broken, one: &'a str, two: &'a str) -> [&'a str; 5] {
+    match *broken {
+        Broken::SubjectsDisagree { .. } => [
+            "`",
+            two,
+            "` is in the domain of `",
+            one,
+            "`, but only one of the two may ",
+        ],
+        Broken::ControlLacks { .. } => ["`", one, "` controls `", two, "`, and so may get to "],
+        Broken::GrantLacks { .. } => [
+            "`",
+            one,
+            "` may grant its capabilities to `",
+            two,
+            "`, including one to ",
+        ],
+        Broken::DomainLacks { parent, child } if parent == child => [
+            "`",
+            one,
+            "` is in the domain of a label, and that label may copy capabilities of `",
+            one,
+            "` within ",
+        ],
+        Broken::DomainLacks { .. } => [
+            "`",
+            one,
+            "` and `",
+            two,
+            "` are in the domain of one label, which may copy capabilities from one to the other",
+        ],
+        Broken::DeriveLacks { .. } => [
+            "capabilities of `",
+            two,
+            "` may be derived from capabilities of `",
+            one,
+            "`, by a grant or in two steps",
+        ],
+        Broken::ContextLacks { .. } => [
+            "`",
+            one,
+            "` may bind a context of `",
+            two,
+            "` and then runs on it",
+        ],
+        Broken::ReplyLacks { .. } => [
+            "a reply object of `",
+            one,
+            "` may get to hold a thread of `",
+            two,
+            "`, which receives with that object or calls a thread that does",
+        ],
+        Broken::LentLacks { .. } => [
+            "`",
+            one,
+            "` may be lent a context of `",
+            two,
+            "` by a thread that runs on it and calls where ",
+        ],
+    }
 }
 
-/// What the rule lets a label do to another, if it is on one kind.
-fn tell_rule_deed<W: fmt::Write>(
+/// The end of the words on why a rule is broken: what the rule lets a label do to another, if it is on one kind.
+fn tell_rule_end<W: fmt::Write>(
     f: &mut fmt::Formatter<W>,
     table: &Table,
     broken: &Broken,
+    one: &str,
 ) -> fmt::Result {
-    match *broken {
+    let (kind, label) = match *broken {
         Broken::SubjectsDisagree { kind, target, .. } | Broken::GrantLacks { kind, target, .. } => {
-            tell_deed(f, table, kind, target)
+            (kind, target)
         }
-        Broken::ControlLacks { object, kind, .. } => tell_deed(f, table, kind, object),
-        _ => Ok(()),
-    }
+        Broken::ControlLacks { object, kind, .. } => (kind, object),
+        Broken::DomainLacks { parent, child } if parent == child => return write!(f, "`{one}`"),
+        Broken::LentLacks { .. } => return write!(f, "`{one}` receives"),
+        _ => return Ok(()),
+    };
+    Deed { table, kind, label }.fmt(f)
 }
 
 /// Where a rule is broken, by names.
@@ -385,31 +485,39 @@ pub(crate) struct OtherWay<'a> {
 impl fmt::Display for OtherWay<'_> {
     fn fmt<W: fmt::Write>(&self, f: &mut fmt::Formatter<W>) -> fmt::Result {
         let (table, policy) = (self.table, self.policy);
-        match *self.denial {
-            Denial::Policy(broken) => tell_rule_way(f, table, policy, &broken),
-            Denial::Capability { .. } => f.write_str("Give the capability fewer rights"),
-            Denial::Root { .. } => f.write_str(
-                "Make the root a CNode of a label to which the policy has such an edge",
-            ),
-            Denial::Pair { child, parent } => {
-                f.write_str("Remove `child ")?;
-                tell_pair(f, table, child, parent)?;
-                f.write_str("` from the table")
+        let words = match *self.denial {
+            Denial::Policy(broken) => return tell_rule_way(f, table, policy, &broken),
+            Denial::Capability { .. } => "Give the capability fewer rights",
+            Denial::Root { .. } => {
+                "Make the root a CNode of a label to which the policy has such an edge"
             }
-            Denial::Binding { .. } => f.write_str(
-                "Bind the thread to a context of a label to which the policy has such an edge",
-            ),
-            Denial::Holding { .. } => f.write_str(
-                "Let the reply hold a thread of a label to which the policy has such an edge",
-            ),
-            Denial::Recorded { .. } => f.write_str(
-                "Let the thread wait where its label has such an edge",
-            ),
-            Denial::Certificate { .. } => {
-                f.write_str("Write the certificate again with `confine check --cert`")
+            Denial::Pair { child, parent } => return tell_no_child(f, table, child, parent),
+            Denial::Binding { .. } => {
+                "Bind the thread to a context of a label to which the policy has such an edge"
             }
-        }
+            Denial::Holding { .. } => {
+                "Let the reply hold a thread of a label to which the policy has such an edge"
+            }
+            Denial::Recorded { .. } => "Let the thread wait where its label has such an edge",
+            Denial::Certificate { .. } => "Write the certificate again with `confine check --cert`",
+        };
+        f.write_str(words)
     }
+}
+
+/// What makes a slot no child.
+fn tell_no_child<W: fmt::Write>(
+    f: &mut fmt::Formatter<W>,
+    table: &Table,
+    child: SlotRef,
+    parent: SlotRef,
+) -> fmt::Result {
+    let child = SlotName { table, slot: child };
+    let parent = SlotName {
+        table,
+        slot: parent,
+    };
+    write!(f, "Remove `child {parent} {child}` from the table")
 }
 
 /// What mends a broken rule of closed policies in place of the edge.
@@ -419,72 +527,90 @@ fn tell_rule_way<W: fmt::Write>(
     policy: &Policy,
     broken: &Broken,
 ) -> fmt::Result {
-    let (one, two) = names_of_ends(table, broken);
-    let kind = match *broken {
+    match *broken {
         Broken::SubjectsDisagree { subject, other, .. } => {
             let [_, twin, _, _] = premises(policy, *broken);
-            tell_edge(f, table, "Remove ", twin)?;
-            return tell_other_domain(f, table, policy, subject, other);
+            tell_domain_way(f, table, policy, subject, other, twin)
         }
-        Broken::GrantLacks { .. } => return tell_no_grant(f, one, two),
-        Broken::DomainLacks { parent, child } if parent == child => {
-            return write!(f, "Take `{one}` out of that domain");
+        _ => {
+            let (one, two) = names_of_ends(table, broken);
+            tell_words(f, &way_words(broken, one, two))
         }
-        Broken::ControlLacks { .. } => "control",
-        Broken::ContextLacks { .. } => "context",
-        _ => return f.write_str(plain_way(broken)),
-    };
-    write!(f, "Remove `edge {one} {kind} {two}`")
-}
-
-/// An edge after some words, if there is one.
-fn tell_edge<W: fmt::Write>(
-    f: &mut fmt::Formatter<W>,
-    table: &Table,
-    words: &str,
-    edge: Option<Edge>,
-) -> fmt::Result {
-    match edge {
-        Some(edge) => {
-            let edge = EdgeLine { table, edge };
-            write!(f, "{words}`{edge}`")
-        }
-        None => Ok(()),
     }
 }
 
-/// What else mends a policy where two labels of a domain disagree.
-fn tell_other_domain<W: fmt::Write>(
+/// What mends a policy where two labels of a domain disagree: that the one edge or the domain goes.
+fn tell_domain_way<W: fmt::Write>(
     f: &mut fmt::Formatter<W>,
     table: &Table,
     policy: &Policy,
     subject: Label,
     other: Label,
+    twin: Option<Edge>,
 ) -> fmt::Result {
     let name = label_name(table, other);
-    write!(f, ", or remove what puts `{name}` into that domain (")?;
     let space = there(policy, subject, Kind::Space, other);
-    let control = there(policy, subject, Kind::Control, other);
-    let between = if space.is_some() { " and " } else { "" };
-    tell_edge(f, table, "", space)?;
-    tell_edge(f, table, between, control)?;
-    f.write_str(")")
-}
-
-/// What mends a policy where one label may grant to another.
-fn tell_no_grant<W: fmt::Write>(f: &mut fmt::Formatter<W>, one: &str, two: &str) -> fmt::Result {
+    let words = if space.is_some() { " and " } else { "" };
+    let twin = EdgeAfter {
+        words: "Remove ",
+        table,
+        edge: twin,
+    };
+    let control = EdgeAfter {
+        words,
+        table,
+        edge: there(policy, subject, Kind::Control, other),
+    };
+    let space = EdgeAfter {
+        words: "",
+        table,
+        edge: space,
+    };
     write!(
         f,
-        "Give `{one}` no `grant` edge to a label to which `{two}` has a `receive` edge"
+        "{twin}, or remove what puts `{name}` into that domain ({space}{control})"
     )
 }
 
-/// What mends a broken rule of closed policies where no label is named.
-fn plain_way(broken: &Broken) -> &'static str {
+/// The words on what mends a broken rule in place of the edge, with the names of the two labels in their places.
+fn way_words<'a>(broken: &Broken, one: &'a str, two: &'a str) -> [&'a str; 5] {
     match *broken {
-        Broken::DomainLacks { .. } => "Take one of the two labels out of that domain",
-        Broken::DeriveLacks { .. } => "Remove the grant or one of the steps",
-        Broken::ReplyLacks { .. } => "Remove the `reply`, `call` or `receive` edge by which it may",
-        _ => "Remove the `call`, `receive` or `runs` edge by which it may",
+        Broken::ControlLacks { .. } => ["Remove `edge ", one, " control ", two, "`"],
+        Broken::ContextLacks { .. } => ["Remove `edge ", one, " context ", two, "`"],
+        Broken::GrantLacks { .. } => [
+            "Give `",
+            one,
+            "` no `grant` edge to a label to which `",
+            two,
+            "` has a `receive` edge",
+        ],
+        Broken::DomainLacks { parent, child } if parent == child => {
+            ["Take `", one, "` out of that domain", "", ""]
+        }
+        Broken::DomainLacks { .. } => {
+            [
+                "Take one of the two labels out of that domain",
+                "",
+                "",
+                "",
+                "",
+            ]
+        }
+        Broken::DeriveLacks { .. } => ["Remove the grant or one of the steps", "", "", "", ""],
+        Broken::ReplyLacks { .. } => [
+            "Remove the `reply`, `call` or `receive` edge by which it may",
+            "",
+            "",
+            "",
+            "",
+        ],
+        Broken::LentLacks { .. } => [
+            "Remove the `call`, `receive` or `runs` edge by which it may",
+            "",
+            "",
+            "",
+            "",
+        ],
+        Broken::SubjectsDisagree { .. } => [""; 5],
     }
 }
