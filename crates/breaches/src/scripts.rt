@@ -71,13 +71,13 @@ fn push_call_at(
 }
 
 /// Adds the line of a call that leads from one state to another.
-fn push_step(
+fn push_step<'a>(
     alloc: Global,
     lines: &mut String,
-    table: &Table,
+    table: &'a Table,
     event: &Event,
-    old: &State,
-    new: &State,
+    old: &'a State,
+    new: &'a State,
 ) -> Result<(), Refusal> {
     let text = write_script(alloc, &[*event])?;
     let changed = changes(alloc, old, new)?;
