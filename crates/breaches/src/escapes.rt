@@ -66,24 +66,11 @@ fn push_escape(
     let calls = if count == 1 { "call" } else { "calls" };
     writeln!(lines, "a run of {count} {calls} leaves the policy:")?;
     push_run(alloc, lines, table, script)?;
-    match place_outside(alloc, table, policy, script)? {
-        Some(place) => push_excess_after(alloc, lines, table, script, &place),
-        None => Ok(()),
+    let place = place_outside(alloc, table, policy, script)?;
+    if let (Some(place), Some(state)) = (place, reach(alloc, table, script)?) {
+        push_excess(lines, table, &state, &place)?;
     }
-}
-
-/// Adds which authority lies outside a policy after a script.
-fn push_excess_after(
-    alloc: Global,
-    lines: &mut String,
-    table: &Table,
-    script: &[Event],
-    place: &Denial,
-) -> Result<(), Refusal> {
-    match reach(alloc, table, script)? {
-        Some(state) => push_excess(lines, table, &state, place),
-        None => Ok(()),
-    }
+    Ok(())
 }
 
 /// Adds which authority lies outside a policy in a state.
