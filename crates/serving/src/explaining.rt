@@ -19,6 +19,7 @@ use report::{
 };
 use requests::{Invocation, OfSystem, OfTable, OfThree, Request};
 use slips::explain_fault;
+use stated::Broken;
 use std::alloc::AllocError;
 use std::fmt;
 use std::io::ErrorKind;
@@ -118,9 +119,9 @@ impl<'a, R: AllocGlobal + Eprint> Explainer<'a, R> {
 
     /// Tells what is found wrong.
     fn tell_finding(&self, leave: &(impl Threads + Sync), heard: &Heard<'_>, finding: &Finding) {
-        match (finding, self.judged(heard)) {
-            (Finding::BrokenLines(broken), Some(judged)) => {
-                self.tell_lines(explain_breaches(leave, self.rt.alloc(), &judged, broken));
+        match finding {
+            Finding::BrokenLines(broken) => {
+                self.tell_lines(self.breaches_told(leave, heard, broken));
             }
             _ => self.tell(self.sentence_on(heard, finding)),
         }
@@ -154,6 +155,19 @@ impl<'a, R: AllocGlobal + Eprint> Explainer<'a, R> {
             }
             // Who finds one of the others has read a policy, and claims.
             _ => Ok(String::new(alloc)),
+        }
+    }
+
+    /// Returns why claims of version 2 don't hold.
+    fn breaches_told(
+        &self,
+        leave: &(impl Threads + Sync),
+        heard: &Heard<'_>,
+        broken: &[Broken],
+    ) -> Result<String, Refusal> {
+        match self.judged(heard) {
+            Some(judged) => explain_breaches(leave, self.rt.alloc(), &judged, broken),
+            None => Ok(String::new(self.rt.alloc())),
         }
     }
 
