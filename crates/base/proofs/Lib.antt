@@ -3,3 +3,4 @@ pub mod KindNames
 pub mod CauseLemmas
 pub mod LabelParts
 mod LabelSets
+mod LeastMember

@@ -1,6 +1,7 @@
 -- Sets of labels.
-use Rattle.std.specs.{Int.bit_at, Prelude.{[], ℕ, ◌%◌, ◌/◌, ◌==◌, ◌∷◌, Bool, slice_index_or}}
+use Rattle.std.specs.{Int.bit_at, List.{filter, range_with_len}, Prelude.{[], ℕ, ◌%◌, ◌/◌, ◌==◌, ◌∷◌, Bool, List, slice_index_or}}
 use Rattle.base.specs.declared.labels.{Labels.Labels, part.Part.Part}
+use Rattle.base.specs.declared.label.TheConstants.Label as Label
 
 -- whether a number below 64 is in a part of a set
 abbrev pub is_in_part : Part → ℕ → Bool
@@ -17,3 +18,7 @@ is_in labels label = is_in_part (slice_index_or labels.parts (label / 64) no_par
 -- the set of no label
 abbrev pub no_labels : Labels
 no_labels = record { parts = no_part ∷ no_part ∷ no_part ∷ no_part ∷ [] }
+
+-- the labels of a set, rising
+unfoldable pub members_of : Labels → List ℕ
+members_of labels = filter (is_in labels) (range_with_len 0 Label.COUNT)

@@ -1,11 +1,13 @@
 //! Sets of labels.
+mod members;
 mod part;
 
-ghost use Rattle.std.specs.Prelude.{ℕ, ◌%◌, ◌&&◌, ◌/◌, ◌<◌, ◌==◌, ◌||◌, ◌≡◌, IfNone, IfSome, false, not, true};
+ghost use Rattle.std.specs.Prelude.{ℕ, ◌%◌, ◌&&◌, ◌/◌, ◌<◌, ◌==◌, ◌||◌, ◌↔◌, ◌≡◌, IfNone, IfSome, false, min, not, true};
 ghost use Rattle.base.specs.declared.label.TheConstants.Label as Label;
 ghost use Rattle.base.specs.Labels.{is_in};
 
 use crate::Label;
+pub use members::Members;
 use part::Part;
 
 /// A set of labels, in parts that each have 64 of the labels that there can be.
@@ -32,6 +34,26 @@ impl Labels {
         let mut parts = [Part::none(); 4];
         parts[part] = Part::only(number);
         Labels { parts }
+    }
+
+    /// Returns the set of all labels that there can be.
+    pub fn all() -> Labels
+        ensures { (label : ℕ) → (is_in result label ≡ true) ↔ (label < Label.COUNT) }
+    {
+        Labels::below(usize::from(Label::COUNT))
+    }
+
+    /// Returns the set of the labels with a number below this one.
+    pub fn below(count: usize) -> Labels
+        ensures { (label : ℕ) → (is_in result label ≡ true) ↔ (label < min count Label.COUNT) }
+    {
+        let mut labels = Labels::none();
+        for number in 0..count.min(usize::from(Label::COUNT)) {
+            if let Some(label) = Label::new(number as u16) {
+                labels = labels.union(Labels::only(label));
+            }
+        }
+        labels
     }
 
     /// Returns whether the label is in the set.
@@ -96,6 +118,13 @@ impl Labels {
             }
         }
         None
+    }
+
+    /// Returns the labels of the set, one after another, rising.
+    pub fn iter(self) -> Members
+        ensures { result.rest ≡ self }
+    {
+        Members { rest: self }
     }
 }
 

@@ -19,7 +19,7 @@ pub use edge::Edge;
 pub use ids::{ObjId, SlotRef};
 pub use kind::{Kind, Kinds, kind_names_are_read_back};
 pub use label::Label;
-pub use labels::Labels;
+pub use labels::{Labels, Members};
 pub use limits::{
     ADDRESS_BITS, ADDRESS_END, MAX_EVENTS, MAX_MADE, MAX_OBJECTS, MAX_PERIOD, MAX_PRESENT,
     MAX_RADIX, MAX_SLOTS, MAX_THREADS, OBJECT_NUMBERS,

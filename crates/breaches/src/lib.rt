@@ -1,4 +1,4 @@
-//! Words on claims that don't hold, and on runs that show it or leave a policy.
+//! Words on claims that don't hold, on those that shared memory evades, and on runs.
 //!
 //! `serving` stands on it. It knows no device and no command.
 #![tactic(auto)]
@@ -6,9 +6,11 @@
 mod broken;
 mod escapes;
 mod scripts;
+mod shared_memory;
 mod stated_claims;
 
 pub use broken::explain_broken;
 pub use escapes::explain_escape;
 pub use scripts::explain_run;
+pub use shared_memory::explain_shared_memory;
 pub use stated_claims::{Judged, breach_lines, explain_breaches};

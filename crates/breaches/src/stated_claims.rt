@@ -262,11 +262,9 @@ fn affected(policy: &Policy, actors: Labels, actor: Label) -> Labels {
 /// The labels that affect one of these.
 fn affecting(policy: &Policy, actors: Labels, objects: Labels) -> Labels {
     let mut labels = Labels::none();
-    for number in 0..Label::COUNT {
-        if let Some(label) = Label::new(number) {
-            if affected(policy, actors, label).intersection(objects) != Labels::none() {
-                labels = labels.union(Labels::only(label));
-            }
+    for label in Labels::all().iter() {
+        if affected(policy, actors, label).intersection(objects) != Labels::none() {
+            labels = labels.union(Labels::only(label));
         }
     }
     labels

@@ -19,7 +19,7 @@ mod unlabelled;
 pub use asked::{an_asked_edge_is_missing, asked_edge};
 pub use closing::explain_closing;
 pub use denials::{Names, explain_denial, explain_outside};
-pub use label_sets::{LabelNames, label_in, labels_of};
+pub use label_sets::LabelNames;
 pub use lines::{
     Start, line_of_binding, line_of_child, line_of_edge, line_of_label, line_of_object,
     line_of_slot,

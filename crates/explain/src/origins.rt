@@ -2,7 +2,6 @@
 //! or the policy alone; and, for labels with no reason, why there is none.
 use crate::asked::asked_edge;
 use crate::closing::{MOST_EDGES, mending_edge};
-use crate::label_sets::labels_of;
 use crate::lines::{Start, line_of_place};
 use crate::nothing::push_nothing;
 use crate::premises::premises;
@@ -37,7 +36,7 @@ pub fn explain_why<R: Threads + Sync>(
 ) -> Result<String, Refusal> {
     let mut lines = String::new(alloc);
     let actors = if alone {
-        labels_of(table)
+        table.labels()
     } else {
         actors(table, policy)
     };

@@ -1,5 +1,5 @@
 //! The edges by which a rule of closed policies asks for another.
-use base::{Edge, Kind, Label};
+use base::{Edge, Kind, Label, Labels};
 use policy::{Broken, Policy};
 
 /// The edges of a policy by which a rule asks for the edge that is missing: of several ways the first.
@@ -66,28 +66,25 @@ fn domain_edge(policy: &Policy, subject: Label, other: Label) -> Option<Edge> {
 
 /// The edges by which a label uses what another receives from.
 fn meeting(policy: &Policy, user: Label, kind: Kind, receiver: Label) -> [Option<Edge>; 2] {
-    for number in 0..Label::COUNT {
-        if let Some(end) = Label::new(number) {
-            let used = there(policy, user, kind, end);
-            let received = there(policy, receiver, Kind::Receive, end);
-            if used.is_some() && received.is_some() {
-                return [used, received];
-            }
-        }
+    let used = policy.targets(Labels::only(user), &[kind]);
+    let received = policy.targets(Labels::only(receiver), &[Kind::Receive]);
+    match used.intersection(received).first() {
+        Some(end) => [
+            there(policy, user, kind, end),
+            there(policy, receiver, Kind::Receive, end),
+        ],
+        None => [None, None],
     }
-    [None, None]
 }
 
 /// The edges by which two labels are in one domain.
 fn in_one_domain(policy: &Policy, parent: Label, child: Label) -> [Option<Edge>; 4] {
-    for number in 0..Label::COUNT {
-        if let Some(subject) = Label::new(number) {
-            let one = domain_edge(policy, subject, parent);
-            let other = domain_edge(policy, subject, child);
-            if one.is_some() && other.is_some() {
-                let second = if parent == child { None } else { other };
-                return [one, second, None, None];
-            }
+    for subject in Labels::all().iter() {
+        let one = domain_edge(policy, subject, parent);
+        let other = domain_edge(policy, subject, child);
+        if one.is_some() && other.is_some() {
+            let second = if parent == child { None } else { other };
+            return [one, second, None, None];
         }
     }
     [None; 4]
@@ -95,22 +92,18 @@ fn in_one_domain(policy: &Policy, parent: Label, child: Label) -> [Option<Edge>;
 
 /// The edges by which capabilities are derived in two steps, or over a grant.
 fn derived(policy: &Policy, parent: Label, child: Label) -> [Option<Edge>; 4] {
-    for number in 0..Label::COUNT {
-        if let Some(between) = Label::new(number) {
-            let first = there(policy, parent, Kind::Derive, between);
-            let second = there(policy, between, Kind::Derive, child);
-            if first.is_some() && second.is_some() {
-                return [first, second, None, None];
-            }
+    for between in Labels::all().iter() {
+        let first = there(policy, parent, Kind::Derive, between);
+        let second = there(policy, between, Kind::Derive, child);
+        if first.is_some() && second.is_some() {
+            return [first, second, None, None];
         }
     }
-    for number in 0..Label::COUNT {
-        if let Some(giver) = Label::new(number) {
-            let given = domain_edge(policy, giver, parent);
-            let [granted, received, kept] = granted_into(policy, giver, child);
-            if given.is_some() && granted.is_some() {
-                return [granted, received, given, kept];
-            }
+    for giver in Labels::all().iter() {
+        let given = domain_edge(policy, giver, parent);
+        let [granted, received, kept] = granted_into(policy, giver, child);
+        if given.is_some() && granted.is_some() {
+            return [granted, received, given, kept];
         }
     }
     [None; 4]
@@ -118,13 +111,11 @@ fn derived(policy: &Policy, parent: Label, child: Label) -> [Option<Edge>; 4] {
 
 /// The edges by which a label grants capabilities to one in whose domain a label is.
 fn granted_into(policy: &Policy, giver: Label, child: Label) -> [Option<Edge>; 3] {
-    for number in 0..Label::COUNT {
-        if let Some(taker) = Label::new(number) {
-            let [granted, received] = meeting(policy, giver, Kind::Grant, taker);
-            let kept = domain_edge(policy, taker, child);
-            if granted.is_some() && kept.is_some() {
-                return [granted, received, kept];
-            }
+    for taker in Labels::all().iter() {
+        let [granted, received] = meeting(policy, giver, Kind::Grant, taker);
+        let kept = domain_edge(policy, taker, child);
+        if granted.is_some() && kept.is_some() {
+            return [granted, received, kept];
         }
     }
     [None; 3]
@@ -136,13 +127,11 @@ fn held(policy: &Policy, reply: Label, thread: Label) -> [Option<Edge>; 4] {
     if own.is_some() {
         return [own, None, None, None];
     }
-    for number in 0..Label::COUNT {
-        if let Some(receiver) = Label::new(number) {
-            let answered = there(policy, receiver, Kind::Reply, reply);
-            let [called, received] = meeting(policy, thread, Kind::Call, receiver);
-            if answered.is_some() && called.is_some() {
-                return [answered, called, received, None];
-            }
+    for receiver in Labels::all().iter() {
+        let answered = there(policy, receiver, Kind::Reply, reply);
+        let [called, received] = meeting(policy, thread, Kind::Call, receiver);
+        if answered.is_some() && called.is_some() {
+            return [answered, called, received, None];
         }
     }
     [None; 4]
@@ -150,13 +139,11 @@ fn held(policy: &Policy, reply: Label, thread: Label) -> [Option<Edge>; 4] {
 
 /// The edges by which a label is lent a context, by who runs on it and calls where the label receives.
 fn lent(policy: &Policy, borrower: Label, context: Label) -> [Option<Edge>; 4] {
-    for number in 0..Label::COUNT {
-        if let Some(caller) = Label::new(number) {
-            let ran = there(policy, caller, Kind::Runs, context);
-            let [called, received] = meeting(policy, caller, Kind::Call, borrower);
-            if ran.is_some() && called.is_some() {
-                return [called, received, ran, None];
-            }
+    for caller in Labels::all().iter() {
+        let ran = there(policy, caller, Kind::Runs, context);
+        let [called, received] = meeting(policy, caller, Kind::Call, borrower);
+        if ran.is_some() && called.is_some() {
+            return [called, received, ran, None];
         }
     }
     [None; 4]

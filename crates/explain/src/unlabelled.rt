@@ -1,5 +1,5 @@
 //! The sentence on a word that is no label.
-use crate::label_sets::{LabelNames, labels_of};
+use crate::label_sets::LabelNames;
 use base::Labels;
 use forms::Shown;
 use std::alloc::{AllocError, Global};
@@ -14,7 +14,7 @@ pub fn explain_unlabelled(alloc: Global, table: &Table, word: &str) -> Result<St
     let word = Shown {
         bytes: word.as_bytes(),
     };
-    let labels = labels_of(table);
+    let labels = table.labels();
     let which = if labels == Labels::none() {
         ", nor any other label"
     } else {

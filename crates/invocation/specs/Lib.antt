@@ -1,1 +1,1 @@
-pub mod Meaning
+pub mod Found

@@ -2,13 +2,12 @@
 ghost use Rattle.std.specs.Prelude.{◌≡◌, IfOk, IfSome};
 ghost use Rattle.clap.specs.Matches.{found_of};
 ghost use Rattle.requests.specs.Requests.{IsWithinLimits, OnInTurn};
-ghost use Rattle.invocation.specs.Meaning.{AreFound, IsAskedIn};
+ghost use Rattle.invocation.specs.Found.{AreFound, IsAskedIn};
 
 use crate::help;
-use crate::meaning::{Verb, Words, format};
 use clap::error::ErrorKind;
 use clap::{Arg, ArgAction, ArgMatches, Command, Error};
-use requests::CommandLine;
+use requests::{CommandLine, Format, Verb, Words};
 use std::alloc::{AllocError, Global};
 
 /// Reads a command line, whose first word is the name of the program.
@@ -54,7 +53,7 @@ fn misuse_of(matches: &ArgMatches<'_>) -> (ErrorKind, &'static str) {
 // Whether the word for the format is one.
 fn has_format(found: &ArgMatches<'_>) -> bool {
     match found.get_str("format") {
-        Some(word) => format(word).is_some(),
+        Some(word) => Format::from_name(word).is_some(),
         None => false,
     }
 }

@@ -10,7 +10,7 @@ use crate::kinds::Kind;
 pub enum Form {
     /// Any text.
     Text,
-    /// A number below 2 ^ 64, in decimal, or in hexadecimal after `0x`; `_` may stand between digits.
+    /// A number below 2 ^ 64, in decimal, or in hexadecimal after `0x`; `_` may stand anywhere among the digits.
     Number,
     /// `true` or `false`.
     Flag,

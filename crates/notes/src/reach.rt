@@ -1,7 +1,7 @@
 //! The sentences on what each label of an accepted system may do to the others.
 use base::{Label, Labels};
 use captext::label_name;
-use explain::{LabelNames, label_in, labels_of};
+use explain::LabelNames;
 use machine::ObjectKind;
 use policy::Policy;
 use std::alloc::{AllocError, Global};
@@ -25,7 +25,7 @@ pub fn explain_reach(
     let mut lines = String::new(alloc);
     let programs = programs_of(table);
     push_programs(&mut lines, table, policy, programs)?;
-    let others = count(labels_of(table).difference(programs));
+    let others = table.labels().difference(programs).iter().count();
     push_others(&mut lines, table_file, policy_file, others)?;
     Ok(lines)
 }
@@ -41,17 +41,6 @@ fn programs_of(table: &Table) -> Labels {
     programs
 }
 
-/// How many labels are in a set.
-fn count(labels: Labels) -> usize {
-    let mut count = 0usize;
-    for number in 0..Label::COUNT {
-        if label_in(labels, number).is_some() {
-            count = count.saturating_add(1);
-        }
-    }
-    count
-}
-
 /// Adds a line for each label that reaches others of these, and one for those that reach none.
 fn push_programs(
     lines: &mut String,
@@ -61,11 +50,9 @@ fn push_programs(
 ) -> Result<(), AllocError> {
     let actors = actors(table, policy);
     let mut apart = Labels::none();
-    for number in 0..Label::COUNT {
-        if let Some(actor) = label_in(programs, number) {
-            if !push_reach(lines, table, policy, actors, programs, actor)? {
-                apart = apart.union(Labels::only(actor));
-            }
+    for actor in programs.iter() {
+        if !push_reach(lines, table, policy, actors, programs, actor)? {
+            apart = apart.union(Labels::only(actor));
         }
     }
     push_apart(lines, table, programs, apart)
@@ -123,7 +110,7 @@ fn push_apart(
         table,
         labels: apart,
     };
-    let (only, what) = if count(programs) < 2 {
+    let (only, what) = if programs.iter().count() < 2 {
         ("only ", " has a thread")
     } else {
         ("", " can't reach the other labels that have a thread")

@@ -1,8 +1,8 @@
 //! Notes on an accepted table: what is no fault, and may not be meant.
-use base::{Edge, Kind, Label, Labels, ObjId, Refusal, Rights, SlotRef};
+use base::{Kind, Label, Labels, ObjId, Refusal, Rights, SlotRef};
 use bitflags::Flags;
 use captext::{SlotName, label_name, object_name};
-use explain::{Start, label_in, labels_of, line_of_label, line_of_object, line_of_slot};
+use explain::{Start, line_of_label, line_of_object, line_of_slot};
 use machine::{Detail, Filled, Initial, Object, ObjectKind};
 use policy::Policy;
 use std::alloc::{AllocError, Global};
@@ -195,19 +195,12 @@ fn push_note(notes: &mut Vec<Note>, table: &Table, matter: Matter) -> Result<(),
 
 /// Adds the labels without an object.
 fn add_labels(notes: &mut Vec<Note>, table: &Table) -> Result<(), AllocError> {
-    let mut unused = labels_of(table);
+    let mut unused = table.labels();
     for initial in table.objects() {
         unused = unused.difference(Labels::only(initial.label));
     }
-    let mut told = 0;
-    for number in 0..Label::COUNT {
-        match label_in(unused, number) {
-            Some(label) if told < MOST => {
-                told += 1;
-                push_note(notes, table, Matter::Unused(label))?;
-            }
-            _ => {}
-        }
+    for label in unused.iter().take(MOST) {
+        push_note(notes, table, Matter::Unused(label))?;
     }
     Ok(())
 }
@@ -318,19 +311,7 @@ fn add_thread(
 
 /// Whether a label whose threads make calls may control threads of this label.
 fn is_controlled(policy: &Policy, actors: Labels, label: Label) -> bool {
-    for number in 0..Label::COUNT {
-        if let Some(actor) = label_in(actors, number) {
-            let edge = Edge {
-                from: actor,
-                kind: Kind::Control,
-                to: label,
-            };
-            if policy.has(edge) {
-                return true;
-            }
-        }
-    }
-    false
+    policy.targets(actors, &[Kind::Control]).has(label)
 }
 
 /// Adds the capabilities by which calls arrive where their holder has no capability for a reply object.

@@ -1,14 +1,13 @@
 //! The commands `why` and `draw`: what a label may do to another, and the drawing of all labels.
-ghost use Rattle.std.specs.Prelude.{ℕ, ◌++◌, ◌<◌, ◌↔◌, ◌≡◌, IfErr, IfOk, false, true};
-ghost use Rattle.base.specs.{Labels.is_in, Refusals.out_of_memory};
-ghost use Rattle.base.specs.declared.label.TheConstants.Label as LabelLimits;
+ghost use Rattle.std.specs.Prelude.{◌++◌, ◌≡◌, IfErr, IfOk, false};
+ghost use Rattle.base.specs.Refusals.{out_of_memory};
 ghost use Rattle.captext.specs.PolicyText.{edge_lines};
 ghost use Rattle.commands.specs.Commands.{IsJudged, IsJudgedSo, SystemIsJudged, input, no_label, output};
 ghost use Rattle.verdict.specs.Extents.{reach_by};
 ghost use Rattle.report.specs.Questions as questions;
 
 use crate::{Asked, Basis, End, Listener, Picture, Sink, Source};
-use base::{Edge, Label, Labels, Refusal};
+use base::{Edge, Labels, Refusal};
 use captext::write_edges;
 use commands::{Answer, Stop, System, denied, load_system, load_table, tell};
 use deal::Open;
@@ -111,25 +110,12 @@ fn acting<R: Threads + Sync>(
     ensures memory { IfErr result (λ refusal. refusal ≡ out_of_memory) }
 {
     match basis {
-        Basis::Policy => Ok(Ok(all_labels())),
+        Basis::Policy => Ok(Ok(Labels::all())),
         Basis::System => match judge(rt, alloc, table, policy, 1, &Open)? {
             Ok(accepted) => Ok(Ok(accepted.bounds().actors())),
             Err(denial) => Ok(Err(denial)),
         },
     }
-}
-
-/// All labels that there can be.
-fn all_labels() -> Labels
-    ensures { (a : ℕ) → (is_in result a ≡ true) ↔ (a < LabelLimits.COUNT) }
-{
-    let mut labels = Labels::none();
-    for number in 0..Label::COUNT {
-        if let Some(label) = Label::new(number) {
-            labels = labels.union(Labels::only(label));
-        }
-    }
-    labels
 }
 
 /// What is told of what a label may do.

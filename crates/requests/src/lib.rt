@@ -1,10 +1,12 @@
-//! What the program `confine` may be asked for, of which files, and how it tells what it finds.
+//! What the program `confine` may be asked for, and which request the words of a command line make.
 //!
-//! `invocation` and `serving` stand on it. It knows no word of a command line, and no engine.
+//! `invocation` and `serving` stand on it. It knows no library for command lines, and no engine.
 #![tactic(auto)]
 
+mod meaning;
 mod request;
 
+pub use meaning::{Verb, Words};
 pub use request::{
     CommandLine, Format, Invocation, Manner, OfSystem, OfTable, OfThree, Request, SplitRun,
 };

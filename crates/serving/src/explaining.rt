@@ -3,6 +3,7 @@ use crate::opening::Opened;
 use base::Refusal;
 use breaches::{
     Judged, breach_lines, explain_breaches, explain_broken, explain_escape, explain_run,
+    explain_shared_memory,
 };
 use captext::object_name;
 use causes::{Caller, explain_illegal, explain_refusal};
@@ -270,6 +271,16 @@ impl<'a, R: AllocGlobal + Eprint> Explainer<'a, R> {
         }
     }
 
+    /// Tells memory that claims which hold don't speak of.
+    fn tell_shared_memory(&self, heard: &Heard<'_>) {
+        if self.invocation.manner.is_quiet {
+            return;
+        }
+        if let Some(judged) = self.judged(heard) {
+            self.tell_lines(explain_shared_memory(self.rt.alloc(), &judged));
+        }
+    }
+
     /// Tells more of what isn't wrong.
     fn tell_more(&self, leave: &(impl Threads + Sync), heard: &Heard<'_>) {
         let (alloc, table) = (self.rt.alloc(), heard.table);
@@ -316,6 +327,7 @@ impl<'a, R: AllocGlobal + Eprint> Explainer<'a, R> {
             (Request::OfThree(OfThree::Run, _, _, script), _, Some(outcomes)) => {
                 self.tell_refusals(table, script, outcomes);
             }
+            (Request::OfThree(OfThree::Claims, ..), _, _) => self.tell_shared_memory(heard),
             _ => {}
         }
     }

@@ -1,16 +1,10 @@
 -- The search for the first breach of a claim, label by label (confine's own).
-use Rattle.std.specs.Prelude.{ℕ, ◌<◌, ◌↔◌, ◌≡◌, ◌≢◌, ◌≤◌, length, true}
+use Rattle.std.specs.Prelude.{ℕ, ◌<◌, ◌≡◌, ◌≢◌, true}
 use Rattle.base.specs.{declared.labels.Labels.Labels, Labels.is_in}
-use Rattle.base.specs.declared.label.TheConstants.Label as Label
 use Rattle.machine.specs.Layout.{Layout}
 use Rattle.verdict.specs.Extents.{GoesTo, Reach}
 use Rattle.claims.specs.{declared.claim.Most.Most, Holding.HasAtMost}
 use Rattle.stated.specs.{declared.{breaches.Breach.Breach, claim.Stated.Stated}, Holding.{Bounds, most_of}}
-
--- these are the labels of the table
-pub record AreLabelsOf (t : Layout) (labels : Labels) : Type 0 where
-  pub few : length t.labels ≤ Label.COUNT
-  pub are : (label : ℕ) → (is_in labels label ≡ true) ↔ (label < length t.labels)
 
 -- these are the labels on which a label has more authority than this
 abbrev pub AreExcess : Reach → ℕ → Most → Labels → Type 0

@@ -2,15 +2,15 @@
 ghost use Rattle.std.specs.{List.{Contains, list_any}, Prelude.{ℕ, ◌==◌, ◌↔◌, ◌≡◌, IfNone, IfSome, IsTrue, true}};
 ghost use Rattle.base.specs.Labels.{is_in};
 ghost use Rattle.machine.specs.Layout.{Layout};
+ghost use Rattle.table.specs.Names.{AreLabelsOf};
 ghost use Rattle.verdict.specs.Extents.{Reach};
-ghost use Rattle.stated.specs.{Breaches.{AreExcess, AreLabelsOf, HoldsOf, IsFirstBreachBy}, Holding.Bounds};
+ghost use Rattle.stated.specs.{Breaches.{AreExcess, HoldsOf, IsFirstBreachBy}, Holding.Bounds};
 ghost use Rattle.stated.specs.{Holding.{HoldsOnPairs, IsFirstBreach, IsNamed, most_of}, Rows.{AreRows, IsRow}};
 
 use crate::claim::{LabelList, Stated, Who};
 use crate::rows::{Row, Rows};
 use base::{Label, Labels};
 use claims::Most;
-use table::Table;
 use verdict::Extent;
 
 /// Two labels of which the one has more authority on the other than a claim leaves it.
@@ -20,19 +20,6 @@ pub struct Breach {
     pub object: Label,
     /// How far the authority goes.
     pub extent: Extent,
-}
-
-/// Returns the labels of a table.
-pub(crate) fn labels_of(table: &Table) -> Labels
-    ensures { AreLabelsOf table.now result }
-{
-    let mut labels = Labels::none();
-    for number in 0..table.label_count() {
-        if let Some(label) = Label::new(number as u16) {
-            labels = labels.union(Labels::only(label));
-        }
-    }
-    labels
 }
 
 /// Whether an end of a claim names this label.

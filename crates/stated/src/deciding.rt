@@ -2,12 +2,13 @@
 ghost use Rattle.std.specs.{List.Contains, Prelude.{[], ℕ, ◌≡◌, IfErr, IfNone, IfOk, IfSome, Some}};
 ghost use Rattle.base.specs.Refusals.{out_of_memory};
 ghost use Rattle.machine.specs.Layout.{Layout};
+ghost use Rattle.table.specs.Names.{AreLabelsOf};
 ghost use Rattle.verdict.specs.Extents.{Reach, reach_of};
-ghost use Rattle.stated.specs.{declared.claim.Stated.Stated as StatedOf, Breaches.AreLabelsOf, Holding.AreBroken};
+ghost use Rattle.stated.specs.{declared.claim.Stated.Stated as StatedOf, Holding.AreBroken};
 ghost use Rattle.stated.specs.{Holding.{Fails, FailsOnPair, Holds, HoldsOnPairs, IsKept}, Rows.AreRows};
 ghost use Rattle.stated.specs.declared.lines.TheConstants.StatedLines as StatedLines;
 
-use crate::breaches::{Breach, first_breach, labels_of};
+use crate::breaches::{Breach, first_breach};
 use crate::claim::Stated;
 use crate::lines::StatedLines;
 use crate::reaching::reached;
@@ -77,7 +78,7 @@ fn broken_by(
         AreBroken bounds.now.system.table (reach_of bounds.now) StatedLines.FIRST lines.now broken.items) }
 {
     let rows = Rows::of(alloc, bounds)?;
-    let labels = labels_of(bounds.table());
+    let labels = bounds.table().labels();
     let mut broken = Vec::new(alloc);
     for (index, entry) in lines.iter().enumerate() {
         if let Some(claim) = entry {

@@ -1,8 +1,14 @@
--- The numbers that labels and objects have by their names (confine's own; the labels are those of 'seL4 Enforces Integrity',
--- section 3).
-use Rattle.std.specs.{Prelude.{ℕ, List, Option, option_map, position}, Str.bytes_eq}
-use Rattle.base.specs.declared.ids.ObjId.{ObjId}
+-- The labels of a table, and the numbers that labels and objects have by their names (confine's own; the labels are those of 'seL4 Enforces
+-- Integrity', section 3).
+use Rattle.std.specs.{Prelude.{ℕ, ◌<◌, ◌↔◌, ◌≡◌, ◌≤◌, List, Option, length, option_map, position, true}, Str.bytes_eq}
+use Rattle.base.specs.{declared.{ids.ObjId.ObjId, labels.Labels.Labels}, Labels.is_in}
+use Rattle.base.specs.declared.label.TheConstants.Label as Label
 use Rattle.machine.specs.Layout.{Layout}
+
+-- these are the labels of the table
+pub record AreLabelsOf (t : Layout) (labels : Labels) : Type 0 where
+  pub few : length t.labels ≤ Label.COUNT
+  pub are : (label : ℕ) → (is_in labels label ≡ true) ↔ (label < length t.labels)
 
 -- the label of this name
 unfoldable pub label_named : Layout → List ℕ → Option ℕ

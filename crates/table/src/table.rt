@@ -4,11 +4,11 @@ ghost use Rattle.std.specs.Prelude.{slice_get};
 ghost use Rattle.base.specs.declared.label.TheConstants.Label as LabelLimits;
 ghost use Rattle.machine.specs.{Authority.label_at, Layout.{bound_context, bound_thread, initial_cap, initial_of}};
 ghost use Rattle.machine.specs.{Layout.{initial_parent, upgraded}, Machine.same_id};
-ghost use Rattle.table.specs.{Names.{label_named, object_named}, Rules.{IsLawful, kind_at}, Versions.version_number};
+ghost use Rattle.table.specs.{Names.{AreLabelsOf, label_named, object_named}, Rules.{IsLawful, kind_at}, Versions.version_number};
 
 use crate::draft::Draft;
 use crate::tree::{cap_in, parent_in};
-use base::{Label, ObjId, SlotRef};
+use base::{Label, Labels, ObjId, SlotRef};
 use machine::{Binding, Cap, Filled, Initial, ObjectKind, Pair, Version};
 use std::marker::Model;
 
@@ -66,6 +66,13 @@ impl Table {
         ensures limit { result ≤ LabelLimits.COUNT }
     {
         self.draft.label_count()
+    }
+
+    /// Returns the labels.
+    pub fn labels(&self) -> Labels
+        ensures { AreLabelsOf self.now result }
+    {
+        Labels::below(self.label_count())
     }
 
     /// Returns the label's name, if there is such a label.

@@ -1,6 +1,7 @@
 use Rattle.std.proofs.Common.{◌∙◌, ◌≡◌, IfSome, None, Some, ap, refl, rules, sym}
 use Rattle.clap.specs.Matches.{found_of, subcommand_name_of}
-use Rattle.invocation.specs.Meaning.{IsAskedIn, verb_name}
+use Rattle.invocation.specs.Found.{IsAskedIn}
+use Rattle.requests.specs.Meaning.{verb_name}
 use Rattle.invocation.proofs.request.line_of.Goals as goal
 
 pub returns-clause-meaning : goal.returns-clause-meaning

@@ -2,8 +2,9 @@
 use Rattle.std.proofs.Common.{◌∙◌, subst, sym}
 use Rattle.base.specs.Labels.{is_in}
 use Rattle.machine.specs.Layout.{Layout}
+use Rattle.table.specs.Names.{AreLabelsOf}
 use Rattle.verdict.specs.Extents.{Reach, reach_of}
-use Rattle.stated.specs.{Breaches.AreLabelsOf, Holding.{Holds, HoldsOnPairs}, Rows.AreRows}
+use Rattle.stated.specs.{Holding.{Holds, HoldsOnPairs}, Rows.AreRows}
 use Rattle.stated.proofs.{Chains.apart_from_unreached, Kept.{ends_hold, if_none, only_holds}}
 use Rattle.stated.proofs.deciding.failure_of.Goals as goal
 

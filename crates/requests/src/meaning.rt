@@ -1,14 +1,14 @@
 //! Which request the words of a command line make.
 ghost use Rattle.std.specs.Prelude.{◌≡◌, ◌≢◌, ◌≤◌, IfNone, IfSome};
 ghost use Rattle.requests.specs.Requests.{HasFewWorkers, IsWithinLimits, OnInTurn};
-ghost use Rattle.invocation.specs.Meaning.{basis_of, children_of, command_line_of, format_of, imported_of, in_turn};
-ghost use Rattle.invocation.specs.Meaning.{manner_of, minting_of, number_to, of_all, of_table, of_two, on_accept_of};
-ghost use Rattle.invocation.specs.Meaning.{on_close_of, on_import_of, picture_of, search_of, split_of, verb_name};
+ghost use Rattle.requests.specs.Meaning.{basis_of, children_of, command_line_of, format_of, imported_of, in_turn};
+ghost use Rattle.requests.specs.Meaning.{manner_of, minting_of, number_to, of_all, of_table, of_two, on_accept_of};
+ghost use Rattle.requests.specs.Meaning.{on_close_of, on_import_of, picture_of, search_of, split_of, verb_name};
 
-use commands::{Basis, Children, Imported, Minting, OnAccept, OnClose, OnImport, Picture, Search};
-use requests::{
+use crate::request::{
     CommandLine, Format, Invocation, Manner, OfSystem, OfTable, OfThree, Request, SplitRun,
 };
+use commands::{Basis, Children, Imported, Minting, OnAccept, OnClose, OnImport, Picture, Search};
 use words::decimal_of;
 
 /// A command of the program.
@@ -146,7 +146,7 @@ impl<'a> Words<'a> {
         Some(Manner {
             explains: self.explain,
             is_quiet: self.quiet,
-            format: format(self.format?)?,
+            format: Format::from_name(self.format?)?,
         })
     }
 
@@ -266,16 +266,18 @@ impl<'a> Words<'a> {
     }
 }
 
-// How findings are printed by this word.
-pub(crate) fn format(word: &str) -> Option<Format>
-    ensures { result ≡ format_of word.now }
-{
-    if word == "json" {
-        Some(Format::Json)
-    } else if word == "short" {
-        Some(Format::Short)
-    } else {
-        None
+impl Format {
+    /// Returns the format of this name, if there is one.
+    pub fn from_name(name: &str) -> Option<Format>
+        ensures { result ≡ format_of name.now }
+    {
+        if name == "json" {
+            Some(Format::Json)
+        } else if name == "short" {
+            Some(Format::Short)
+        } else {
+            None
+        }
     }
 }
 

@@ -1,0 +1,41 @@
+-- The command line that was found in the words (confine's own).
+use Rattle.std.specs.Prelude.{[], ℕ, ◌∷◌, ◌≡◌, Bool, List, None, Option, Some, codes, false, option_copied, option_map, true}
+use Rattle.clap.specs.{declared.parser.matches.{ArgMatches.ArgMatches, Found.Found}, Matches.{first_value, one_text, subcommand_name_of}}
+use Rattle.clap.specs.{Simple.subcommand_rows_of, Walk.rows_of}
+use Rattle.requests.specs.{declared.{meaning.Words.Words, request.CommandLine.CommandLine}, Meaning.{Name, command_line_of, verb_name}}
+
+-- this word, or none, was found under this id
+abbrev pub IsFound : Found → List ℕ × Option Name → Type 0
+IsFound found (id, word) = option_copied word ≡ first_value found id
+
+-- an option was given, or not, by what was found under this id
+abbrev pub IsGiven : Found → List ℕ × Bool → Type 0
+IsGiven found (id, given) =
+    (one_text found id ≡ None → given ≡ false) × (one_text found id ≡ Some (codes "true") → given ≡ true)
+    × (one_text found id ≡ Some (codes "false") → given ≡ false)
+
+abbrev pub Each : {X : Type 0} → (X → Type 0) → List X → Type 0
+Each P [] = Unit {0}
+Each P (x ∷ xs) = P x × Each P xs
+
+-- each word and option was found under its id
+abbrev pub AreFound : Found → Words → Type 0
+AreFound found words =
+    Each (IsFound found)
+    ((codes "description", words.description) ∷ (codes "table", words.table) ∷ (codes "policy", words.policy) ∷ (codes "certificate", words.certificate)
+    ∷ (codes "script", words.script) ∷ (codes "log", words.log) ∷ (codes "claims", words.claims) ∷ (codes "actor", words.actor)
+    ∷ (codes "object", words.object) ∷ (codes "workers", words.workers) ∷ (codes "steps", words.steps) ∷ (codes "rights", words.rights)
+    ∷ (codes "children", words.children) ∷ (codes "format", words.format) ∷ [])
+    × Each (IsGiven found)
+    ((codes "explain", words.explain) ∷ (codes "quiet", words.quiet) ∷ (codes "cert", words.cert) ∷ (codes "missing", words.missing)
+    ∷ (codes "surplus", words.surplus) ∷ (codes "split", words.split) ∷ (codes "all", words.all) ∷ (codes "policy-alone", words.policy_alone)
+    ∷ (codes "take", words.take) ∷ (codes "as-claims", words.as_claims) ∷ [])
+
+-- a line asks for what its command and the words found for that make
+pub record IsAskedIn (matches : ArgMatches) (line : CommandLine) : Type 0 where
+  pub words : Words
+  pub found : Found
+  pub command : subcommand_name_of matches ≡ Some (verb_name words.verb)
+  pub rows : option_map (λ rows. rows.1) (subcommand_rows_of matches) ≡ Some (rows_of found)
+  pub read : AreFound found words
+  pub asks : command_line_of words ≡ Some line
