@@ -163,7 +163,7 @@ A system description, as Microkit 1.x reads it: protection domains, virtual mach
 memory regions, maps and channels, in XML. What it doesn't show is told with `--explain`.
 docs/IMPORT.md says what each element becomes.";
 
-pub const VERSION: &str = "0.16.0";
+pub const VERSION: &str = "0.17.0";
 
 pub const EXPLAIN: &str =
     "Says in sentences, on standard error, what is denied or faulty, and what to do";
