@@ -90,10 +90,7 @@ fn flaw_of<'a>(
 ) -> Flaw<'a> {
     let text = text_of(line.bytes);
     if fault.line == 1 {
-        return match file.has_header(text) {
-            true => Flaw::Layout(file, LayoutFlaw::NoLineFeed),
-            false => Flaw::Layout(file, header_flaw(text)),
-        };
+        return Flaw::Layout(file, first_flaw(file, text));
     }
     if fault.number == 50 {
         if let Some(flaw) = bytes_flaw(line, before) {
@@ -114,6 +111,17 @@ fn flaw_of<'a>(
     match flaw {
         Some(flaw) => flaw,
         None => Flaw::Other(form),
+    }
+}
+
+// Why a line isn't the first line of a file.
+fn first_flaw<'a>(file: File, line: &'a str) -> LayoutFlaw<'a> {
+    if file.has_header(line) {
+        return LayoutFlaw::NoLineFeed;
+    }
+    match line.strip_suffix("\r") {
+        Some(header) if file.has_header(header) => LayoutFlaw::CarriageReturn,
+        _ => header_flaw(line),
     }
 }
 
