@@ -1,10 +1,11 @@
 //! Which element of a description has a fault, and which condition it doesn't meet.
+use crate::documents::first_slip;
 use crate::elements::Place;
 use crate::flaws::Flaw;
 use crate::limits::limit_flaw;
 use crate::naming::{join_flaw, known_flaw, twice_flaw};
 use crate::rules::{elements_in, outer_kind};
-use forms::{Shown, text_of};
+use forms::Shown;
 use microkit::{Need, has_form, kind_within, rules_of};
 use std::alloc::{AllocError, Global};
 use std::fmt;
@@ -34,10 +35,13 @@ pub fn explain_fault(
             format!(in alloc; "{name}:{line}: {told}")
         }
         Err(other) if other == Fault::MEMORY => format!(in alloc; "{name}: no memory"),
-        Err(_) => {
-            let words = document_words(text, fault.number);
-            format!(in alloc; "{name}:{line}: {words}")
-        }
+        Err(_) => match document_words(fault.number) {
+            Some(words) => format!(in alloc; "{name}:{line}: {words}"),
+            None => {
+                let slip = first_slip(alloc, text)?;
+                format!(in alloc; "{name}:{line}: this isn't read as XML: {slip}")
+            }
+        },
     }
 }
 
@@ -136,7 +140,7 @@ fn form_flaw<'a>(place: Place<'a, '_>) -> Option<(Option<&'a [u8]>, Flaw<'a>)> {
             .iter()
             .find(|rule| rule.0.as_bytes() == attribute.name)
         {
-            None => return Some((Some(attribute.name), Flaw::Attribute(attribute.name))),
+            None => return Some((Some(attribute.name), Flaw::Attribute(attribute.name, kind))),
             Some(rule) if !has_form(rule.1, &attribute.value) => {
                 return Some((Some(attribute.name), Flaw::Form(rule.0, rule.1)));
             }
@@ -151,22 +155,13 @@ fn form_flaw<'a>(place: Place<'a, '_>) -> Option<(Option<&'a [u8]>, Flaw<'a>)> {
     None
 }
 
-// What is wrong with a text that isn't a document as it is read here.
-fn document_words(text: &[u8], number: u64) -> &'static str {
+// What is wrong with a text that is spelled as a document, but isn't one.
+fn document_words(number: u64) -> Option<&'static str> {
     match number {
-        52 => "an attribute is given twice",
-        54 =>
+        52 => Some("an attribute is given twice"),
+        54 => Some(
             "a limit of the text is exceeded: 1 MiB, 66 levels, 20,000 elements, 32 attributes, 4,096 bytes of a value",
-        _ if has_part(text, "<!DOCTYPE") => "this isn't read as XML: document types aren't allowed",
-        _ if has_part(text, "<![CDATA[") => "this isn't read as XML: CDATA isn't allowed",
-        _ => {
-            "this isn't read as XML: only one root is allowed, with elements, attributes of printable ASCII, and \
-             comments"
-        }
+        ),
+        _ => None,
     }
-}
-
-// Whether a piece stands in a text.
-fn has_part(text: &[u8], part: &str) -> bool {
-    text_of(text).split_once(part).is_some()
 }

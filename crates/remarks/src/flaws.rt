@@ -1,6 +1,7 @@
 //! What is said of an element that has a fault.
+use base::MAX_PERIOD;
 use forms::Shown;
-use microkit::Form;
+use microkit::{Form, Kind, rules_of};
 use std::fmt;
 
 /// What is wrong with an element.
@@ -8,8 +9,8 @@ use std::fmt;
 pub(crate) enum Flaw<'a> {
     /// No element of this name stands there, but these: outside of all, or within one of this name.
     Element(&'a [u8], &'static str),
-    /// The element has no such attribute.
-    Attribute(&'a [u8]),
+    /// An element of this kind has no such attribute.
+    Attribute(&'a [u8], Kind),
     /// A value hasn't this form.
     Form(&'static str, Form),
     /// An attribute is missing.
@@ -34,6 +35,8 @@ pub(crate) enum Flaw<'a> {
     Overlap(u64),
     /// A budget is more than its period.
     Budget,
+    /// The budget that isn't given is more than the period.
+    DefaultBudget,
     /// Calls are given by ends, and by domains too.
     Mixed,
     /// An end more than two.
@@ -46,6 +49,8 @@ pub(crate) enum Flaw<'a> {
     Priority,
     /// A number is larger than this.
     Large(&'static str, u64),
+    /// A time that is no number of microseconds within the limits.
+    Time(&'static str),
     /// A domain more than 63.
     Domains,
     /// A limit of tables is passed.
@@ -58,7 +63,7 @@ impl fmt::Display for Flaw<'_> {
     fn fmt<W: fmt::Write>(&self, f: &mut fmt::Formatter<W>) -> fmt::Result {
         match *self {
             Flaw::Element(outer, inner) => tell_element(f, outer, inner),
-            Flaw::Attribute(name) => write!(f, "there is no attribute {}", Shown { bytes: name }),
+            Flaw::Attribute(name, kind) => tell_attribute(f, name, kind),
             Flaw::Form(name, form) => write!(f, "{name} must be {}", form_words(form)),
             Flaw::Missing(name) => write!(f, "{name} is missing"),
             Flaw::NoRegion(name) => write!(
@@ -80,9 +85,25 @@ impl fmt::Display for Flaw<'_> {
             ),
             Flaw::Overlap(line) => write!(f, "this region overlaps the region in line {line}"),
             Flaw::Large(name, most) => write!(f, "{name} must be at most {most}"),
+            Flaw::Time(name) => write!(f, "{name} must be 1 to {MAX_PERIOD} microseconds"),
             flaw => f.write_str(plain(flaw)),
         }
     }
+}
+
+// Which attributes there are.
+fn tell_attribute<W: fmt::Write>(
+    f: &mut fmt::Formatter<W>,
+    name: &[u8],
+    kind: Kind,
+) -> fmt::Result {
+    write!(f, "there is no attribute {}", Shown { bytes: name })?;
+    let mut separator = ", but ";
+    for rule in rules_of(kind) {
+        write!(f, "{separator}{}", rule.0)?;
+        separator = ", ";
+    }
+    Ok(())
 }
 
 // Which elements may stand there.
@@ -117,6 +138,8 @@ fn plain(flaw: Flaw<'_>) -> &'static str {
         Flaw::Address =>
             "its address must be a multiple of the page size, and its end must be below 2^64",
         Flaw::Budget => "its budget is more than its period",
+        Flaw::DefaultBudget =>
+            "its budget, by default 1000 microseconds, is more than its period: give a budget too",
         Flaw::Mixed => "a domain has pp too, and there it means the opposite",
         Flaw::ThirdEnd => "a channel has two ends",
         Flaw::Ends => "it has fewer than two ends",

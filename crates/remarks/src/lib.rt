@@ -3,6 +3,7 @@
 //! `serving` stands on it. It knows no policy and no verdict.
 #![tactic(auto)]
 
+mod documents;
 mod elements;
 mod faults;
 mod flaws;

@@ -2,7 +2,11 @@
 use crate::elements::Place;
 use crate::flaws::Flaw;
 use crate::naming::Found;
+use base::MAX_PERIOD;
 use microkit::{MAX_DOMAINS, MAX_ID, MAX_PRIORITY, number_of};
+
+/// The number of the last core.
+const LAST_CORE: u64 = 15;
 
 /// Returns the limit that an element passes: one of its own, of the number of domains, or of its table.
 pub(crate) fn limit_flaw<'a>(place: Place<'a, '_>) -> Option<Found<'a>> {
@@ -11,6 +15,15 @@ pub(crate) fn limit_flaw<'a>(place: Place<'a, '_>) -> Option<Found<'a>> {
     }
     if is_above(place.value("priority"), MAX_PRIORITY) {
         return Some((Some(b"priority"), Flaw::Large("priority", MAX_PRIORITY)));
+    }
+    if is_above(place.value("cpu"), LAST_CORE) {
+        return Some((Some(b"cpu"), Flaw::Large("cpu", LAST_CORE)));
+    }
+    if is_no_time(place.value("budget")) {
+        return Some((Some(b"budget"), Flaw::Time("budget")));
+    }
+    if is_no_time(place.value("period")) {
+        return Some((Some(b"period"), Flaw::Time("period")));
     }
     let is_domain = place.is_named("protection_domain");
     if is_domain && domains_before(place) >= MAX_DOMAINS {
@@ -23,6 +36,13 @@ pub(crate) fn limit_flaw<'a>(place: Place<'a, '_>) -> Option<Found<'a>> {
 fn is_above(value: Option<&[u8]>, most: u64) -> bool {
     match value {
         Some(value) => number_of(value).is_some_and(|number| number > most),
+        None => false,
+    }
+}
+
+fn is_no_time(value: Option<&[u8]>) -> bool {
+    match value {
+        Some(value) => number_of(value).is_some_and(|time| time < 1 || time > MAX_PERIOD),
         None => false,
     }
 }

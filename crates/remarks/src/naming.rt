@@ -83,7 +83,12 @@ fn machine_before<'a, 't>(place: Place<'a, 't>) -> Option<Place<'a, 't>> {
 pub(crate) fn join_flaw<'a>(place: Place<'a, '_>) -> Option<Found<'a>> {
     match place.name() {
         b"memory_region" => region_flaw(place),
-        b"protection_domain" | b"virtual_machine" => Some((Some(b"budget"), Flaw::Budget)),
+        b"protection_domain" | b"virtual_machine" => {
+            Some(match place.value("budget") {
+                Some(_) => (Some(b"budget"), Flaw::Budget),
+                None => (Some(b"period"), Flaw::DefaultBudget),
+            })
+        }
         b"end" => end_flaw(place),
         b"channel" => Some((None, channel_flaw(place))),
         _ => None,

@@ -1,0 +1,365 @@
+//! Why a text isn't a document: the first thing in it that isn't spelled as it should be.
+use forms::Shown;
+use std::alloc::{AllocError, Global};
+use std::fmt;
+
+/// What isn't spelled as it should be.
+#[derive(Clone, Copy)]
+pub(crate) enum Slip<'t> {
+    /// A text without an element.
+    Empty,
+    ByteOrderMark,
+    DocumentType,
+    CharacterData,
+    Instruction,
+    Namespace,
+    /// A comment without an end.
+    OpenComment,
+    /// Two dashes in a comment.
+    Dashes,
+    /// Something behind the root.
+    AfterRoot,
+    /// Text between tags.
+    Text,
+    /// A tag without a name.
+    Nameless,
+    /// The end of an element where none is open.
+    NoneOpen(&'t [u8]),
+    /// The end of another element than the one that is open.
+    OtherEnd(&'t [u8], Open<'t>),
+    /// An element without an end.
+    Unclosed(Open<'t>),
+    /// A tag, of this element, in which something else than an attribute stands.
+    Tag(&'t [u8]),
+    /// An attribute without `=` and a value.
+    NoValue(&'t [u8]),
+    /// A value without quotes.
+    NoQuote(&'t [u8]),
+    /// A value with a byte that can't be in it.
+    Value(&'t [u8]),
+    /// A value with a wrong reference.
+    Reference(&'t [u8]),
+    /// None of these was found.
+    Unknown,
+}
+
+/// An element that is open, and the line of its tag.
+#[derive(Clone, Copy)]
+pub(crate) struct Open<'t> {
+    name: &'t [u8],
+    line: u64,
+}
+
+/// Returns the first thing in a text that isn't spelled as it should be.
+///
+/// # Errors
+///
+/// [`AllocError`] where memory is refused.
+pub(crate) fn first_slip<'t>(alloc: Global, text: &'t [u8]) -> Result<Slip<'t>, AllocError> {
+    if text.starts_with(b"\xef\xbb\xbf") {
+        return Ok(Slip::ByteOrderMark);
+    }
+    let mut scan = Scan {
+        rest: text,
+        line: 1,
+        open: Vec::new(alloc),
+        has_root: false,
+    };
+    if text.starts_with(b"<?xml") {
+        scan.take_past(b"?>");
+    }
+    for _ in 0..text.len() {
+        scan.spaces();
+        if scan.rest.is_empty() {
+            break;
+        }
+        if let Some(slip) = scan.item()? {
+            return Ok(slip);
+        }
+    }
+    Ok(match scan.open.last() {
+        Some(open) => Slip::Unclosed(*open),
+        None if scan.has_root => Slip::Unknown,
+        None => Slip::Empty,
+    })
+}
+
+/// What is left of a text, and what was found before that.
+#[derive(Drop)]
+struct Scan<'t> {
+    rest: &'t [u8],
+    line: u64,
+    open: Vec<Open<'t>>,
+    has_root: bool,
+}
+
+impl<'t> Scan<'t> {
+    // Takes so many bytes, or all that are left.
+    fn take(&mut self, count: usize) -> &'t [u8] {
+        let (taken, rest) = self.rest.split_at(count.min(self.rest.len()));
+        let feeds = taken.iter().filter(|byte| **byte == b'\n').count();
+        self.line = self.line.saturating_add(feeds as u64);
+        self.rest = rest;
+        taken
+    }
+
+    // Takes these bytes, if they come next.
+    fn has_taken(&mut self, front: &[u8]) -> bool {
+        let comes = self.rest.starts_with(front);
+        if comes {
+            self.take(front.len());
+        }
+        comes
+    }
+
+    // Takes all up to these bytes, and them too; or all that is left. Returns whether they were found.
+    fn take_past(&mut self, end: &[u8]) -> bool {
+        for _ in 0..self.rest.len() {
+            if self.has_taken(end) {
+                return true;
+            }
+            self.take(1);
+        }
+        false
+    }
+
+    // Takes the white space that comes next.
+    fn spaces(&mut self) {
+        let count = self.rest.iter().take_while(|byte| is_space(**byte)).count();
+        self.take(count);
+    }
+
+    // Takes the name that comes next; nothing, if none does.
+    fn name(&mut self) -> &'t [u8] {
+        let count = match self.rest.first() {
+            Some(first) if first.is_ascii_alphabetic() || *first == b'_' => {
+                self.rest
+                    .iter()
+                    .take_while(|byte| is_of_name(**byte))
+                    .count()
+            }
+            _ => 0,
+        };
+        self.take(count)
+    }
+
+    // Takes a comment or a tag. Returns what is wrong with it, if anything is.
+    fn item(&mut self) -> Result<Option<Slip<'t>>, AllocError> {
+        if self.has_taken(b"<!--") {
+            return Ok(self.comment());
+        }
+        if self.rest.starts_with(b"<!DOCTYPE") {
+            return Ok(Some(Slip::DocumentType));
+        }
+        if self.rest.starts_with(b"<![CDATA[") {
+            return Ok(Some(Slip::CharacterData));
+        }
+        if self.rest.starts_with(b"<?") {
+            return Ok(Some(Slip::Instruction));
+        }
+        if self.has_root && self.open.is_empty() {
+            return Ok(Some(Slip::AfterRoot));
+        }
+        if self.has_taken(b"</") {
+            return Ok(self.end());
+        }
+        if self.has_taken(b"<") {
+            return self.begin();
+        }
+        Ok(Some(Slip::Text))
+    }
+
+    // Takes what is left of a comment.
+    fn comment(&mut self) -> Option<Slip<'t>> {
+        if !self.take_past(b"--") {
+            return Some(Slip::OpenComment);
+        }
+        if self.has_taken(b">") {
+            None
+        } else {
+            Some(Slip::Dashes)
+        }
+    }
+
+    // Takes what is left of the tag that ends an element.
+    fn end(&mut self) -> Option<Slip<'t>> {
+        let name = self.name();
+        match self.open.pop() {
+            None => return Some(Slip::NoneOpen(name)),
+            Some(open) if open.name != name => return Some(Slip::OtherEnd(name, open)),
+            Some(_) => {}
+        }
+        self.spaces();
+        if self.has_taken(b">") {
+            None
+        } else {
+            Some(Slip::Tag(name))
+        }
+    }
+
+    // Takes what is left of the tag that begins an element.
+    fn begin(&mut self) -> Result<Option<Slip<'t>>, AllocError> {
+        let line = self.line;
+        let name = self.name();
+        if name.is_empty() {
+            return Ok(Some(Slip::Nameless));
+        }
+        self.has_root = true;
+        for _ in 0..self.rest.len() {
+            let left = self.rest.len();
+            self.spaces();
+            if self.has_taken(b"/>") {
+                return Ok(None);
+            }
+            if self.has_taken(b">") {
+                self.open.push(Open { name, line })?;
+                return Ok(None);
+            }
+            if self.rest.starts_with(b":") || self.rest.starts_with(b"xmlns") {
+                return Ok(Some(Slip::Namespace));
+            }
+            if self.rest.len() == left {
+                return Ok(Some(Slip::Tag(name)));
+            }
+            if let Some(slip) = self.attribute(name) {
+                return Ok(Some(slip));
+            }
+        }
+        Ok(Some(Slip::Tag(name)))
+    }
+
+    // Takes an attribute of an element of this name.
+    fn attribute(&mut self, element: &'t [u8]) -> Option<Slip<'t>> {
+        let name = self.name();
+        if name.is_empty() {
+            return Some(Slip::Tag(element));
+        }
+        self.spaces();
+        if !self.has_taken(b"=") {
+            return Some(Slip::NoValue(name));
+        }
+        self.spaces();
+        let quote = match self.rest.first() {
+            Some(quote) if *quote == b'"' || *quote == b'\'' => *quote,
+            _ => return Some(Slip::NoQuote(name)),
+        };
+        self.take(1);
+        let count = self
+            .rest
+            .iter()
+            .take_while(|byte| is_of_value(quote, **byte))
+            .count();
+        let value = self.take(count);
+        if !self.has_taken(&[quote]) {
+            return Some(Slip::Value(name));
+        }
+        if value.contains(&b'&') && !has_known_references(value) {
+            return Some(Slip::Reference(name));
+        }
+        None
+    }
+}
+
+fn is_space(byte: u8) -> bool {
+    byte == b' ' || byte == b'\t' || byte == b'\n' || byte == b'\r'
+}
+
+fn is_of_name(byte: u8) -> bool {
+    byte.is_ascii_alphanumeric() || byte == b'_' || byte == b'-' || byte == b'.'
+}
+
+fn is_of_value(quote: u8, byte: u8) -> bool {
+    (b' '..=b'~').contains(&byte) && byte != b'<' && byte != quote
+}
+
+// Whether each `&` begins a reference that ends, by a name that is known or a number.
+fn has_known_references(value: &[u8]) -> bool {
+    let mut pieces = value.split(|byte| *byte == b'&');
+    pieces.next();
+    pieces.all(|piece| is_reference(piece))
+}
+
+// Whether what stands behind an `&` is a reference, and then anything.
+fn is_reference(piece: &[u8]) -> bool {
+    let names: [&[u8]; 5] = [b"lt;", b"gt;", b"amp;", b"quot;", b"apos;"];
+    names.iter().any(|name| piece.starts_with(name))
+        || piece.starts_with(b"#") && piece.contains(&b';')
+}
+
+impl fmt::Display for Slip<'_> {
+    fn fmt<W: fmt::Write>(&self, f: &mut fmt::Formatter<W>) -> fmt::Result {
+        match *self {
+            Slip::NoneOpen(name) => {
+                let name = Shown { bytes: name };
+                write!(f, "`</{name}>` ends an element, but none is open")
+            }
+            Slip::OtherEnd(name, open) => {
+                let Open { name: inner, line } = open;
+                let (name, inner) = (Shown { bytes: name }, Shown { bytes: inner });
+                write!(
+                    f,
+                    "`</{name}>` ends no open element: `<{inner}>` of line {line} must end first, by `</{inner}>`, or by \
+                     `/>` in its tag"
+                )
+            }
+            Slip::Unclosed(open) => {
+                let Open { name, line } = open;
+                let name = Shown { bytes: name };
+                write!(f, "`<{name}>` of line {line} has no end `</{name}>`")
+            }
+            Slip::Tag(name) => {
+                let name = Shown { bytes: name };
+                write!(
+                    f,
+                    "the tag of `{name}` can only have attributes, each after a space, and then `>` or `/>`; or a value \
+                     lacks its closing quote"
+                )
+            }
+            Slip::NoValue(name) => {
+                let name = Shown { bytes: name };
+                write!(f, "`{name}` has no value: write `{name}=\"..\"`")
+            }
+            Slip::NoQuote(name) => {
+                let name = Shown { bytes: name };
+                write!(f, "the value of `{name}` must be in quotes")
+            }
+            Slip::Value(name) => {
+                let name = Shown { bytes: name };
+                write!(
+                    f,
+                    "the value of `{name}` has no closing quote, or it has `<` or a byte that isn't printable ASCII"
+                )
+            }
+            Slip::Reference(name) => {
+                let name = Shown { bytes: name };
+                write!(
+                    f,
+                    "in the value of `{name}` an `&` must begin `&lt;`, `&gt;`, `&amp;`, `&quot;`, `&apos;`, or a number \
+                     as `&#65;`"
+                )
+            }
+            slip => f.write_str(plain(slip)),
+        }
+    }
+}
+
+// A sentence without words of its own.
+fn plain(slip: Slip<'_>) -> &'static str {
+    match slip {
+        Slip::Empty => "there is no element: a description is an element `system`",
+        Slip::ByteOrderMark => "the text begins with a byte order mark: remove its three bytes",
+        Slip::DocumentType => "document types aren't allowed",
+        Slip::CharacterData => "CDATA isn't allowed",
+        Slip::Instruction => "`<?` is only allowed in one declaration, before all else",
+        Slip::Namespace => "namespaces aren't allowed",
+        Slip::OpenComment => "a comment has no end `-->`",
+        Slip::Dashes => "`--` isn't allowed in a comment",
+        Slip::AfterRoot => "after the root only comments are allowed",
+        Slip::Text => "text isn't allowed between tags",
+        Slip::Nameless => "a tag must begin with a name",
+        _ => {
+            "only one root is allowed, with elements, attributes of printable ASCII, and comments. A declaration can \
+             only have version 1.0, and the encoding UTF-8 or US-ASCII."
+        }
+    }
+}
