@@ -13,11 +13,12 @@ pub struct LabelNames<'a> {
 
 impl fmt::Display for LabelNames<'_> {
     fn fmt<W: fmt::Write>(&self, f: &mut fmt::Formatter<W>) -> fmt::Result {
-        let mut separator = "";
+        let mut is_first = true;
         for label in self.labels.iter() {
+            let separator = if is_first { "" } else { ", " };
             let name = label_name(self.table, label);
             write!(f, "{separator}`{name}`")?;
-            separator = ", ";
+            is_first = false;
         }
         Ok(())
     }
