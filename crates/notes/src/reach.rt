@@ -25,7 +25,7 @@ pub fn explain_reach(
     let mut lines = String::new(alloc);
     let programs = programs_of(table);
     push_programs(&mut lines, table, policy, programs)?;
-    let others = table.labels().difference(programs).iter().count();
+    let others = count(table.labels().difference(programs));
     push_others(&mut lines, table_file, policy_file, others)?;
     Ok(lines)
 }
@@ -39,6 +39,15 @@ fn programs_of(table: &Table) -> Labels {
         }
     }
     programs
+}
+
+/// How many labels are in a set.
+fn count(labels: Labels) -> usize {
+    let mut count = 0usize;
+    for _ in labels.iter() {
+        count = count.saturating_add(1);
+    }
+    count
 }
 
 /// Adds a line for each label that reaches others of these, and one for those that reach none.
@@ -110,7 +119,7 @@ fn push_apart(
         table,
         labels: apart,
     };
-    let (only, what) = if programs.iter().count() < 2 {
+    let (only, what) = if count(programs) < 2 {
         ("only ", " has a thread")
     } else {
         ("", " can't reach the other labels that have a thread")
