@@ -4,6 +4,7 @@ pub mod Allowed
 pub mod Bounded
 pub mod Budgets
 pub mod Acting
+pub mod Keeping
 pub mod Awake
 pub mod Altered
 pub mod Safe

@@ -11,6 +11,7 @@ pub mod Rules
 pub mod Sweep
 pub mod RulePlaces
 pub mod Unbroken
+pub mod Sharpness
 pub mod RowEdges
 pub mod Members
 pub mod Stepping

@@ -3,6 +3,7 @@ pub mod Rows
 pub mod Places
 pub mod Domain
 pub mod Closed
+pub mod Sharp
 pub mod Needed
 pub mod Broken
 pub mod Closing

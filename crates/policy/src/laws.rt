@@ -4,6 +4,7 @@ ghost use Rattle.base.specs.declared.kind.Kind.{Kind};
 ghost use Rattle.base.specs.declared.kind.Kind.TheVariants as authority;
 ghost use Rattle.policy.specs.{declared.broken.Broken.Broken as BrokenOf, Broken.IsBrokenAt, Closed.IsClosed};
 ghost use Rattle.policy.specs.{Cut.{IsCut, IsHolding, IsNear}, Domain.EdgeTest, Needed.{BreaksOnly, Obeys, Rule}};
+ghost use Rattle.policy.specs.Sharp.{IsSharplyClosed, KeeperTest, Told};
 ghost use Rattle.policy.specs.Take.{HasNone, MayTake};
 
 /// A law: a closed policy obeys each of the eight rules, and no rule follows from the others.
@@ -19,6 +20,17 @@ pub fn closed_policies_obey_each_rule()
 /// A law: a policy is closed exactly if it breaks no rule of closed policies, at no place.
 pub fn closed_policies_are_unbroken()
     ensures { (test : EdgeTest) → IsClosed test ↔ ((broken : BrokenOf) → ¬ IsBrokenAt test broken) }
+{}
+
+/// A law: a closed policy is sharply closed, whichever labels keep capabilities for CNodes.
+///
+/// A policy that is sharply closed stays so where fewer labels keep them.
+pub fn closed_policies_are_sharply_closed()
+    ensures closed { (test : EdgeTest) (keeps : KeeperTest) → IsClosed test → IsSharplyClosed test (Told keeps) }
+    ensures fewer { (test : EdgeTest) (keeps fewer : KeeperTest)
+        → ((a : ℕ) → fewer a ≡ true → keeps a ≡ true)
+        → IsSharplyClosed test (Told keeps)
+        → IsSharplyClosed test (Told fewer) }
 {}
 
 /// A law: a label has cut authority on each label from which it may take.

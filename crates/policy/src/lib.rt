@@ -26,8 +26,8 @@ pub use acting::{
 pub use broken::{Broken, first_broken};
 pub use closing::close;
 pub use laws::{
-    closed_policies_are_unbroken, closed_policies_obey_each_rule, takes_follow_paths,
-    what_may_be_taken_may_be_cut,
+    closed_policies_are_sharply_closed, closed_policies_are_unbroken,
+    closed_policies_obey_each_rule, takes_follow_paths, what_may_be_taken_may_be_cut,
 };
 pub use policy::Policy;
 pub use why::Why;
