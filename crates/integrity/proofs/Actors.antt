@@ -1,19 +1,19 @@
--- What follows where only labels that may act have calls that aren't refused; and which labels may act in a closed policy.
-use Rattle.std.proofs.Common.{ℕ, ◌∙◌, ◌≡◌, ◌⊎◌, Some, inl, inr, refl, subst, sym, true}
+-- What follows where only labels that may act have calls that aren't refused; and which labels may act.
+use Rattle.std.proofs.Common.{ℕ, ◌≡◌, ◌⊎◌, Some, inl, inr, refl, subst, sym, true}
 use Rattle.base.specs.declared.{ids.ObjId.ObjId, kind.Kind.Kind as authority}
 use Rattle.machine.specs.{declared.call.{Event.Event, Outcome.Outcome}, Authority.label_of, Layout.Layout, Machine.Machine}
 use Rattle.machine.specs.{Outcomes.IsRefused, Step.Step}
 use Rattle.steps.proofs.Steps.{refused_changes_nothing}
-use Rattle.policy.specs.{Closed.IsClosed, Domain.EdgeTest}
+use Rattle.policy.specs.{Domain.EdgeTest, Sharp.UsesRise}
 use Rattle.integrity.specs.{Acting.{MayAct, Starts, MayAct.{started, starts}}, Apart.NeverChanges, Safe.{IsReached, RefusesOthers}}
 use Rattle.integrity.{specs.Shrinks.IsSame, proofs.Asleep.acts_of}
 
--- in a closed policy, a label controls what a label that it controls controls
+-- where uses rise, a label controls what a label that it controls controls
 pub acts_by_control :
-    (t : Layout) (allowed : EdgeTest) → IsClosed allowed → {a : ℕ} → MayAct t allowed a
+    (t : Layout) (allowed : EdgeTest) → UsesRise allowed → {a : ℕ} → MayAct t allowed a
     → Starts t a ⊎ ((b : ℕ) × Starts t b × (allowed b authority.Control a ≡ true))
-acts_by_control t allowed closed (starts from_boot) = inl from_boot
-acts_by_control t allowed closed (started {a} {b} acts controls) = by (acts_by_control t allowed closed acts) where
+acts_by_control t allowed rise (starts from_boot) = inl from_boot
+acts_by_control t allowed rise (started {a} {b} acts controls) = by (acts_by_control t allowed rise acts) where
   by :
       Starts t b ⊎ ((c : ℕ) × Starts t c × (allowed c authority.Control b ≡ true))
       → Starts t a ⊎ ((c : ℕ) × Starts t c × (allowed c authority.Control a ≡ true))
@@ -22,7 +22,7 @@ acts_by_control t allowed closed (started {a} {b} acts controls) = by (acts_by_c
       inr (
         above.0,
         above.1,
-        closed.subjects_agree above.0 b authority.Control (record { domain = inr above.2; of_use = refl }) a ∙ controls,
+        rise above.0 b authority.Control (record { domain = inr above.2; of_use = refl }) a controls,
       )
 
 pub control_acts :

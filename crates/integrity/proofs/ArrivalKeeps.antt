@@ -6,14 +6,16 @@ use Rattle.machine.specs.declared.{call.Event.Event, slot_address.{Ends.Ends, Sl
 use Rattle.machine.specs.{Authority.label_of, Capabilities.gives, Layout.Layout, Machine.Machine, Step.Deliver.{arrival_of, with_arrival}}
 use Rattle.machine.specs.{Tree.{copied, parent_of_copy}, WellFormed.IsWellFormed}
 use Rattle.steps.proofs.Arrival.{Arrives, arrival_fills, arrival_formed, arrives}
-use Rattle.policy.specs.{Change.WayToChange.{grants, modifies}, Closed.{IsClosed, MayBeGranted, granted}, Domain.EdgeTest}
+use Rattle.policy.specs.{Change.WayToChange.{grants, modifies}, Closed.MayBeGranted, Domain.EdgeTest}
+use Rattle.integrity.proofs.Reach.{controlled_keeps, controlled_put}
 use Rattle.integrity.{specs.{Awake.IsAwake, Invariant.{IsHeld, IsSound}}, proofs.FillKeeps.{MayFill, copy_derives, fill_fits, given_of_use}}
 use Rattle.integrity.proofs.{FillKeeps.in_node, Held.{bare_of, held_of}, Keeps.{Changes, Keeps, unchanged}, Reach.{IsControlled, IsInReach}}
 use Rattle.integrity.proofs.{Reach.{IsWithin, found_in_reach, found_within, led_controlled}, SlotKeeps.slots_keep}
+use Rattle.integrity.specs.Keeping.{IsSharp}
 
 module _
     (t : Layout) (allowed : EdgeTest) (began : Machine) (event : Event) (a : ℕ) (m : Machine) (sound : IsSound t allowed m)
-    (closed : IsClosed allowed) (sender : ObjId) (sending : Sending) (receiver : ObjId) (slot : Option SlotAddress)
+    (closed : IsSharp t allowed) (sender : ObjId) (sending : Sending) (receiver : ObjId) (slot : Option SlotAddress)
     (s b e : ℕ) (sends : label_of t m sender ≡ Some s) (gets : label_of t m receiver ≡ Some b)
     (may_grant : sending.grant ≡ true → allowed s authority.Grant e ≡ true) (receives : allowed b authority.Receive e ≡ true)
     (acts : ((a ≡ s) × ((awake : IsAwake t allowed began a) → awake.acts b ≡ true)) ⊎ (a ≡ b)) where
@@ -27,15 +29,15 @@ module _
     -- the capability is held in the sender's domain, and comes into a CNode that the receiver controls
     source : IsWithin t allowed m s ends.source.holder
     source =
-        found_within t allowed m held closed.subjects_agree s sender done.from ends.source done.finds.left sends done.finds.ends
+        found_within t allowed m held closed.uses_rise s sender done.from ends.source done.finds.left sends done.finds.ends
 
-    reach : IsInReach t allowed m held closed.subjects_agree s ends.held
+    reach : IsInReach t allowed m held closed.uses_rise s ends.held
     reach =
-        found_in_reach t allowed m held closed.subjects_agree s sender done.from ends.source done.finds.left ends.held sends
+        found_in_reach t allowed m held closed.uses_rise s sender done.from ends.source done.finds.left ends.held sends
         done.finds.ends done.finds.holds
 
     target : IsControlled t allowed m b ends.target.holder
-    target = led_controlled t allowed m held closed.subjects_agree b receiver done.to ends.target gets done.leads_to
+    target = led_controlled t allowed m held closed.uses_rise b receiver done.to ends.target gets done.leads_to
 
     -- what the capability gives the sender has, so the receiver has it, and so has the CNode
     edges :
@@ -44,9 +46,9 @@ module _
     edges k to given labelled =
         let uses = given_of_use ends.held.detail k given in
         let to_is : to ≡ reach.label = same_Some to reach.label (sym labelled ∙ reach.labelled) in
-        sym (closed.subjects_agree b target.label k (record { domain = inr target.controls; of_use = uses }) to)
-        ∙ closed.grant_shares s b k to
-        (record { granted = may; of_use = uses; has = ap (allowed s k) to_is ∙ reach.edge k given uses })
+        closed.uses_fall b target.label k to (controlled_put t allowed m b ends.target.holder target) uses
+        (closed.keepers_are_granted s b k to target.keeper
+        (record { granted = may; of_use = uses; has = ap (allowed s k) to_is ∙ reach.edge k given uses }))
 
     may_change :
         ((a ≡ s) × ((awake : IsAwake t allowed began a) → awake.acts b ≡ true)) ⊎ (a ≡ b) → Changes t allowed began a target.label
@@ -62,10 +64,11 @@ module _
       labelled = target.labelled;
       has = may_change acts;
       edges =
-          in_node t allowed m ends.target (copied ends.held ends.held.detail) target.label target.is_node target.labelled edges;
+          in_node t allowed m ends.target (copied ends.held ends.held.detail) target.label target.is_node target.labelled edges
+          (controlled_keeps t allowed m b ends.target.holder target);
       derives =
-          copy_derives t allowed m held closed.derive_by_grant ends.source ends.held source.label target.label source.labelled
-          (closed.derive_by_grant source.label target.label (granted s b may source.domain (inr target.controls)));
+          copy_derives t allowed m held closed.derives_on ends.source ends.held source.label target.label source.labelled
+          (closed.grants_derive s b source.label target.label may source.domain (controlled_put t allowed m b ends.target.holder target));
     }
 
     arrived_keeps : IsWellFormed (with_arrival m (Ok ends)) → Keeps t allowed began event a m (with_arrival m (Ok ends))

@@ -2,7 +2,7 @@
 -- whose label may not act sleeps.
 use Rattle.std.proofs.{Common.{ℕ, ◌∙◌, ◌≡◌, None, Some, inl, inr, refl, subst, sym}, lemmas.Option.{none-some, same_Some}}
 use Rattle.base.specs.declared.ids.ObjId.{ObjId}
-use Rattle.machine.specs.{declared.{object.Object.{Object, Object as o}, thread.{Tcb.Tcb}}, Authority.label_of}
+use Rattle.machine.specs.{declared.{object.Object.{Object, Object as o}, thread.{Receiving.Receiving, RunState.RunState as state, Tcb.Tcb}}, Authority.label_of}
 use Rattle.machine.specs.{Layout.Layout, Machine.{Machine, object_of}}
 use Rattle.policy.specs.Domain.{EdgeTest}
 use Rattle.integrity.specs.Awake.{IsAsleep, OthersSleep, SleepsOrActs}
@@ -26,6 +26,9 @@ sleeps_on t allowed m next id thread same (inr acts) = inr (λ a at. acts a (sym
 not_blocked : (thread : Tcb) → IsAsleep thread → IsBlocked thread.state → ⊥
 not_blocked thread (inl inactive) blocked = subst IsBlocked inactive blocked
 not_blocked thread (inr ready) blocked = subst IsBlocked ready.0 blocked
+
+pub asleep_waits : (thread : Tcb) (receiving : Receiving) → IsAsleep thread → thread.state ≡ state.Receiving receiving → ⊥
+asleep_waits thread receiving asleep waits = not_blocked thread asleep (subst IsBlocked (sym waits) tt)
 
 -- so a blocked thread is of a label that may act
 pub blocked_acts :

@@ -14,6 +14,7 @@ use Rattle.table.proofs.{AtBoot.{initial_lawful, label_declared, rest_lends}, Lo
 use Rattle.policy.specs.Domain.{EdgeTest}
 use Rattle.integrity.specs.{Acting.MayAct.starts, Awake.{CallersAreServed, OthersSleep, SleepsOrActs}, OfTable.IsOfTable}
 use Rattle.integrity.proofs.{Asleep.acts_of, InMemory.takes_memory, Shrinking.{same_reply, same_tcb}}
+use Rattle.integrity.{specs.Keeping.{KeepersHoldNodes, MayKeep.holds, WaitersMayIdle}, proofs.ObjectLabels.kind_there}
 use mathlib.Core.Bool.{false≢true}
 
 -- untyped memory that has an address
@@ -197,3 +198,33 @@ boot_of_table t m lawful boot =
           declared.object_is lends);
       counted = let e = boot.next in omega (arith, e);
     }
+
+-- a CNode that holds a CNode's capability at boot is of a label that holds one
+pub boot_nodes : (t : Layout) (allowed : EdgeTest) (m : Machine) → IsBoot t m → KeepersHoldNodes t allowed m
+boot_nodes t allowed m boot slot held filled is_node for_node label labelled =
+    let there = kind_there m slot.holder kind.CNode is_node in
+    let declared = declared_at t m boot slot.holder there.0 there.1 in
+    let of_kind : kind_of_object there.0 ≡ kind.CNode =
+    same_Some (kind_of_object there.0) kind.CNode (sym (ap (option_map kind_of_object) there.1) ∙ is_node) in
+    holds (record {
+      slot = slot;
+      held = held;
+      filled = sym (boot.caps slot) ∙ filled;
+      for_node = for_node;
+      holder = declared.initial;
+      declares = declared.declares;
+      in_node =
+          sym (ap kind_of_object declared.object_is ∙ kind-bound t slot.holder declared.initial.object) ∙ of_kind;
+      labelled =
+          same_Some declared.initial.label label
+          (sym (boot_label t m boot slot.holder ∙ label_declared t slot.holder declared.initial declared.declares) ∙ labelled);
+    })
+
+-- no thread waits for a message at boot
+pub boot_idlers : (t : Layout) (allowed : EdgeTest) (m : Machine) → IsLawful t → IsBoot t m → WaitersMayIdle t allowed m
+boot_idlers t allowed m lawful boot id thread receiving at waits none label labelled =
+    let declared = declared_at t m boot id (o.Tcb thread) at in
+    let is = bound_thread_is t id declared.initial.object thread declared.object_is in
+    let blank : IsBlank (o.Tcb is.0) =
+    subst IsBlank is.1 (initial_lawful t lawful id declared.initial declared.declares).blank in
+    absurd (subst IsAtRest (ap (λ (x : Tcb). x.state) (sym is.2) ∙ waits) blank.0)

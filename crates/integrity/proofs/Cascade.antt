@@ -1,5 +1,5 @@
--- What goes with capabilities that a label may remove is for objects that the label reaches: where it reaches a CNode it may use
--- what that holds, and where it reaches a thread it controls it, and so reaches its space.
+-- What goes with capabilities that a label may remove is for objects that a label reaches which it controls: where that reaches a CNode
+-- it may use what the CNode holds, and where it reaches a thread the label controls the thread too, which reaches its space.
 use Rattle.std.proofs.Common.{ℕ, ◌<◌, ◌∙◌, ◌≡◌, ◌≢◌, ◌⊎◌, Bool, Some, ap, arith, false, inl, inr, option_map, refl, subst, sym, true}
 use Rattle.std.proofs.lemmas.Option.{same_Some}
 use Rattle.base.specs.{declared.{ids.{ObjId.ObjId, SlotRef.SlotRef}, kind.Kind.{Kind, Kind as authority}}, Kinds.is_structural}
@@ -8,9 +8,10 @@ use Rattle.machine.specs.{declared.object.ObjectKind.{ObjectKind, ObjectKind as 
 use Rattle.machine.specs.{Capabilities.{gives, kind_of_detail}, Gone.{IsGone, given, gone_of, with_last}, Layout.Layout, Machine.Machine}
 use Rattle.machine.specs.{Machine.{cap_of, object_of}, Objects.{kind_of_object, slot_count}, Removal.vanishes, WellFormed.kind_of}
 use Rattle.machine.proofs.GoneLemmas.{gone_decided, losing_decided}
-use Rattle.policy.specs.{Change.{ActorTest, WayToChange, WayToChange.modifies}, Closed.IsClosed, Domain.EdgeTest, NarrowTake.WayToShrink}
+use Rattle.policy.specs.{Change.{ActorTest, WayToChange, WayToChange.modifies}, Domain.{EdgeTest, IsInDomain}, NarrowTake.WayToShrink, Sharp.UsesRise}
 use Rattle.policy.specs.NarrowTake.{is_removed, TakesByControl.removes, WayToShrink.{controls, unbinds}}
 use Rattle.integrity.{specs.{Invariant.IsSound, Removals.{MayReach, MayRemove, use_of}}, proofs.{Held.held_of, Reach.target_label}}
+use Rattle.integrity.specs.Keeping.{IsSharp}
 
 -- each capability gives the use of its object's kind
 pub gives_use : (detail : Detail) → gives detail (use_of (kind_of_detail detail)) ≡ true
@@ -35,26 +36,25 @@ of_use kind.Context = refl
 of_use kind.Frame = refl
 of_use kind.Control = refl
 
--- a label and one that it controls may do the same
-pub controls_agree :
-    (allowed : EdgeTest) → IsClosed allowed → (a b : ℕ) → allowed a authority.Control b ≡ true
-    → (k : Kind) → is_structural k ≡ false → (to : ℕ) → allowed a k to ≡ allowed b k to
-controls_agree allowed closed a b control k plain to =
-    closed.subjects_agree a b k (record { domain = inr control; of_use = plain }) to
+-- what a label may do that another controls, that one may do
+pub rises :
+    (allowed : EdgeTest) → UsesRise allowed → (a b : ℕ) → allowed a authority.Control b ≡ true
+    → (k : Kind) → is_structural k ≡ false → (to : ℕ) → allowed b k to ≡ true → allowed a k to ≡ true
+rises allowed rise a b control k plain to = rise a b k (record { domain = inr control; of_use = plain }) to
 
 -- what has slots is a CNode or a thread
 
-abbrev HasSlots : Machine → ObjId → Type 0
+abbrev pub HasSlots : Machine → ObjId → Type 0
 HasSlots m id = (kind_of m id ≡ Some kind.CNode) ⊎ (kind_of m id ≡ Some kind.Tcb)
 
-counted_kinds :
+pub counted_kinds :
     (m : Machine) (id : ObjId) (object : Object) (index : ℕ) → object_of m id ≡ Some object → index < slot_count object
     → HasSlots m id
 counted_kinds m id (o.CNode node) index at less = inl (ap (option_map kind_of_object) at)
 counted_kinds m id (o.Tcb tcb) index at less = inr (ap (option_map kind_of_object) at)
 counted_kinds m id _ index at less = absurd (omega (arith, less))
 
--- the label a controls a label, and reaches an object
+-- the label a controls a label that reaches an object
 pub record IsInReach (t : Layout) (allowed : EdgeTest) (a : ℕ) (m : Machine) (id : ObjId) : Type 0 where
   pub controlled : ℕ
   pub control : allowed a authority.Control controlled ≡ true
@@ -62,7 +62,7 @@ pub record IsInReach (t : Layout) (allowed : EdgeTest) (a : ℕ) (m : Machine) (
   pub labelled : label_of t m id ≡ Some label
   pub of_kind : ObjectKind
   pub is : kind_of m id ≡ Some of_kind
-  pub reach : MayReach allowed a controlled of_kind label
+  pub reach : MayReach allowed controlled of_kind label
 
 -- a label has a way to change a label's objects, or to make them smaller
 abbrev pub WayToAlter : EdgeTest → ActorTest → ℕ → ℕ → Type 0
@@ -70,7 +70,7 @@ WayToAlter allowed acts a label = WayToChange allowed acts a label ⊎ WayToShri
 
 module _
     (t : Layout) (allowed : EdgeTest) (a : ℕ) (m : Machine) (chosen : SlotRef → Bool) (sound : IsSound t allowed m)
-    (closed : IsClosed allowed) (may : MayRemove t allowed a m chosen) where
+    (closed : IsSharp t allowed) (may : MayRemove t allowed a m chosen) where
   abbrev Reached : ObjId → Type 0
   Reached id = IsInReach t allowed a m id
 
@@ -82,11 +82,11 @@ module _
     over_is : (k : ObjectKind) → kind_of m slot.holder ≡ Some k → over.of_kind ≡ k
     over_is k is = same_Some over.of_kind k (sym over.is ∙ is)
 
-    -- what a CNode holds may be used
-    from_node : kind_of m slot.holder ≡ Some kind.CNode → allowed a (use_of (kind_of_detail held.detail)) to.0 ≡ true
+    -- what a CNode holds the label may use that is controlled
+    from_node : kind_of m slot.holder ≡ Some kind.CNode → allowed over.controlled (use_of (kind_of_detail held.detail)) to.0 ≡ true
     from_node node =
-        agree over.reach
-        ∙ sound.confined over.label used to.0 (by_cap slot held filled node (gives_use held.detail) over.labelled to.1)
+        closed.uses_rise over.controlled over.label used (record { domain = domain over.reach; of_use = plain }) to.0
+        (sound.confined over.label used to.0 (by_cap slot held filled node (gives_use held.detail) over.labelled to.1))
       where
         used : Kind
         used = use_of (kind_of_detail held.detail)
@@ -94,19 +94,17 @@ module _
         plain : is_structural used ≡ false
         plain = of_use (kind_of_detail held.detail)
 
-        agree : MayReach allowed a over.controlled over.of_kind over.label → allowed a used to.0 ≡ allowed over.label used to.0
-        agree (inl has) =
-            controls_agree allowed closed a over.label
-            (ap (λ k. allowed a (use_of k) over.label) (sym (over_is kind.CNode node)) ∙ has) used plain to.0
-        agree (inr space) =
-            controls_agree allowed closed a over.controlled over.control used plain to.0
-            ∙ closed.subjects_agree over.controlled over.label used (record { domain = inl space.1; of_use = plain }) to.0
+        domain : MayReach allowed over.controlled over.of_kind over.label → IsInDomain allowed over.controlled over.label
+        domain (inl has) = inr (ap (λ k. allowed over.controlled (use_of k) over.label) (sym (over_is kind.CNode node)) ∙ has)
+        domain (inr space) = inl space.1
 
     -- a thread is controlled
     thread_control :
-        kind_of m slot.holder ≡ Some kind.Tcb → MayReach allowed a over.controlled over.of_kind over.label
+        kind_of m slot.holder ≡ Some kind.Tcb → MayReach allowed over.controlled over.of_kind over.label
         → allowed a authority.Control over.label ≡ true
-    thread_control thread (inl has) = ap (λ k. allowed a (use_of k) over.label) (sym (over_is kind.Tcb thread)) ∙ has
+    thread_control thread (inl has) =
+        rises allowed closed.uses_rise a over.controlled over.control authority.Control refl over.label
+        (ap (λ k. allowed over.controlled (use_of k) over.label) (sym (over_is kind.Tcb thread)) ∙ has)
     thread_control thread (inr space) = let two : kind.CNode ≡ kind.Tcb = sym space.0 ∙ over_is kind.Tcb thread in cc
 
     -- and its space is reached
@@ -159,41 +157,46 @@ module _
       let goes = (gone_decided m chosen loses.last).0 (loses.all loses.last loses.final loses.there loses.its_own) in
       subst Reached loses.its_own (gone_reached goes loses.final loses.there)
 
-  -- which, but for a CNode, the label may use
+  -- which, but for a CNode, a label may use that is controlled
+  pub reached_used :
+      (id : ObjId) (k : ObjectKind) (label : ℕ) → kind_of m id ≡ Some k → k ≢ kind.CNode → (at : IsInReach t allowed a m id)
+      → label_of t m id ≡ Some label → allowed at.controlled (use_of k) label ≡ true
+  reached_used id k label is other at labelled = by_way at.reach where
+    one : at.of_kind ≡ k
+    one = same_Some at.of_kind k (sym at.is ∙ is)
+
+    by_way : MayReach allowed at.controlled at.of_kind at.label → allowed at.controlled (use_of k) label ≡ true
+    by_way (inl has) =
+        ap (λ of_kind. allowed at.controlled (use_of of_kind) label) (sym one)
+        ∙ ap (allowed at.controlled (use_of at.of_kind)) (same_Some label at.label (sym labelled ∙ at.labelled)) ∙ has
+    by_way (inr space) = absurd (other (sym one ∙ space.0))
+
+  -- and so may the label
   pub vanished_used :
       (id : ObjId) (k : ObjectKind) (label : ℕ) → kind_of m id ≡ Some k → k ≢ kind.CNode → vanishes m chosen id ≡ true
       → label_of t m id ≡ Some label → allowed a (use_of k) label ≡ true
-  vanished_used id k label is other gone labelled = by_reach (vanished_reached id gone) where
-    by_reach : Reached id → allowed a (use_of k) label ≡ true
-    by_reach at = by_way at.reach where
-      one : at.of_kind ≡ k
-      one = same_Some at.of_kind k (sym at.is ∙ is)
-
-      by_way : MayReach allowed a at.controlled at.of_kind at.label → allowed a (use_of k) label ≡ true
-      by_way (inl has) =
-          ap (λ of_kind. allowed a (use_of of_kind) label) (sym one)
-          ∙ ap (allowed a (use_of at.of_kind)) (same_Some label at.label (sym labelled ∙ at.labelled)) ∙ has
-      by_way (inr space) = absurd (other (sym one ∙ space.0))
+  vanished_used id k label is other gone labelled =
+      let at = vanished_reached id gone in
+      rises allowed closed.uses_rise a at.controlled at.control (use_of k) (of_use k) label (reached_used id k label is other at labelled)
 
   -- an object that is reached may be altered
   pub reached_alters : (acts : ActorTest) (id : ObjId) (at : IsInReach t allowed a m id) → WayToAlter allowed acts a at.label
   reached_alters acts id at = by_kind at.of_kind at.reach where
-    -- whoever a controls has what a has
-    by_control :
-        (k : Kind) → is_removed k ≡ true → is_structural k ≡ false → allowed a k at.label ≡ true
-        → WayToAlter allowed acts a at.label
-    by_control k removing plain has =
-        let may_too = sym (controls_agree allowed closed a at.controlled at.control k plain at.label) ∙ has in
-        inr (controls (removes at.controlled k removing at.control may_too))
+    by_control : (k : Kind) → is_removed k ≡ true → allowed at.controlled k at.label ≡ true → WayToAlter allowed acts a at.label
+    by_control k removing has = inr (controls (removes at.controlled k removing at.control has))
 
-    by_kind : (k : ObjectKind) → MayReach allowed a at.controlled k at.label → WayToAlter allowed acts a at.label
-    by_kind k (inr space) = inr (controls (removes at.controlled authority.Space refl at.control space.1))
-    by_kind kind.Untyped (inl has) = inl (modifies authority.Control refl has)
-    by_kind kind.CNode (inl has) = inl (modifies authority.Control refl has)
-    by_kind kind.Tcb (inl has) = inl (modifies authority.Control refl has)
-    by_kind kind.Endpoint (inl has) = by_control authority.Reset refl refl has
-    by_kind kind.Notification (inl has) = by_control authority.Reset refl refl has
-    by_kind kind.Frame (inl has) = by_control authority.Reset refl refl has
-    by_kind kind.Reply (inl has) = inl (modifies authority.Reply refl has)
-    by_kind kind.Context (inl has) = inr (unbinds has)
-    by_kind kind.Control (inl has) = by_control authority.SchedControl refl refl has
+    -- what the controlled label may do, a may do
+    may_too : (k : Kind) → is_structural k ≡ false → allowed at.controlled k at.label ≡ true → allowed a k at.label ≡ true
+    may_too k plain has = rises allowed closed.uses_rise a at.controlled at.control k plain at.label has
+
+    by_kind : (k : ObjectKind) → MayReach allowed at.controlled k at.label → WayToAlter allowed acts a at.label
+    by_kind k (inr space) = by_control authority.Space refl space.1
+    by_kind kind.Untyped (inl has) = inl (modifies authority.Control refl (may_too authority.Control refl has))
+    by_kind kind.CNode (inl has) = inl (modifies authority.Control refl (may_too authority.Control refl has))
+    by_kind kind.Tcb (inl has) = inl (modifies authority.Control refl (may_too authority.Control refl has))
+    by_kind kind.Endpoint (inl has) = by_control authority.Reset refl has
+    by_kind kind.Notification (inl has) = by_control authority.Reset refl has
+    by_kind kind.Frame (inl has) = by_control authority.Reset refl has
+    by_kind kind.Reply (inl has) = inl (modifies authority.Reply refl (may_too authority.Reply refl has))
+    by_kind kind.Context (inl has) = inr (unbinds (may_too authority.Context refl has))
+    by_kind kind.Control (inl has) = by_control authority.SchedControl refl has

@@ -10,6 +10,9 @@ use Rattle.policy.specs.Domain.{EdgeTest}
 use Rattle.integrity.specs.{Awake.{IsAwake, IsHeldAfterCall, OthersSleep, SleepsOrActs}, Budgets.MayConfigure, Shrinks.{Lessens, Shrinks}}
 use Rattle.integrity.proofs.{Keeps.{Alters, Changes, Takes}, Losses.lessened, Shrinking.{same_context, same_reply, same_tcb}}
 use Rattle.integrity.proofs.TouchKeeps.{Fits}
+use Rattle.std.proofs.Common.{None}
+use Rattle.machine.specs.declared.thread.{Receiving.Receiving, RunState.RunState as state}
+use Rattle.policy.specs.Sharp.{MayIdle}
 
 -- the label may change the object's
 pub changed :
@@ -34,7 +37,8 @@ loses_links t allowed began a m id label old new labelled take there less thread
     shrunk t allowed began a m (with_object m id new) id label labelled take (lessened m id old new threads there queue less)
 
 module _ (t : Layout) (allowed : EdgeTest) (began : Machine) (event : Event) (a : ℕ) (m : Machine) (id : ObjId) where
-  -- a thread stays where it is, each link was there or is in the policy, the number of what it lent was given out, and it sleeps, or
+  -- a thread stays where it is, each link was there or is in the policy, the number of what it lent was given out, its label may idle if it
+  -- waits for a message without a context, and it sleeps, or
   -- its label may act
   pub tcb_fits :
       (old new : Tcb) → object_of m id ≡ Some (o.Tcb old) → new.address ≡ old.address
@@ -42,9 +46,11 @@ module _ (t : Layout) (allowed : EdgeTest) (began : Machine) (event : Event) (a 
       → (links (o.Tcb old) k end ≡ true)
       ⊎ ((from to : ℕ) → label_of t m id ≡ Some from → label_of t m end ≡ Some to → allowed from k to ≡ true))
       → ((context : ObjId) → context_lent new.state ≡ Some context → context.0 < m.next)
+      → ((receiving : Receiving) → new.state ≡ state.Receiving receiving → new.context ≡ None → (label : ℕ)
+      → label_of t m id ≡ Some label → MayIdle allowed label)
       → (IsAwake t allowed began a → OthersSleep t allowed m → SleepsOrActs t allowed m id new)
       → Fits t allowed began event a m id (o.Tcb old) (o.Tcb new)
-  tcb_fits old new was same within below sleeps =
+  tcb_fits old new was same within below idles sleeps =
       record {
         was = was;
         kind = refl;
@@ -52,6 +58,9 @@ module _ (t : Layout) (allowed : EdgeTest) (began : Machine) (event : Event) (a 
         end = ap (λ n. n + 1024) same;
         links = within;
         lent = λ context thread is lends. below context (ap (λ (x : Tcb). context_lent x.state) (same_tcb new thread is) ∙ lends);
+        idles = λ thread receiving is waits none.
+            let same = same_tcb new thread is in
+            idles receiving (ap (λ (x : Tcb). x.state) same ∙ waits) (ap (λ (x : Tcb). x.context) same ∙ none);
         sleeps = λ awake others thread is.
             subst (λ (x : Tcb). SleepsOrActs t allowed m id x) (same_tcb new thread is) (sleeps awake others);
         serves = λ awake served reply e. cc;
@@ -70,6 +79,7 @@ module _ (t : Layout) (allowed : EdgeTest) (began : Machine) (event : Event) (a 
         end = ap (λ n. n + 32) same;
         links = λ end k e. cc;
         lent = λ context thread e lends. cc;
+        idles = λ thread receiving e waits none label labelled. cc;
         sleeps = λ awake others thread e. cc;
         serves = λ awake served reply e. cc;
         share = λ before after e. cc;
@@ -90,6 +100,7 @@ module _ (t : Layout) (allowed : EdgeTest) (began : Machine) (event : Event) (a 
         end = ap (λ n. n + 32) same;
         links = held;
         lent = λ context thread e lends. cc;
+        idles = λ thread receiving e waits none label labelled. cc;
         sleeps = λ awake others thread e. cc;
         serves = λ awake served reply is.
             subst (λ (x : Reply). IsHeldAfterCall t allowed m id x) (same_reply new reply is) (serves awake);
@@ -116,6 +127,7 @@ module _ (t : Layout) (allowed : EdgeTest) (began : Machine) (event : Event) (a 
         end = ap (λ n. n + 256) same;
         links = λ end k e. cc;
         lent = λ context thread e lends. cc;
+        idles = λ thread receiving e waits none label labelled. cc;
         sleeps = λ awake others thread e. cc;
         serves = λ awake served reply e. cc;
         share = share;

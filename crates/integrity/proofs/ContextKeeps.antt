@@ -9,24 +9,25 @@ use Rattle.machine.specs.{Machine.{object_of, with_object}, Releasing.with_unbou
 use Rattle.machine.{specs.WellFormed.IsThread, proofs.{Ids.at_other, LookUps.object_of-with_object, RunsLinks.runs_bound}}
 use Rattle.steps.proofs.{ContextRow.{BindDone, ConfigureDone, UnbindDone}, ContextsFormed.{bound_is, share_is, unbound_is}}
 use Rattle.steps.proofs.{Finding.{FindsObject, found_kind}, FoundObjects.{context_of_kind, tcb_of_kind}}
-use Rattle.policy.specs.{Change.{MayChangeContext.{binds, configures as configures_it}, WayToChange.{modifies, shares}}, Closed.IsClosed}
+use Rattle.policy.specs.Change.{MayChangeContext.{binds, configures as configures_it}, WayToChange.{modifies, shares}}
 use Rattle.policy.specs.{Domain.EdgeTest, NarrowTake.WayToShrink.{stops as loses_context, unbinds}}
 use Rattle.integrity.specs.{Acting.MayAct.started, Budgets.{MayConfigure, configures}, Invariant.{IsHeld, IsSound}}
 use Rattle.integrity.{specs.Shrinks.{Lessens.released, Stops.goes_on}, proofs.{Asleep.acts_of, Contents.{changed, context_fits}}}
 use Rattle.integrity.proofs.{Contents.loses_links, ContextTouches.{context_changes, context_loses, linked_keeps, runs_on, thread_keeps}}
 use Rattle.integrity.proofs.{Held.held_of, Keeps.{Keeps, Takes, unchanged}, MessageParts.{IsReached, reached, thread_label}}
 use Rattle.integrity.proofs.{SetKeeps.set_keeps, SlotKeeps.IsOpened, ThreadKeeps.{may_control, to_thread}}
+use Rattle.integrity.specs.Keeping.{IsSharp}
 
 module _
     (t : Layout) (allowed : EdgeTest) (event : Event) (a : ℕ) (m : Machine) (sound : IsSound t allowed m)
-    (closed : IsClosed allowed) (caller : ObjId) (mine : label_of t m caller ≡ Some a) (next : Machine) where
+    (closed : IsSharp t allowed) (caller : ObjId) (mine : label_of t m caller ≡ Some a) (next : Machine) where
   held : IsHeld t allowed m
   held = held_of t allowed m sound
 
   -- the context that is found
   module _ (address : ℕ) (id : ObjId) (finds : FindsObject m caller address id d.Context) where
     to_context : IsReached t allowed m event a m sound id d.Context
-    to_context = reached t allowed m event a m sound closed.subjects_agree caller address id d.Context mine finds
+    to_context = reached t allowed m event a m sound closed.uses_rise caller address id d.Context mine finds
 
     may_use : allowed a authority.Context to_context.label ≡ true
     may_use = to_context.edge authority.Context refl refl
@@ -57,7 +58,7 @@ module _
       (λ awake. shares (configures_it governs.label (may_use address done.id done.finds) (governs.edge authority.SchedControl refl refl)))))
     where
       governs : IsReached t allowed m event a m sound done.governs d.Control
-      governs = reached t allowed m event a m sound closed.subjects_agree caller control done.governs d.Control mine done.finds_control
+      governs = reached t allowed m event a m sound closed.uses_rise caller control done.governs d.Control mine done.finds_control
 
   -- what a configure changes, whatever the event is
   module _ (control address budget period : ℕ) (done : ConfigureDone m caller control address budget period next) where
@@ -103,12 +104,10 @@ module _
       controls =
           may_control t allowed event a m sound closed caller mine next thread_address done.thread done.finds_thread
 
-      -- the thread's label may use the context as the caller's may, so it may run on it
+      -- the thread's label may run on what the caller may bind it to
       may_run : allowed of_thread.label authority.Runs of_context.label ≡ true
       may_run =
-          closed.context_runs of_thread.label of_context.label
-          (sym (closed.subjects_agree a of_thread.label authority.Context (record { domain = inr controls; of_use = refl }) of_context.label)
-          ∙ may_use address done.id done.finds)
+          closed.bound_run a of_thread.label of_context.label (may_use address done.id done.finds) controls
 
       runs : Keeps t allowed m event a m (with_object m done.thread (o.Tcb (runs_on tcb.0 (Some done.id))))
       runs =
@@ -122,6 +121,7 @@ module _
           ap (λ l. allowed l authority.Runs to) from_is ∙ ap (allowed of_thread.label authority.Runs) to_is ∙ may_run))
           (inr (λ awake.
           acts_of t allowed m done.thread of_thread.label of_thread.labelled (started awake.acting controls)))
+          (λ receiving waits none label labelled. absurd (none-some done.id (sym none)))
           (changed t allowed m a m (with_object m done.thread (o.Tcb (runs_on tcb.0 (Some done.id)))) done.thread of_thread.label
           of_thread.labelled (λ awake. modifies authority.Control refl controls))
 
@@ -146,6 +146,12 @@ module _
     stops =
         let queue = sound.well_formed.parts.queue thread (o.Tcb tcb) there in
         thread_keeps t allowed m event a m held thread tcb None there (λ end bound. absurd (none-some end bound)) (inl refl)
+        (λ receiving waits none label labelled. record {
+          context = used.label;
+          runs = ap (λ l. allowed l authority.Runs used.label) (same_Some label left.0 (sym labelled ∙ left.1)) ∙ ran;
+          owner = a;
+          owns = may_use address id finds;
+        })
         (loses_links t allowed m a m thread left.0 (o.Tcb tcb) (o.Tcb (runs_on tcb None)) left.1 may_lose there
         (released tcb (runs_on tcb None) refl refl refl (goes_on refl refl) (inr refl)) queue.0 queue.1)
 
@@ -174,14 +180,14 @@ module _
 
 -- the caller of a configure may configure the context: its label has the edges that this takes
 pub may_configure :
-    (t : Layout) (allowed : EdgeTest) (event : Event) (a : ℕ) (m : Machine) → IsSound t allowed m → IsClosed allowed
+    (t : Layout) (allowed : EdgeTest) (event : Event) (a : ℕ) (m : Machine) → IsSound t allowed m → IsSharp t allowed
     → label_of t m event.thread ≡ Some a
     → (control address : ℕ) → configures event.call ≡ Some (control, address)
     → (governs id : ObjId) → FindsObject m event.thread control governs d.Control → FindsObject m event.thread address id d.Context
     → MayConfigure t allowed m event id
 may_configure t allowed event a m sound closed mine control address configured governs id found finds =
-    let to_control = reached t allowed m event a m sound closed.subjects_agree event.thread control governs d.Control mine found in
-    let to = reached t allowed m event a m sound closed.subjects_agree event.thread address id d.Context mine finds in
+    let to_control = reached t allowed m event a m sound closed.uses_rise event.thread control governs d.Control mine found in
+    let to = reached t allowed m event a m sound closed.uses_rise event.thread address id d.Context mine finds in
     record {
       addresses = (control, address);
       configured = configured;

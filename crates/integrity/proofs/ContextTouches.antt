@@ -14,6 +14,8 @@ use Rattle.integrity.specs.{Acting.MayAct, Awake.{IsAwake, OthersSleep, SleepsOr
 use Rattle.integrity.proofs.{Asleep.{acts_of, unbound_sleeps}, Contents.{changed, context_fits, loses_links, tcb_fits}, Held.held_of}
 use Rattle.integrity.proofs.{Keeps.{Alters, Keeps, Takes, keeps_keeps, unchanged}, ObjectLabels.{label_stays, same_label}}
 use Rattle.integrity.proofs.{SetKeeps.set_keeps, SlotKeeps.IsOpened}
+use Rattle.machine.specs.declared.thread.{Receiving.Receiving, RunState.RunState as state}
+use Rattle.policy.specs.Sharp.{MayIdle}
 
 -- the contents of a thread with another context, and of a context with another thread
 
@@ -55,12 +57,14 @@ module _
       (thread : ObjId) (tcb : Tcb) (link : Option ObjId) → IsThread m thread tcb
       → ((context : ObjId) → link ≡ Some context → MayRun t allowed m thread tcb context)
       → (link ≡ None) ⊎ ActsAt t allowed began a m thread
+      → ((receiving : Receiving) → tcb.state ≡ state.Receiving receiving → link ≡ None → (label : ℕ)
+      → label_of t m thread ≡ Some label → MayIdle allowed label)
       → Alters t allowed began a m (with_object m thread (o.Tcb (runs_on tcb link))) thread
       → Keeps t allowed began event a m (with_object m thread (o.Tcb (runs_on tcb link)))
-  thread_keeps thread tcb link there may_run wakes may =
+  thread_keeps thread tcb link there may_run wakes idles may =
       set_keeps t allowed began event a m thread held (o.Tcb tcb) (o.Tcb (runs_on tcb link))
       (tcb_fits t allowed began event a m thread tcb (runs_on tcb link) there refl within
-      (λ context lent. held.of_table.lent thread context tcb there lent) (sleeps wakes)) may
+      (λ context lent. held.of_table.lent thread context tcb there lent) idles (sleeps wakes)) may
     where
       sleeps :
           (link ≡ None) ⊎ ActsAt t allowed began a m thread → IsAwake t allowed began a → OthersSleep t allowed m
@@ -125,12 +129,14 @@ module _
       (beside ∙ its) (unbound context new refl refl refl refl refl) threads
       (queue_of-with_object m thread (o.Tcb (runs_on tcb link)) id ∙ queue)
 
--- the label may change both threads and the context that goes over, and the thread that gets it may run on it
+-- the label may change both threads and the context that goes over, the thread that gives it doesn't wait for a message, and the thread
+-- that gets it may run on it
 pub record MayHand (t : Layout) (allowed : EdgeTest) (began : Machine) (a : ℕ) (m : Machine) (from to id : ObjId) : Type 0 where
   pub gives : IsOpened t allowed began m a from
   pub gets : IsOpened t allowed began m a to
   pub goes : IsOpened t allowed began m a id
   pub acts : IsAwake t allowed began a → MayAct t allowed gets.label
+  pub still : (tcb : Tcb) (receiving : Receiving) → IsThread m from tcb → tcb.state ≡ state.Receiving receiving → ⊥
   pub other : Tcb
   pub there : IsThread m to other
   pub may_run : (links (o.Tcb other) authority.Runs id ≡ true) ⊎ (allowed gets.label authority.Runs goes.label ≡ true)
@@ -153,6 +159,7 @@ module _
         (context_changes t allowed began event a m (held_of t allowed m sound) id from context tcb None between its there may.goes)
         (thread_keeps t allowed began event a m (held_of t allowed m sound) from tcb None there
         (λ q none. absurd (none-some q none)) (inl refl)
+        (λ receiving waits none label labelled. absurd (may.still tcb receiving there waits))
         (changed t allowed began a m halfway from may.gives.label may.gives.labelled may.gives.has))
 
     its_between : object_of between id ≡ Some (o.Context (has_thread context None))
@@ -197,6 +204,7 @@ module _
         (thread_keeps t allowed began event a between leaves.held to may.other (Some id) there_between
         (λ q is. subst (λ (i : ObjId). MayRun t allowed between to may.other i) (same_Some id q is) may_run_between)
         (inr (λ awake. acts_of t allowed between to may.gets.label to_label (may.acts awake)))
+        (λ receiving waits none label labelled. absurd (none-some id (sym none)))
         (changed t allowed began a between (with_object between to (o.Tcb (runs_on may.other (Some id)))) to may.gets.label to_label
         may.gets.has))
 

@@ -8,7 +8,8 @@ use Rattle.machine.specs.{Capabilities.kind_of_detail, Layout.Layout, Machine.{M
 use Rattle.machine.{specs.{Tree.parent_of_copy, WellFormed.kind_of}, proofs.{AuthorityLemmas.gives_no_structure, Ids.one_or_two}}
 use Rattle.machine.proofs.{LookUps.one_slot, SlotChanges.Fills}
 use Rattle.machine.specs.declared.object.ObjectKind.TheVariants as kind
-use Rattle.policy.specs.{Closed.{DeriveByGrant, derived}, Domain.EdgeTest}
+use Rattle.policy.specs.{Domain.EdgeTest, Sharp.DerivesOn}
+use Rattle.integrity.specs.Keeping.{MayKeep}
 use Rattle.integrity.{specs.Invariant.{IsBare, IsHeld}, proofs.{Keeps.Changes, SlotKeeps.{IsAllowedIn, SlotsFit}}}
 
 -- a slot of another object is another slot
@@ -38,26 +39,27 @@ pub record MayFill
       (above : SlotRef) (from : ℕ) → parent ≡ Some above → label_of t m above.holder ≡ Some from
       → allowed from authority.Derive label ≡ true
 
--- a CNode of a label may have the capability, where the policy has its edges from that label
+-- a CNode of a label may have the capability, where the policy has its edges from that label, and the label may keep any
 pub in_node :
     (t : Layout) (allowed : EdgeTest) (m : Machine) (slot : SlotRef) (new : Cap) (label : ℕ)
     → kind_of m slot.holder ≡ Some kind.CNode → label_of t m slot.holder ≡ Some label
     → ((k : Kind) (to : ℕ) → gives new.detail k ≡ true → label_of t m new.object ≡ Some to → allowed label k to ≡ true)
-    → IsAllowedIn t allowed m slot new
-in_node t allowed m slot new label is_node labelled edges =
+    → MayKeep t allowed label → IsAllowedIn t allowed m slot new
+in_node t allowed m slot new label is_node labelled edges keeps =
     inl (
       is_node,
       λ from k to given begins ends.
           ap (λ l. allowed l k to) (same_Some from label (sym begins ∙ labelled)) ∙ edges k to given ends,
+      λ from begins. subst (MayKeep t allowed) (same_Some label from (sym labelled ∙ begins)) keeps,
     )
 
 -- a copy's label is one that its source's may derive to; then the label of its parent may
 pub copy_derives :
-    (t : Layout) (allowed : EdgeTest) (m : Machine) → IsHeld t allowed m → DeriveByGrant allowed
+    (t : Layout) (allowed : EdgeTest) (m : Machine) → IsHeld t allowed m → DerivesOn allowed
     → (source : SlotRef) (held : Cap) (at to : ℕ) → label_of t m source.holder ≡ Some at → allowed at authority.Derive to ≡ true
     → (above : SlotRef) (from : ℕ) → parent_of_copy m source held ≡ Some above → label_of t m above.holder ≡ Some from
     → allowed from authority.Derive to ≡ true
-copy_derives t allowed m before by_grant source held at to labelled edge above from is begins = by_original held.original is where
+copy_derives t allowed m before derives_on source held at to labelled edge above from is begins = by_original held.original is where
   by_original :
       (original : Bool) → (if original then Some source else parent_of m source) ≡ Some above
       → allowed from authority.Derive to ≡ true
@@ -66,7 +68,7 @@ copy_derives t allowed m before by_grant source held at to labelled edge above f
       same_Some from at (sym begins ∙ ap (λ (s : SlotRef). label_of t m s.holder) (sym (same_Some source above is)) ∙ labelled) in
       ap (λ l. allowed l authority.Derive to) from_is ∙ edge
   by_original false is =
-      by_grant from to (derived at (before.confined from authority.Derive at (by_pair source above is begins labelled)) edge)
+      derives_on from at to (before.confined from authority.Derive at (by_pair source above is begins labelled)) edge
 
 module _
     (t : Layout) (allowed : EdgeTest) (began : Machine) (a : ℕ) (m next : Machine) (before : IsHeld t allowed m) (slot : SlotRef)

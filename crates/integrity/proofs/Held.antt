@@ -27,6 +27,8 @@ pub held_of : (t : Layout) (allowed : EdgeTest) (m : Machine) → IsSound t allo
 held_of t allowed m sound = record {
   of_table = sound.of_table;
   confined = sound.confined;
+  nodes = sound.nodes;
+  idlers = sound.idlers;
   kinds = sound.well_formed.slots.object;
   numbered = sound.well_formed.numbers.below_next;
   bare = bare_of m sound.well_formed;

@@ -3,7 +3,7 @@
 use Rattle.std.proofs.Common.{ℕ, ◌∙◌, ◌≡◌, ◌≢◌, ◌⊎◌, None, Option, Some, ap, inl, inr, option_map, refl, subst, sym, true}
 use Rattle.std.proofs.lemmas.Option.{none-some, same_Some}
 use Rattle.base.specs.declared.{ids.ObjId.ObjId, kind.Kind.Kind as authority}
-use Rattle.machine.specs.declared.{call.Event.Event, object.Object.Object as o, thread.{Lent.Lent, RunState.RunState, Tcb.Tcb}}
+use Rattle.machine.specs.declared.{call.Event.Event, object.Object.Object as o, thread.{Lent.Lent, Receiving.Receiving, RunState.RunState, Tcb.Tcb}}
 use Rattle.machine.specs.{Authority.{label_of, context_lent, links}, Layout.Layout, Machine.{Machine, object_of}, Step.Bind.context_under}
 use Rattle.machine.specs.Step.{Bind.with_handed, Reply.{loan_in, with_returned}, Send.{called_through, loan_made, with_lent}}
 use Rattle.machine.{specs.WellFormed.{IsFree, IsIdle, IsThread, WaitsAt}, proofs.{Idle.{idle_names, idle_waits}, Leaving.Names}}
@@ -14,7 +14,7 @@ use Rattle.steps.proofs.MessageRows.{lending_there}
 use Rattle.policy.specs.{Change.WayToChange.own, Domain.EdgeTest}
 use Rattle.integrity.{specs.{Acting.MayAct, Awake.IsAwake, Invariant.{IsHeld, IsSound}}, proofs.ContextTouches.{MayHand, handed_keeps}}
 use Rattle.integrity.proofs.{Held.held_of, Keeps.{Changes, Keeps, Takes, keeps_keeps, unchanged}, MessageParts.{halts, label_kept}}
-use Rattle.integrity.proofs.{MessageParts.{thread_edge, waits_keep}, MessageTouches.{MayHold, sound_after}}
+use Rattle.integrity.proofs.{MessageParts.{thread_edge, waits_keep}, MessageTouches.{MayHold, idle_receives, sound_after}, Shrinking.same_tcb}
 
 -- what runs on a context has it as its own
 own_context :
@@ -39,11 +39,12 @@ module _
       (thread other id : ObjId) (tcb its : Tcb) → IsThread m thread tcb → label_of t m thread ≡ Some a → tcb.context ≡ Some id
       → IsThread m other its → (b : ℕ) → label_of t m other ≡ Some b → Changes t allowed began a b
       → (IsAwake t allowed began a → MayAct t allowed b)
+      → ((receiving : Receiving) → tcb.state ≡ state.Receiving receiving → ⊥)
       → ((s : ℕ) → label_of t m id ≡ Some s → allowed a authority.Runs s ≡ true
       → (links (o.Tcb its) authority.Runs id ≡ true) ⊎ (allowed b authority.Runs s ≡ true))
       → ((s : ℕ) → allowed a authority.Runs s ≡ true → Changes t allowed began a s)
       → MayHand t allowed began a m thread other id
-  handing thread other id tcb its there mine runs at b labelled has acts may_run may_give =
+  handing thread other id tcb its there mine runs at b labelled has acts still may_run may_give =
       let context = sound.well_formed.links.thread_context thread id tcb there runs in
       let s = sound.of_table.labelled id (o.Context context.0) context.1 in
       let ran =
@@ -52,6 +53,8 @@ module _
         gives = record { label = a; labelled = mine; has = λ awake. own refl };
         gets = record { label = b; labelled = labelled; has = has };
         acts = acts;
+        still = λ giver receiving at waits.
+            still receiving (ap (λ (x : Tcb). x.state) (same_tcb tcb giver (same_Some (o.Tcb tcb) (o.Tcb giver) (sym there ∙ at))) ∙ waits);
         goes = record { label = s.0; labelled = s.1; has = may_give s.0 ran };
         other = its;
         there = at;
@@ -60,31 +63,33 @@ module _
 
   -- what a thread lent goes back to it from the thread that answers
   returned_back :
-      (thread called : ObjId) (giver tcb : Tcb) → IsThread m thread giver → label_of t m thread ≡ Some a → IsThread m called tcb
+      (thread called : ObjId) (giver tcb : Tcb) → IsThread m thread giver → IsIdle giver.state → label_of t m thread ≡ Some a
+      → IsThread m called tcb
       → (l : ℕ) → label_of t m called ≡ Some l → Changes t allowed began a l → (IsAwake t allowed began a → MayAct t allowed l)
       → ((s : ℕ) → allowed a authority.Runs s ≡ true → Changes t allowed began a s) → GivesBack m thread called
       → Keeps t allowed began event a m (with_handed m thread called)
-  returned_back thread called giver tcb there mine at l labelled has acts may_give back =
+  returned_back thread called giver tcb there idle mine at l labelled has acts may_give back =
       handed_keeps t allowed began event a m sound thread called back.free (λ id runs.
       let same : back.context ≡ id = same_Some back.context id (sym back.runs ∙ runs) in
       let lent : context_lent tcb.state ≡ Some id =
       lent_back tcb tcb.state (record { context = back.context; borrower = thread }) (sym (ap loan_in at) ∙ back.lent)
       ∙ ap (λ (i : ObjId). Some i) same in
       handing thread called id giver tcb there mine (own_context m thread id giver there runs) at l labelled has acts
-      (λ s target ran. inl (runs_lent tcb id lent)) may_give)
+      (idle_receives giver.state idle) (λ s target ran. inl (runs_lent tcb id lent)) may_give)
 
   pub returned_keeps :
-      (thread called : ObjId) (giver tcb : Tcb) → IsThread m thread giver → label_of t m thread ≡ Some a → IsThread m called tcb
+      (thread called : ObjId) (giver tcb : Tcb) → IsThread m thread giver → IsIdle giver.state → label_of t m thread ≡ Some a
+      → IsThread m called tcb
       → (l : ℕ) → label_of t m called ≡ Some l → Changes t allowed began a l → (IsAwake t allowed began a → MayAct t allowed l)
       → ((s : ℕ) → allowed a authority.Runs s ≡ true → Changes t allowed began a s)
       → Keeps t allowed began event a m (with_returned m thread called)
-  returned_keeps thread called giver tcb there mine at l labelled has acts may_give = by_case (returned_or_same m thread called) where
+  returned_keeps thread called giver tcb there idle mine at l labelled has acts may_give = by_case (returned_or_same m thread called) where
     by_case :
         (GivesBack m thread called × (with_returned m thread called ≡ with_handed m thread called))
         ⊎ (with_returned m thread called ≡ m) → Keeps t allowed began event a m (with_returned m thread called)
     by_case (inl w) =
         subst (λ (n : Machine). Keeps t allowed began event a m n) (sym w.1)
-        (returned_back thread called giver tcb there mine at l labelled has acts may_give w.0)
+        (returned_back thread called giver tcb there idle mine at l labelled has acts may_give w.0)
     by_case (inr same) =
         subst (λ (n : Machine). Keeps t allowed began event a m n) (sym same) (unchanged t allowed began event a m held)
 
@@ -104,7 +109,9 @@ module _
   module _
       (id : ObjId) (free : IsFree m id)
       (may : (r : ℕ) → label_of t m id ≡ Some r → MayHold t allowed began a r a)
-      (may_lend : (s : ℕ) → allowed a authority.Runs s ≡ true → (allowed b authority.Runs s ≡ true) × Changes t allowed began a s) where
+      (may_lend :
+      its.context ≡ None → (s : ℕ) → allowed a authority.Runs s ≡ true
+      → (allowed b authority.Runs s ≡ true) × Changes t allowed began a s) where
     abbrev own_loan : Option Lent
     own_loan = loan_made m thread receiver
 
@@ -113,6 +120,9 @@ module _
 
     abbrev now : Tcb
     now = record tcb { state = state.Called (record { reply = id; lent = own_loan }) }
+
+    now_called : (receiving : Receiving) → now.state ≡ state.Receiving receiving → ⊥
+    now_called receiving waits = cc
 
     lends_own :
         (lent : Option Lent) → own_loan ≡ lent → (context : ObjId) → option_map (λ (l : Lent). l.context) lent ≡ Some context
@@ -148,7 +158,11 @@ module _
         (label_kept t allowed began event a m waits thread (o.Tcb tcb) (o.Tcb now) calls there there_now ∙ mine)
         (own_context waits thread q now there_now runs) receives_now b
         (label_kept t allowed began event a m waits receiver (o.Tcb its) (o.Tcb its) calls receives receives_now ∙ labelled) has acts
-        (λ s target ran. inr (may_lend s ran).0) (λ s ran. (may_lend s ran).1))
+        now_called
+        (λ s target ran. inr (may_lend none s ran).0) (λ s ran. (may_lend none s ran).1))
+      where
+        none : its.context ≡ None
+        none = sym (ap context_under receives) ∙ alone
 
     by_loan : (lent : Option Lent) → own_loan ≡ lent → Keeps t allowed began event a m (with_lent waits thread lent)
     by_loan None is = calls
@@ -161,11 +175,11 @@ module _
   pub called_through_keeps :
       (through : Option ObjId) → ((id : ObjId) → through ≡ Some id → IsFree m id)
       → ((id : ObjId) (r : ℕ) → through ≡ Some id → label_of t m id ≡ Some r → MayHold t allowed began a r a)
-      → ((id : ObjId) (s : ℕ) → through ≡ Some id → allowed a authority.Runs s ≡ true
+      → ((id : ObjId) → through ≡ Some id → its.context ≡ None → (s : ℕ) → allowed a authority.Runs s ≡ true
       → (allowed b authority.Runs s ≡ true) × Changes t allowed began a s)
       → Keeps t allowed began event a m (called_through m thread receiver through)
   called_through_keeps None free may may_lend =
       halts t allowed began event a m sound thread tcb there a mine (inl (λ awake. own refl)) (λ awake. awake.acting) names_none
       waits_nowhere
   called_through_keeps (Some id) free may may_lend =
-      by_loan id (free id refl) (λ r. may id r refl) (λ s. may_lend id s refl) (loan_made m thread receiver) refl
+      by_loan id (free id refl) (λ r. may id r refl) (may_lend id refl) (loan_made m thread receiver) refl

@@ -25,6 +25,7 @@ pub mod Runs
 pub mod Aparts
 pub mod Actors
 pub mod AtBoot
+pub mod Starting
 pub mod Gains
 pub mod Losses
 pub mod NoBudget
@@ -38,6 +39,7 @@ pub mod Cascade
 pub mod RemovalCuts
 pub mod RemovalRights
 pub mod RemovalServed
+pub mod RemovalIdlers
 pub mod RemovalKeeps
 pub mod RemovalCalls
 pub mod WordsKeeps

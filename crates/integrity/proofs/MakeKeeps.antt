@@ -14,11 +14,13 @@ use Rattle.machine.proofs.{ObjectMade.marked, SlotChanges.{Fills, SameObjects}}
 use Rattle.machine.specs.declared.object.MemoryKind.TheVariants as memory
 use Rattle.machine.specs.declared.object.ObjectKind.TheVariants as kind
 use Rattle.steps.proofs.RetypeFormed.{new_address, new_kind}
-use Rattle.policy.specs.{Change.WayToChange.modifies, Closed.IsClosed, Domain.{EdgeTest, IsInDomain}}
+use Rattle.policy.specs.{Change.WayToChange.modifies, Domain.{EdgeTest, IsInDomain}}
+use Rattle.integrity.proofs.Reach.{controlled_keeps, controlled_put}
 use Rattle.integrity.{specs.{Awake.IsAsleep, Invariant.{IsBare, IsHeld}}, proofs.{Contents.changed, FillKeeps.{MayFill, fill_fits}}}
 use Rattle.integrity.proofs.{FillKeeps.{given_of_use, in_node, slots_elsewhere}, Joined.{IsJoined, joined_set}, Keeps.{Keeps, keeps_keeps}}
 use Rattle.integrity.proofs.{NewKeeps.{IsMakeable, new_keeps, new_label}, ObjectLabels.{kind_there, same_label}, Reach.IsControlled}
 use Rattle.integrity.proofs.{SetKeeps.set_keeps, Shrinking.same_tcb, SlotKeeps.{SlotsFit, slots_keep}}
+use Rattle.integrity.specs.Keeping.{IsSharp}
 
 -- a new object links to nothing
 new_alone : (of : MemoryKind) (bits at : ℕ) (k : Kind) (end : ObjId) → links (new_object of bits at) k end ≡ false
@@ -90,7 +92,7 @@ pub record MayMake
 
 module _
     (t : Layout) (allowed : EdgeTest) (began : Machine) (event : Event) (a : ℕ) (m : Machine) (held : IsHeld t allowed m)
-    (joined : IsJoined m) (closed : IsClosed allowed) (source : Source) (of : MemoryKind) (bits : ℕ) (slot : SlotRef)
+    (joined : IsJoined m) (closed : IsSharp t allowed) (source : Source) (of : MemoryKind) (bits : ℕ) (slot : SlotRef)
     (may : MayMake t allowed a m source of bits slot) where
   abbrev at : ℕ
   at = placed (new_size of bits) source.memory
@@ -131,6 +133,7 @@ module _
         end = refl;
         links = λ end k e. cc;
         lent = λ context thread e lends. cc;
+        idles = λ thread receiving e waits none label labelled. cc;
         sleeps = λ awake others thread e. cc;
         serves = λ awake served reply e. cc;
         share = λ before after e. cc;
@@ -198,8 +201,9 @@ module _
   -- each kind that the capability gives is the CNode's label's too
   edges : (k : Kind) → gives (new_detail of) k ≡ true → allowed may.node.label k may.label ≡ true
   edges k given =
-      sym (closed.subjects_agree a may.node.label k (record { domain = inr may.node.controls; of_use = of_use }) may.label)
-      ∙ closed.control_gives_all a k may.label (record { controls = may.controls; given = inr (of_use, not_control) })
+      closed.uses_fall a may.node.label k may.label (controlled_put t allowed m a slot.holder may.node) of_use
+      (closed.keepers_have_all a k may.label may.node.keeper
+      (record { controls = may.controls; given = inr (of_use, not_control) }))
     where
       of_use : is_structural k ≡ false
       of_use = given_of_use (new_detail of) k given
@@ -231,15 +235,15 @@ module _
         in_node t allowed m2 slot (new_cap m.next of) may.node.label node_still
         (node_label slot.holder may.node.is_node ∙ may.node.labelled)
         (λ k end given ends.
-        ap (allowed may.node.label k) (same_Some end may.label (sym ends ∙ here_label)) ∙ edges k given);
+        ap (allowed may.node.label k) (same_Some end may.label (sym ends ∙ here_label)) ∙ edges k given)
+        (controlled_keeps t allowed m a slot.holder may.node);
     derives = λ above start is begins.
         let start_is : start ≡ may.above =
         same_Some start may.above
         (sym begins ∙ ap (λ (s : SlotRef). label_of t m2 s.holder) (sym (same_Some source.slot above is))
         ∙ node_label source.slot.holder may.is_node ∙ may.above_labelled) in
         ap (λ l. allowed l authority.Derive may.node.label) start_is
-        ∙ closed.derive_in_domain may.above may.node.label
-        (record { subject = a; of_parent = may.domain; of_child = inr may.node.controls });
+        ∙ closed.keepers_derive a may.above may.node.label may.domain (controlled_put t allowed m a slot.holder may.node);
   }
 
   fills : Fills m2 slot (new_cap m.next of) (Some source.slot) m3

@@ -21,7 +21,7 @@ use Rattle.steps.proofs.MessageRows.{received_arrived_free, received_caller, rec
 use Rattle.steps.proofs.{MessageRows.received_sender, ReceiveRow.ReceiveDone, ReplyRow.{Answers, ReplyDone}, SendRow.EndpointCallDone}
 use Rattle.steps.proofs.SendRow.{SendDone}
 use Rattle.policy.specs.Change.{MayChangeContext.{lends, returns}, WayToChange.{links as links_to, modifies, receives, replies, sends}}
-use Rattle.policy.specs.{Change.WayToChange.shares, Closed.{IsClosed, caller, server}, Domain.EdgeTest}
+use Rattle.policy.specs.{Change.WayToChange.shares, Domain.EdgeTest, Sharp.MayServe}
 use Rattle.integrity.specs.{Acting.MayAct, Awake.IsAwake, Invariant.{IsHeld, IsSound}, Shrinks.IsBlocked}
 use Rattle.integrity.proofs.{ArrivalKeeps.arrival_keeps, Asleep.blocked_acts, Awake.{blocked_actor, has_threads}, Held.held_of}
 use Rattle.integrity.proofs.{Keeps.{Changes, Keeps, Takes, keeps_keeps, unchanged}, LendingKeeps.{called_through_keeps, returned_keeps}}
@@ -30,6 +30,11 @@ use Rattle.integrity.proofs.MessageParts.{holds_edge, label_kept, link_keeps, re
 use Rattle.integrity.proofs.{MessageParts.{sender_calls, sender_grants, sender_sends, thread_label}, MessageTouches.MayHold}
 use Rattle.integrity.proofs.MessageTouches.{blocked_keeps, emptied_keeps, free_holds, holding_keeps, released_keeps, sound_after}
 use Rattle.integrity.proofs.{MessageTouches.waiting_apart, ObjectLabels.same_label}
+use Rattle.integrity.specs.Keeping.{IsSharp}
+
+-- a thread runs on a context
+abbrev pub RunsOn : Machine → ObjId → Type 0
+RunsOn m thread = (tcb : Tcb) → IsThread m thread tcb → tcb.context ≡ None → ⊥
 
 -- who waits for an answer is blocked, and is in no queue
 
@@ -43,7 +48,7 @@ calling_waits _ id q calls waits = absurd calls
 
 module _
     (t : Layout) (allowed : EdgeTest) (event : Event) (a : ℕ) (m : Machine) (sound : IsSound t allowed m)
-    (closed : IsClosed allowed) (thread : ObjId) (mine : label_of t m thread ≡ Some a) (is : IsCaller m thread)
+    (closed : IsSharp t allowed) (thread : ObjId) (mine : label_of t m thread ≡ Some a) (is : IsCaller m thread)
     (next : Machine) where
   abbrev Makes : Machine → Machine → Type 0
   Makes n after = Keeps t allowed m event a n after
@@ -80,7 +85,7 @@ module _
 
     to_end : IsReached t allowed m event a m sound open_to.id (d.Endpoint open_to.end)
     to_end =
-        reached t allowed m event a m sound closed.subjects_agree thread address open_to.id (d.Endpoint open_to.end) mine
+        reached t allowed m event a m sound closed.uses_rise thread address open_to.id (d.Endpoint open_to.end) mine
         open_to.finds
 
     may_send : allowed a authority.Send to_end.label ≡ true
@@ -118,6 +123,7 @@ module _
         (o.Endpoint open_to.endpoint) is.there
         (caller_idle m thread is) refl mine open_to.there (not_thread m open_to.id open_to.endpoint is.thread open_to.there is.there)
         to_end.label to_end.labelled (λ awake. modifies authority.Send refl may_send) sending_links
+        (λ receiving waits none. cc)
 
     -- or who waits to receive gets it
     module _ (receiver : ObjId) (receiving : Receiving) (waits : IsReceiver m open_to.id receiver receiving) where
@@ -151,6 +157,24 @@ module _
           blocked_actor t allowed m m a awake awake.others sound.of_table receiver waits.tcb waits.there
           (subst IsBlocked (sym waits.state) tt)
 
+      -- the receiver serves with the reply that it named
+      served_with :
+          (id : ObjId) → receiving.reply ≡ Some id → (b : ℕ) → label_of t m receiver ≡ Some b
+          → (r : ℕ) × MayServe allowed b r to_end.label
+      served_with id names b labelled =
+          let w =
+          sound.well_formed.links.receiver_reply receiver id waits.tcb waits.there
+          (subst (λ run. IsReceivingWith run id) (sym waits.state) names) in
+          let r = sound.of_table.labelled id (o.Reply (record { address = w.0; state = reply.Waiting receiver })) w.1 in (
+            r.0,
+            record {
+              names = receiver_replies t allowed m event a m sound open_to.id receiver receiving waits b labelled id r.0 names r.1;
+              receives =
+                  receiver_receives t allowed m event a m sound open_to.id receiver receiving waits b labelled to_end.label
+                  to_end.labelled;
+            },
+          )
+
       -- the reply through which the call is answered is one that the receiver named, and may hold who calls it
       answers_within :
           (id : ObjId) (r : ℕ) → answer_through sending receiving.reply ≡ Some id → label_of t after id ≡ Some r
@@ -172,7 +196,7 @@ module _
           let calls = may_call (answers_allowed sending receiving.reply id through) in
           record {
             changes = λ awake. links_to to_end.label b.0 may_send calls may_receive (receiver_actor awake b.0 b.1) may_reply;
-            holds = closed.reply_holds r a (caller b.0 to_end.label may_reply calls may_receive);
+            holds = closed.holds_callers b.0 r to_end.label a (record { names = may_reply; receives = may_receive }) calls;
             serves = λ awake. record {
               server = b.0;
               names = may_reply;
@@ -187,7 +211,6 @@ module _
       -- and the receiver may run on what the caller runs on, where the call may be answered
       called_message_keeps : Makes m (called_through after thread receiver (answer_through sending receiving.reply))
       called_message_keeps =
-          let b = thread_label t allowed m event a m sound receiver waits.tcb waits.there in
           let receives =
           receiver_receives t allowed m event a m sound open_to.id receiver receiving waits b.0 b.1 to_end.label to_end.labelled in
           let got = delivered_there m thread sending open_to.id receiver receiving sound.well_formed waits in
@@ -205,13 +228,21 @@ module _
           (λ id through.
           delivered_free m thread sending open_to.id receiver receiving sound.well_formed waits id
           (answers_through sending receiving.reply id through))
-          answers_within
-          (λ id s through runs.
-          let calls = may_call (answers_allowed sending receiving.reply id through) in (
-            closed.lent_runs b.0 s
-                (record { lender = a; endpoint = to_end.label; calls = calls; receives = receives; runs = runs }),
-            λ awake. shares (lends to_end.label runs calls),
-          )))
+          answers_within lends_to)
+        where
+          b : (label : ℕ) × (label_of t m receiver ≡ Some label)
+          b = thread_label t allowed m event a m sound receiver waits.tcb waits.there
+
+          lends_to :
+              (id : ObjId) → answer_through sending receiving.reply ≡ Some id → waits.tcb.context ≡ None → (s : ℕ)
+              → allowed a authority.Runs s ≡ true → (allowed b.0 authority.Runs s ≡ true) × Changes t allowed m a s
+          lends_to id through none s runs =
+              let calls = may_call (answers_allowed sending receiving.reply id through) in
+              let served = served_with id (answers_through sending receiving.reply id through) b.0 b.1 in (
+                closed.lends_to_servers b.0 served.0 to_end.label a s served.1
+                    (sound.idlers receiver waits.tcb receiving waits.there waits.state none b.0 b.1) calls runs,
+                λ awake. shares (lends to_end.label runs calls),
+              )
 
   module _ (address : ℕ) (words : List ℕ) (capability : Option ℕ) where
     pub send_keeps : SendDone m thread address words capability next → Makes m next
@@ -244,7 +275,7 @@ module _
 
   -- the caller receives
   module _ (address : ℕ) (named : Option ℕ) (slot : Option SlotAddress)
-      (done : ReceiveDone m thread address named slot next) where
+      (done : ReceiveDone m thread address named slot next) (runs : RunsOn m thread) where
     abbrev id : ObjId
     id = done.open_to.id
 
@@ -262,7 +293,7 @@ module _
 
     from_end : IsReached t allowed m event a m sound id (d.Endpoint done.open_to.end)
     from_end =
-        reached t allowed m event a m sound closed.subjects_agree thread address done.open_to.id (d.Endpoint done.open_to.end) mine
+        reached t allowed m event a m sound closed.uses_rise thread address done.open_to.id (d.Endpoint done.open_to.end) mine
         done.open_to.finds
 
     may_receive : allowed a authority.Receive from_end.label ≡ true
@@ -271,7 +302,7 @@ module _
     by_reply : (q : ObjId) → done.reply ≡ Some q → IsReached t allowed m event a m sound q d.Reply
     by_reply q names =
         let found = done.finds_reply q names in
-        reached t allowed m event a m sound closed.subjects_agree thread found.0 q d.Reply mine found.1
+        reached t allowed m event a m sound closed.uses_rise thread found.0 q d.Reply mine found.1
 
     -- whom its reply held is halted
     ends : Makes m ended
@@ -377,7 +408,8 @@ module _
             end_label calls (answers_allowed sending done.reply q through) in
             record {
               changes = λ awake. modifies authority.Reply refl may_reply;
-              holds = closed.reply_holds r to_sender.0 (caller a from_end.label may_reply may_call may_receive);
+              holds =
+                  closed.holds_callers a r from_end.label to_sender.0 (record { names = may_reply; receives = may_receive }) may_call;
               serves = λ awake. record {
                 server = a;
                 names = may_reply;
@@ -422,6 +454,7 @@ module _
         caller_there (caller_idle m thread is) refl caller_label end_there
         (not_thread ended id done.open_to.endpoint is.thread end_there caller_there) from_end.label end_label
         (λ awake. modifies authority.Receive refl may_receive) receiving_links
+        (λ message waits none. absurd (runs is.thread is.there none))
 
     holds_caller : Makes blocked (with_named blocked done.reply (reply.Waiting thread))
     holds_caller = by_named done.reply refl where
@@ -441,7 +474,7 @@ module _
           ap (allowed r.0 authority.Holds)
           (same_kept t allowed m event a ended blocked thread a to blocks caller_label
           (ap (label_of t blocked) (one_id thread other holds) ∙ target))
-          ∙ closed.reply_holds r.0 a (server may_reply))
+          ∙ closed.holds_servers a r.0 from_end.label (record { names = may_reply; receives = may_receive }))
           (λ awake. free_holds t allowed blocked q answers (reply.Waiting thread) (λ other called. waiting_apart thread other called))
 
     awaits_keeps : Makes m (awaiting_message ended thread receiving)
@@ -450,8 +483,9 @@ module _
         (keeps_keeps t allowed m event a ended blocked (awaiting_message ended thread receiving) ends.held blocks holds_caller)
 
   pub receive_keeps :
-      (address : ℕ) (named : Option ℕ) (slot : Option SlotAddress) → ReceiveDone m thread address named slot next → Makes m next
-  receive_keeps address named slot done = by_first done.changes where
+      (address : ℕ) (named : Option ℕ) (slot : Option SlotAddress) → ReceiveDone m thread address named slot next → RunsOn m thread
+      → Makes m next
+  receive_keeps address named slot done runs = by_first done.changes where
     by_first :
         ((sender : ObjId) × (sending : Sending) × IsSender (with_reply_ended m done.reply) done.open_to.id sender sending
         × (next
@@ -464,13 +498,13 @@ module _
         ≡ awaiting_message (with_reply_ended m done.reply) thread
         (record { endpoint = done.open_to.id; reply = done.reply; slot = slot })))
         → Makes m next
-    by_first (inl w) = becomes _ w.3 (received_keeps address named slot done w.0 w.1 w.2)
-    by_first (inr w) = becomes _ w.1 (awaits_keeps address named slot done)
+    by_first (inl w) = becomes _ w.3 (received_keeps address named slot done runs w.0 w.1 w.2)
+    by_first (inr w) = becomes _ w.1 (awaits_keeps address named slot done runs)
 
   pub reply_keeps : (address : ℕ) (words : List ℕ) → ReplyDone m thread address words next → Makes m next
   reply_keeps address words done = by_state done.changes where
     to_reply : IsReached t allowed m event a m sound done.id d.Reply
-    to_reply = reached t allowed m event a m sound closed.subjects_agree thread address done.id d.Reply mine done.finds
+    to_reply = reached t allowed m event a m sound closed.uses_rise thread address done.id d.Reply mine done.finds
 
     may_reply : allowed a authority.Reply to_reply.label ≡ true
     may_reply = to_reply.edge authority.Reply refl refl
@@ -501,7 +535,8 @@ module _
         let mid = with_returned m thread called in
         let acts : IsAwake t allowed m a → MayAct t allowed l.0 =
         λ awake. blocked_acts t allowed m called w.0 awake.others w.1 (calling_blocked w.0.state done.id w.2) l.0 l.1 in
-        let back = returned_keeps t allowed m event a m sound thread called is.thread w.0 is.there mine w.1 l.0 l.1 has acts
+        let back =
+        returned_keeps t allowed m event a m sound thread called is.thread w.0 is.there (caller_idle m thread is) mine w.1 l.0 l.1 has acts
         (λ s runs awake. shares (returns to_reply.label runs may_reply)) in
         let link = returned_there m thread called w.0 sound.well_formed w.1 in
         keeps_keeps t allowed m event a m mid (with_given mid called message) before back

@@ -17,13 +17,15 @@ use Rattle.machine.specs.declared.object.ReplyState.TheVariants as reply
 use Rattle.machine.specs.declared.thread.RunState.TheVariants as state
 use Rattle.steps.proofs.{Arrival.arrival_same, Beside.{HolderLeaves, holder_leaves}, EndpointRow.{IsReceiver, IsSender}}
 use Rattle.steps.proofs.{Finding.FindsObject, MessageRows.{arrived_there, delivered_is, halted_between}}
-use Rattle.policy.specs.{Change.{MayHoldCaller, WayToChange.{modifies, replies, sends}}, Closed.IsClosed, Domain.{EdgeTest, SubjectsAgree}}
+use Rattle.policy.specs.{Change.{MayHoldCaller, WayToChange.{modifies, replies, sends}}, Domain.EdgeTest}
 use Rattle.policy.specs.NarrowTake.WayToShrink.{ends, frees, halts as halts_waiting}
 use Rattle.integrity.specs.{Acting.MayAct, Awake.{CallersAreServed, IsAwake, IsServed, OthersSleep}, Invariant.{IsHeld, IsSound}}
 use Rattle.integrity.{specs.Shrinks.{IsBlocked, Stops.halted as is_halted}, proofs.{ArrivalKeeps.arrival_keeps, Asleep.blocked_acts}}
 use Rattle.integrity.proofs.{Awake.blocked_actor, Held.held_of, Keeps.{Changes, Keeps, Takes, keeps_keeps, unchanged}}
 use Rattle.integrity.proofs.{MessageTouches.{MayHold, MayLessen, MayRelease, called_keeps, released_keeps}, ObjectLabels.label_stays}
 use Rattle.integrity.proofs.{ObjectLabels.{labelled_there, same_label}, Reach.found_in_reach}
+use Rattle.integrity.specs.Keeping.{IsSharp}
+use Rattle.policy.specs.Sharp.{UsesRise}
 
 -- an answer goes through a reply only where the sender may be answered
 pub answers_allowed :
@@ -167,10 +169,10 @@ module _ (t : Layout) (allowed : EdgeTest) (began : Machine) (event : Event) (a 
       pub edge : (k : Kind) → gives detail k ≡ true → is_structural k ≡ false → allowed a k label ≡ true
 
     pub reached :
-        (agree : SubjectsAgree allowed) (thread : ObjId) (address : ℕ) (id : ObjId) (detail : Detail)
+        (rise : UsesRise allowed) (thread : ObjId) (address : ℕ) (id : ObjId) (detail : Detail)
         → label_of t m thread ≡ Some a → FindsObject m thread address id detail → IsReached id detail
-    reached agree thread address id detail mine h =
-        let found = found_in_reach t allowed m held agree a thread address h.slot h.finds.left h.held mine h.finds.ends h.finds.holds in
+    reached rise thread address id detail mine h =
+        let found = found_in_reach t allowed m held rise a thread address h.slot h.finds.left h.held mine h.finds.ends h.finds.holds in
         record {
           label = found.label;
           labelled = ap (label_of t m) (sym h.object) ∙ found.labelled;
@@ -181,7 +183,7 @@ module _ (t : Layout) (allowed : EdgeTest) (began : Machine) (event : Event) (a 
     at_reached id q label to labelled same target = same_Some to label (sym target ∙ ap (label_of t m) (sym same) ∙ labelled)
 
     -- a message is given to a receiver
-    module _ (closed : IsClosed allowed) (sender : ObjId) (sending : Sending) (id receiver : ObjId) (receiving : Receiving)
+    module _ (closed : IsSharp t allowed) (sender : ObjId) (sending : Sending) (id receiver : ObjId) (receiving : Receiving)
         (mine : label_of t m sender ≡ Some a) (is : IsReceiver m id receiver receiving) (e : ℕ) (at : label_of t m id ≡ Some e)
         (may_send : allowed a authority.Send e ≡ true)
         (may_grant : sending.grant ≡ true → allowed a authority.Grant e ≡ true)

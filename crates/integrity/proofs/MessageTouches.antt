@@ -21,6 +21,8 @@ use Rattle.integrity.specs.{Acting.MayAct, Awake.{IsAwake, IsHeldAfterCall, IsSe
 use Rattle.integrity.{specs.Shrinks.Lessens.{as_it_was, freed, released}, proofs.{Asleep.acts_of, Contents.{changed, loses_links}}}
 use Rattle.integrity.proofs.{Contents.{reply_fits, shrunk, tcb_fits}, Keeps.{Changes, Keeps, Takes, keeps_keeps, unchanged}}
 use Rattle.integrity.proofs.{ObjectLabels.{label_stays, same_label}, RemovalShrinks.part_of_all, SetKeeps.{queue_keeps, set_keeps}}
+use Rattle.machine.specs.declared.thread.Receiving.{Receiving}
+use Rattle.policy.specs.Sharp.{MayIdle}
 
 -- what each change is
 
@@ -88,7 +90,7 @@ emptied_is :
 unfolding emptied
 emptied_is m thread tcb there = rw there (tcb_is m thread tcb (record tcb { inbox = inbox.Empty }) there)
 
--- a thread that waits at nothing and names nothing is linked with its context alone, and lends none
+-- a thread that waits at nothing and names nothing is linked with its context alone, lends none, and receives nothing
 
 idle_links : (run : RunState) (k : Kind) (end : ObjId) → IsIdle run → state_links run k end ≡ true → ⊥
 idle_links state.Ready k end idle e = false≢true e
@@ -99,6 +101,11 @@ idle_lends : (run : RunState) (context : ObjId) → IsIdle run → context_lent 
 idle_lends state.Ready context idle lent = none-some context lent
 idle_lends state.Inactive context idle lent = none-some context lent
 idle_lends _ context idle lent = absurd idle
+
+pub idle_receives : (run : RunState) → IsIdle run → (receiving : Receiving) → run ≡ state.Receiving receiving → ⊥
+idle_receives state.Ready idle receiving e = cc
+idle_receives state.Inactive idle receiving e = cc
+idle_receives _ idle receiving e = absurd idle
 
 links_left :
     (old new : Tcb) → new.context ≡ old.context → IsIdle new.state → (k : Kind) (end : ObjId) → links (o.Tcb new) k end ≡ true
@@ -379,6 +386,7 @@ module _
       set_keeps t allowed began event a mid thread left.held (o.Tcb tcb) (o.Tcb new)
       (tcb_fits t allowed began event a mid thread tcb new at address (λ end k e. inl (links_left tcb new context idle k end e))
       (λ end lent. absurd (idle_lends new.state end idle lent))
+      (λ receiving waits. absurd (idle_receives new.state idle receiving waits))
       (λ awake others. inr (acts_of t allowed mid thread label (label_kept ∙ labelled) (acts awake))))
       (elim has [
         | inl may ↦ changed t allowed began a mid (with_object mid thread (o.Tcb new)) thread label (label_kept ∙ labelled) may
@@ -391,14 +399,15 @@ module _
       (sym (released_there m thread tcb change there ∙ tcb_is mid thread tcb new at))
       (keeps_keeps t allowed began event a m mid (with_object mid thread (o.Tcb new)) held left set)
 
-  -- a thread of the label waits at an object, and lends nothing
+  -- a thread of the label waits at an object, and lends nothing; where it waits for a message without a context, the label may idle
   pub blocked_keeps :
       (caller : ObjId) (tcb : Tcb) (id : ObjId) (run : RunState) (object : Object) → IsThread m caller tcb → IsIdle tcb.state
       → context_lent run ≡ None → label_of t m caller ≡ Some a → object_of m id ≡ Some object → id ≢ caller
       → (label : ℕ) → label_of t m id ≡ Some label → Changes t allowed began a label
       → ((k : Kind) (end : ObjId) (to : ℕ) → state_links run k end ≡ true → label_of t m end ≡ Some to → allowed a k to ≡ true)
+      → ((receiving : Receiving) → run ≡ state.Receiving receiving → tcb.context ≡ None → MayIdle allowed a)
       → Keeps t allowed began event a m (with_blocked m caller id run)
-  blocked_keeps caller tcb id run object there idle alone mine at apart label labelled has within =
+  blocked_keeps caller tcb id run object there idle alone mine at apart label labelled has within idles =
       subst (λ (n : Machine). Keeps t allowed began event a m n) (sym (blocked_is m caller id tcb run there))
       (keeps_keeps t allowed began event a m mid (with_waiting mid id caller) held set (by_queue (joins_or_stays mid id caller)))
     where
@@ -422,6 +431,8 @@ module _
           set_keeps t allowed began event a m caller held (o.Tcb tcb) (o.Tcb blocked)
           (tcb_fits t allowed began event a m caller tcb blocked there refl links_within
           (λ context lent. absurd (none-some context (sym alone ∙ lent)))
+          (λ receiving waits none l at.
+          subst (MayIdle allowed) (same_Some a l (sym mine ∙ at)) (idles receiving waits none))
           (λ awake others. inr (acts_of t allowed m caller a mine awake.acting)))
           (changed t allowed began a m mid caller a mine (λ awake. own refl))
 
@@ -456,6 +467,7 @@ module _
       set_keeps t allowed began event a m thread held (o.Tcb tcb) (o.Tcb calls)
       (tcb_fits t allowed began event a m thread tcb calls there refl (λ end k e. inl (links_kept k end e))
       (λ context lent. (lends context lent).1)
+      (λ receiving waits none l at. cc)
       (λ awake others. inr (acts_of t allowed m thread label labelled (acts awake))))
       (changed t allowed began a m mid thread label labelled has) in
       let apart : id ≢ thread = λ same. apart_by_kind m id thread old tcb at there (sym same) in
@@ -505,6 +517,7 @@ module _
       (set_keeps t allowed began event a m caller held (o.Tcb tcb) (o.Tcb new)
       (tcb_fits t allowed began event a m caller tcb new there refl (λ end k e. inl (links_kept k end e))
       (λ context lent. held.of_table.lent caller context tcb there lent)
+      (λ receiving. held.idlers caller tcb receiving there)
       (λ awake others. inr (acts_of t allowed m caller a mine awake.acting)))
       (changed t allowed began a m (with_object m caller (o.Tcb new)) caller a mine (λ awake. own refl)))
     where
@@ -519,4 +532,10 @@ pub sound_after :
     (t : Layout) (allowed : EdgeTest) (began : Machine) (event : Event) (a : ℕ) (m next : Machine) → IsSound t allowed m
     → Keeps t allowed began event a m next → IsWellFormed next → IsSound t allowed next
 sound_after t allowed began event a m next sound keeps formed =
-    record { well_formed = formed; of_table = keeps.held.of_table; confined = keeps.held.confined }
+    record {
+      well_formed = formed;
+      of_table = keeps.held.of_table;
+      confined = keeps.held.confined;
+      nodes = keeps.held.nodes;
+      idlers = keeps.held.idlers;
+    }

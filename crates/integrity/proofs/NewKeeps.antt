@@ -15,7 +15,8 @@ use Rattle.machine.proofs.RunsLinks.{runs_lent}
 use Rattle.policy.specs.Domain.{EdgeTest}
 use Rattle.integrity.specs.{Awake.{IsAsleep, IsAwake}, Confined.IsConfined, Invariant.{IsBare, IsHeld}, OfTable.IsOfTable}
 use Rattle.integrity.proofs.{Asleep.sleeps_on, Joined.IsJoined, Keeps.{Acts, Changes, Keeps}, ObjectLabels.{kind_there, same_label}}
-use Rattle.integrity.proofs.Shrinking.{same_context}
+use Rattle.integrity.proofs.{Asleep.asleep_waits, Shrinking.same_context}
+use Rattle.integrity.specs.Keeping.{KeepersHoldNodes, WaitersMayIdle}
 
 -- an object that may be made in a step of a label's thread
 pub record IsMakeable (t : Layout) (allowed : EdgeTest) (began : Machine) (a : ℕ) (object : Object) : Type 0 where
@@ -192,12 +193,29 @@ module _
     })
   ]
 
+  nodes : KeepersHoldNodes t allowed next
+  unfolding next
+  nodes slot cap filled is_node for_node label labelled =
+      let at = sym (cap_of-with_new m object slot) ∙ filled in
+      let holder = joined.filled slot cap at in
+      held.nodes slot cap at (sym (kind_same slot.holder holder.0 holder.1) ∙ is_node) for_node label
+      (sym (label_same slot.holder holder.0 holder.1) ∙ labelled)
+
+  -- a thread that is made doesn't wait
+  idlers : WaitersMayIdle t allowed next
+  idlers q thread receiving at waits none label labelled = elim (was_or_made q (o.Tcb thread) at) [
+    | inl was ↦ held.idlers q thread receiving was waits none label (sym (label_same q (o.Tcb thread) was) ∙ labelled)
+    | inr new ↦ absurd (asleep_waits thread receiving (made.sleeps thread (sym new.1)) waits)
+  ]
+
   pub new_keeps : Keeps t allowed began event a m (with_new m object)
   unfolding next id
   new_keeps = record {
     held = record {
       of_table = of_table;
       confined = confined;
+      nodes = nodes;
+      idlers = idlers;
       kinds = λ slot cap filled.
           let at = sym (cap_of-with_new m object slot) ∙ filled in
           let of = kind_there m cap.object _ (held.kinds slot cap at) in

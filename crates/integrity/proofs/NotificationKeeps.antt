@@ -9,15 +9,16 @@ use Rattle.machine.{specs.{Machine.{object_of, with_object}, Releasing.with_bloc
 use Rattle.machine.proofs.{Leaving.Names, LookUps.one_id}
 use Rattle.steps.proofs.{Admission.IsCaller, MessageRows.caller_idle, NotificationRow.IsOpen, PollRow.PollDone, SignalRow.SignalDone}
 use Rattle.steps.proofs.{SignalRow.{Wakes, marked, roused}, WaitRow.WaitDone}
-use Rattle.policy.specs.{Change.WayToChange.{modifies, notifies}, Domain.{EdgeTest, SubjectsAgree}}
+use Rattle.policy.specs.{Change.WayToChange.{modifies, notifies}, Domain.EdgeTest}
 use Rattle.integrity.{specs.{Invariant.{IsHeld, IsSound}, Shrinks.IsBlocked}, proofs.{Asleep.blocked_acts, Awake.blocked_actor}}
 use Rattle.integrity.proofs.{Contents.{changed, notification_fits}, Held.held_of, Keeps.{Changes, Keeps}, MessageParts.IsReached}
 use Rattle.integrity.proofs.{MessageParts.{at_reached, reached, thread_edge}, MessageTouches.{blocked_keeps, released_keeps}}
 use Rattle.integrity.proofs.SetKeeps.{set_keeps}
+use Rattle.policy.specs.Sharp.{UsesRise}
 
 module _
     (t : Layout) (allowed : EdgeTest) (event : Event) (a : ℕ) (m : Machine) (sound : IsSound t allowed m)
-    (agree : SubjectsAgree allowed) where
+    (rise : UsesRise allowed) where
   held : IsHeld t allowed m
   held = held_of t allowed m sound
 
@@ -29,7 +30,7 @@ module _
       (caller : ObjId) (address : ℕ) (allows : Badged → Bool) → label_of t m caller ≡ Some a
       → (open_to : IsOpen m caller address allows) → IsOpenTo open_to.id open_to.end
   open_within caller address allows labelled open_to =
-      reached t allowed m event a m sound agree caller address open_to.id (d.Notification open_to.end) labelled open_to.finds
+      reached t allowed m event a m sound rise caller address open_to.id (d.Notification open_to.end) labelled open_to.finds
 
   -- a notification's word is set
   word_keeps :
@@ -133,4 +134,5 @@ module _
           subst (λ (after : Machine). Keeps t allowed m event a m after) (sym blocks)
           (blocked_keeps t allowed m event a m held caller is.thread open_to.id (state.Waiting open_to.id)
           (o.Notification open_to.notification) is.there (caller_idle m caller is) refl labelled open_to.there
-          (apart is.thread is.there) within.label within.labelled (λ awake. modifies authority.Await refl edge) links_within)
+          (apart is.thread is.there) within.label within.labelled (λ awake. modifies authority.Await refl edge) links_within
+          (λ receiving waits none. cc))

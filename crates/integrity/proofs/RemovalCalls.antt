@@ -5,18 +5,19 @@ use Rattle.base.specs.declared.ids.{ObjId.ObjId, SlotRef.SlotRef}
 use Rattle.machine.specs.{declared.{call.Event.Event, cap.Cap.Cap, slot_address.SlotAddress.SlotAddress}, Authority.label_of}
 use Rattle.machine.specs.{Below.is_below, Layout.Layout, Machine.{Machine, cap_of, same_slot}, Removal.removed, Step.Target.target_of}
 use Rattle.steps.proofs.{RemovalRows.RemovalDone, SlotRows.target_leads}
-use Rattle.policy.specs.{Closed.IsClosed, Domain.EdgeTest}
+use Rattle.policy.specs.{Domain.EdgeTest}
 use Rattle.integrity.{specs.{Invariant.IsSound, Removals.MayRemove}, proofs.{Held.held_of, Keeps.{Keeps, unchanged}, Reach.IsControlled}}
 use Rattle.integrity.proofs.{Reach.led_controlled, RemovalKeeps.{removed_keeps, removed_sound}}
 use Rattle.integrity.proofs.RemovalRights.{may_delete_in, may_revoke_below}
+use Rattle.integrity.specs.Keeping.{IsSharp}
 
 module _
-    (t : Layout) (allowed : EdgeTest) (event : Event) (a : ℕ) (m : Machine) (sound : IsSound t allowed m) (closed : IsClosed allowed)
+    (t : Layout) (allowed : EdgeTest) (event : Event) (a : ℕ) (m : Machine) (sound : IsSound t allowed m) (closed : IsSharp t allowed)
     (caller : ObjId) (labelled : label_of t m caller ≡ Some a) (address : SlotAddress) (next : Machine) where
   -- the named slot is in a CNode that the caller's label controls
   target_mine : (slot : SlotRef) → target_of m caller address ≡ Ok slot → IsControlled t allowed m a slot.holder
   target_mine slot found =
-      led_controlled t allowed m (held_of t allowed m sound) closed.subjects_agree a caller address slot labelled
+      led_controlled t allowed m (held_of t allowed m sound) closed.uses_rise a caller address slot labelled
       (target_leads m caller address slot found)
 
   may_delete : (slot : SlotRef) → target_of m caller address ≡ Ok slot → MayRemove t allowed a m (same_slot slot)

@@ -9,7 +9,8 @@ use Rattle.machine.specs.{Finalising.{leads_nowhere, leaves, link_after, reply_a
 use Rattle.machine.specs.{Machine.parent_of, Objects.{address_of, kind_of_object}, Removal.{removed, vanishes}, WellFormed.Descends}
 use Rattle.machine.{specs.WellFormed.{child, further, kind_of}, proofs.{RemovalLooks.next-removed, RemovalStays.{cap_was, like_finalised}}}
 use Rattle.machine.proofs.{RemovalStays.{object_was, parent_was, untyped_was}, RunsLinks.runs_also}
-use Rattle.policy.specs.{Closed.{IsClosed, derived}, Domain.EdgeTest}
+use Rattle.policy.specs.{Domain.EdgeTest, Sharp.DerivesOn}
+use Rattle.integrity.specs.Keeping.{KeepersHoldNodes}
 use Rattle.integrity.{specs.{Confined.IsConfined, Invariant.IsSound, OfTable.IsOfTable}, proofs.ObjectLabels.{kind_stays, kind_there}}
 use Rattle.integrity.proofs.{ObjectLabels.{label_stays, labelled_there}, Shrinking.same_tcb}
 
@@ -115,34 +116,38 @@ module _ (t : Layout) (m : Machine) (chosen : SlotRef → Bool) where
 
     -- where a slot descends from another, its holder may be derived to
     pub descends_derive :
-        IsClosed allowed → {slot above : SlotRef} → Descends m slot above → (from to : ℕ) → label_of t m above.holder ≡ Some from
+        DerivesOn allowed → {slot above : SlotRef} → Descends m slot above → (from to : ℕ) → label_of t m above.holder ≡ Some from
         → label_of t m slot.holder ≡ Some to → allowed from authority.Derive to ≡ true
-    descends_derive closed (child {slot} {parent} is) from to source target =
+    descends_derive derives_on (child {slot} {parent} is) from to source target =
         sound.confined from authority.Derive to (by_pair slot parent is source target)
-    descends_derive closed (further {slot} {parent} {above} is d) from to source target =
+    descends_derive derives_on (further {slot} {parent} {above} is d) from to source target =
         let mid = parent_label slot parent is in
-        closed.derive_by_grant from to
-        (derived mid.0 (descends_derive closed d from mid.0 source mid.1)
-        (sound.confined mid.0 authority.Derive to (by_pair slot parent is mid.1 target)))
+        derives_on from mid.0 to (descends_derive derives_on d from mid.0 source mid.1)
+        (sound.confined mid.0 authority.Derive to (by_pair slot parent is mid.1 target))
 
-    pub removed_confined : IsClosed allowed → IsConfined t allowed (removed m chosen)
-    removed_confined closed from k to (by_cap slot held filled node given source target) =
+    pub removed_confined : DerivesOn allowed → IsConfined t allowed (removed m chosen)
+    removed_confined derives_on from k to (by_cap slot held filled node given source target) =
         sound.confined from k to
         (by_cap slot held (cap_was m chosen slot held filled).1 (kind_was slot.holder _ node) given (label_was slot.holder from source)
         (label_was held.object to target))
-    removed_confined closed from k to (by_root slot held filled thread source target) =
+    removed_confined derives_on from k to (by_root slot held filled thread source target) =
         sound.confined from _ to
         (by_root slot held (cap_was m chosen slot held filled).1 (kind_was slot.holder _ thread) (label_was slot.holder from source)
         (label_was held.object to target))
-    removed_confined closed from k to (by_pair slot parent is source target) =
-        descends_derive closed (parent_was m chosen sound.well_formed.slots.acyclic slot parent is).1 from to
+    removed_confined derives_on from k to (by_pair slot parent is source target) =
+        descends_derive derives_on (parent_was m chosen sound.well_formed.slots.acyclic slot parent is).1 from to
         (label_was parent.holder from source) (label_was slot.holder to target)
-    removed_confined closed from k to (by_link id end object at has source target) =
+    removed_confined derives_on from k to (by_link id end object at has source target) =
         let was = object_was m chosen id object at in
         sound.confined from k to
         (by_link id end was.0 was.1
         (object_link_was m vanished was.0 k end (ap (λ (x : Object). links x k end) was.3 ∙ has)) (label_was id from source)
         (label_was end to target))
+
+    pub removed_nodes : KeepersHoldNodes t allowed (removed m chosen)
+    removed_nodes slot held filled node for_node label labelled =
+        sound.nodes slot held (cap_was m chosen slot held filled).1 (kind_was slot.holder _ node) for_node label
+        (label_was slot.holder label labelled)
 
     pub removed_of_table : IsOfTable t (removed m chosen)
     removed_of_table = record {

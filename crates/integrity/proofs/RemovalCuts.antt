@@ -17,11 +17,12 @@ use Rattle.machine.proofs.RunsLinks.{runs_bound}
 use Rattle.machine.specs.declared.object.ReplyState.TheVariants as reply
 use Rattle.machine.specs.declared.thread.RunState.TheVariants as state
 use Rattle.steps.proofs.{LeavingLinks.queue_now, RemovalLinks.{have_left, leavers}}
-use Rattle.policy.specs.{Change.{is_changing, WayToChange.{modifies, replies}}, Closed.IsClosed, Domain.EdgeTest, NarrowTake.is_waiting}
+use Rattle.policy.specs.{Change.{is_changing, WayToChange.{modifies, replies}}, Domain.EdgeTest, NarrowTake.is_waiting}
 use Rattle.policy.specs.NarrowTake.{TakesByControl.{drops, releases, removes, wakes}, WayToShrink.{controls, ends, halts, stops}}
 use Rattle.integrity.specs.{Awake.IsAwake, Invariant.IsSound, Removals.{MayGo, MayRemove, use_of}, Shrinks.{IsBlocked, IsSame}}
-use Rattle.integrity.proofs.{Awake.blocked_actor, Cascade.{IsInReach, WayToAlter, controls_agree, reached_alters, vanished_reached}}
+use Rattle.integrity.proofs.{Awake.blocked_actor, Cascade.{IsInReach, WayToAlter, reached_alters, reached_used, rises, vanished_reached}}
 use Rattle.integrity.proofs.{Cascade.vanished_used, RemovalShrinks.{absent_stays, words_stay}}
+use Rattle.integrity.specs.Keeping.{IsSharp}
 
 -- a thread that waits at an object is linked with it
 record IsWaitLink (tcb : Tcb) (end : ObjId) : Type 0 where
@@ -166,7 +167,7 @@ any_below test (suc n) = by_last (test n) refl (any_below test n) where
 
 module _
     (t : Layout) (allowed : EdgeTest) (a : ℕ) (m : Machine) (chosen : SlotRef → Bool) (awake : IsAwake t allowed m a)
-    (sound : IsSound t allowed m) (closed : IsClosed allowed) (may : MayRemove t allowed a m chosen) where
+    (sound : IsSound t allowed m) (closed : IsSharp t allowed) (may : MayRemove t allowed a m chosen) where
   abbrev after : Machine
   after = removed m chosen
 
@@ -202,7 +203,7 @@ module _
   may_too :
       (b : ℕ) (k : Kind) (to : ℕ) → allowed a authority.Control b ≡ true → is_structural k ≡ false → allowed b k to ≡ true
       → allowed a k to ≡ true
-  may_too b k to control plain has = controls_agree allowed closed a b control k plain to ∙ has
+  may_too b k to control plain has = rises allowed closed.uses_rise a b control k plain to has
 
   -- what is waited at and vanished: a label that is controlled may reset it
   record IsReset (label : ℕ) : Type 0 where
@@ -219,9 +220,8 @@ module _
         controlled = at.controlled;
         control = at.control;
         reset =
-            sym (controls_agree allowed closed a at.controlled at.control authority.Reset refl label)
-            ∙ ap (λ use_kind. allowed a use_kind label) (sym resetting)
-            ∙ vanished_used t allowed a m chosen sound closed may id k label is other gone labelled;
+            ap (λ use_kind. allowed at.controlled use_kind label) (sym resetting)
+            ∙ reached_used t allowed a m chosen sound closed may id k label is other at labelled;
       }
 
   module _ (thread : ObjId) (tcb : Tcb) (label : ℕ) (at : IsThread m thread tcb) (labelled : label_of t m thread ≡ Some label) where

@@ -7,11 +7,13 @@ use Rattle.machine.specs.{declared.thread.Tcb.Tcb, Authority.label_of, Finalisin
 use Rattle.machine.{specs.{Objects.{address_of, kind_of_object}, Removal.{removed, vanishes}}, proofs.RemovalLooks.next-removed}
 use Rattle.machine.proofs.RemovalStays.{like_finalised, object_was}
 use Rattle.steps.proofs.RemovalNumbers.{removed_formed}
-use Rattle.policy.specs.{Change.WayToChange, Closed.IsClosed, Domain.EdgeTest, NarrowTake.WayToShrink}
+use Rattle.policy.specs.{Change.WayToChange, Domain.EdgeTest, NarrowTake.WayToShrink}
+use Rattle.integrity.proofs.RemovalIdlers.{removed_idlers}
 use Rattle.integrity.specs.{Awake.{IsAwake, OthersSleep, SleepsOrActs}, Invariant.IsSound, Removals.MayRemove, Shrinks.IsSame}
 use Rattle.integrity.proofs.{Asleep.shrunk_asleep, Held.held_of, Keeps.{Acts, Keeps}, ObjectLabels.labelled_there}
-use Rattle.integrity.proofs.{RemovalConfined.{label_was, removed_confined, removed_of_table}, RemovalCuts.removed_alters}
+use Rattle.integrity.proofs.{RemovalConfined.{label_was, removed_confined, removed_nodes, removed_of_table}, RemovalCuts.removed_alters}
 use Rattle.integrity.proofs.{RemovalServed.removed_served, RemovalShrinks.removed_shrinks, Shrinking.same_context}
+use Rattle.integrity.specs.Keeping.{IsSharp}
 
 thread_by_kind : (object : Object) → kind_of_object object ≡ kind.Tcb → (thread : Tcb) × (object ≡ o.Tcb thread)
 thread_by_kind (o.Tcb thread) is = (thread, refl)
@@ -35,7 +37,7 @@ module _ (m : Machine) (chosen : SlotRef → Bool) (id : ObjId) where
 
 module _
     (t : Layout) (allowed : EdgeTest) (m : Machine) (chosen : SlotRef → Bool) (sound : IsSound t allowed m)
-    (closed : IsClosed allowed) where
+    (closed : IsSharp t allowed) where
   abbrev after : Machine
   after = removed m chosen
 
@@ -43,7 +45,9 @@ module _
   removed_sound = record {
     well_formed = removed_formed m chosen sound.well_formed;
     of_table = removed_of_table t m chosen allowed sound;
-    confined = removed_confined t m chosen allowed sound closed;
+    confined = removed_confined t m chosen allowed sound closed.derives_on;
+    nodes = removed_nodes t m chosen allowed sound;
+    idlers = removed_idlers t allowed m chosen sound;
   }
 
   pub removed_keeps :

@@ -8,50 +8,53 @@ use Rattle.machine.specs.{Authority.{label_of, HasAuthority.{by_cap, by_root}}, 
 use Rattle.machine.specs.{Lookup.root_of, Machine.{Machine, cap_of, object_of, parent_of, same_slot}, Objects.kind_of_object}
 use Rattle.machine.{specs.WellFormed.{Descends, LiesIn, child, further, kind_of}, proofs.LookUps.one_slot}
 use Rattle.steps.proofs.BelowLemmas.{below_decided}
-use Rattle.policy.specs.{Closed.IsClosed, Domain.EdgeTest}
+use Rattle.policy.specs.Domain.{EdgeTest}
+use Rattle.integrity.specs.Keeping.{MayKeep}
 use Rattle.integrity.specs.{Invariant.IsSound, Removals.{MayRemove, use_of}}
-use Rattle.integrity.proofs.{Cascade.{controls_agree, gives_use, of_use}, Held.held_of, InMemory.{label_inside, lies_other}}
-use Rattle.integrity.proofs.{Reach.{IsControlled, target_label}, RemovalConfined.descends_derive}
+use Rattle.integrity.proofs.{Cascade.{gives_use, of_use}, Held.held_of, InMemory.{label_inside, lies_other}}
+use Rattle.integrity.proofs.{Reach.{IsControlled, controlled_keeps, target_label}, RemovalConfined.descends_derive}
+use Rattle.integrity.specs.Keeping.{IsSharp}
 
 -- only a control's use is to configure a core
 use_other : (k : ObjectKind) → k ≢ kind.Control → use_of k ≢ authority.SchedControl
 use_other kind.Control other e = other refl
 use_other _ other e = cc
 
-module _ (t : Layout) (allowed : EdgeTest) (a : ℕ) (m : Machine) (sound : IsSound t allowed m) (closed : IsClosed allowed) where
+module _ (t : Layout) (allowed : EdgeTest) (a : ℕ) (m : Machine) (sound : IsSound t allowed m) (closed : IsSharp t allowed) where
   to : (slot : SlotRef) (held : Cap) → cap_of m slot ≡ Some held → (label : ℕ) × (label_of t m held.object ≡ Some label)
   to = target_label t allowed m (held_of t allowed m sound)
 
-  -- what a capability is for is the label's to use
-  abbrev IsUsed : Cap → Type 0
-  IsUsed held =
-      (label : ℕ) → label_of t m held.object ≡ Some label → allowed a (use_of (kind_of_detail held.detail)) label ≡ true
+  -- what a capability is for is a label's to use
+  abbrev IsUsed : ℕ → Cap → Type 0
+  IsUsed by held =
+      (label : ℕ) → label_of t m held.object ≡ Some label → allowed by (use_of (kind_of_detail held.detail)) label ≡ true
 
-  -- so it is in a CNode that the label controls
-  used_in : (slot : SlotRef) (held : Cap) → IsControlled t allowed m a slot.holder → cap_of m slot ≡ Some held → IsUsed held
+  -- so it is in a CNode of the label
+  used_in :
+      (slot : SlotRef) (held : Cap) → (mine : IsControlled t allowed m a slot.holder) → cap_of m slot ≡ Some held
+      → IsUsed mine.label held
   used_in slot held mine filled label labelled =
-      controls_agree allowed closed a mine.label mine.controls (use_of (kind_of_detail held.detail))
-      (of_use (kind_of_detail held.detail)) label
-      ∙ sound.confined mine.label (use_of (kind_of_detail held.detail)) label
+      sound.confined mine.label (use_of (kind_of_detail held.detail)) label
       (by_cap slot held filled mine.is_node (gives_use held.detail) mine.labelled labelled)
 
-  -- a child of such a capability is for the same object, or for one that lies in the untyped memory which the label controls
+  -- a child of such a capability is for the same object, or for one that lies in the untyped memory which the label controls; and the label
+  -- keeps, so that it may do everything to what it controls
   module _
-      (slot : SlotRef) (held : Cap) (filled : cap_of m slot ≡ Some held) (parent : SlotRef) (over : Cap)
+      (by : ℕ) (keeps : MayKeep t allowed by) (slot : SlotRef) (held : Cap) (filled : cap_of m slot ≡ Some held) (parent : SlotRef) (over : Cap)
       (above : cap_of m parent ≡ Some over) where
-    same_used : held.object ≡ over.object → IsUsed over → IsUsed held
+    same_used : held.object ≡ over.object → IsUsed by over → IsUsed by held
     same_used same used label labelled =
-        ap (λ k. allowed a (use_of k) label)
+        ap (λ k. allowed by (use_of k) label)
         (same_Some (kind_of_detail held.detail) (kind_of_detail over.detail)
         (sym (sound.well_formed.slots.object slot held filled) ∙ ap (kind_of m) same ∙ sound.well_formed.slots.object parent over above))
         ∙ used label (ap (label_of t m) (sym same) ∙ labelled)
 
     made_used :
         (memory : Untyped) (made : Object) → object_of m over.object ≡ Some (o.Untyped memory) → object_of m held.object ≡ Some made
-        → LiesIn memory made → IsUsed over → IsUsed held
+        → LiesIn memory made → IsUsed by over → IsUsed by held
     made_used memory made at there lies used label labelled =
-        closed.control_gives_all a (use_of (kind_of_detail held.detail)) label (record {
-          controls = ap (allowed a authority.Control) one ∙ controls;
+        closed.keepers_have_all by (use_of (kind_of_detail held.detail)) label keeps (record {
+          controls = ap (allowed by authority.Control) one ∙ controls;
           given = inr (of_use (kind_of_detail held.detail), use_other (kind_of_detail held.detail) other);
         })
       where
@@ -66,8 +69,8 @@ module _ (t : Layout) (allowed : EdgeTest) (a : ℕ) (m : Machine) (sound : IsSo
             same_Some (kind_of_detail over.detail) kind.Untyped
             (sym (sound.well_formed.slots.object parent over above) ∙ ap (option_map kind_of_object) at)
 
-        controls : allowed a authority.Control its.0 ≡ true
-        controls = ap (λ k. allowed a (use_of k) its.0) (sym untyped) ∙ used its.0 its.1
+        controls : allowed by authority.Control its.0 ≡ true
+        controls = ap (λ k. allowed by (use_of k) its.0) (sym untyped) ∙ used its.0 its.1
 
         other : kind_of_detail held.detail ≢ kind.Control
         other e =
@@ -75,7 +78,7 @@ module _ (t : Layout) (allowed : EdgeTest) (a : ℕ) (m : Machine) (sound : IsSo
             (same_Some (kind_of_object made) kind.Control
             (sym (ap (option_map kind_of_object) there) ∙ sound.well_formed.slots.object slot held filled ∙ ap Some e))
 
-    child_used : parent_of m slot ≡ Some parent → IsUsed over → IsUsed held
+    child_used : parent_of m slot ≡ Some parent → IsUsed by over → IsUsed by held
     child_used is used = elim (sound.well_formed.slots.kin slot parent held over is filled above) [
       | inl same ↦ same_used same used
       | inr at ↦ made_used at.0 at.1 at.2 at.3 at.4 used
@@ -83,14 +86,14 @@ module _ (t : Layout) (allowed : EdgeTest) (a : ℕ) (m : Machine) (sound : IsSo
 
   -- and so is each descendant
   descends_used :
-      {slot above : SlotRef} → Descends m slot above → ((over : Cap) → cap_of m above ≡ Some over → IsUsed over) → (held : Cap)
-      → cap_of m slot ≡ Some held → IsUsed held
-  descends_used (child {slot} {parent} is) used held filled =
+      (by : ℕ) → MayKeep t allowed by → {slot above : SlotRef} → Descends m slot above
+      → ((over : Cap) → cap_of m above ≡ Some over → IsUsed by over) → (held : Cap) → cap_of m slot ≡ Some held → IsUsed by held
+  descends_used by keeps (child {slot} {parent} is) used held filled =
       let over = sound.well_formed.slots.parent_filled slot parent is in
-      child_used slot held filled parent over.0 over.1 is (used over.0 over.1)
-  descends_used (further {slot} {parent} is d) used held filled =
+      child_used by keeps slot held filled parent over.0 over.1 is (used over.0 over.1)
+  descends_used by keeps (further {slot} {parent} is d) used held filled =
       let over = sound.well_formed.slots.parent_filled slot parent is in
-      child_used slot held filled parent over.0 over.1 is (descends_used d used over.0 over.1)
+      child_used by keeps slot held filled parent over.0 over.1 is (descends_used by keeps d used over.0 over.1)
 
   pub may_delete_in : (slot : SlotRef) → IsControlled t allowed m a slot.holder → MayRemove t allowed a m (same_slot slot)
   may_delete_in slot mine other held is filled =
@@ -111,17 +114,23 @@ module _ (t : Layout) (allowed : EdgeTest) (a : ℕ) (m : Machine) (sound : IsSo
   may_revoke_below slot mine below held is filled =
       let of = to below held filled in
       let holder = sound.well_formed.slots.holder below held filled in
-      let by = sound.of_table.labelled below.holder holder.0 holder.1 in
+      let of_holder = sound.of_table.labelled below.holder holder.0 holder.1 in
       let descends = (below_decided m slot below).0 is in
       record {
         controlled = mine.label;
         control = mine.controls;
-        holder = by.0;
-        held_by = by.1;
-        derive = inr (descends_derive t m (same_slot slot) allowed sound closed descends mine.label by.0 mine.labelled by.1);
+        holder = of_holder.0;
+        held_by = of_holder.1;
+        derive =
+            inr
+            (descends_derive t m (same_slot slot) allowed sound closed.derives_on descends mine.label of_holder.0 mine.labelled
+            of_holder.1);
         label = of.0;
         labelled = of.1;
-        reach = inl (descends_used descends (λ over above. used_in slot over mine above) held filled of.0 of.1);
+        reach =
+            inl
+            (descends_used mine.label (controlled_keeps t allowed m a slot.holder mine) descends (λ over above. used_in slot over mine above)
+            held filled of.0 of.1);
       }
 
   pub may_clear_root :

@@ -9,10 +9,11 @@ use Rattle.machine.specs.{Memory.{new_size, placed, taken, with_made}, Objects.k
 use Rattle.machine.{specs.WellFormed.kind_of, proofs.{LookUps.same_machine, ObjectMade.{MakesObject, following, made_makes, marked}}}
 use Rattle.steps.proofs.{MadeFormed.{CanMake, made_formed}, RetypeFormed.{MakesAll, first, new_address, none, retype_makes}}
 use Rattle.steps.proofs.RetypeRow.{RetypeDone}
-use Rattle.policy.specs.{Closed.IsClosed, Domain.{EdgeTest, IsInDomain}}
+use Rattle.policy.specs.Domain.{EdgeTest, IsInDomain}
 use Rattle.integrity.{specs.Invariant.{IsHeld, IsSound}, proofs.{Held.held_of, Joined.joined_of, Keeps.{Keeps, keeps_keeps, unchanged}}}
 use Rattle.integrity.proofs.{MakeKeeps.{MayMake, make_keeps}, ObjectLabels.{kind_there, label_stays, labelled_there}, Reach.IsControlled}
 use Rattle.integrity.proofs.{Reach.{found_in_reach, found_within, shown_controlled}, Walks.shows}
+use Rattle.integrity.specs.Keeping.{IsSharp}
 
 -- a machine that is made so is the one that the row says
 makes_is :
@@ -49,7 +50,7 @@ record HasAtHand (t : Layout) (allowed : EdgeTest) (a : ℕ) (node : ObjId) (m :
   above_labelled : label_of t m source.slot.holder ≡ Some above
   domain : IsInDomain allowed a above
 
-module _ (t : Layout) (allowed : EdgeTest) (began : Machine) (event : Event) (a : ℕ) (closed : IsClosed allowed) where
+module _ (t : Layout) (allowed : EdgeTest) (began : Machine) (event : Event) (a : ℕ) (closed : IsSharp t allowed) where
   module _ (of : MemoryKind) (bits : ℕ) (node : ObjId) where
     -- what is there is there after one was made
     there_after :
@@ -81,6 +82,7 @@ module _ (t : Layout) (allowed : EdgeTest) (began : Machine) (event : Event) (a 
         label = hand.taker.label;
         labelled = label_kept node hand.taker.label hand.taker.labelled;
         controls = hand.taker.controls;
+        keeper = hand.taker.keeper;
       };
       above = hand.above;
       is_node = kind_kept source.slot.holder hand.is_node;
@@ -141,7 +143,7 @@ module _ (t : Layout) (allowed : EdgeTest) (began : Machine) (event : Event) (a 
         (at_hand_after m between source mark object slot (taken (new_size of bits) source.memory) makes one hand) on.1 rest)
 
 module _
-    (t : Layout) (allowed : EdgeTest) (event : Event) (a : ℕ) (m : Machine) (sound : IsSound t allowed m) (closed : IsClosed allowed)
+    (t : Layout) (allowed : EdgeTest) (event : Event) (a : ℕ) (m : Machine) (sound : IsSound t allowed m) (closed : IsSharp t allowed)
     (caller : ObjId) (labelled : label_of t m caller ≡ Some a) (untyped : ℕ) (of : MemoryKind) (bits to offset count : ℕ)
     (next : Machine) (done : RetypeDone m caller untyped of bits to offset count next) where
   held : IsHeld t allowed m
@@ -150,20 +152,20 @@ module _
   at_hand : (memory : Untyped) → HasAtHand t allowed a done.node.node m (record done.source { memory = memory })
   at_hand memory =
       let reach =
-      found_in_reach t allowed m held closed.subjects_agree a caller untyped done.source.slot done.finds.finds.left done.finds.held
+      found_in_reach t allowed m held closed.uses_rise a caller untyped done.source.slot done.finds.finds.left done.finds.held
       labelled done.finds.finds.ends done.finds.finds.holds in
       let within =
-      found_within t allowed m held closed.subjects_agree a caller untyped done.source.slot done.finds.finds.left labelled
+      found_within t allowed m held closed.uses_rise a caller untyped done.source.slot done.finds.finds.left labelled
       done.finds.finds.ends in
       let given : gives done.finds.held.detail authority.Control ≡ true = rw done.finds.untyped refl in
       let taker_within =
-      found_within t allowed m held closed.subjects_agree a caller to done.takes.at done.takes.left labelled done.takes.ends in
+      found_within t allowed m held closed.uses_rise a caller to done.takes.at done.takes.left labelled done.takes.ends in
       record {
         label = reach.label;
         labelled = ap (label_of t m) (sym done.finds.object) ∙ reach.labelled;
         controls = reach.edge authority.Control given refl;
         taker =
-            shown_controlled t allowed m held closed.subjects_agree a done.takes.at done.node.node taker_within
+            shown_controlled t allowed m held closed.uses_rise a done.takes.at done.node.node taker_within
             (shows m done.takes.at done.node done.takes.shows);
         above = within.label;
         is_node = within.is_node;

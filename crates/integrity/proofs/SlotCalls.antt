@@ -8,10 +8,12 @@ use Rattle.machine.specs.{Authority.HasAuthority.{by_cap, by_pair}, Capabilities
 use Rattle.machine.specs.{Machine.same_slot, Tree.{copied, exchange, parent_of_copy}, WellFormed.{IsWellFormed, kind_of}}
 use Rattle.machine.proofs.{AuthorityLemmas.gives_fewer, Ids.one_or_two, LookUps.one_slot}
 use Rattle.steps.proofs.{FillsFormed.derives_formed, LedSlots.led_slot, MovesFormed.{move_formed, pair_was}, SlotRows.{Derives, MoveDone}}
-use Rattle.policy.specs.{Change.WayToChange.modifies, Closed.{IsClosed, derived}, Domain.EdgeTest}
+use Rattle.policy.specs.{Change.WayToChange.modifies, Domain.EdgeTest}
+use Rattle.integrity.{specs.Keeping.MayKeep, proofs.Reach.{controlled_keeps, controlled_put}}
 use Rattle.integrity.{specs.Invariant.{IsHeld, IsSound}, proofs.FillKeeps.{MayFill, apart_slots, copy_derives, fill_fits, given_of_use}}
 use Rattle.integrity.proofs.{FillKeeps.in_node, Held.{bare_of, held_of}, Keeps.Keeps, Reach.{IsControlled, led_controlled}}
 use Rattle.integrity.proofs.SlotKeeps.{IsAllowedIn, SlotsFit, opened, slots_keep}
+use Rattle.integrity.specs.Keeping.{IsSharp}
 
 -- one label is near another: what may derive to it may derive to the other, and where it may derive to the other may
 record IsNear (allowed : EdgeTest) (label other : ℕ) : Type 0 where
@@ -19,7 +21,7 @@ record IsNear (allowed : EdgeTest) (label other : ℕ) : Type 0 where
   up : (to : ℕ) → allowed label authority.Derive to ≡ true → allowed other authority.Derive to ≡ true
 
 module _
-    (t : Layout) (allowed : EdgeTest) (event : Event) (a : ℕ) (m : Machine) (sound : IsSound t allowed m) (closed : IsClosed allowed)
+    (t : Layout) (allowed : EdgeTest) (event : Event) (a : ℕ) (m : Machine) (sound : IsSound t allowed m) (closed : IsSharp t allowed)
     (caller : ObjId) (labelled : label_of t m caller ≡ Some a) (to from : SlotAddress) (next : Machine) where
   held_before : IsHeld t allowed m
   held_before = held_of t allowed m sound
@@ -30,15 +32,15 @@ module _
   -- labels that the caller's controls derive on one another
   derives : (one other : ObjId) → (x : Controlled one) → (y : Controlled other) → allowed x.label authority.Derive y.label ≡ true
   derives one other x y =
-      closed.derive_in_domain x.label y.label (record { subject = a; of_parent = inr x.controls; of_child = inr y.controls })
+      closed.keepers_derive a x.label y.label (inr x.controls) (controlled_put t allowed m a other y)
 
   -- and may do the same
   same_edges :
       (one other : ObjId) (x : Controlled one) (y : Controlled other) (k : Kind) (end : ℕ) → is_structural k ≡ false
       → allowed x.label k end ≡ true → allowed y.label k end ≡ true
   same_edges one other x y k end of_use edge =
-      sym (closed.subjects_agree a y.label k (record { domain = inr y.controls; of_use = of_use }) end)
-      ∙ closed.subjects_agree a x.label k (record { domain = inr x.controls; of_use = of_use }) end ∙ edge
+      closed.uses_fall a y.label k end (controlled_put t allowed m a other y) of_use
+      (closed.uses_rise a x.label k (record { domain = inr x.controls; of_use = of_use }) end edge)
 
   -- what a found capability gives, from the label of any CNode that the caller's controls
   edges :
@@ -53,10 +55,10 @@ module _
 
   module _ (done : Derives m caller to from next) where
     mine : Controlled done.target.holder
-    mine = led_controlled t allowed m held_before closed.subjects_agree a caller to done.target labelled done.finds.leads_to
+    mine = led_controlled t allowed m held_before closed.uses_rise a caller to done.target labelled done.finds.leads_to
 
     source_mine : Controlled done.source.holder
-    source_mine = led_controlled t allowed m held_before closed.subjects_agree a caller from done.source labelled done.finds.leads_from
+    source_mine = led_controlled t allowed m held_before closed.uses_rise a caller from done.source labelled done.finds.leads_from
 
     formed : IsWellFormed next
     formed = derives_formed m caller to from next sound.well_formed done
@@ -70,9 +72,10 @@ module _
           in_node t allowed m done.target (copied done.held done.detail) mine.label mine.is_node mine.labelled
           (λ k end given ends.
           edges done.target done.source done.held mine source_mine done.finds.filled k mine.label end
-          (gives_fewer done.detail done.held.detail k done.narrower given) mine.labelled ends);
+          (gives_fewer done.detail done.held.detail k done.narrower given) mine.labelled ends)
+          (controlled_keeps t allowed m a done.target.holder mine);
       derives =
-          copy_derives t allowed m held_before closed.derive_by_grant done.source done.held source_mine.label mine.label
+          copy_derives t allowed m held_before closed.derives_on done.source done.held source_mine.label mine.label
           source_mine.labelled (derives done.source.holder done.target.holder source_mine mine);
     }
 
@@ -87,10 +90,10 @@ module _
 
   module _ (done : MoveDone m caller to from next) where
     goal_mine : Controlled done.target.holder
-    goal_mine = led_controlled t allowed m held_before closed.subjects_agree a caller to done.target labelled done.finds.leads_to
+    goal_mine = led_controlled t allowed m held_before closed.uses_rise a caller to done.target labelled done.finds.leads_to
 
     start_mine : Controlled done.source.holder
-    start_mine = led_controlled t allowed m held_before closed.subjects_agree a caller from done.source labelled done.finds.leads_from
+    start_mine = led_controlled t allowed m held_before closed.uses_rise a caller from done.source labelled done.finds.leads_from
 
     moved_formed : IsWellFormed next
     moved_formed = move_formed m caller to from next sound.well_formed done
@@ -118,13 +121,18 @@ module _
                   (ap (λ (c : Cap). gives c.detail k) cap_is ∙ given)
                   (ap (λ (s : SlotRef). label_of t m s.holder) (sym at) ∙ begins)
                   (ap (λ (c : Cap). label_of t m c.object) cap_is ∙ ends),
+              λ start begins.
+                  subst (MayKeep t allowed)
+                  (same_Some goal_mine.label start
+                  (sym goal_mine.labelled ∙ ap (λ (s : SlotRef). label_of t m s.holder) (sym at) ∙ begins))
+                  (controlled_keeps t allowed m a done.target.holder goal_mine),
             ))
 
     -- the labels of two controlled CNodes are near
     near_controlled : (one other : ObjId) → (x : Controlled one) → (y : Controlled other) → IsNear allowed x.label y.label
     near_controlled one other x y = record {
-      down = λ start edge. closed.derive_by_grant start y.label (derived x.label edge (derives one other x y));
-      up = λ end edge. closed.derive_by_grant y.label end (derived x.label (derives other one y x) edge);
+      down = λ start edge. closed.derives_on start x.label y.label edge (derives one other x y);
+      up = λ end edge. closed.derives_on y.label x.label end (derives other one y x) edge;
     }
 
     -- a slot that is one of the two, and the other of them, have near labels

@@ -13,6 +13,7 @@ use Rattle.policy.specs.{Change.WayToChange.modifies, Domain.EdgeTest}
 use Rattle.integrity.{specs.{Awake.IsAwake, Confined.IsConfined, Invariant.{IsBare, IsHeld}, OfTable.IsOfTable}, proofs.Asleep.sleeps_on}
 use Rattle.integrity.proofs.{Contents.changed, Keeps.{Acts, Changes, Keeps}, ObjectLabels.same_label, Reach.IsControlled}
 use Rattle.integrity.proofs.Shrinking.{same_context}
+use Rattle.integrity.specs.Keeping.{KeepersHoldNodes, MayKeep}
 
 -- a label may change an object's, in a step that began at some machine
 pub record IsOpened (t : Layout) (allowed : EdgeTest) (began m : Machine) (a : ℕ) (id : ObjId) : Type 0 where
@@ -27,12 +28,14 @@ pub opened :
 opened t allowed began m a node c =
     record { label = c.label; labelled = c.labelled; has = λ awake. modifies authority.Control refl c.controls }
 
--- the policy has the edges of a capability in a slot: all that it gives, in a slot of a CNode, and space, in a thread's root slot
+-- the policy has the edges of a capability in a slot: all that it gives, in a slot of a CNode, whose label may keep any, and space, in a
+-- thread's root slot
 abbrev pub IsAllowedIn : Layout → EdgeTest → Machine → SlotRef → Cap → Type 0
 IsAllowedIn t allowed m slot cap =
     ((kind_of m slot.holder ≡ Some kind.CNode)
     × ((from : ℕ) (k : Kind) (to : ℕ) → gives cap.detail k ≡ true → label_of t m slot.holder ≡ Some from
-    → label_of t m cap.object ≡ Some to → allowed from k to ≡ true))
+    → label_of t m cap.object ≡ Some to → allowed from k to ≡ true)
+    × ((from : ℕ) → label_of t m slot.holder ≡ Some from → MayKeep t allowed from))
     ⊎ ((kind_of m slot.holder ≡ Some kind.Tcb)
     × ((from to : ℕ) → label_of t m slot.holder ≡ Some from → label_of t m cap.object ≡ Some to
     → allowed from authority.Space to ≡ true))
@@ -105,6 +108,16 @@ module _
     counted = let number = fit.same.number in let before = held.of_table.counted in omega (arith, number, before);
   }
 
+  nodes : KeepersHoldNodes t allowed next
+  nodes q cap filled is_node for_node label labelled = by_case (fit.caps q cap filled) where
+    by_case : (cap_of m q ≡ Some cap) ⊎ IsAllowedIn t allowed m q cap → MayKeep t allowed label
+    by_case (inl before) =
+        held.nodes q cap before (sym (kinds q.holder) ∙ is_node) for_node label (sym (labels q.holder) ∙ labelled)
+    by_case (inr (inl new)) = new.2 label (sym (labels q.holder) ∙ labelled)
+    by_case (inr (inr new)) =
+        let two : Some kind.Tcb ≡ Some kind.CNode = sym new.0 ∙ sym (kinds q.holder) ∙ is_node in
+        cc
+
   acts : (awake : IsAwake t allowed began a) (q : ObjId) → Acts t allowed awake.acts a m next q
   acts awake q = by_case (fit.slots q) where
     by_case :
@@ -120,6 +133,9 @@ module _
     held = record {
       of_table = of_table;
       confined = confined;
+      nodes = nodes;
+      idlers = λ q thread receiving at waits none label labelled.
+          held.idlers q thread receiving (was q (o.Tcb thread) at) waits none label (sym (labels q) ∙ labelled);
       kinds = fit.kinds;
       numbered = λ q object at.
           let below = held.numbered q object (was q object at) in

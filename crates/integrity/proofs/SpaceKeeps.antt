@@ -8,16 +8,18 @@ use Rattle.machine.specs.{Lookup.root_of, Machine.{Machine, cap_of, object_of, s
 use Rattle.machine.specs.{Step.Space.without_root, Tree.{copied, parent_of_copy, with_copy}, WellFormed.{IsWellFormed, kind_of}}
 use Rattle.steps.proofs.{Finding.FindsObject, SlotRows.with_copy_fills, SpaceFormed.{held_before, root_empty, set_formed, thread_there}}
 use Rattle.steps.proofs.SpaceRow.{ClearDone, RootFilled, SetDone, root_filled}
-use Rattle.policy.specs.{Change.WayToChange.modifies, Closed.IsClosed, Domain.EdgeTest}
+use Rattle.policy.specs.{Change.WayToChange.modifies, Domain.EdgeTest, Sharp.MayPut}
+use Rattle.integrity.{specs.Keeping.{MayKeep, MayKeep.handed}, proofs.Reach.found_keeps}
 use Rattle.integrity.{specs.{Invariant.{IsHeld, IsSound}, Removals.MayRemove}, proofs.FillKeeps.{MayFill, copy_derives, fill_fits}}
 use Rattle.integrity.proofs.{Held.{bare_of, held_of}, Keeps.{Keeps, keeps_keeps, unchanged}, MessageParts.{IsReached, label_kept, reached}}
 use Rattle.integrity.proofs.{ObjectLabels.{kind_there, labelled_there}, Reach.{IsWithin, found_within}, RemovalKeeps.removed_keeps}
 use Rattle.integrity.proofs.{RemovalKeeps.removed_sound, RemovalRights.may_clear_root, SlotKeeps.slots_keep, ThreadKeeps.may_control}
 use Rattle.integrity.proofs.ThreadKeeps.{to_thread}
+use Rattle.integrity.specs.Keeping.{IsSharp}
 
 module _
     (t : Layout) (allowed : EdgeTest) (event : Event) (a : ℕ) (m : Machine) (sound : IsSound t allowed m)
-    (closed : IsClosed allowed) (caller : ObjId) (mine : label_of t m caller ≡ Some a) (next : Machine) (address : ℕ) where
+    (closed : IsSharp t allowed) (caller : ObjId) (mine : label_of t m caller ≡ Some a) (next : Machine) (address : ℕ) where
   -- the root slot loses its capability
   module _ (thread : ObjId) (finds : FindsObject m caller address thread d.Tcb) where
     abbrev of_thread : IsReached t allowed m event a m sound thread d.Tcb
@@ -77,15 +79,24 @@ module _
 
     at_node : IsReached t allowed m event a m sound done.held.object (d.CNode done.guard)
     at_node =
-        reached t allowed m event a m sound closed.subjects_agree caller space done.held.object (d.CNode done.guard) mine
+        reached t allowed m event a m sound closed.uses_rise caller space done.held.object (d.CNode done.guard) mine
         (record { slot = done.node; held = done.held; finds = done.finds_node; object = refl; detail = done.detail })
 
     -- the slot with the CNode's capability is in the caller's domain
     node_within : IsWithin t allowed m a done.node.holder
     node_within =
-        found_within t allowed m (held_of t allowed m sound) closed.subjects_agree a caller space done.node
+        found_within t allowed m (held_of t allowed m sound) closed.uses_rise a caller space done.node
         done.finds_node.left mine
         done.finds_node.ends
+
+    -- so the caller's label keeps, and may put what it keeps where it controls the thread
+    may_put : MayPut allowed (MayKeep t allowed) a at_thread.label
+    may_put = record {
+      keeps =
+          found_keeps t allowed m (held_of t allowed m sound) closed.uses_rise a caller space done.node done.finds_node.left done.held
+          mine done.finds_node.ends done.finds_node.holds (ap kind_of_detail done.detail);
+      controls = may_act;
+    }
 
     -- the label of what stays stays
     still :
@@ -133,10 +144,9 @@ module _
       -- the thread's label controls the CNode as the caller's does, so it may have it as its space
       may_have : allowed at_thread.label authority.Space at_node.label ≡ true
       may_have =
-          closed.control_gives_all at_thread.label authority.Space at_node.label (record {
+          closed.keepers_have_all at_thread.label authority.Space at_node.label (handed may_put.keeps may_act) (record {
             controls =
-                sym (closed.subjects_agree a at_thread.label authority.Control (record { domain = inr may_act; of_use = refl }) at_node.label)
-                ∙ at_node.edge authority.Control refl refl;
+                closed.uses_fall a at_thread.label authority.Control at_node.label may_put refl (at_node.edge authority.Control refl refl);
             given = inl refl;
           })
 
@@ -162,10 +172,9 @@ module _
                   ∙ ap (allowed at_thread.label authority.Space) (same_Some to at_node.label (sym ends ∙ node_label)) ∙ may_have,
             );
         derives =
-            copy_derives t allowed mid mid_held closed.derive_by_grant done.node done.held node_within.label at_thread.label
+            copy_derives t allowed mid mid_held closed.derives_on done.node done.held node_within.label at_thread.label
             holder_label
-            (closed.derive_in_domain node_within.label at_thread.label
-            (record { subject = a; of_parent = node_within.domain; of_child = inr may_act }));
+            (closed.keepers_derive a node_within.label at_thread.label node_within.domain may_put);
       }
 
       root_is : with_root mid thread done.finds.slot done.node ≡ after

@@ -10,11 +10,12 @@ use Rattle.machine.proofs.{Ids.itself, Leaving.Names}
 use Rattle.machine.specs.declared.object.ReplyState.TheVariants as reply
 use Rattle.machine.specs.declared.thread.RunState.TheVariants as state
 use Rattle.steps.proofs.{Finding.{FindsObject, found_kind}, FoundObjects.tcb_of_kind, ThreadRow.{ResumeDone, SuspendDone}}
-use Rattle.policy.specs.{Change.WayToChange.modifies, Closed.IsClosed, Domain.EdgeTest, NarrowTake.TakesByControl.releases}
+use Rattle.policy.specs.{Change.WayToChange.modifies, Domain.EdgeTest, NarrowTake.TakesByControl.releases}
 use Rattle.policy.specs.NarrowTake.WayToShrink.{controls}
 use Rattle.integrity.{specs.{Acting.MayAct.started, Invariant.IsSound}, proofs.{Awake.blocked_actor, Held.held_of, Keeps.{Changes, Keeps}}}
 use Rattle.integrity.proofs.{Keeps.{Takes, unchanged}, MessageParts.{IsReached, holds_edge, names_blocked, reached, thread_edge}}
 use Rattle.integrity.proofs.MessageTouches.{MayLessen, released_keeps}
+use Rattle.integrity.specs.Keeping.{IsSharp}
 
 -- a thread that goes on is as it was, or can run, or is aborted
 data Resumes (m : Machine) (thread : ObjId) (next : Machine) : Type 0 where
@@ -35,10 +36,10 @@ resumes m thread tcb there = by_state tcb.state refl where
 
 module _
     (t : Layout) (allowed : EdgeTest) (event : Event) (a : ℕ) (m : Machine) (sound : IsSound t allowed m)
-    (closed : IsClosed allowed) (caller : ObjId) (mine : label_of t m caller ≡ Some a) (next : Machine) (address : ℕ) where
+    (closed : IsSharp t allowed) (caller : ObjId) (mine : label_of t m caller ≡ Some a) (next : Machine) (address : ℕ) where
   module _ (thread : ObjId) (finds : FindsObject m caller address thread d.Tcb) where
     pub to_thread : IsReached t allowed m event a m sound thread d.Tcb
-    to_thread = reached t allowed m event a m sound closed.subjects_agree caller address thread d.Tcb mine finds
+    to_thread = reached t allowed m event a m sound closed.uses_rise caller address thread d.Tcb mine finds
 
     pub may_control : allowed a authority.Control to_thread.label ≡ true
     may_control = to_thread.edge authority.Control refl refl
@@ -47,7 +48,7 @@ module _
     agrees :
         (k : Kind) (to : ℕ) → is_structural k ≡ false → allowed to_thread.label k to ≡ true → allowed a k to ≡ true
     agrees k to of_use edge =
-        closed.subjects_agree a to_thread.label k (record { domain = inr may_control; of_use = of_use }) to ∙ edge
+        closed.uses_rise a to_thread.label k (record { domain = inr may_control; of_use = of_use }) to edge
 
     module _ (tcb : Tcb) (there : IsThread m thread tcb) where
       -- the reply that it waits with is the caller's to use too, and one that holds it since it called only loses it

@@ -13,6 +13,9 @@ use Rattle.integrity.specs.{Altered.MayAlter, Awake.{CallersAreServed, IsAwake, 
 use Rattle.integrity.{specs.{Budgets.MayConfigure, Invariant.{IsBare, IsHeld}, OfTable.IsOfTable}, proofs.{Asleep.sleeps_on, Keeps.Acts}}
 use Rattle.integrity.proofs.{Keeps.{Alters, Keeps}, ObjectLabels.{kind_stays, label_stays, same_label}, Shrinking.same_context}
 use Rattle.integrity.proofs.Steady.{IsSteady, LinksAllowed, steady_confined}
+use Rattle.machine.specs.declared.thread.{Receiving.Receiving, RunState.RunState as state}
+use Rattle.policy.specs.Sharp.{MayIdle}
+use Rattle.integrity.specs.Keeping.{KeepersHoldNodes, WaitersMayIdle}
 
 -- all but one object's content, queue and words is as it was
 pub record Touches (m : Machine) (id : ObjId) (next : Machine) : Type 0 where
@@ -38,6 +41,10 @@ pub record Fits
       ⊎ ((from to : ℕ) → label_of t m id ≡ Some from → label_of t m end ≡ Some to → allowed from k to ≡ true)
   -- the number of a context that a thread lent was given out
   pub lent : (context : ObjId) (thread : Tcb) → new ≡ o.Tcb thread → context_lent thread.state ≡ Some context → context.0 < m.next
+  -- a thread that waits for a message without a context is of a label that may idle
+  pub idles :
+      (thread : Tcb) (receiving : Receiving) → new ≡ o.Tcb thread → thread.state ≡ state.Receiving receiving → thread.context ≡ None
+      → (label : ℕ) → label_of t m id ≡ Some label → MayIdle allowed label
   -- a thread sleeps, or its label may act
   pub sleeps :
       IsAwake t allowed began a → OthersSleep t allowed m → (thread : Tcb) → new ≡ o.Tcb thread
@@ -61,6 +68,7 @@ same_fits t allowed began event a m id held object there = record {
   end = refl;
   links = λ end k had. inl had;
   lent = λ context thread is lends. held.of_table.lent id context thread (there ∙ ap Some is) lends;
+  idles = λ thread receiving is. held.idlers id thread receiving (there ∙ ap Some is);
   sleeps = λ awake others thread is. others id thread (there ∙ ap Some is);
   serves = λ awake served reply is. served id reply (there ∙ ap Some is);
   share = λ before after was is. inl (ap (λ (c : Context). c.share) (same_context after before (sym is ∙ was)));
@@ -151,6 +159,20 @@ module _
     counted = let number = touches.number in let before = held.of_table.counted in omega (arith, number, before);
   }
 
+  nodes : KeepersHoldNodes t allowed next
+  nodes slot cap at is_node for_node label labelled =
+      held.nodes slot cap (sym (steady.caps slot) ∙ at) (sym (steady.kinds slot.holder) ∙ is_node) for_node label
+      (sym (steady.labels slot.holder) ∙ labelled)
+
+  idlers : WaitersMayIdle t allowed next
+  unfolding Seen
+  idlers q thread receiving at waits none label labelled = elim (seen q) [
+    | inl same ↦ held.idlers q thread receiving (sym same ∙ at) waits none label (sym (steady.labels q) ∙ labelled)
+    | inr same ↦
+        fits.idles thread receiving (sym (new_at q (o.Tcb thread) same at)) waits none label
+        (ap (label_of t m) (sym same) ∙ sym (steady.labels q) ∙ labelled)
+  ]
+
   bare : (q : ObjId) → object_of next q ≡ None → IsBare next q
   bare q absent = elim (one_or_two q id) [
     | inl same ↦ absurd (none-some new (sym absent ∙ is_at q same))
@@ -236,6 +258,8 @@ module _
     held = record {
       of_table = of_table;
       confined = steady_confined t allowed m next steady linked held.confined;
+      nodes = nodes;
+      idlers = idlers;
       kinds = λ slot cap at. steady.kinds cap.object ∙ held.kinds slot cap (sym (steady.caps slot) ∙ at);
       numbered = λ q object at.
           let before = before_there q object at in

@@ -6,9 +6,10 @@ use Rattle.machine.specs.{declared.{call.Event.Event, cap.Detail.Detail as d, ob
 use Rattle.machine.specs.{Changes.with_words, Layout.Layout, Machine.{Machine, cap_of, object_of, parent_of, queue_of, words_of}}
 use Rattle.machine.proofs.{Ids.at_other, LookUps.id_total}
 use Rattle.steps.proofs.WordsRow.{WriteDone}
-use Rattle.policy.specs.{Change.WayToChange.modifies, Closed.IsClosed, Domain.EdgeTest}
+use Rattle.policy.specs.{Change.WayToChange.modifies, Domain.EdgeTest}
 use Rattle.integrity.{specs.Invariant.{IsHeld, IsSound}, proofs.{Contents.changed, Held.held_of, Keeps.{Alters, Changes, Keeps, unchanged}}}
 use Rattle.integrity.proofs.{MessageParts.{IsReached, reached}, ObjectLabels.labelled_there, TouchKeeps.{same_fits, touch_keeps}}
+use Rattle.integrity.specs.Keeping.{IsSharp}
 
 -- one of an object's words is set, if it has words
 word_or_stays :
@@ -62,7 +63,7 @@ module _
 
 module _
     (t : Layout) (allowed : EdgeTest) (event : Event) (a : ℕ) (m : Machine) (sound : IsSound t allowed m)
-    (closed : IsClosed allowed) (caller : ObjId) (mine : label_of t m caller ≡ Some a) (next : Machine) where
+    (closed : IsSharp t allowed) (caller : ObjId) (mine : label_of t m caller ≡ Some a) (next : Machine) where
   pub read_keeps : next ≡ m → Keeps t allowed m event a m next
   read_keeps same =
       subst (λ (n : Machine). Keeps t allowed m event a m n) (sym same)
@@ -71,7 +72,7 @@ module _
   pub write_keeps : (address index word : ℕ) → WriteDone m caller address index word next → Keeps t allowed m event a m next
   write_keeps address index word done =
       let frame : IsReached t allowed m event a m sound done.id (d.Frame done.rights) =
-      reached t allowed m event a m sound closed.subjects_agree caller address done.id (d.Frame done.rights) mine done.finds in
+      reached t allowed m event a m sound closed.uses_rise caller address done.id (d.Frame done.rights) mine done.finds in
       subst (λ (n : Machine). Keeps t allowed m event a m n) (sym done.changes)
       (word_keeps t allowed m event a m done.id (held_of t allowed m sound) index word frame.label frame.labelled
       (λ awake. modifies authority.Write refl (frame.edge authority.Write done.allowed refl)))

@@ -1,11 +1,13 @@
 -- Which labels keep capabilities for CNodes, and so may receive, copy, move and make capabilities: those of which a CNode holds one at
 -- boot, those that find one in the space of a keeper, and those whose CNodes a keeper may put one into (confine's own).
-use Rattle.std.specs.Prelude.{ℕ, ◌≡◌, Some, true}
-use Rattle.base.specs.declared.{ids.SlotRef.SlotRef, kind.Kind.Kind as authority}
+use Rattle.std.specs.Prelude.{ℕ, ◌≡◌, None, Some, true}
+use Rattle.base.specs.declared.{ids.{ObjId.ObjId, SlotRef.SlotRef}, kind.Kind.Kind as authority}
 use Rattle.machine.specs.{declared.{cap.Cap.Cap, layout.Initial.Initial}, Capabilities.kind_of_detail, Layout.{Layout, initial_cap, initial_of}}
 use Rattle.machine.specs.declared.object.ObjectKind.TheVariants as kind
 use Rattle.machine.specs.Objects.{kind_of_object}
-use Rattle.policy.specs.{Domain.EdgeTest, Sharp.{IsSharplyClosed, KeeperTest}}
+use Rattle.machine.specs.{Authority.label_of, Machine.{Machine, cap_of, object_of}, WellFormed.kind_of}
+use Rattle.machine.specs.declared.{object.Object.Object as o, thread.{Receiving.Receiving, RunState.RunState as state, Tcb.Tcb}}
+use Rattle.policy.specs.{Domain.EdgeTest, Sharp.{IsSharplyClosed, KeeperTest, MayIdle}}
 
 -- a CNode of the label holds a capability for a CNode at boot
 pub record HoldsNode (t : Layout) (a : ℕ) : Type 0 where
@@ -28,6 +30,18 @@ pub data MayKeep (t : Layout) (allowed : EdgeTest) : ℕ → Type 0 where
 -- a test of labels holds of each one that may keep
 abbrev pub HoldsOfKeepers : Layout → EdgeTest → KeeperTest → Type 0
 HoldsOfKeepers t allowed keeps = (a : ℕ) → MayKeep t allowed a → keeps a ≡ true
+
+-- each CNode that holds a CNode's capability is of a label that may keep one
+abbrev pub KeepersHoldNodes : Layout → EdgeTest → Machine → Type 0
+KeepersHoldNodes t allowed m =
+    (slot : SlotRef) (held : Cap) → cap_of m slot ≡ Some held → kind_of m slot.holder ≡ Some kind.CNode
+    → kind_of_detail held.detail ≡ kind.CNode → (label : ℕ) → label_of t m slot.holder ≡ Some label → MayKeep t allowed label
+
+-- each thread that waits for a message without a context is of a label that may idle
+abbrev pub WaitersMayIdle : Layout → EdgeTest → Machine → Type 0
+WaitersMayIdle t allowed m =
+    (id : ObjId) (thread : Tcb) (receiving : Receiving) → object_of m id ≡ Some (o.Tcb thread) → thread.state ≡ state.Receiving receiving
+    → thread.context ≡ None → (label : ℕ) → label_of t m id ≡ Some label → MayIdle allowed label
 
 -- the policy is sharply closed, where the labels that may keep are the keepers
 abbrev pub IsSharp : Layout → EdgeTest → Type 0

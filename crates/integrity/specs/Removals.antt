@@ -18,13 +18,13 @@ use_of kind.Context = authority.Context
 use_of kind.Frame = authority.Reset
 use_of kind.Control = authority.SchedControl
 
--- a may use a label's objects of a kind, or they are CNodes, in the space of a label that a controls
-abbrev pub MayReach : EdgeTest → ℕ → ℕ → ObjectKind → ℕ → Type 0
-MayReach allowed a controlled of_kind label =
-    (allowed a (use_of of_kind) label ≡ true) ⊎ ((of_kind ≡ kind.CNode) × (allowed controlled authority.Space label ≡ true))
+-- a label that is controlled may use a label's objects of a kind, or they are CNodes, in its space
+abbrev pub MayReach : EdgeTest → ℕ → ObjectKind → ℕ → Type 0
+MayReach allowed controlled of_kind label =
+    (allowed controlled (use_of of_kind) label ≡ true) ⊎ ((of_kind ≡ kind.CNode) × (allowed controlled authority.Space label ≡ true))
 
 -- a capability may go from its slot: a controls the label of the slot's holder, or one from which capabilities may be derived to it,
--- and a reaches what the capability is for
+-- and the label that it controls reaches what the capability is for
 pub record MayGo (t : Layout) (allowed : EdgeTest) (a : ℕ) (m : Machine) (slot : SlotRef) (held : Cap) : Type 0 where
   pub controlled : ℕ
   pub control : allowed a authority.Control controlled ≡ true
@@ -33,7 +33,7 @@ pub record MayGo (t : Layout) (allowed : EdgeTest) (a : ℕ) (m : Machine) (slot
   pub derive : (controlled ≡ holder) ⊎ (allowed controlled authority.Derive holder ≡ true)
   pub label : ℕ
   pub labelled : label_of t m held.object ≡ Some label
-  pub reach : MayReach allowed a controlled (kind_of_detail held.detail) label
+  pub reach : MayReach allowed controlled (kind_of_detail held.detail) label
 
 -- each capability in the chosen slots may go
 abbrev pub MayRemove : Layout → EdgeTest → ℕ → Machine → (SlotRef → Bool) → Type 0

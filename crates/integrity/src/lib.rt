@@ -22,5 +22,6 @@ pub use removing::{
 };
 pub use safe::{
     bounded_systems_keep_labels_apart, changes_are_of_labels_that_act, confined_systems_are_safe,
-    labels_act_from_boot_or_by_control,
+    keepers_hold_cnode_capabilities, labels_act_from_boot_or_by_control,
+    sharply_confined_systems_are_safe,
 };

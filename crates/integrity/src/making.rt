@@ -3,13 +3,13 @@ ghost use Rattle.std.specs.Prelude.{ℕ, ◌≡◌, ◌⊎◌, Ok, Some};
 ghost use Rattle.base.specs.declared.ids.ObjId.{ObjId as Id};
 ghost use Rattle.machine.specs.{declared.{call.Made.Made, object.MemoryKind.MemoryKind}, Authority.label_of};
 ghost use Rattle.machine.specs.{Layout.Layout, Machine.Machine, Step.Retype.retype_of};
-ghost use Rattle.policy.specs.{Closed.IsClosed, Domain.EdgeTest};
-ghost use Rattle.integrity.specs.{Altered.MayAlter, Awake.IsAwake, Confined.IsConfined, Invariant.IsSound};
+ghost use Rattle.policy.specs.{Domain.EdgeTest};
+ghost use Rattle.integrity.specs.{Altered.MayAlter, Awake.IsAwake, Confined.IsConfined, Invariant.IsSound, Keeping.IsSharp};
 ghost use Rattle.integrity.specs.{OfTable.IsOfTable, Shrinks.IsSame};
 
 /// A law: a thread that makes objects of untyped memory stays within the bounds of its label.
 ///
-/// The machine stays within a closed policy, each object has a label, and no object changes or is
+/// The machine stays within a sharply closed policy, each object has a label, and no object changes or is
 /// made but within the bounds.
 ///
 /// The bounds are for a machine of a run, where only threads of labels that may act wait or have
@@ -19,7 +19,7 @@ pub fn what_is_made_stays_within_authority()
         (of : MemoryKind)
         (bits to offset count : ℕ) (made : Made)
         → IsSound t allowed m
-        → IsClosed allowed
+        → IsSharp t allowed
         → label_of t m caller ≡ Some a
         → retype_of m caller untyped of bits to offset count ≡ Ok (made, next)
         → IsConfined t allowed next }
@@ -27,7 +27,7 @@ pub fn what_is_made_stays_within_authority()
         (of : MemoryKind)
         (bits to offset count : ℕ) (made : Made)
         → IsSound t allowed m
-        → IsClosed allowed
+        → IsSharp t allowed
         → label_of t m caller ≡ Some a
         → retype_of m caller untyped of bits to offset count ≡ Ok (made, next)
         → IsOfTable t next }
@@ -35,7 +35,7 @@ pub fn what_is_made_stays_within_authority()
         (of : MemoryKind)
         (bits to offset count : ℕ) (made : Made)
         → IsSound t allowed m
-        → IsClosed allowed
+        → IsSharp t allowed
         → label_of t m caller ≡ Some a
         → retype_of m caller untyped of bits to offset count ≡ Ok (made, next)
         → (awake : IsAwake t allowed m a)

@@ -6,15 +6,15 @@ ghost use Rattle.machine.specs.declared.slot_address.SlotAddress.{SlotAddress as
 ghost use Rattle.machine.specs.{Authority.label_of, Layout.Layout, Machine.{Machine, object_of}, Removal.removed};
 ghost use Rattle.machine.specs.{Step.{Delete.delete_of, Revoke.revoke_of}, WellFormed.IsWellFormed};
 ghost use Rattle.machine.specs.declared.object.Object.TheVariants as o;
-ghost use Rattle.policy.specs.{Change.MayChange, Closed.IsClosed, Domain.EdgeTest, NarrowTake.MayShrink};
-ghost use Rattle.integrity.specs.{Altered.MayAlter, Awake.IsAwake, Confined.IsConfined, Invariant.IsSound};
+ghost use Rattle.policy.specs.{Change.MayChange, Domain.EdgeTest, NarrowTake.MayShrink};
+ghost use Rattle.integrity.specs.{Altered.MayAlter, Awake.IsAwake, Confined.IsConfined, Invariant.IsSound, Keeping.IsSharp};
 ghost use Rattle.integrity.specs.{OfTable.IsOfTable, Removals.MayRemove, Shrinks.{IsSame, Shrinks}};
 
-/// A law: whichever slots are removed, the machine stays within a closed policy and keeps to its table.
+/// A law: whichever slots are removed, the machine stays within a sharply closed policy and keeps to its table.
 pub fn removals_stay_confined()
     ensures confined { (t : Layout) (allowed : EdgeTest) (m : Machine) (chosen : Slot → Bool)
         → IsSound t allowed m
-        → IsClosed allowed
+        → IsSharp t allowed
         → IsConfined t allowed (removed m chosen) }
     ensures labelled { (t : Layout) (allowed : EdgeTest) (m : Machine) (chosen : Slot → Bool)
         → IsSound t allowed m
@@ -34,7 +34,7 @@ pub fn what_a_removal_changes_shrinks()
 pub fn a_removal_changes_what_may_be_altered()
     ensures { (t : Layout) (allowed : EdgeTest) (a : ℕ) (m : Machine) (chosen : Slot → Bool)
         → IsSound t allowed m
-        → IsClosed allowed
+        → IsSharp t allowed
         → MayRemove t allowed a m chosen
         → (awake : IsAwake t allowed m a)
         → (id : Id)
@@ -50,11 +50,11 @@ pub fn a_removal_changes_what_may_be_altered()
 pub fn removals_stay_within_authority()
     ensures sound { (t : Layout) (allowed : EdgeTest) (m : Machine) (chosen : Slot → Bool)
         → IsSound t allowed m
-        → IsClosed allowed
+        → IsSharp t allowed
         → IsSound t allowed (removed m chosen) }
     ensures changes { (t : Layout) (allowed : EdgeTest) (a : ℕ) (m : Machine) (chosen : Slot → Bool)
         → IsSound t allowed m
-        → IsClosed allowed
+        → IsSharp t allowed
         → MayRemove t allowed a m chosen
         → (awake : IsAwake t allowed m a)
         → (id : Id) → IsSame m (removed m chosen) id ⊎ MayAlter t allowed awake.acts a m (removed m chosen) id }
@@ -74,7 +74,7 @@ pub fn deletes_and_revokes_stay_within_authority()
     ensures delete { (t : Layout) (allowed : EdgeTest) (a : ℕ) (m next : Machine) (caller : Id) (address : Place)
         (made : Made)
         → IsSound t allowed m
-        → IsClosed allowed
+        → IsSharp t allowed
         → label_of t m caller ≡ Some a
         → delete_of m caller address ≡ Ok (made, next)
         → IsSound t allowed next
@@ -82,7 +82,7 @@ pub fn deletes_and_revokes_stay_within_authority()
     ensures revoke { (t : Layout) (allowed : EdgeTest) (a : ℕ) (m next : Machine) (caller : Id) (address : Place)
         (made : Made)
         → IsSound t allowed m
-        → IsClosed allowed
+        → IsSharp t allowed
         → label_of t m caller ≡ Some a
         → revoke_of m caller address ≡ Ok (made, next)
         → IsSound t allowed next

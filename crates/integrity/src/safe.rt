@@ -3,9 +3,12 @@ ghost use Rattle.std.specs.Prelude.{ℕ, ◌≡◌, ◌≢◌, ◌↔◌, ◌⊎
 ghost use Rattle.base.specs.declared.{ids.ObjId.ObjId as Id, kind.Kind.Kind as authority};
 ghost use Rattle.machine.specs.{declared.call.{Event.Event, Outcome.Outcome}, Authority.label_of, Boot.IsBoot};
 ghost use Rattle.machine.specs.{Layout.Layout, Machine.{Machine, object_of}, Step.Step};
+ghost use Rattle.machine.specs.declared.object.ObjectKind.TheVariants as kind;
 ghost use Rattle.policy.specs.{Change.{ActorTest, MayChange}, Closed.IsClosed, Domain.EdgeTest, NarrowTake.MayShrink};
+ghost use Rattle.policy.specs.Sharp.{IsSharplyClosed, KeeperTest, Told, UsesRise};
 ghost use Rattle.table.specs.Rules.{IsLawful};
 ghost use Rattle.integrity.specs.{Acting.{HoldsOfActors, MayAct, Starts}, Apart.{NeverChanges, OnlyTakes}};
+ghost use Rattle.integrity.specs.{Budgets.Finds, Keeping.{HoldsOfKeepers, IsSharp, KeepersHoldNodes, MayKeep}};
 ghost use Rattle.integrity.specs.{Confined.IsConfined, Safe.{IsReached, IsSafe, KeepsNarrowBounds, RefusesOthers}};
 ghost use Rattle.integrity.specs.Shrinks.{IsSame};
 
@@ -21,6 +24,49 @@ pub fn confined_systems_are_safe()
         → IsClosed allowed
         → ((boot : Machine) → IsBoot t boot → IsConfined t allowed boot)
         → IsSafe t allowed }
+{
+    boot_states_are_well_formed();
+}
+
+/// A law, the headline over the sharp rules: every run of a confined system is safe where its policy is sharply closed.
+///
+/// The keepers are the labels that may keep capabilities for CNodes, or any labels among which
+/// these are. A closed policy is sharply closed, whichever labels keep.
+pub fn sharply_confined_systems_are_safe()
+    ensures keepers { (t : Layout) (allowed : EdgeTest)
+        → IsLawful t
+        → IsSharp t allowed
+        → ((boot : Machine) → IsBoot t boot → IsConfined t allowed boot)
+        → IsSafe t allowed }
+    ensures told { (t : Layout) (allowed : EdgeTest) (keeps : KeeperTest)
+        → IsLawful t
+        → HoldsOfKeepers t allowed keeps
+        → IsSharplyClosed allowed (Told keeps)
+        → ((boot : Machine) → IsBoot t boot → IsConfined t allowed boot)
+        → IsSafe t allowed }
+{
+    boot_states_are_well_formed();
+}
+
+/// A law: in every run of such a system only keepers hold capabilities for CNodes.
+///
+/// A CNode that holds one in a slot is of a label that may keep one, and a thread that finds one is
+/// of such a label.
+pub fn keepers_hold_cnode_capabilities()
+    ensures holds { (t : Layout) (allowed : EdgeTest)
+        → IsLawful t
+        → IsSharp t allowed
+        → ((boot : Machine) → IsBoot t boot → IsConfined t allowed boot)
+        → (m : Machine) → IsReached t m → KeepersHoldNodes t allowed m }
+    ensures finds { (t : Layout) (allowed : EdgeTest)
+        → IsLawful t
+        → IsSharp t allowed
+        → ((boot : Machine) → IsBoot t boot → IsConfined t allowed boot)
+        → (m : Machine) (thread : Id) (address : ℕ) (node : Id) (a : ℕ)
+        → IsReached t m
+        → Finds m thread address kind.CNode node
+        → label_of t m thread ≡ Some a
+        → MayKeep t allowed a }
 {
     boot_states_are_well_formed();
 }
@@ -68,9 +114,11 @@ pub fn changes_are_of_labels_that_act()
         → NeverChanges t a l }
 {}
 
-/// A law: in a closed policy a label may act exactly if it acts from boot on, or a label that does controls it.
+/// A law: a label may act exactly if it acts from boot on, or a label that does controls it.
+///
+/// The policy keeps to the rule that who finds its capabilities with a label has its edges of use.
 pub fn labels_act_from_boot_or_by_control()
     ensures { (t : Layout) (allowed : EdgeTest) (a : ℕ)
-        → IsClosed allowed
+        → UsesRise allowed
         → MayAct t allowed a ↔ (Starts t a ⊎ ((b : ℕ) × Starts t b × (allowed b authority.Control a ≡ true))) }
 {}

@@ -1,0 +1,21 @@
+-- The boot state of a lawful table is sound, its threads sleep whose labels may not act, and it holds nobody who called.
+use Rattle.machine.specs.{Boot.IsBoot, Layout.Layout, Machine.Machine, WellFormed.IsWellFormed}
+use Rattle.policy.specs.Domain.{EdgeTest}
+use Rattle.table.specs.Rules.{IsLawful}
+use Rattle.integrity.specs.Confined.{IsConfined}
+use Rattle.integrity.proofs.{AtBoot.{boot_asleep, boot_idlers, boot_nodes, boot_of_table, boot_served}, Runs.StartsKept}
+
+pub starts_kept :
+    (t : Layout) (allowed : EdgeTest) → ((boot : Machine) → IsLawful t → IsBoot t boot → IsWellFormed boot) → IsLawful t
+    → ((boot : Machine) → IsBoot t boot → IsConfined t allowed boot) → StartsKept t allowed
+starts_kept t allowed formed lawful confined boot booted = (
+  record {
+    well_formed = formed boot lawful booted;
+    of_table = boot_of_table t boot lawful booted;
+    confined = confined boot booted;
+    nodes = boot_nodes t allowed boot booted;
+    idlers = boot_idlers t allowed boot lawful booted;
+  },
+  boot_asleep t allowed boot lawful booted,
+  boot_served t allowed boot lawful booted,
+)
