@@ -1,11 +1,14 @@
 -- A closed policy is sharply closed, whichever labels keep; and fewer keepers ask for less.
 use Rattle.std.proofs.Common.{ℕ, ◌∙◌, inr, refl, sym}
 use Rattle.base.specs.declared.kind.Kind.TheVariants.{Context}
-use Rattle.policy.specs.{Closed.{IsClosed, caller, derived, granted, server}, Domain.EdgeTest, Sharp.{IsSharplyClosed, Keepers, MayPut}}
+use Rattle.policy.specs.{Closed.{IsClosed, caller, derived, granted, server}, Domain.EdgeTest, Sharp.{IsSharplyClosed, Keepers, MayPut, UsesRise}}
+
+pub closed_rises : (test : EdgeTest) → IsClosed test → UsesRise test
+closed_rises test closed a b kind share to has = closed.subjects_agree a b kind share to ∙ has
 
 pub closed_sharply : (test : EdgeTest) (Keeps : Keepers) → IsClosed test → IsSharplyClosed test Keeps
 closed_sharply test Keeps closed = record {
-  uses_rise = λ a b kind share to has. closed.subjects_agree a b kind share to ∙ has;
+  uses_rise = closed_rises test closed;
   uses_fall = λ a b kind to put of_use has.
       sym (closed.subjects_agree a b kind (record { domain = inr put.controls; of_use = of_use }) to) ∙ has;
   keepers_have_all = λ a kind b keeps gives. closed.control_gives_all a kind b gives;

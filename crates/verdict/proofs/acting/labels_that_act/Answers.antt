@@ -1,5 +1,5 @@
 -- In a closed policy a label that may act starts, or one that starts controls it.
-use Rattle.policy.specs.Policy.{allows}
+use Rattle.policy.{specs.Policy.allows, proofs.Sharpness.closed_rises}
 use Rattle.verdict.proofs.WhoActs.{found_actors}
 use Rattle.verdict.proofs.acting.labels_that_act.Goals as goal
 
@@ -10,5 +10,5 @@ returns c = λ closed a.
     let found =
     found_actors t allowed c.starting-starting.result c.targets.result c.union.result c.union.ensures c.starting-starting.ensures
     c.targets.ensures a in
-    let law = c.labels_act_from_boot_or_by_control.ensures t allowed a closed in
+    let law = c.labels_act_from_boot_or_by_control.ensures t allowed a (closed_rises allowed closed) in
     (λ is. law.1 (found.0 is), λ acts. found.1 (law.0 acts))
