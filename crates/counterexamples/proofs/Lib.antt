@@ -22,3 +22,4 @@ pub mod GrantRun
 pub mod GrantUnsafe
 pub mod Unallowed
 pub mod Unsafe
+pub mod SharpUnsafe

@@ -1,14 +1,14 @@
 -- A system that isn't safe since labels of one domain may do different things: the thread's label has the CNode's label as its
 -- space, and no edge of that label.
 use Rattle.std.proofs.{Common.{[], ℕ, ◌&&◌, ◌==◌, ◌≡◌, false, lit≤, refl, sym}, lemmas.Bool.false≢true}
-use Rattle.base.specs.{declared.kind.Kind.{Kind, TheVariants.{Derive, Holds, Notify, Reset, Runs, Space}}, Kinds.is_structural}
+use Rattle.base.specs.{declared.kind.Kind.{Kind, TheVariants.{Control, Derive, Holds, Notify, Reset, Runs, Space}}, Kinds.is_structural}
 use Rattle.machine.specs.{Boot.IsBoot, Machine.Machine}
-use Rattle.policy.specs.{Domain.EdgeTest, Needed.subjects_agree}
+use Rattle.policy.specs.{Domain.EdgeTest, Needed.subjects_agree, Policy.allows}
 use Rattle.table.proofs.BootState.{boot_state, boot_state_is}
 use Rattle.integrity.specs.{Confined.IsConfined, Safe.IsReached}
 use Rattle.counterexamples.specs.Counterexamples.{HoldsHeadline, UnsafeWithout}
 use Rattle.counterexamples.proofs.{FewLabels.among, SmallSystem.signalling, Unallowed.after_signal}
-use Rattle.counterexamples.proofs.{Unallowed.{signal, signal_unallowed, signals}, UnsafeBy.{Needs, needs_by_tests, tests, unsafe_without}}
+use Rattle.counterexamples.proofs.{Unallowed.{signal, signal_unallowed, signals}, UnsafeBy.{Needs, needs_by_tests, tests, unsafe_keeping}}
 
 abbrev joins : EdgeTest
 joins a Space b = a == 0 && b == 1
@@ -48,5 +48,13 @@ needs = needs_by_tests subjects_agree signalling 3 joins (lit≤ tt) refl refl n
 pub confined : (m : Machine) → IsBoot signalling m → IsConfined signalling parted m
 confined = needs.confined
 
+-- and no label controls another
+abbrev pub NoControl : EdgeTest → Type 0
+NoControl test = (a b : ℕ) → test a Control b ≡ false
+
+pub unsafe_without_agreeing : (system : UnsafeWithout subjects_agree) × NoControl (allows system.edges)
+unfolding among
+unsafe_without_agreeing = unsafe_keeping subjects_agree signalling parted NoControl needs (λ a b. refl)
+
 pub unsafe_without_agreeing_subjects : UnsafeWithout subjects_agree
-unsafe_without_agreeing_subjects = unsafe_without subjects_agree signalling parted needs
+unsafe_without_agreeing_subjects = unsafe_without_agreeing.0

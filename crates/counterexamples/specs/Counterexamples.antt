@@ -4,10 +4,10 @@ use Rattle.base.specs.declared.{edge.Edge.Edge, ids.{ObjId.ObjId, SlotRef.SlotRe
 use Rattle.machine.specs.declared.call.{Answer.TheVariants.Nothing, Call.TheVariants.Signal, Event.Event, Outcome.TheVariants.Done}
 use Rattle.machine.specs.{declared.{cap.Cap.Cap, object.{Object.Object, ObjectKind.TheVariants.Notification}}, Authority.label_of}
 use Rattle.machine.specs.{Boot.IsBoot, Layout.Layout, Machine.{Machine, with_object}, Step.{Step, Find.find}}
-use Rattle.policy.specs.{Domain.EdgeTest, Needed.{Obeys, Rule}, Policy.{IsPolicy, allows}}
+use Rattle.policy.specs.{Domain.EdgeTest, Needed.{Obeys, ObeysSharply, Rule}, Policy.{IsPolicy, allows}}
 use Rattle.table.specs.Rules.{IsLawful}
 use Rattle.integrity.specs.{Allowed.IsAllowedStep, Confined.IsConfined, Safe.{GuardsBudgets, KeepsBounds, KeepsIntegrity, LabelsObjects}}
-use Rattle.integrity.specs.Safe.{StaysConfined}
+use Rattle.integrity.specs.{Keeping.MayKeep, Safe.StaysConfined}
 
 -- from the boot state of a lawful table a thread signals a notification, and the signal is done; a policy lacks the edge of
 -- kind notify from the thread's label to the notification's, and doesn't allow the step
@@ -48,6 +48,17 @@ pub record UnsafeWithout (rule : Rule) : Type 0 where
   pub lawful : IsLawful t
   pub policy : IsPolicy edges
   pub others : (other : Rule) → other ≢ rule → Obeys (allows edges) other
+  pub confined : (boot : Machine) → IsBoot t boot → IsConfined t (allows edges) boot
+  pub unsafe : ¬ HoldsHeadline t (allows edges)
+
+-- a lawful table and a policy that obeys every sharp rule but one, where those keep that may; the table's boot state is confined, and
+-- the headline doesn't hold
+pub record SharplyUnsafeWithout (rule : Rule) : Type 0 where
+  pub t : Layout
+  pub edges : List Edge
+  pub lawful : IsLawful t
+  pub policy : IsPolicy edges
+  pub others : (other : Rule) → other ≢ rule → ObeysSharply (allows edges) (MayKeep t (allows edges)) other
   pub confined : (boot : Machine) → IsBoot t boot → IsConfined t (allows edges) boot
   pub unsafe : ¬ HoldsHeadline t (allows edges)
 

@@ -15,7 +15,9 @@ ghost use Rattle.policy.specs.{Closed.MayBeGranted, Domain.{EdgeTest, IsInDomain
 ghost use Rattle.policy.specs.Needed.{control_gives_all, derive_by_grant, grant_shares, lent_runs, reply_holds};
 ghost use Rattle.policy.specs.{Needed.subjects_agree, Policy.allows};
 ghost use Rattle.integrity.specs.{Allowed.IsAllowedStep, Confined.IsConfined};
-ghost use Rattle.counterexamples.specs.Counterexamples.{TakesOut, UnallowedSignal, UnsafeWithout};
+ghost use Rattle.policy.specs.{Needed.{Rule, derive_in_domain}, Sharp.{DerivesOn, GrantsDerive, UsesFall}};
+ghost use Rattle.integrity.specs.Keeping.{MayKeep};
+ghost use Rattle.counterexamples.specs.Counterexamples.{SharplyUnsafeWithout, TakesOut, UnallowedSignal, UnsafeWithout};
 
 /// A law: each reason of authority counts.
 ///
@@ -165,4 +167,18 @@ pub fn safety_needs_contexts_to_run()
 /// no edge for it.
 pub fn safety_needs_lenders_to_share()
     ensures { UnsafeWithout lent_runs }
+{}
+
+/// A law: safety over the sharp rules needs each of them but S4, which asks for what the others ask for.
+///
+/// For each other rule there is a system that obeys all others of the sharp rules, where those keep
+/// that may, and whose boot state is confined, and which isn't safe. Of the first rule that is so
+/// for the half by which uses rise, and of the fifth for each of its parts.
+pub fn sharp_safety_needs_each_rule()
+    ensures each { (rule : Rule) → rule ≢ derive_in_domain → SharplyUnsafeWithout rule }
+    ensures rise { (system : SharplyUnsafeWithout subjects_agree)
+        × UsesFall (allows system.edges) (MayKeep system.t (allows system.edges)) }
+    ensures granted { (system : SharplyUnsafeWithout derive_by_grant) × DerivesOn (allows system.edges) }
+    ensures transitive { (system : SharplyUnsafeWithout derive_by_grant)
+        × GrantsDerive (allows system.edges) (MayKeep system.t (allows system.edges)) }
 {}

@@ -1,8 +1,9 @@
--- The rules of closed policies one by one, and that each is needed: there is a policy that obeys all of the others and not that
+-- The rules of closed policies one by one, and the sharp ones; and that each of the first is needed: there is a policy that obeys all of the others and not that
 -- one (the rules are confine's own).
 use Rattle.std.specs.Prelude.{◌≢◌}
 use Rattle.policy.specs.Closed.{ContextRuns, ControlGivesAll, DeriveByGrant, DeriveInDomain, GrantShares, LentRuns, ReplyHolds}
-use Rattle.policy.specs.Domain.{EdgeTest, SubjectsAgree}
+use Rattle.policy.specs.{Domain.{EdgeTest, SubjectsAgree}, Sharp.{BoundRun, DerivesOn, GrantsDerive, HoldsCallers, HoldsServers, Keepers}}
+use Rattle.policy.specs.Sharp.{KeepersAreGranted, KeepersDerive, KeepersHaveAll, LendsToServers, UsesFall, UsesRise}
 
 pub data Rule : Type 0 where
   subjects_agree : Rule
@@ -23,6 +24,17 @@ Obeys test derive_by_grant = DeriveByGrant test
 Obeys test context_runs = ContextRuns test
 Obeys test reply_holds = ReplyHolds test
 Obeys test lent_runs = LentRuns test
+
+-- the sharp rules by the same numbers, where these labels keep
+abbrev pub ObeysSharply : EdgeTest → Keepers → Rule → Type 0
+ObeysSharply test Keeps subjects_agree = UsesRise test × UsesFall test Keeps
+ObeysSharply test Keeps control_gives_all = KeepersHaveAll test Keeps
+ObeysSharply test Keeps grant_shares = KeepersAreGranted test Keeps
+ObeysSharply test Keeps derive_in_domain = KeepersDerive test Keeps
+ObeysSharply test Keeps derive_by_grant = GrantsDerive test Keeps × DerivesOn test
+ObeysSharply test Keeps context_runs = BoundRun test
+ObeysSharply test Keeps reply_holds = HoldsServers test × HoldsCallers test
+ObeysSharply test Keeps lent_runs = LendsToServers test
 
 -- a policy that breaks the rule and no other
 pub record BreaksOnly (rule : Rule) : Type 0 where

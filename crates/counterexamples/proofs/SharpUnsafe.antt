@@ -1,0 +1,68 @@
+-- The systems that aren't safe without a rule of closed policies aren't safe without the sharp rule of its number either: each sharp rule
+-- asks for no more.
+use Rattle.std.proofs.{Common.{◌∙◌, ◌≢◌, inr, refl, sym}, lemmas.Bool.false≢true}
+use Rattle.policy.specs.{Closed.{ContextRuns}, Needed.{Rule, context_runs}, Policy.allows}
+use Rattle.policy.specs.Needed.{control_gives_all, derive_by_grant, derive_in_domain, grant_shares, lent_runs, reply_holds, subjects_agree}
+use Rattle.policy.{specs.Sharp.{BoundRun, DerivesOn, GrantsDerive, UsesFall}, proofs.Sharpness.{agree_bound, obeys_sharply}}
+use Rattle.integrity.specs.Keeping.{MayKeep}
+use Rattle.counterexamples.specs.Counterexamples.{SharplyUnsafeWithout, UnsafeWithout}
+use Rattle.counterexamples.proofs.{ContextUnsafe.unsafe_without_running, ControlUnsafe.unsafe_without_control}
+use Rattle.counterexamples.proofs.{GapUnsafe.unsafe_without_derivation, GrantUnsafe.{unsafe_without_granted_derivation, unsafe_without_sharing}}
+use Rattle.counterexamples.proofs.{LendingUnsafe.unsafe_without_lending, ReplyUnsafe.unsafe_without_holding, Unsafe.unsafe_without_agreeing}
+
+abbrev sharper :
+    (rule : Rule) → (system : UnsafeWithout rule) → (ContextRuns (allows system.edges) → BoundRun (allows system.edges))
+    → SharplyUnsafeWithout rule
+sharper rule system bound = record {
+  t = system.t;
+  edges = system.edges;
+  lawful = system.lawful;
+  policy = system.policy;
+  others = λ other differ.
+      obeys_sharply (allows system.edges) (MayKeep system.t (allows system.edges)) bound other (system.others other differ);
+  confined = system.confined;
+  unsafe = system.unsafe;
+}
+
+-- but for the first rule, each system obeys it, on which that who may be bound may run rests
+abbrev agreeing : (rule : Rule) → subjects_agree ≢ rule → UnsafeWithout rule → SharplyUnsafeWithout rule
+agreeing rule differ system = sharper rule system (agree_bound (allows system.edges) (system.others subjects_agree differ))
+
+-- in the system without the first rule no label controls another, so that what a label has falls to none, and none is bound
+abbrev unsafe_without_rising : SharplyUnsafeWithout subjects_agree
+unsafe_without_rising =
+    let none = unsafe_without_agreeing.1 in
+    sharper subjects_agree unsafe_without_agreeing.0 (λ runs a b s uses controls. absurd (false≢true (sym (none a b) ∙ controls)))
+
+pub unsafe_without_each : (rule : Rule) → rule ≢ derive_in_domain → SharplyUnsafeWithout rule
+unsafe_without_each subjects_agree differ = unsafe_without_rising
+unsafe_without_each control_gives_all differ = agreeing control_gives_all (λ e. cc) unsafe_without_control
+unsafe_without_each grant_shares differ = agreeing grant_shares (λ e. cc) unsafe_without_sharing
+unsafe_without_each derive_in_domain differ = absurd (differ refl)
+unsafe_without_each derive_by_grant differ = agreeing derive_by_grant (λ e. cc) unsafe_without_granted_derivation.0
+unsafe_without_each context_runs differ = agreeing context_runs (λ e. cc) unsafe_without_running
+unsafe_without_each reply_holds differ = agreeing reply_holds (λ e. cc) unsafe_without_holding
+unsafe_without_each lent_runs differ = agreeing lent_runs (λ e. cc) unsafe_without_lending
+
+-- where the one half of a rule is obeyed, the other is broken
+
+pub unsafe_without_rise :
+    (system : SharplyUnsafeWithout subjects_agree) × UsesFall (allows system.edges) (MayKeep system.t (allows system.edges))
+unsafe_without_rise = (
+  unsafe_without_rising,
+  λ a b kind to put of_use has. absurd (false≢true (sym (unsafe_without_agreeing.1 a b) ∙ put.controls)),
+)
+
+pub unsafe_without_granted :
+    (system : SharplyUnsafeWithout derive_by_grant) × DerivesOn (allows system.edges)
+unsafe_without_granted = (
+  agreeing derive_by_grant (λ e. cc) unsafe_without_granted_derivation.0,
+  unsafe_without_granted_derivation.1,
+)
+
+pub unsafe_without_transitive :
+    (system : SharplyUnsafeWithout derive_by_grant) × GrantsDerive (allows system.edges) (MayKeep system.t (allows system.edges))
+unsafe_without_transitive = (
+  agreeing derive_by_grant (λ e. cc) unsafe_without_derivation.0,
+  λ a b x y may from put. unsafe_without_derivation.1 x y a b may from (inr put.controls),
+)

@@ -1,0 +1,15 @@
+-- The systems without the rules of closed policies.
+use Rattle.counterexamples.proofs.SharpUnsafe.{unsafe_without_each, unsafe_without_granted, unsafe_without_rise, unsafe_without_transitive}
+use Rattle.counterexamples.proofs.laws.sharp_safety_needs_each_rule.Goals as goal
+
+pub returns-clause-each : goal.returns-clause-each
+returns-clause-each c = unsafe_without_each
+
+pub returns-clause-rise : goal.returns-clause-rise
+returns-clause-rise c = unsafe_without_rise
+
+pub returns-clause-granted : goal.returns-clause-granted
+returns-clause-granted c = unsafe_without_granted
+
+pub returns-clause-transitive : goal.returns-clause-transitive
+returns-clause-transitive c = unsafe_without_transitive
