@@ -1,17 +1,16 @@
--- What may be changed is within full authority, and what may be made smaller within it or within what may be taken, way by way; both
--- grow with the policy and with the labels that act.
+-- What may be changed is within full authority, and what may be made smaller within cut or full authority, way by way; both grow with
+-- the policy and with the labels that act.
 use Rattle.std.proofs.Common.{ℕ, ◌∙◌, ◌≡◌, ◌⊎◌, inl, inr, refl, sym, true}
 use Rattle.base.specs.declared.kind.Kind.{Kind, TheVariants.{Await, Call, Context, Control, Derive, Grant, Holds, Notify, Receive, Reply}}
 use Rattle.base.specs.declared.kind.Kind.TheVariants.{Reset, Runs, SchedControl, Send, Space, Write}
 use Rattle.policy.specs.Change.{ActorTest, MayAnswer, MayChange, MayChangeContext, WayToChange, is_changing, MayChangeContext.binds}
 use Rattle.policy.specs.Change.{MayChangeContext.{configures, lends, returns}, WayToChange.{grants, links, modifies, notifies, own}}
-use Rattle.policy.specs.{Change.WayToChange.{receives, replies, sends, shares}, Closing.IsWithin, Cut.{IsHolding, IsNear, is_link}}
+use Rattle.policy.specs.{Change.WayToChange.{receives, replies, sends, shares}, Closing.IsWithin, Cut.{IsCut, IsHolding, IsNear, is_link}}
 use Rattle.policy.specs.{Cut.IsNear.{against, along, stays}, Domain.EdgeTest, Full.{IsFull, is_modifying, IsFull.grants as full_grants}}
 use Rattle.policy.specs.Full.IsFull.{links as full_links, modifies as full_modifies, notifies as full_notifies, own as full_own}
-use Rattle.policy.specs.{Full.IsFull.{receives as full_receives, replies as full_replies, sends as full_sends}, NarrowTake.MaySendTo}
-use Rattle.policy.specs.NarrowTake.{MayShrink, TakesByControl, WayToShrink, is_removed, is_waiting, TakesByControl.{drops, releases}}
-use Rattle.policy.specs.NarrowTake.{TakesByControl.{removes, wakes}, WayToShrink.{controls, ends, frees, halts, stops, unbinds}}
-use Rattle.policy.specs.Take.{HasNone, MayTake, MayTake.{ends as take_ends, removes as take_removes, unbinds as take_unbinds}}
+use Rattle.policy.specs.{Full.IsFull.{receives as full_receives, replies as full_replies, sends as full_sends}, NarrowTake.HasNone}
+use Rattle.policy.specs.NarrowTake.{MaySendTo, MayShrink, TakesByControl, WayToShrink, is_removed, is_waiting, TakesByControl.drops}
+use Rattle.policy.specs.NarrowTake.{TakesByControl.{releases, removes, wakes}, WayToShrink.{controls, ends, frees, halts, stops, unbinds}}
 use mathlib.Core.Bool.{false≢true}
 
 -- a kind that changes the object itself modifies it
@@ -50,36 +49,50 @@ module _ (test : EdgeTest) (acts : ActorTest) (a l : ℕ) where
   near_controlled :
       (controlled reached near : ℕ) → test a Control controlled ≡ true
       → (controlled ≡ reached) ⊎ ((kind : Kind) × (IsHolding kind) × (test controlled kind reached ≡ true))
-      → IsNear test reached near → IsNear test near l → MayTake test a l
-  near_controlled controlled reached near control edge one two = take_removes (record {
+      → IsNear test reached near → IsNear test near l → IsCut test a l
+  near_controlled controlled reached near control edge one two = record {
     base = controlled;
-    based = record { controlled = controlled; control = control; derive = inl refl };
+    based = record { controlled = controlled; control = inr control; derive = inl refl };
     reached = reached;
     edge = edge;
     near = near;
     one = one;
     two = two;
-  })
+  }
 
-  removes_take : (controlled : ℕ) (kind : Kind) → is_removed kind ≡ true → test a Control controlled ≡ true → test controlled kind l ≡ true → MayTake test a l
-  removes_take controlled Derive is control there = take_removes (record {
+  -- from what a has a capability to, to what is linked with it and with that
+  near_used :
+      (kind : Kind) (reached near : ℕ) → IsHolding kind → test a kind reached ≡ true
+      → IsNear test reached near → IsNear test near l → IsCut test a l
+  near_used kind reached near holding uses one two = record {
+    base = a;
+    based = record { controlled = a; control = inl refl; derive = inl refl };
+    reached = reached;
+    edge = inr (kind, holding, uses);
+    near = near;
+    one = one;
+    two = two;
+  }
+
+  removes_cut : (controlled : ℕ) (kind : Kind) → is_removed kind ≡ true → test a Control controlled ≡ true → test controlled kind l ≡ true → IsCut test a l
+  removes_cut controlled Derive is control there = record {
     base = l;
-    based = record { controlled = controlled; control = control; derive = inr there };
+    based = record { controlled = controlled; control = inr control; derive = inr there };
     reached = l;
     edge = inl refl;
     near = l;
     one = stays refl;
     two = stays refl;
-  })
-  removes_take controlled Space is control there =
+  }
+  removes_cut controlled Space is control there =
       near_controlled controlled l l control (inr (Space, inr refl, there)) (stays refl) (stays refl)
-  removes_take controlled Runs is control there =
+  removes_cut controlled Runs is control there =
       near_controlled controlled controlled l control (inl refl) (along Runs refl there) (stays refl)
-  removes_take controlled Reset is control there =
+  removes_cut controlled Reset is control there =
       near_controlled controlled l l control (inr (Reset, inl refl, there)) (stays refl) (stays refl)
-  removes_take controlled SchedControl is control there =
+  removes_cut controlled SchedControl is control there =
       near_controlled controlled l l control (inr (SchedControl, inl refl, there)) (stays refl) (stays refl)
-  removes_take controlled _ is control there = absurd (false≢true is)
+  removes_cut controlled _ is control there = absurd (false≢true is)
 
   is_linked : (kind : Kind) → is_waiting kind ≡ true → is_link kind ≡ true
   is_linked Send is = refl
@@ -87,26 +100,27 @@ module _ (test : EdgeTest) (acts : ActorTest) (a l : ℕ) where
   is_linked Await is = refl
   is_linked _ is = absurd (false≢true is)
 
-  control_is_take : TakesByControl test acts a l → MayTake test a l
-  control_is_take (removes controlled kind is control there) = removes_take controlled kind is control there
-  control_is_take (releases caller control waits held) =
+  control_is_cut : TakesByControl test acts a l → IsCut test a l
+  control_is_cut (removes controlled kind is control there) = removes_cut controlled kind is control there
+  control_is_cut (releases caller control waits held) =
       near_controlled caller caller l control (inl refl) (against Holds refl held) (stays refl)
-  control_is_take (wakes controlled end kind is control reset there waits) =
+  control_is_cut (wakes controlled end kind is control reset there waits) =
       near_controlled controlled end l control (inr (Reset, inl refl, reset)) (against kind (is_linked kind is) there) (stays refl)
-  control_is_take (drops controlled endpoint receiver control reset received waits named) =
+  control_is_cut (drops controlled endpoint receiver control reset received waits named) =
       near_controlled controlled endpoint receiver control (inr (Reset, inl refl, reset)) (against Receive refl received)
       (along Reply refl named)
 
-  way_is_take : WayToShrink test acts a l → MayTake test a l ⊎ IsFull test a l
-  way_is_take (unbinds uses) = inr (full_modifies Context refl uses)
-  way_is_take (stops context uses ran) = inl (take_unbinds context uses ran)
-  way_is_take (halts halt) = inr (full_replies halt.reply halt.uses halt.held.holds)
-  way_is_take (ends reply receiver uses named waits received) = inl (take_ends reply receiver uses named received)
-  way_is_take (frees endpoint receiver sent received waits named) = inr (full_links endpoint receiver sent received named)
-  way_is_take (controls taken) = inl (control_is_take taken)
+  way_is_cut : WayToShrink test acts a l → IsCut test a l ⊎ IsFull test a l
+  way_is_cut (unbinds uses) = inr (full_modifies Context refl uses)
+  way_is_cut (stops context uses ran) = inl (near_used Context context l (inl refl) uses (against Runs refl ran) (stays refl))
+  way_is_cut (halts halt) = inr (full_replies halt.reply halt.uses halt.held.holds)
+  way_is_cut (ends reply receiver uses named waits received) =
+      inl (near_used Reply reply receiver (inl refl) uses (against Reply refl named) (along Receive refl received))
+  way_is_cut (frees endpoint receiver sent received waits named) = inr (full_links endpoint receiver sent received named)
+  way_is_cut (controls taken) = inl (control_is_cut taken)
 
-  pub shrink_is_take : MayShrink test acts a l → MayTake test a l ⊎ IsFull test a l
-  shrink_is_take may = way_is_take may.way
+  pub shrink_is_cut : MayShrink test acts a l → IsCut test a l ⊎ IsFull test a l
+  shrink_is_cut may = way_is_cut may.way
 
   control_needs : HasNone test a Control → ¬ TakesByControl test acts a l
   control_needs none (removes controlled kind is control there) = false≢true (sym (none controlled) ∙ control)

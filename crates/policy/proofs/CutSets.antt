@@ -9,7 +9,7 @@ use Rattle.policy.proofs.{KindNumbers.{is_kind, same_kind}, Stepping.{chosen, fo
 
 -- the labels that a label of a set is near to
 
-pub linking : (kind : Kind) → is_link kind ≡ true → list_any (is_kind kind) LINKS ≡ true
+linking : (kind : Kind) → is_link kind ≡ true → list_any (is_kind kind) LINKS ≡ true
 linking kind is = of_kind (is_link kind) _ is (each_kind (λ k. not (is_link k) || list_any (is_kind k) LINKS) refl kind)
 
 module _ (test : EdgeTest) (labels : Labels) (other : ℕ) (linked linking_it : Bool)
@@ -41,31 +41,6 @@ module _ (test : EdgeTest) (labels : Labels) (other : ℕ) (linked linking_it : 
   pub near_is : (((is_in labels other || linked) || linking_it) ≡ true) ↔ IsNearSome test labels other
   near_is = (near_from, λ near. near_to near.label near.among near.near)
 
--- at most one derive edge from a label of which something holds
-pub record IsDerived (test : EdgeTest) (Holds : ℕ → Type 0) (base : ℕ) : Type 0 where
-  pub controlled : ℕ
-  pub holds : Holds controlled
-  pub derive : (controlled ≡ base) ⊎ (test controlled Derive base ≡ true)
-
-module _ (test : EdgeTest) (Holds : ℕ → Type 0) (controlled : Labels) (controlled_are : (label : ℕ) → (is_in controlled label ≡ true) ↔ Holds label)
-    (base : ℕ) (derived : Bool) (derived_is : (derived ≡ true) ↔ IsTarget test (Derive ∷ []) controlled base) where
-  derived_from : (is_in controlled base || derived) ≡ true → IsDerived test Holds base
-  derived_from is = elim (or_cases (is_in controlled base) derived is) [
-    | inl first ↦ record { controlled = base; holds = (controlled_are base).0 first; derive = inl refl }
-    | inr last ↦
-        let step = derived_is.0 last in
-        record { controlled = step.from; holds = (controlled_are step.from).0 step.among; derive = inr (only_kind test Derive step.from base step.joined) }
-  ]
-
-  derived_to : (label : ℕ) → is_in controlled label ≡ true → (label ≡ base) ⊎ (test label Derive base ≡ true) → (is_in controlled base || derived) ≡ true
-  derived_to label among (inl same) = or_left (is_in controlled base) derived (ap (is_in controlled) (sym same) ∙ among)
-  derived_to label among (inr derives) =
-      or_right (is_in controlled base) derived
-      (derived_is.1 (target_by test Derive controlled label base among derives))
-
-  pub derived_is_from : ((is_in controlled base || derived) ≡ true) ↔ IsDerived test Holds base
-  derived_is_from = (derived_from, λ is. derived_to is.controlled ((controlled_are is.controlled).1 is.holds) is.derive)
-
 -- the labels that a label controls, itself among them, and where it may remove capabilities
 module _ (test : EdgeTest) (actor : ℕ) (controlled : Labels) (controlled_is : (label : ℕ) → is_in controlled label ≡ ((label == actor) || test actor Control label))
     (base : ℕ) (derived : Bool) (derived_is : (derived ≡ true) ↔ IsTarget test (Derive ∷ []) controlled base) where
@@ -79,46 +54,47 @@ module _ (test : EdgeTest) (actor : ℕ) (controlled : Labels) (controlled_is : 
   to_control label (inl same) = controlled_is label ∙ or_left (label == actor) (test actor Control label) (eq-eqb label actor (sym same))
   to_control label (inr controls) = controlled_is label ∙ or_right (label == actor) (test actor Control label) controls
 
+  base_from : (is_in controlled base || derived) ≡ true → IsBase test actor base
+  base_from is = elim (or_cases (is_in controlled base) derived is) [
+    | inl first ↦ record { controlled = base; control = of_control base first; derive = inl refl }
+    | inr last ↦
+        let step = derived_is.0 last in
+        record { controlled = step.from; control = of_control step.from step.among; derive = inr (only_kind test Derive step.from base step.joined) }
+  ]
+
+  base_to : (label : ℕ) → is_in controlled label ≡ true → (label ≡ base) ⊎ (test label Derive base ≡ true) → (is_in controlled base || derived) ≡ true
+  base_to label among (inl same) = or_left (is_in controlled base) derived (ap (is_in controlled) (sym same) ∙ among)
+  base_to label among (inr derives) =
+      or_right (is_in controlled base) derived
+      (derived_is.1 (target_by test Derive controlled label base among derives))
+
   pub base_is : ((is_in controlled base || derived) ≡ true) ↔ IsBase test actor base
-  base_is =
-      let is_base = derived_is_from test (λ label. (actor ≡ label) ⊎ (test actor Control label ≡ true)) controlled
-      (λ label. (of_control label, to_control label)) base derived derived_is in (
-        λ is. let from = is_base.0 is in record { controlled = from.controlled; control = from.holds; derive = from.derive },
-        λ is. is_base.1 (record { controlled = is.controlled; holds = is.control; derive = is.derive }),
-      )
+  base_is = (base_from, λ is. base_to is.controlled (to_control is.controlled is.control) is.derive)
 
 -- the kinds by which a capability leads to its object
 
-abbrev pub is_holding : Kind → Bool
+abbrev is_holding : Kind → Bool
 is_holding kind = not (is_structural kind) || is_kind Space kind
 
-pub holding_from : (kind : Kind) → is_holding kind ≡ true → IsHolding kind
+holding_from : (kind : Kind) → is_holding kind ≡ true → IsHolding kind
 holding_from kind is = elim (or_cases (not (is_structural kind)) (is_kind Space kind) is) [
   | inl of_use ↦ inl (not-true (is_structural kind) of_use)
   | inr space ↦ inr (sym (same_kind Space kind (eqb-true _ _ space)))
 ]
 
-pub holding_to : (kind : Kind) → IsHolding kind → list_any (is_kind kind) HOLDING ≡ true
+holding_to : (kind : Kind) → IsHolding kind → list_any (is_kind kind) HOLDING ≡ true
 holding_to kind (inl of_use) =
     of_kind (not (is_structural kind)) _ (ap not of_use) (each_kind (λ k. not (not (is_structural k)) || list_any (is_kind k) HOLDING) refl kind)
 holding_to kind (inr space) = ap (λ k. list_any (is_kind k) HOLDING) space
 
--- from a label of which something holds to what capabilities there lead to, to what is linked with it and with that
-pub record IsOnward (test : EdgeTest) (Base : ℕ → Type 0) (l : ℕ) : Type 0 where
-  pub base : ℕ
-  pub based : Base base
-  pub reached : ℕ
-  pub edge : (base ≡ reached) ⊎ ((kind : Kind) × (IsHolding kind) × (test base kind reached ≡ true))
-  pub near : ℕ
-  pub one : IsNear test reached near
-  pub two : IsNear test near l
+-- from there to what capabilities lead to, to what is linked with it and with that
 
-module _ (test : EdgeTest) (Base : ℕ → Type 0) (bases led reached near : Labels) (bases_are : (base : ℕ) → (is_in bases base ≡ true) ↔ Base base)
+module _ (test : EdgeTest) (actor : ℕ) (bases led reached near : Labels) (bases_are : (base : ℕ) → (is_in bases base ≡ true) ↔ IsBase test actor base)
     (led_are : (to : ℕ) → (is_in led to ≡ true) ↔ IsTarget test HOLDING bases to)
     (reached_are : (label : ℕ) → is_in reached label ≡ (is_in bases label || is_in led label))
     (near_are : (other : ℕ) → (is_in near other ≡ true) ↔ IsNearSome test reached other) where
-  pub onward_from : (object : ℕ) → IsNearSome test near object → IsOnward test Base object
-  onward_from object last =
+  cut_from : (object : ℕ) → IsNearSome test near object → IsCut test actor object
+  cut_from object last =
       let before = (near_are last.label).0 last.among in
       elim (or_cases (is_in bases before.label) (is_in led before.label) (sym (reached_are before.label) ∙ before.among)) [
         | inl here ↦ record {
@@ -151,15 +127,12 @@ module _ (test : EdgeTest) (Base : ℕ → Type 0) (bases led reached near : Lab
       reached_are label ∙ or_right (is_in bases label) (is_in led label)
       ((led_are label).1 (record { from = base; among = among; joined = found_kind (λ k. test base k label) HOLDING kind (holding_to kind holding) edge }))
 
-  pub onward_to : (object : ℕ) → IsOnward test Base object → IsNearSome test near object
-  onward_to object path = record {
+  cut_to : (object : ℕ) → IsCut test actor object → IsNearSome test near object
+  cut_to object path = record {
     label = path.near;
     among = (near_are path.near).1 (record { label = path.reached; among = reached_to path.base path.reached ((bases_are path.base).1 path.based) path.edge; near = path.one });
     near = path.two;
   }
 
-pub cut_is : (test : EdgeTest) (actor object : ℕ) → IsOnward test (IsBase test actor) object ↔ IsCut test actor object
-cut_is test actor object = (
-  λ path. record { base = path.base; based = path.based; reached = path.reached; edge = path.edge; near = path.near; one = path.one; two = path.two },
-  λ path. record { base = path.base; based = path.based; reached = path.reached; edge = path.edge; near = path.near; one = path.one; two = path.two },
-)
+  pub cut_is : (object : ℕ) → IsNearSome test near object ↔ IsCut test actor object
+  cut_is object = (cut_from object, cut_to object)

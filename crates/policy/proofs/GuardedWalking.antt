@@ -66,7 +66,7 @@ module _ (test : EdgeTest) where
     least_turn turns is from edge tail leads first least =
         subst (λ (ts : List Turn). IsLeast reason_place (IsGuardedWalk test ts from to) (edge ∷ tail)) (sym is) by where
           end : other_end edge from ≡ leads.0
-          end = end_is test turn.step from edge leads.0 leads.3
+          end = end_is turn.step from edge leads.0 leads.3
 
           none_before : (other : List Edge) → IsGuardedWalk test (turn ∷ rest) from to other → ComesBefore (reason_place other) (reason_place (edge ∷ tail)) → ⊥
           none_before [] walk before = walk
@@ -76,7 +76,7 @@ module _ (test : EdgeTest) where
               elim (before_front e edge es tail (omega (arith, long, as_long)) before) [
                 | inl less ↦ first e (led from e es walk) less
                 | inr same ↦
-                    let at : walk.0 ≡ other_end edge from = sym (end_is test turn.step from e walk.0 walk.2) ∙ ap (λ x. other_end x from) same.0 in
+                    let at : walk.0 ≡ other_end edge from = sym (end_is turn.step from e walk.0 walk.2) ∙ ap (λ x. other_end x from) same.0 in
                     least.first es (subst (λ next. IsGuardedWalk test rest next to es) at walk.4) same.1
               ]
 

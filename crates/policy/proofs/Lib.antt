@@ -19,16 +19,11 @@ pub mod Gathering
 pub mod ChangeSets
 pub mod FullSets
 pub mod CutSets
-pub mod TakeSets
-pub mod Taking
 pub mod Changing
 pub mod WalkOrder
 pub mod Walking
 pub mod Leading
 pub mod StepWalks
-pub mod FullWalks
-pub mod PathWalks
-pub mod TakeWalks
 pub mod GuardedWalking
 pub mod ChangeWalks
 pub mod ShrinkWalks

@@ -10,7 +10,6 @@ pub mod Closing
 pub mod Settling
 pub mod Full
 pub mod Cut
-pub mod Take
 pub mod Change
 pub mod NarrowTake
 pub mod Reasons

@@ -1,4 +1,4 @@
--- What a label may make smaller, where only threads of some labels act: a bound that lies within what it may take and full authority
+-- What a label may make smaller, where only threads of some labels act: a bound that lies within cut and full authority
 -- (the deletions that 'seL4 Enforces Integrity', section 4, allows; the ways are confine's own).
 use Rattle.std.specs.Prelude.{ℕ, ◌≡◌, Bool, false, true}
 use Rattle.base.specs.declared.kind.Kind.{Kind, TheVariants.{Await, Context, Control, Derive, Holds, Receive, Reply, Reset, Runs}}
@@ -66,6 +66,10 @@ pub data WayToShrink (test : EdgeTest) (acts : ActorTest) (a l : ℕ) : Type 0 w
 pub record MayShrink (test : EdgeTest) (acts : ActorTest) (a l : ℕ) : Type 0 where
   pub actor : acts a ≡ true
   pub way : WayToShrink test acts a l
+
+-- a has no edge of this kind
+abbrev pub HasNone : EdgeTest → ℕ → Kind → Type 0
+HasNone test a kind = (to : ℕ) → test a kind to ≡ false
 
 -- a may send to who receives with a reply of l
 pub record MaySendTo (test : EdgeTest) (a l : ℕ) : Type 0 where

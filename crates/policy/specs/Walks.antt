@@ -1,6 +1,6 @@
--- Walks along chains of steps: each step goes along an edge or against one (confine's own).
+-- Steps of walks, each of which goes along an edge or against one, and the least of walks (confine's own).
 use Rattle.std.specs.{declared.{alloc.Global.Global, cmp.Ordering.TheVariants.Less}, Cmp.Lexicographic.slice_cmp, List.list_any}
-use Rattle.std.specs.{Ordering.{is_lt, nat_cmp}, Prelude.{[], ℕ, ◌==◌, ◌∷◌, ◌≡◌, ◌⊎◌, Bool, List, MatchOption, None, Option, Some, Vec}}
+use Rattle.std.specs.{Ordering.{is_lt, nat_cmp}, Prelude.{[], ℕ, ◌==◌, ◌≡◌, Bool, List, MatchOption, None, Option, Some, Vec}}
 use Rattle.std.specs.Prelude.{if◌then◌else◌, true}
 use Rattle.base.specs.{declared.{edge.Edge.Edge, kind.Kind.Kind, labels.Labels.Labels}, Kinds.kind_number, Labels.is_in}
 use Rattle.policy.specs.{declared.walks.Step.Step, Domain.EdgeTest, Places.{IsLeast, IsNone}, Policy.edge_cmp, Reasons.reason_place}
@@ -14,9 +14,6 @@ GoesAlong kinds step = (step.along.now ≡ kinds) × (step.against.now ≡ [])
 abbrev pub GoesAgainst : List Kind → Step → Type 0
 GoesAgainst kinds step = (step.along.now ≡ []) × (step.against.now ≡ kinds)
 
-abbrev pub GoesEitherWay : List Kind → Step → Type 0
-GoesEitherWay kinds step = (step.along.now ≡ kinds) × (step.against.now ≡ kinds)
-
 -- the step goes from one label to the next by this edge
 pub data Passes (step : Step) (from : ℕ) (edge : Edge) (next : ℕ) : Type 0 where
   along : is_of step.along.now edge.kind ≡ true → edge.from ≡ from → edge.to ≡ next → Passes step from edge next
@@ -24,19 +21,6 @@ pub data Passes (step : Step) (from : ℕ) (edge : Edge) (next : ℕ) : Type 0 w
 
 abbrev pub IsThere : EdgeTest → Edge → Type 0
 IsThere test edge = test edge.from edge.kind edge.to ≡ true
-
--- edges that lead from one label to another, one for each step
-abbrev pub IsWalk : EdgeTest → List Step → ℕ → ℕ → List Edge → Type 0
-IsWalk test [] from to [] = from ≡ to
-IsWalk test [] from to (edge ∷ edges) = ⊥
-IsWalk test (step ∷ steps) from to [] = ⊥
-IsWalk test (step ∷ steps) from to (edge ∷ edges) =
-    (next : ℕ) × IsThere test edge × Passes step from edge next × IsWalk test steps next to edges
-
--- some of the steps, in their order
-abbrev pub IsPartOf : List Step → List Step → Type 0
-IsPartOf part [] = part ≡ []
-IsPartOf part (step ∷ steps) = IsPartOf part steps ⊎ ((rest : List Step) × (part ≡ step ∷ rest) × IsPartOf rest steps)
 
 -- by this edge a step leads to a label of the set
 abbrev pub Leads : EdgeTest → Step → ℕ → Labels → Edge → Type 0
@@ -64,8 +48,3 @@ lesser_of None other = other
 lesser_of (Some one) None = Some one
 lesser_of (Some one) (Some other) =
     if is_lt (slice_cmp nat_cmp (reason_place other.items) (reason_place one.items)) then Some other else Some one
-
--- the lesser of a walk and the least that takes these steps, if there are any
-abbrev pub FindsLesser : EdgeTest → List Step → ℕ → ℕ → Option (Vec Edge Global) → Option (Vec Edge Global) → Type 0
-FindsLesser test steps from to found lesser =
-    (walk : Option (Vec Edge Global)) × FindsWalk (IsWalk test steps from to) walk × (lesser ≡ lesser_of found walk)

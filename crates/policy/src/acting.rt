@@ -3,8 +3,7 @@ ghost use Rattle.std.specs.Prelude.{ℕ, ◌≡◌, ◌⊎◌, true};
 ghost use Rattle.base.specs.declared.kind.Kind.{Kind};
 ghost use Rattle.base.specs.declared.kind.Kind.TheVariants as authority;
 ghost use Rattle.policy.specs.{Change.{ActorTest, MayChange, is_changing}, Closing.IsWithin, Domain.EdgeTest};
-ghost use Rattle.policy.specs.{Full.IsFull, NarrowTake.{MaySendTo, MayShrink, is_removed, is_waiting}};
-ghost use Rattle.policy.specs.Take.{HasNone, MayTake};
+ghost use Rattle.policy.specs.{Cut.IsCut, Full.IsFull, NarrowTake.{HasNone, MaySendTo, MayShrink, is_removed, is_waiting}};
 
 /// A law: a label has full authority on each label whose objects it may change, whichever labels act.
 ///
@@ -19,14 +18,14 @@ pub fn what_may_be_changed_is_within_full_authority()
     ensures acts { (test : EdgeTest) (acts : ActorTest) (a l : ℕ) → MayChange test acts a l → acts a ≡ true }
 {}
 
-/// A law: a label may take from each label whose objects may shrink by what it does, or has full authority on it.
+/// A law: a label has cut or full authority on each label whose objects may shrink by what it does.
 ///
 /// This is so whichever labels act. No less may shrink where the policy has more edges or more
 /// labels act. Nothing shrinks by a label that doesn't act. By a label without an edge of control,
 /// context or reply nothing shrinks but the replies of those to whom it may send.
-pub fn what_may_shrink_may_be_taken()
-    ensures take { (test : EdgeTest) (acts : ActorTest) (a l : ℕ) → MayShrink test acts a l
-        → MayTake test a l ⊎ IsFull test a l }
+pub fn what_may_shrink_may_be_cut()
+    ensures cut { (test : EdgeTest) (acts : ActorTest) (a l : ℕ) → MayShrink test acts a l
+        → IsCut test a l ⊎ IsFull test a l }
     ensures grows { (test other : EdgeTest) (acts more : ActorTest)
         → IsWithin test other
         → ((x : ℕ) → acts x ≡ true → more x ≡ true)

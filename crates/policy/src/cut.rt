@@ -6,8 +6,8 @@ ghost use Rattle.policy.specs.{Cut.{IsBase, IsCut, IsNear}, Policy.allows, Steps
 use crate::Policy;
 use base::{Kind, Label, Labels};
 
-/// The kinds by which a capability leads to its object.
-pub(crate) const HOLDING: [Kind; 14] = [
+// The kinds by which a capability leads to its object.
+const HOLDING: [Kind; 14] = [
     Kind::Control,
     Kind::Reset,
     Kind::Send,
@@ -24,8 +24,8 @@ pub(crate) const HOLDING: [Kind; 14] = [
     Kind::Space,
 ];
 
-/// The kinds along which objects are linked.
-pub(crate) const LINKS: [Kind; 7] = [
+// The kinds along which objects are linked.
+const LINKS: [Kind; 7] = [
     Kind::Send,
     Kind::Receive,
     Kind::Await,

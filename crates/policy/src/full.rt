@@ -6,8 +6,8 @@ ghost use Rattle.policy.specs.{Full.IsFull, Policy.allows};
 use crate::Policy;
 use base::{Kind, Label, Labels};
 
-/// The kinds whose use changes the object itself.
-pub(crate) const MODIFYING: [Kind; 9] = [
+// The kinds whose use changes the object itself.
+const MODIFYING: [Kind; 9] = [
     Kind::Control,
     Kind::Send,
     Kind::Receive,

@@ -15,19 +15,18 @@ mod laws;
 mod narrow_take;
 mod policy;
 mod steps;
-mod take;
 mod walks;
 mod why;
 
 pub use acting::{
     changes_follow_paths, shrinks_follow_paths, what_may_be_changed_is_within_full_authority,
-    what_may_shrink_may_be_taken,
+    what_may_shrink_may_be_cut,
 };
 pub use broken::{Broken, first_broken};
 pub use closing::close;
 pub use laws::{
     closed_policies_are_sharply_closed, closed_policies_are_unbroken,
-    closed_policies_obey_each_rule, takes_follow_paths, what_may_be_taken_may_be_cut,
+    closed_policies_obey_each_rule,
 };
 pub use policy::Policy;
 pub use why::Why;

@@ -88,8 +88,10 @@ impl Policy {
         self.row(edge.from, edge.kind).has(edge.to)
     }
 
-    /// The labels to which the label has an edge of this kind.
-    pub(crate) fn row(&self, from: Label, kind: Kind) -> Labels
+    /// Returns the labels to which the label has an edge of this kind.
+    ///
+    /// It takes constant time, whatever the number of edges.
+    pub fn row(&self, from: Label, kind: Kind) -> Labels
         ensures { (to : ℕ) → is_in result to ≡ allows self.now from kind to }
     {
         match self.rows.get(number_of(from, kind)) {
@@ -127,8 +129,10 @@ impl Policy {
         self.last
     }
 
-    /// The number after the greatest label that an edge joins.
-    pub(crate) fn span(&self) -> u16
+    /// Returns a number above each label that an edge joins, to end a loop over these labels.
+    ///
+    /// It is at most [`Label::COUNT`].
+    pub fn span(&self) -> u16
         ensures few { result ≤ Label.COUNT }
         ensures joins { JoinsBelow result self.now }
     {

@@ -7,8 +7,10 @@ use crate::Policy;
 use base::{Kind, Label, Labels};
 
 impl Policy {
-    /// The labels to which the label has an edge of one of these kinds.
-    pub(crate) fn row_of_kinds(&self, from: Label, kinds: &[Kind]) -> Labels
+    /// Returns the labels to which the label has an edge of one of these kinds.
+    ///
+    /// Without kinds there are no such labels.
+    pub fn row_of_kinds(&self, from: Label, kinds: &[Kind]) -> Labels
         ensures { (to : ℕ) → is_in result to ≡ is_joined (allows self.now) kinds.now from to }
     {
         let mut row = Labels::none();
@@ -33,8 +35,8 @@ impl Policy {
         found
     }
 
-    /// The labels that have an edge of one of these kinds to a label of the set.
-    pub(crate) fn sources(&self, tos: Labels, kinds: &[Kind]) -> Labels
+    /// Returns the labels that have an edge of one of these kinds to a label of the set.
+    pub fn sources(&self, tos: Labels, kinds: &[Kind]) -> Labels
         ensures { (from : ℕ) → (is_in result from ≡ true) ↔ IsSource (allows self.now) kinds.now tos from }
     {
         let mut found = Labels::none();

@@ -1,15 +1,13 @@
-//! The least walks along edges of a policy and against them.
+//! The steps of walks, along edges of a policy and against them, and the lesser of two walks.
 ghost use Rattle.std.specs.{Cmp.Lexicographic.slice_cmp, Ordering.{is_lt, nat_cmp}};
-ghost use Rattle.std.specs.Prelude.{ℕ, ◌&&◌, ◌++◌, ◌==◌, ◌↔◌, ◌≡◌, IfErr, IfOk, IsTrue, List, OnOk, true};
-ghost use Rattle.base.specs.{declared.edge.Edge.Edge, Labels.is_in, Refusals.out_of_memory};
-ghost use Rattle.policy.specs.{declared.walks.Step.Step as StepOf, Policy.allows, Reasons.{edge, reason_place}};
-ghost use Rattle.policy.specs.Walks.{FindsFirst, FindsLesser, FindsWalk, GoesAgainst, GoesAlong, GoesEitherWay};
-ghost use Rattle.policy.specs.Walks.{IsPartOf, IsWalk, Leads, LeadsOf, is_of, lesser_of, other_end};
+ghost use Rattle.std.specs.Prelude.{ℕ, ◌&&◌, ◌↔◌, ◌≡◌, true};
+ghost use Rattle.base.specs.{declared.edge.Edge.Edge, Labels.is_in};
+ghost use Rattle.policy.specs.{Policy.allows, Reasons.{edge, reason_place}};
+ghost use Rattle.policy.specs.Walks.{FindsFirst, GoesAgainst, GoesAlong, Leads, LeadsOf, is_of, lesser_of, other_end};
 
 use crate::Policy;
 use crate::broken::cells::first_cell;
-use base::{Edge, Kind, Label, Labels, Refusal};
-use std::alloc::Global;
+use base::{Edge, Kind, Label, Labels};
 
 /// A step of a walk: along an edge of one of some kinds, or against one of others.
 #[derive(Clone, Copy)]
@@ -38,98 +36,9 @@ impl<'a> Step<'a> {
             against: kinds,
         }
     }
-
-    /// The step along an edge of one of the kinds or against one.
-    pub(crate) fn either_way(kinds: &'a [Kind]) -> Step<'a>
-        ensures { GoesEitherWay kinds.now result }
-    {
-        Step {
-            along: kinds,
-            against: kinds,
-        }
-    }
 }
 
 impl Policy {
-    /// The least of the walks that take some of the steps, in their order, after all of a chain.
-    pub(crate) fn part_walk<'a>(
-        &self,
-        alloc: Global,
-        chain: &mut Vec<Step<'a>>,
-        steps: &[Step<'a>],
-        from: Label,
-        to: Label,
-    ) -> Result<Option<Vec<Edge>>, Refusal>
-        ensures least { IfOk result (FindsWalk (λ edges. (part : List StepOf) × IsPartOf part steps.now
-            × IsWalk (allows self.now) (chain.old.items ++ part) from to edges)) }
-        ensures chain { OnOk result (chain.new.items ≡ chain.old.items) }
-        ensures memory { IfErr result (λ refusal. refusal ≡ out_of_memory) }
-    {
-        let Some((step, rest)) = steps.split_first() else {
-            return self.walk(alloc, chain, from, to);
-        };
-        let without = self.part_walk(alloc, chain, rest, from, to)?;
-        chain.push(*step)?;
-        let with = self.part_walk(alloc, chain, rest, from, to)?;
-        chain.pop();
-        Ok(lesser(without, with))
-    }
-
-    /// The least of the walks that take each of the steps.
-    pub(crate) fn walk(
-        &self,
-        alloc: Global,
-        steps: &[Step],
-        from: Label,
-        to: Label,
-    ) -> Result<Option<Vec<Edge>>, Refusal>
-        ensures least { IfOk result (FindsWalk (IsWalk (allows self.now) steps.now from to)) }
-        ensures memory { IfErr result (λ refusal. refusal ≡ out_of_memory) }
-    {
-        let Some((step, rest)) = steps.split_first() else {
-            return Ok(if from == to {
-                Some(Vec::new(alloc))
-            } else {
-                None
-            });
-        };
-        let Some(edge) = self.first_edge(step, from, self.reaching(rest, to)) else {
-            return Ok(None);
-        };
-        let Some(mut edges) = self.walk(alloc, rest, end(&edge, from), to)? else {
-            return Ok(None);
-        };
-        edges.insert(0, edge)?;
-        Ok(Some(edges))
-    }
-
-    /// The lesser of a walk, if one was found, and the least of those that take each of the steps.
-    pub(crate) fn lesser_walk(
-        &self,
-        alloc: Global,
-        found: Option<Vec<Edge>>,
-        steps: &[Step],
-        from: Label,
-        to: Label,
-    ) -> Result<Option<Vec<Edge>>, Refusal>
-        ensures lesser { IfOk result (FindsLesser (allows self.now) steps.now from to found) }
-        ensures memory { IfErr result (λ refusal. refusal ≡ out_of_memory) }
-    {
-        let walk = self.walk(alloc, steps, from, to)?;
-        Ok(lesser(found, walk))
-    }
-
-    // The labels from which walks of these steps lead to a label.
-    fn reaching(&self, steps: &[Step], to: Label) -> Labels
-        ensures { (from : ℕ) → (is_in result from ≡ true)
-            ↔ ((edges : List Edge) × IsWalk (allows self.now) steps.now from to edges) }
-    {
-        match steps.split_first() {
-            None => Labels::only(to),
-            Some((step, rest)) => self.before(step, self.reaching(rest, to)),
-        }
-    }
-
     /// The labels from which a step leads to a label of the set.
     pub(crate) fn before(&self, step: &Step, goals: Labels) -> Labels
         ensures { (from : ℕ) → (is_in result from ≡ true)

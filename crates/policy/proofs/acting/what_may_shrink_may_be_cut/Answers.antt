@@ -1,10 +1,10 @@
 use Rattle.std.proofs.Common.{◌∙◌, sym}
-use Rattle.policy.proofs.Changing.{sends_at_most, shrink_grows, shrink_is_take}
-use Rattle.policy.proofs.acting.what_may_shrink_may_be_taken.Goals as goal
+use Rattle.policy.proofs.Changing.{sends_at_most, shrink_grows, shrink_is_cut}
+use Rattle.policy.proofs.acting.what_may_shrink_may_be_cut.Goals as goal
 use mathlib.Core.Bool.{false≢true}
 
-pub returns-clause-take : goal.returns-clause-take
-returns-clause-take c = shrink_is_take
+pub returns-clause-cut : goal.returns-clause-cut
+returns-clause-cut c = shrink_is_cut
 
 pub returns-clause-grows : goal.returns-clause-grows
 returns-clause-grows c = shrink_grows

@@ -1,4 +1,0 @@
-use Rattle.policy.proofs.policy.Policy.lesser_walk.Goals as goal
-
-pub returns-clause-lesser : goal.returns-clause-lesser
-returns-clause-lesser c = (c.in_ok-walk.walk, c.in_ok-walk.ensures.least, c.lesser.ensures)
