@@ -1,7 +1,7 @@
 //! The verdict on a table and a policy.
 ghost use Rattle.std.specs.Prelude.{ℕ, ◌<◌, ◌↔◌, ◌≡◌, ◌≤◌, Err, IfOk};
 ghost use Rattle.policy.specs.Policy.{allows};
-ghost use Rattle.integrity.specs.Safe.{GuardsBudgets, KeepsBounds, KeepsIntegrity, KeepsNarrowBounds, LabelsObjects, RefusesOthers};
+ghost use Rattle.integrity.specs.Safe.{GuardsBudgets, KeepsIntegrity, KeepsNarrowBounds, LabelsObjects, RefusesOthers};
 ghost use Rattle.integrity.specs.Safe.{StaysConfined};
 ghost use Rattle.checker.specs.Check.{IfAccepted, IsCheck, error_refusal};
 
@@ -48,12 +48,16 @@ impl From<CheckError> for Refusal {
 /// Each worker arrives at the gate first. The verdict is the same for every number of workers. With
 /// an acceptance comes the table's certificate.
 ///
-/// Where they are accepted, then after every list of kernel calls by any threads in any
-/// interleaving every capability lies within the policy; no step changes an object of a label on
-/// which its caller's label has no modifying authority, nor one of a label from which it may not
-/// take but by full authority; and a context's configured budget or period changes only by a caller
-/// whose label has the policy's SchedControl edge. Each object that is there then has a label, so
-/// that no authority goes unseen.
+/// Where they are accepted, this holds after every list of kernel calls by any threads in any
+/// interleaving:
+///
+/// - every capability lies within the policy
+/// - no step changes an object of a label on which its caller's label has no modifying authority
+/// - no step changes an object of a label that its caller's label may not change, unless the object
+///   only shrinks and the caller's label may make it smaller
+/// - a context's configured budget or period changes only by a caller whose label has the policy's
+///   SchedControl edge
+/// - each object that is there has a label, so that no authority is unseen.
 ///
 /// # Errors
 ///
@@ -71,7 +75,6 @@ pub fn check<'a, R: Threads + Sync, G: Gate + Sync>(
     ensures labelled { IfOk result (λ verdict. IfAccepted verdict (LabelsObjects table.now)) }
     ensures confined { IfOk result (λ verdict. IfAccepted verdict (StaysConfined table.now (allows policy.now))) }
     ensures integrity { IfOk result (λ verdict. IfAccepted verdict (KeepsIntegrity table.now (allows policy.now))) }
-    ensures bounds { IfOk result (λ verdict. IfAccepted verdict (KeepsBounds table.now (allows policy.now))) }
     ensures narrow { IfOk result (λ verdict. IfAccepted verdict (KeepsNarrowBounds table.now (allows policy.now))) }
     ensures budgets { IfOk result (λ verdict. IfAccepted verdict (GuardsBudgets table.now (allows policy.now))) }
     ensures acting { IfOk result (λ verdict. IfAccepted verdict (RefusesOthers table.now (allows policy.now))) }

@@ -1,7 +1,7 @@
 //! The verdict on a table, a policy and a certificate.
 ghost use Rattle.std.specs.Prelude.{◌↔◌, ◌≡◌, IfNone, IfOk, IfSome, IsTrue};
 ghost use Rattle.policy.specs.Policy.{allows};
-ghost use Rattle.integrity.specs.Safe.{GuardsBudgets, KeepsBounds, KeepsIntegrity, KeepsNarrowBounds, LabelsObjects, RefusesOthers};
+ghost use Rattle.integrity.specs.Safe.{GuardsBudgets, KeepsIntegrity, KeepsNarrowBounds, LabelsObjects, RefusesOthers};
 ghost use Rattle.integrity.specs.Safe.{StaysConfined};
 ghost use Rattle.checker.specs.Verified.{DiffersFirst, IsVerified};
 
@@ -46,7 +46,6 @@ pub fn verify<'a, R: Threads + Sync>(
     ensures labelled { IfOk result (λ accepted. LabelsObjects table.now) }
     ensures confined { IfOk result (λ accepted. StaysConfined table.now (allows policy.now)) }
     ensures integrity { IfOk result (λ accepted. KeepsIntegrity table.now (allows policy.now)) }
-    ensures bounds { IfOk result (λ accepted. KeepsBounds table.now (allows policy.now)) }
     ensures narrow { IfOk result (λ accepted. KeepsNarrowBounds table.now (allows policy.now)) }
     ensures budgets { IfOk result (λ accepted. GuardsBudgets table.now (allows policy.now)) }
     ensures acting { IfOk result (λ accepted. RefusesOthers table.now (allows policy.now)) }

@@ -28,9 +28,6 @@ seen_is_safe system boot cores history accepted booted legal =
       integrity =
           λ before after noted m next is led step.
           accepted.safe.integrity m next noted.event noted.outcome (reached system.table boot before m booted led) step;
-      bounds =
-          λ before after noted m next is led step.
-          accepted.safe.bounds m next noted.event noted.outcome (reached system.table boot before m booted led) step;
       narrow =
           λ acts actors before after noted m next is led step.
           accepted.safe.narrow acts actors m next noted.event noted.outcome (reached system.table boot before m booted led) step;

@@ -6,8 +6,8 @@ use Rattle.machine.specs.{declared.object.Object.Object, Authority.label_of, Lay
 use Rattle.machine.specs.{Outcomes.IsRefused, Step.Step}
 use Rattle.kernel.specs.Legal.{Leads}
 use Rattle.policy.specs.{Change.ActorTest, Domain.EdgeTest}
-use Rattle.integrity.specs.{Acting.{HoldsOfActors, MayAct}, Allowed.IsAllowedStep, Altered.IsNarrowStep, Bounded.IsBoundedStep}
-use Rattle.integrity.specs.{Budgets.KeepsBudgets, Confined.IsConfined}
+use Rattle.integrity.specs.{Acting.{HoldsOfActors, MayAct}, Allowed.IsAllowedStep, Altered.IsNarrowStep, Budgets.KeepsBudgets}
+use Rattle.integrity.specs.Confined.{IsConfined}
 use Rattle.cores.specs.{declared.view.Noted.Noted, History.log_of}
 
 -- each state on it, after any of its beginnings, is confined, and its objects have labels; each step on it is allowed, keeps to the
@@ -21,9 +21,6 @@ pub record IsSafeHistory (t : Layout) (allowed : EdgeTest) (boot : Machine) (his
   pub integrity :
       (before after : List Noted) (noted : Noted) (m next : Machine) → history ≡ before ++ noted ∷ after
       → Leads boot (log_of before) m → Step m noted.event noted.outcome next → IsAllowedStep t allowed m noted.event next
-  pub bounds :
-      (before after : List Noted) (noted : Noted) (m next : Machine) → history ≡ before ++ noted ∷ after
-      → Leads boot (log_of before) m → Step m noted.event noted.outcome next → IsBoundedStep t allowed m noted.event next
   pub narrow :
       (acts : ActorTest) → HoldsOfActors t allowed acts
       → (before after : List Noted) (noted : Noted) (m next : Machine) → history ≡ before ++ noted ∷ after

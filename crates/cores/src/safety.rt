@@ -7,9 +7,9 @@ ghost use Rattle.cores.specs.{declared.view.Noted.Noted as Entered, History.IsLe
 
 /// A law: a legal history from the boot state of an accepted system is safe.
 ///
-/// Each of its states is confined, and each of its steps is allowed. Each object of such a state
-/// has a label. Each step takes away only from where its caller's label may take, and keeps the
-/// budgets.
+/// Each of its states is confined, and each object of such a state has a label. Each of its steps is
+/// allowed, keeps to the bounds of who may act, and changes budgets only as the policy allows. It is
+/// refused, or is of a thread whose label may act.
 ///
 /// So it is of all that a seat has seen, and of all that a kernel's log has.
 pub fn seen_histories_are_safe()

@@ -6,8 +6,8 @@ use Rattle.machine.specs.{declared.{cap.Cap.Cap, object.{Object.Object, ObjectKi
 use Rattle.machine.specs.{Boot.IsBoot, Layout.Layout, Machine.{Machine, with_object}, Step.{Step, Find.find}}
 use Rattle.policy.specs.{Domain.EdgeTest, Needed.{Obeys, ObeysSharply, Rule}, Policy.{IsPolicy, allows}}
 use Rattle.table.specs.Rules.{IsLawful}
-use Rattle.integrity.specs.{Allowed.IsAllowedStep, Confined.IsConfined, Safe.{GuardsBudgets, KeepsBounds, KeepsIntegrity, LabelsObjects}}
-use Rattle.integrity.specs.{Keeping.MayKeep, Safe.StaysConfined}
+use Rattle.integrity.specs.{Allowed.IsAllowedStep, Confined.IsConfined, Safe.{GuardsBudgets, KeepsIntegrity, LabelsObjects, StaysConfined}}
+use Rattle.integrity.specs.Keeping.{MayKeep}
 
 -- from the boot state of a lawful table a thread signals a notification, and the signal is done; a policy lacks the edge of
 -- kind notify from the thread's label to the notification's, and doesn't allow the step
@@ -37,7 +37,6 @@ pub record HoldsHeadline (t : Layout) (allowed : EdgeTest) : Type 0 where
   pub labelled : LabelsObjects t
   pub confined : StaysConfined t allowed
   pub integrity : KeepsIntegrity t allowed
-  pub bounds : KeepsBounds t allowed
   pub budgets : GuardsBudgets t allowed
 
 -- a lawful table and a policy that obeys every rule of closed policies but one; the table's boot state is confined, and the

@@ -12,8 +12,8 @@ use Rattle.steps.proofs.Steps.{refused_changes_nothing}
 use Rattle.policy.specs.{Change.ActorTest, Domain.EdgeTest}
 use Rattle.integrity.specs.{Acting.{HoldsOfActors, MayAct}, Altered.{IsAltered, IsNarrowStep}, Awake.{CallersAreServed, IsAsleep, IsAwake}}
 use Rattle.integrity.specs.{Awake.{OthersSleep, SleepsOrActs}, Budgets.{KeepsBudgets, configures}, Invariant.IsSound, Safe.IsReached}
-use Rattle.integrity.{specs.{Safe.{IsSafe, KeepsBounds}, Shrinks.IsSame}, proofs.{Awake.has_threads, Bounds.bounded_allowed}}
-use Rattle.integrity.proofs.{Bounds.narrow_bounded, ContextKeeps.{bind_keeps, configure_keeps, may_configure, unbind_keeps}, Keeps.Acts}
+use Rattle.integrity.{specs.{Safe.IsSafe, Shrinks.IsSame}, proofs.{Awake.has_threads, Bounds.narrow_allowed}}
+use Rattle.integrity.proofs.{ContextKeeps.{bind_keeps, configure_keeps, may_configure, unbind_keeps}, Keeps.Acts}
 use Rattle.integrity.proofs.{Keeps.Keeps, MessageKeeps.{endpoint_call_keeps, fetch_keeps, receive_keeps, reply_keeps, send_keeps}}
 use Rattle.integrity.proofs.{NotificationKeeps.{poll_keeps, signal_keeps, wait_keeps}, RemovalCalls.{delete_keeps, revoke_keeps}}
 use Rattle.integrity.proofs.{RetypeKeeps.retype_keeps, Shrinking.same_context, SlotCalls.{derive_keeps, move_keeps}}
@@ -265,8 +265,9 @@ safe_from t allowed closed at_boot =
     record {
       labelled = λ m reached. (at m reached).sound.of_table.labelled;
       confined = λ m reached. (at m reached).sound.confined;
-      integrity = λ m next event outcome reached step. bounded_allowed t allowed m next event (bounded m next event outcome reached step);
-      bounds = bounded;
+      integrity = λ m next event outcome reached step.
+          narrow_allowed t allowed (λ l. true) m next event
+          ((keeps m next event outcome reached step).narrow (λ l. true) (λ l acting threads. refl));
       narrow = λ acts actors m next event outcome reached step. (keeps m next event outcome reached step).narrow acts actors;
       budgets = λ m next event outcome reached step. (keeps m next event outcome reached step).budgets;
       acting = λ m next event outcome reached step.
@@ -280,8 +281,3 @@ safe_from t allowed closed at_boot =
         (m next : Machine) (event : Event) (outcome : Outcome) → IsReached t m → Step m event outcome next
         → StepKeeps t allowed m event next
     keeps m next event outcome reached step = step_keeps t allowed m next (at m reached) closed event outcome step
-
-    bounded : KeepsBounds t allowed
-    bounded m next event outcome reached step =
-        narrow_bounded t allowed (λ l. true) m next event
-        ((keeps m next event outcome reached step).narrow (λ l. true) (λ l acting threads. refl))

@@ -1,7 +1,6 @@
 pub mod Confined
 pub mod Shrinks
 pub mod Allowed
-pub mod Bounded
 pub mod Budgets
 pub mod Acting
 pub mod Keeping

@@ -5,8 +5,8 @@ use Rattle.base.specs.declared.ids.ObjId.{ObjId}
 use Rattle.machine.specs.{declared.{call.{Event.Event, Outcome.Outcome}, object.Object.Object}, Authority.label_of, Boot.IsBoot}
 use Rattle.machine.specs.{Layout.Layout, Machine.{Machine, object_of}, Outcomes.IsRefused, Run.Run, Step.Step}
 use Rattle.policy.specs.{Change.ActorTest, Domain.EdgeTest}
-use Rattle.integrity.specs.{Acting.{HoldsOfActors, MayAct}, Allowed.IsAllowedStep, Altered.IsNarrowStep, Bounded.IsBoundedStep}
-use Rattle.integrity.specs.{Budgets.KeepsBudgets, Confined.IsConfined}
+use Rattle.integrity.specs.{Acting.{HoldsOfActors, MayAct}, Allowed.IsAllowedStep, Altered.IsNarrowStep, Budgets.KeepsBudgets}
+use Rattle.integrity.specs.Confined.{IsConfined}
 
 -- some list of events, by any threads on any cores, leads from the table's boot state to the machine
 pub record IsReached (t : Layout) (m : Machine) : Type 0 where
@@ -25,13 +25,6 @@ abbrev pub KeepsIntegrity : Layout → EdgeTest → Type 0
 KeepsIntegrity t allowed =
     (m next : Machine) (event : Event) (outcome : Outcome) → IsReached t m → Step m event outcome next
     → IsAllowedStep t allowed m event next
-
--- no step changes an object of a label on which its caller's label has no full authority, but for one that only shrinks, of a label
--- from which the caller's may take
-abbrev pub KeepsBounds : Layout → EdgeTest → Type 0
-KeepsBounds t allowed =
-    (m next : Machine) (event : Event) (outcome : Outcome) → IsReached t m → Step m event outcome next
-    → IsBoundedStep t allowed m event next
 
 -- no step changes an object of a label that its caller's label may not change, but for one that only shrinks, of a label that its may
 -- make smaller; whichever test of labels holds of all that may act and may have threads
@@ -63,7 +56,6 @@ pub record IsSafe (t : Layout) (allowed : EdgeTest) : Type 0 where
   pub labelled : LabelsObjects t
   pub confined : StaysConfined t allowed
   pub integrity : KeepsIntegrity t allowed
-  pub bounds : KeepsBounds t allowed
   pub narrow : KeepsNarrowBounds t allowed
   pub budgets : GuardsBudgets t allowed
   pub acting : RefusesOthers t allowed

@@ -2,8 +2,8 @@
 ghost use Rattle.std.specs.Prelude.{ℕ, ◌<◌, ◌≡◌, ◌≤◌, IfErr, IfOk};
 ghost use Rattle.base.specs.Refusals.{out_of_memory};
 ghost use Rattle.policy.specs.Policy.{allows};
-ghost use Rattle.integrity.specs.Safe.{GuardsBudgets, KeepsBounds, KeepsIntegrity, KeepsNarrowBounds, LabelsObjects};
-ghost use Rattle.integrity.specs.Safe.{RefusesOthers, StaysConfined};
+ghost use Rattle.integrity.specs.Safe.{GuardsBudgets, KeepsIntegrity, KeepsNarrowBounds, LabelsObjects, RefusesOthers};
+ghost use Rattle.integrity.specs.Safe.{StaysConfined};
 ghost use Rattle.verdict.specs.System.{IsVerdict};
 
 use crate::bindings::first_binding;
@@ -27,8 +27,8 @@ use table::Table;
 ///
 /// - every capability lies within the policy
 /// - no step changes an object of a label on which its caller's label has no modifying authority
-/// - no step changes an object of a label from which its caller's label may not take, but by full
-///   authority
+/// - no step changes an object of a label that its caller's label may not change, unless the object
+///   only shrinks and the caller's label may make it smaller
 /// - a context's configured budget or period changes only by a caller whose label has the policy's
 ///   SchedControl edge
 /// - each object that is there has a label, so that no authority is unseen.
@@ -49,7 +49,6 @@ pub fn judge<'a, R: Threads + Sync, G: Gate + Sync>(
     ensures labelled { IfOk result (λ answer. IfOk answer (λ accepted. LabelsObjects table.now)) }
     ensures confined { IfOk result (λ answer. IfOk answer (λ accepted. StaysConfined table.now (allows policy.now))) }
     ensures integrity { IfOk result (λ answer. IfOk answer (λ accepted. KeepsIntegrity table.now (allows policy.now))) }
-    ensures bounds { IfOk result (λ answer. IfOk answer (λ accepted. KeepsBounds table.now (allows policy.now))) }
     ensures narrow { IfOk result (λ answer. IfOk answer (λ accepted. KeepsNarrowBounds table.now (allows policy.now))) }
     ensures budgets { IfOk result (λ answer. IfOk answer (λ accepted. GuardsBudgets table.now (allows policy.now))) }
     ensures acting { IfOk result (λ answer. IfOk answer (λ accepted. RefusesOthers table.now (allows policy.now))) }
