@@ -17,7 +17,8 @@ KeeperTest = ℕ → Bool
 abbrev pub Told : KeeperTest → Keepers
 Told keeps a = keeps a ≡ true
 
--- S1: who finds its capabilities with a label has the label's edges of use
+-- S1: who finds its capabilities with a label has the label's edges of use; so has who controls the label, though it may find none of its
+-- capabilities, since it may remove them all
 abbrev pub UsesRise : EdgeTest → Type 0
 UsesRise test = (a b : ℕ) (kind : Kind) → ShareUse test a b kind → (to : ℕ) → test b kind to ≡ true → test a kind to ≡ true
 
@@ -73,7 +74,7 @@ HoldsCallers test =
     (server reply endpoint caller : ℕ) → MayServe test server reply endpoint → test caller Call endpoint ≡ true
     → test reply Holds caller ≡ true
 
--- a thread of a label may come to wait without a context: it may run on one that somebody may take from it
+-- a thread of a label may come to wait for a message without a context: it may run on one that somebody may take from it
 pub record MayIdle (test : EdgeTest) (b : ℕ) : Type 0 where
   pub context : ℕ
   pub runs : test b Runs context ≡ true
