@@ -1,0 +1,3 @@
+pub mod Missing
+pub mod KeeperSearch
+pub mod AskedRules

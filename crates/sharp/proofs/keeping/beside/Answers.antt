@@ -1,0 +1,7 @@
+use Rattle.policy.specs.Policy.{allows}
+use Rattle.sharp.proofs.KeeperSearch.{beside_told}
+use Rattle.sharp.proofs.keeping.beside.Goals as goal
+
+pub returns : goal.returns
+returns c =
+    beside_told (allows c.args.policy.now) c.args.keeping _ _ _ _ c.sources-finding.ensures c.targets-handed.ensures c.union.ensures c.difference.ensures

@@ -1,0 +1,52 @@
+-- The edges that the sharp rules ask for, and the policies that have them all (confine's own).
+use Rattle.std.specs.Prelude.{ℕ, ◌≡◌, false, true}
+use Rattle.base.specs.declared.kind.Kind.{Kind, TheVariants.{Call, Context, Control, Derive, Holds, Runs}}
+use Rattle.base.specs.Kinds.{is_structural}
+use Rattle.policy.specs.{Closed.{ControlGives, IsLacking, MayBeGranted}, Domain.{EdgeTest, IsInDomain}, Sharp.{Keepers, MayIdle, MayPut, MayServe}}
+
+-- what the giver may do, the taker may do too: it finds the giver's capabilities or has them put into its CNodes (S1), or it keeps,
+-- and may be granted them (S3)
+pub data SharesSharply (test : EdgeTest) (Keeps : Keepers) (giver taker : ℕ) : Type 0 where
+  finds : IsInDomain test taker giver → SharesSharply test Keeps giver taker
+  puts : MayPut test Keeps giver taker → SharesSharply test Keeps giver taker
+  grants : Keeps taker → MayBeGranted test giver taker → SharesSharply test Keeps giver taker
+
+-- an edge that its label shares with another, or has by control, as a keeper (S2)
+pub data IsSharplyGiven (test : EdgeTest) (Keeps : Keepers) (from : ℕ) (kind : Kind) (to : ℕ) : Type 0 where
+  shared : (giver : ℕ) → SharesSharply test Keeps giver from → is_structural kind ≡ false → test giver kind to ≡ true
+      → IsSharplyGiven test Keeps from kind to
+  controlled : Keeps from → ControlGives test from kind to → IsSharplyGiven test Keeps from kind to
+
+-- where a label may put capabilities that it finds (S4) or is granted (S5) derives from where they are found, and derive goes on (S5)
+pub data DerivesSharply (test : EdgeTest) (Keeps : Keepers) (parent child : ℕ) : Type 0 where
+  put : (a : ℕ) → IsInDomain test a parent → MayPut test Keeps a child → DerivesSharply test Keeps parent child
+  granted : (giver taker : ℕ) → MayBeGranted test giver taker → IsInDomain test giver parent → MayPut test Keeps taker child
+      → DerivesSharply test Keeps parent child
+  derived : (middle : ℕ) → test parent Derive middle ≡ true → test middle Derive child ≡ true
+      → DerivesSharply test Keeps parent child
+
+-- a label may be bound to a context (S6), or be lent it while it waits without one (S8)
+pub data RunsSharply (test : EdgeTest) (b context : ℕ) : Type 0 where
+  bound : (a : ℕ) → test a Context context ≡ true → test a Control b ≡ true → RunsSharply test b context
+  lent : (reply endpoint caller : ℕ) → MayServe test b reply endpoint → MayIdle test b → test caller Call endpoint ≡ true
+      → test caller Runs context ≡ true → RunsSharply test b context
+
+-- a reply may hold a label that may receive with it, or one that may call there (S7)
+pub data HoldsSharply (test : EdgeTest) (reply thread : ℕ) : Type 0 where
+  server : (endpoint : ℕ) → MayServe test thread reply endpoint → HoldsSharply test reply thread
+  caller : (b endpoint : ℕ) → MayServe test b reply endpoint → test thread Call endpoint ≡ true → HoldsSharply test reply thread
+
+-- an edge that sharply closed policies have if they have the edges of this one, by the rules that ask for edges of its kind
+abbrev pub IsSharplyAsked : EdgeTest → Keepers → ℕ → Kind → ℕ → Type 0
+IsSharplyAsked test Keeps from Derive to = DerivesSharply test Keeps from to
+IsSharplyAsked test Keeps from Runs to = RunsSharply test from to
+IsSharplyAsked test Keeps from Holds to = HoldsSharply test from to
+IsSharplyAsked test Keeps from kind to = IsSharplyGiven test Keeps from kind to
+
+-- an edge that is asked for and isn't there
+abbrev pub IsSharplyMissing : EdgeTest → Keepers → ℕ → Kind → ℕ → Type 0
+IsSharplyMissing test Keeps from kind to = IsLacking (IsSharplyAsked test Keeps from kind to) (test from kind to)
+
+-- no edge of this kind is missing at this label
+abbrev pub IsSharplySettled : EdgeTest → Keepers → ℕ → Kind → Type 0
+IsSharplySettled test Keeps from kind = (to : ℕ) → IsSharplyAsked test Keeps from kind to → test from kind to ≡ true

@@ -1,0 +1,46 @@
+//! Which labels keep capabilities for CNodes, and which may come to wait without a context.
+ghost use Rattle.std.specs.Prelude.{ℕ, ◌↔◌, ◌≡◌, true};
+ghost use Rattle.base.specs.Labels.{is_in};
+ghost use Rattle.policy.specs.{Policy.allows, Sharp.MayIdle};
+ghost use Rattle.sharp.specs.Keeping.{IsBeside, KeepsFrom};
+
+use base::{Kind, Labels};
+use policy::Policy;
+
+/// Returns the labels that keep capabilities for CNodes, if at first those of a set do.
+///
+/// A label keeps them if the CNodes of its capability space are of a label that keeps them, or if
+/// a label that keeps them controls it.
+pub fn keepers(policy: &Policy, held: Labels) -> Labels
+    ensures { (a : ℕ) → (is_in result a ≡ true) ↔ KeepsFrom (allows policy.now) (is_in held) a }
+{
+    let mut keeping = held;
+    let mut more = beside(policy, keeping);
+    while let Some(label) = more.first() {
+        // A label's number is below `Label::COUNT`.
+        label.number();
+        keeping = keeping.union(more);
+        more = beside(policy, keeping);
+    }
+    keeping
+}
+
+// The labels that keep because these do, and aren't among them.
+fn beside(policy: &Policy, keeping: Labels) -> Labels
+    ensures { (a : ℕ) → (is_in result a ≡ true) ↔ IsBeside (allows policy.now) (is_in keeping) a }
+{
+    let finding = policy.sources(keeping, &[Kind::Space]);
+    let handed = policy.targets(keeping, &[Kind::Control]);
+    finding.union(handed).difference(keeping)
+}
+
+/// Returns the labels of which a thread may come to wait without a context.
+///
+/// Each may run on a context that some label may take from it.
+pub fn idlers(policy: &Policy) -> Labels
+    ensures { (b : ℕ) → (is_in result b ≡ true) ↔ MayIdle (allows policy.now) b }
+{
+    policy.edges_rise();
+    let contexts = policy.targets(Labels::all(), &[Kind::Context]);
+    policy.sources(contexts, &[Kind::Runs])
+}
