@@ -1,5 +1,5 @@
 -- What the sharp rules ask for: every sharply closed policy has it, and a policy that has all of it is sharply closed.
-use Rattle.std.proofs.Common.{ℕ, ◌<◌, ◌∙◌, ◌≡◌, inl, inr, refl, sym, true}
+use Rattle.std.proofs.Common.{ℕ, ◌<◌, ◌↔◌, ◌∙◌, ◌≡◌, inl, inr, refl, sym, true}
 use Rattle.base.specs.declared.kind.Kind.{Kind, Kind as kinds}
 use Rattle.base.specs.declared.kind.Kind.TheVariants.{Call, Context, Control, Derive, Grant, Receive, Reply, Runs, Space}
 use Rattle.base.specs.Kinds.{is_structural}
@@ -55,9 +55,9 @@ module _ (one other : EdgeTest) (Keeps : Keepers) (within : IsWithin one other) 
 
   has_run : (b s : ℕ) → RunsSharply one b s → other b Runs s ≡ true
   has_run b s (bound a binds controls) = closed.bound_run a b s (within a Context s binds) (within a Control b controls)
-  has_run b s (lent reply endpoint lender may_serve may_idle calls runs) =
-      closed.lends_to_servers b reply endpoint lender s (serves b reply endpoint may_serve) (idles b may_idle)
-      (within lender Call endpoint calls) (within lender Runs s runs)
+  has_run b s (lent h) =
+      closed.lends_to_servers b h.reply h.endpoint h.lender s (serves b h.reply h.endpoint h.serves) (idles b h.idles)
+      (within h.lender Call h.endpoint h.calls) (within h.lender Runs s h.runs)
 
   has_held : (reply thread : ℕ) → HoldsSharply one reply thread → other reply kinds.Holds thread ≡ true
   has_held reply thread (server endpoint h) = closed.holds_servers thread reply endpoint (serves thread reply endpoint h)
@@ -101,11 +101,27 @@ closed_if_sharply_settled test Keeps settled = record {
   bound_run = λ a b s binds controls. settled b Runs s (bound a binds controls);
   holds_servers = λ b reply endpoint h. settled reply kinds.Holds b (server endpoint h);
   holds_callers = λ b reply endpoint thread h calls. settled reply kinds.Holds thread (caller b endpoint h calls);
-  lends_to_servers = λ b reply endpoint calling s h may_idle calls runs.
-      settled b Runs s (lent reply endpoint calling h may_idle calls runs);
+  lends_to_servers = λ b reply endpoint lender s h may_idle calls runs. settled b Runs s (lent (record {
+    idles = may_idle;
+    reply = reply;
+    endpoint = endpoint;
+    serves = h;
+    lender = lender;
+    calls = calls;
+    runs = runs;
+  }));
 } where
   given : (from : ℕ) (kind : Kind) (to : ℕ) → IsSharplyGiven test Keeps from kind to → test from kind to ≡ true
   given from kind to h = settled from kind to (asked_if_given test Keeps from kind to h)
+
+-- a policy is sharply closed exactly if it has all that it asks for
+pub closed_exactly_if_settled :
+    (test : EdgeTest) (Keeps : Keepers)
+    → IsSharplyClosed test Keeps ↔ ((from : ℕ) (kind : Kind) → IsSharplySettled test Keeps from kind)
+closed_exactly_if_settled test Keeps = (
+  λ closed from kind to asked. has_sharply_asked test test Keeps (λ a k b has. has) closed from kind to asked,
+  closed_if_sharply_settled test Keeps,
+)
 
 -- what is asked for starts at a label of an edge
 module _ (test : EdgeTest) (Keeps : Keepers) (n : ℕ) (joins : (from : ℕ) (kind : Kind) (to : ℕ) → test from kind to ≡ true → (from < n) × (to < n)) where
@@ -126,7 +142,7 @@ module _ (test : EdgeTest) (Keeps : Keepers) (n : ℕ) (joins : (from : ℕ) (ki
 
   run_starts : (b s : ℕ) → RunsSharply test b s → b < n
   run_starts b s (bound a binds controls) = (joins a Control b controls).1
-  run_starts b s (lent reply endpoint lender h may_idle calls runs) = (joins b Receive endpoint h.receives).0
+  run_starts b s (lent h) = (joins b Receive h.endpoint h.serves.receives).0
 
   held_starts : (reply thread : ℕ) → HoldsSharply test reply thread → reply < n
   held_starts reply thread (server endpoint h) = (joins thread Reply reply h.names).1

@@ -1,3 +1,5 @@
 pub mod Missing
 pub mod KeeperSearch
 pub mod AskedRules
+pub mod AskedSets
+pub mod SharpGrowth

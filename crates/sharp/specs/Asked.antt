@@ -25,11 +25,20 @@ pub data DerivesSharply (test : EdgeTest) (Keeps : Keepers) (parent child : ℕ)
   derived : (middle : ℕ) → test parent Derive middle ≡ true → test middle Derive child ≡ true
       → DerivesSharply test Keeps parent child
 
--- a label may be bound to a context (S6), or be lent it while it waits without one (S8)
+-- a label may be lent a context while it waits without one: it may receive with a reply where one calls that runs on the context
+pub record IsLentSharply (test : EdgeTest) (b context : ℕ) : Type 0 where
+  pub idles : MayIdle test b
+  pub reply : ℕ
+  pub endpoint : ℕ
+  pub serves : MayServe test b reply endpoint
+  pub lender : ℕ
+  pub calls : test lender Call endpoint ≡ true
+  pub runs : test lender Runs context ≡ true
+
+-- a label may be bound to a context (S6), or be lent it (S8)
 pub data RunsSharply (test : EdgeTest) (b context : ℕ) : Type 0 where
   bound : (a : ℕ) → test a Context context ≡ true → test a Control b ≡ true → RunsSharply test b context
-  lent : (reply endpoint caller : ℕ) → MayServe test b reply endpoint → MayIdle test b → test caller Call endpoint ≡ true
-      → test caller Runs context ≡ true → RunsSharply test b context
+  lent : IsLentSharply test b context → RunsSharply test b context
 
 -- a reply may hold a label that may receive with it, or one that may call there (S7)
 pub data HoldsSharply (test : EdgeTest) (reply thread : ℕ) : Type 0 where

@@ -3,6 +3,9 @@
 //! No crate stands on it yet. It knows no objects, no table and no text.
 #![tactic(auto)]
 
+mod asked;
+mod closing;
 mod keeping;
 
+pub use closing::close_sharply;
 pub use keeping::{idlers, keepers};

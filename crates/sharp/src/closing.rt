@@ -1,0 +1,139 @@
+//! The least sharply closed policy that has the edges of a policy, and some more.
+ghost use Rattle.std.specs.Prelude.{ℕ, ◌++◌, ◌||◌, ◌↔◌, ◌≡◌, IfErr, IfOk, OnOk, false, true};
+ghost use Rattle.base.specs.{declared.kind.Kind.Kind, Labels.is_in, Refusals.out_of_memory};
+ghost use Rattle.policy.specs.{Policy.allows, Settling.Joins, Sharp.{IsSharplyClosed, Told}};
+ghost use Rattle.sharp.specs.{Asked.{IsSharplySettled, SharesSharply}, Least.{GrowsSharply, IsLeastSharp}};
+
+use crate::asked::{givers, missing};
+use crate::keeping::keepers;
+use base::{Edge, Kind, Label, Labels, Refusal};
+use policy::Policy;
+use std::alloc::Global;
+
+/// Returns the least sharply closed policy that has the edges of a policy, and these.
+///
+/// Of the labels, those of `held` keep capabilities for CNodes at first. Every sharply closed policy that
+/// has the edges has all of its edges.
+///
+/// # Errors
+///
+/// 40 where memory is refused.
+pub fn close_sharply(
+    alloc: Global,
+    policy: &Policy,
+    edges: &[Edge],
+    held: Labels,
+) -> Result<Policy, Refusal>
+    ensures least { IfOk result (λ closed. IsLeastSharp (policy.now ++ edges.now) (is_in held) closed) }
+    ensures memory { IfErr result (λ refusal. refusal ≡ out_of_memory) }
+{
+    let mut closed = Policy::new(alloc);
+    add_all(&mut closed, &policy.edges(alloc)?)?;
+    add_all(&mut closed, edges)?;
+    settle(&mut closed, held)?;
+    Ok(closed)
+}
+
+// Adds edges.
+fn add_all(policy: &mut Policy, edges: &[Edge]) -> Result<(), Refusal>
+    ensures added { OnOk result ((from : ℕ) (kind : Kind) (to : ℕ) →
+        allows policy.new from kind to ≡ (allows edges.now from kind to || allows policy.old from kind to)) }
+    ensures memory { IfErr result (λ refusal. refusal ≡ out_of_memory) }
+{
+    for edge in edges {
+        policy.add(*edge)?;
+    }
+    Ok(())
+}
+
+// Adds the edges that sharply closed policies have, until none is missing.
+fn settle(policy: &mut Policy, held: Labels) -> Result<(), Refusal>
+    ensures least { OnOk result (IsLeastSharp policy.old (is_in held) policy.new) }
+    ensures memory { IfErr result (λ refusal. refusal ≡ out_of_memory) }
+{
+    let mut keeping = keepers(policy, held);
+    while settle_labels(policy, keeping)? {
+        policy.edges_rise();
+        keeping = keepers(policy, held);
+    }
+    Ok(())
+}
+
+// Adds what is missing at each label, where these keep. Whether anything was.
+fn settle_labels(policy: &mut Policy, keeping: Labels) -> Result<bool, Refusal>
+    ensures grows { IfOk result (λ changed. GrowsSharply keeping policy.old policy.new changed) }
+    ensures settled { IfOk result
+        (λ changed. changed ≡ false → IsSharplyClosed (allows policy.new) (Told (is_in keeping))) }
+    ensures memory { IfErr result (λ refusal. refusal ≡ out_of_memory) }
+{
+    let mut changed = false;
+    for number in 0..policy.span() {
+        if let Some(from) = Label::new(number) {
+            if settle_label(policy, keeping, from)? {
+                changed = true;
+            }
+        }
+    }
+    Ok(changed)
+}
+
+// Adds what is missing at a label. Whether anything was.
+fn settle_label(policy: &mut Policy, keeping: Labels, from: Label) -> Result<bool, Refusal>
+    ensures grows { IfOk result (λ changed. GrowsSharply keeping policy.old policy.new changed) }
+    ensures settled { IfOk result (λ changed.
+        changed ≡ false → (kind : Kind) → IsSharplySettled (allows policy.new) (Told (is_in keeping)) from kind) }
+    ensures memory { IfErr result (λ refusal. refusal ≡ out_of_memory) }
+{
+    let mut sharing = givers(policy, keeping, from);
+    let mut changed = false;
+    for kind in Kind::ALL {
+        if settle_row(policy, keeping, from, kind, sharing)? {
+            changed = true;
+            sharing = givers(policy, keeping, from);
+        }
+    }
+    Ok(changed)
+}
+
+// Adds the edges of this kind that are missing at a label, of which these share what they may do. Whether
+// any was.
+fn settle_row(
+    policy: &mut Policy,
+    keeping: Labels,
+    from: Label,
+    kind: Kind,
+    sharing: Labels,
+) -> Result<bool, Refusal>
+    requires { (giver : ℕ) → (is_in sharing giver ≡ true)
+        ↔ SharesSharply (allows policy.old) (Told (is_in keeping)) giver from }
+    ensures grows { IfOk result (λ changed. GrowsSharply keeping policy.old policy.new changed) }
+    ensures settled { IfOk result (λ changed.
+        changed ≡ false → IsSharplySettled (allows policy.new) (Told (is_in keeping)) from kind) }
+    ensures memory { IfErr result (λ refusal. refusal ≡ out_of_memory) }
+{
+    let lacks = missing(policy, keeping, from, kind, sharing);
+    match lacks.first() {
+        None => Ok(false),
+        Some(first) => {
+            // A label's number is below `Label::COUNT`.
+            first.number();
+            join(policy, from, kind, lacks)?;
+            Ok(true)
+        }
+    }
+}
+
+// Adds the edges of this kind from a label to those of a set.
+fn join(policy: &mut Policy, from: Label, kind: Kind, labels: Labels) -> Result<(), Refusal>
+    ensures joins { OnOk result (Joins policy.old policy.new from kind labels) }
+    ensures memory { IfErr result (λ refusal. refusal ≡ out_of_memory) }
+{
+    for number in 0..Label::COUNT {
+        if let Some(to) = Label::new(number) {
+            if labels.has(to) {
+                policy.add(Edge { from, kind, to })?;
+            }
+        }
+    }
+    Ok(())
+}
