@@ -1,16 +1,16 @@
 -- What the sharp rules ask for: every sharply closed policy has it, and a policy that has all of it is sharply closed.
-use Rattle.std.proofs.Common.{ℕ, ◌<◌, ◌↔◌, ◌∙◌, ◌≡◌, inl, inr, refl, sym, true}
+use Rattle.std.proofs.Common.{ℕ, ◌<◌, ◌↔◌, ◌∙◌, ◌≡◌, false, inl, inr, refl, sym, true}
 use Rattle.base.specs.declared.kind.Kind.{Kind, Kind as kinds}
 use Rattle.base.specs.declared.kind.Kind.TheVariants.{Call, Context, Control, Derive, Grant, Receive, Reply, Runs, Space}
 use Rattle.base.specs.Kinds.{is_structural}
 use Rattle.policy.specs.{Closed.{MayBeGranted}, Closing.IsWithin, Domain.{EdgeTest, IsInDomain}}
 use Rattle.policy.specs.Sharp.{IsSharplyClosed, Keepers, MayIdle, MayPut, MayServe}
-use Rattle.sharp.specs.Asked.{DerivesSharply, HoldsSharply, IsSharplyAsked, IsSharplyGiven, IsSharplySettled, RunsSharply}
+use Rattle.sharp.specs.Asked.{DerivesSharply, HoldsSharply, IsAskedAmong, IsSharplyAsked, IsSharplyGiven, IsSharplySettled, RunsSharply, SharesSharply}
 use Rattle.sharp.specs.Asked.{bound, caller, controlled, derived, finds, granted, grants, lent, put, puts, server, shared}
 use mathlib.Core.Bool.{false≢true}
 
--- what is asked for by the edges of one policy, a sharply closed policy has that has these edges
-module _ (one other : EdgeTest) (Keeps : Keepers) (within : IsWithin one other) (closed : IsSharplyClosed other Keeps) where
+-- what holds in a policy holds in every greater one
+module _ (one other : EdgeTest) (Keeps : Keepers) (within : IsWithin one other) where
   in_domain : (a x : ℕ) → IsInDomain one a x → IsInDomain other a x
   in_domain a x (inl space) = inl (within a Space x space)
   in_domain a x (inr control) = inr (within a Control x control)
@@ -25,6 +25,11 @@ module _ (one other : EdgeTest) (Keeps : Keepers) (within : IsWithin one other) 
   may_put : (a b : ℕ) → MayPut one Keeps a b → MayPut other Keeps a b
   may_put a b h = record { keeps = h.keeps; controls = within a Control b h.controls }
 
+  pub shares_grow : (giver taker : ℕ) → SharesSharply one Keeps giver taker → SharesSharply other Keeps giver taker
+  shares_grow giver taker (finds domain) = finds (in_domain taker giver domain)
+  shares_grow giver taker (puts h) = puts (may_put giver taker h)
+  shares_grow giver taker (grants keeps h) = grants keeps (may giver taker h)
+
   serves : (b reply endpoint : ℕ) → MayServe one b reply endpoint → MayServe other b reply endpoint
   serves b reply endpoint h = record { names = within b Reply reply h.names; receives = within b Receive endpoint h.receives }
 
@@ -36,33 +41,39 @@ module _ (one other : EdgeTest) (Keeps : Keepers) (within : IsWithin one other) 
     owns = within h.owner Context h.context h.owns;
   }
 
-  has_given : (from : ℕ) (kind : Kind) (to : ℕ) → IsSharplyGiven one Keeps from kind to → other from kind to ≡ true
-  has_given from kind to (shared giver (finds domain) of_use is) =
-      closed.uses_rise from giver kind (record { domain = in_domain from giver domain; of_use = of_use }) to (within giver kind to is)
-  has_given from kind to (shared giver (puts h) of_use is) =
-      closed.uses_fall giver from kind to (may_put giver from h) of_use (within giver kind to is)
-  has_given from kind to (shared giver (grants keeps h) of_use is) =
-      closed.keepers_are_granted giver from kind to keeps
-      (record { granted = may giver from h; of_use = of_use; has = within giver kind to is })
+-- what is asked for by the edges of one policy, a sharply closed policy has that has these edges
+module _ (one other : EdgeTest) (Keeps : Keepers) (within : IsWithin one other) (closed : IsSharplyClosed other Keeps) where
+  has_shared : (giver from : ℕ) (kind : Kind) (to : ℕ) → SharesSharply other Keeps giver from → is_structural kind ≡ false
+      → other giver kind to ≡ true → other from kind to ≡ true
+  has_shared giver from kind to (finds domain) of_use is =
+      closed.uses_rise from giver kind (record { domain = domain; of_use = of_use }) to is
+  has_shared giver from kind to (puts h) of_use is = closed.uses_fall giver from kind to h of_use is
+  has_shared giver from kind to (grants keeps h) of_use is =
+      closed.keepers_are_granted giver from kind to keeps (record { granted = h; of_use = of_use; has = is })
+
+  has_given : (from : ℕ) (kind : Kind) (to : ℕ) → IsSharplyGiven one Keeps (λ giver. SharesSharply one Keeps giver from) from kind to
+      → other from kind to ≡ true
+  has_given from kind to (shared giver h of_use is) =
+      has_shared giver from kind to (shares_grow one other Keeps within giver from h) of_use (within giver kind to is)
   has_given from kind to (controlled keeps h) =
       closed.keepers_have_all from kind to keeps (record { controls = within from Control to h.controls; given = h.given })
 
   has_derived : (x y : ℕ) → DerivesSharply one Keeps x y → other x Derive y ≡ true
-  has_derived x y (put a from h) = closed.keepers_derive a x y (in_domain a x from) (may_put a y h)
-  has_derived x y (granted a b h from into) = closed.grants_derive a b x y (may a b h) (in_domain a x from) (may_put b y into)
+  has_derived x y (put a from h) = closed.keepers_derive a x y (in_domain one other Keeps within a x from) (may_put one other Keeps within a y h)
+  has_derived x y (granted a b h from into) = closed.grants_derive a b x y (may one other Keeps within a b h) (in_domain one other Keeps within a x from) (may_put one other Keeps within b y into)
   has_derived x y (derived middle first second) =
       closed.derives_on x middle y (within x Derive middle first) (within middle Derive y second)
 
   has_run : (b s : ℕ) → RunsSharply one b s → other b Runs s ≡ true
   has_run b s (bound a binds controls) = closed.bound_run a b s (within a Context s binds) (within a Control b controls)
   has_run b s (lent h) =
-      closed.lends_to_servers b h.reply h.endpoint h.lender s (serves b h.reply h.endpoint h.serves) (idles b h.idles)
+      closed.lends_to_servers b h.reply h.endpoint h.lender s (serves one other Keeps within b h.reply h.endpoint h.serves) (idles one other Keeps within b h.idles)
       (within h.lender Call h.endpoint h.calls) (within h.lender Runs s h.runs)
 
   has_held : (reply thread : ℕ) → HoldsSharply one reply thread → other reply kinds.Holds thread ≡ true
-  has_held reply thread (server endpoint h) = closed.holds_servers thread reply endpoint (serves thread reply endpoint h)
+  has_held reply thread (server endpoint h) = closed.holds_servers thread reply endpoint (serves one other Keeps within thread reply endpoint h)
   has_held reply thread (caller b endpoint h calls) =
-      closed.holds_callers b reply endpoint thread (serves b reply endpoint h) (within thread Call endpoint calls)
+      closed.holds_callers b reply endpoint thread (serves one other Keeps within b reply endpoint h) (within thread Call endpoint calls)
 
   pub has_sharply_asked : (from : ℕ) (kind : Kind) (to : ℕ) → IsSharplyAsked one Keeps from kind to → other from kind to ≡ true
   has_sharply_asked from Derive to h = has_derived from to h
@@ -71,20 +82,32 @@ module _ (one other : EdgeTest) (Keeps : Keepers) (within : IsWithin one other) 
   has_sharply_asked from kind to h = has_given from kind to h
 
 -- control and sharing give no edge that says what may be derived, run or held
-not_given : (test : EdgeTest) (Keeps : Keepers) (from : ℕ) (kind : Kind) (to : ℕ) → is_structural kind ≡ true → (kind ≡ Space → ⊥)
-    → IsSharplyGiven test Keeps from kind to → ⊥
-not_given test Keeps from kind to structural other (shared giver h is_use has) = false≢true (sym is_use ∙ structural)
-not_given test Keeps from kind to structural other (controlled keeps h) = elim h.given [
+not_given : (test : EdgeTest) (Keeps : Keepers) (Shares : ℕ → Type 0) (from : ℕ) (kind : Kind) (to : ℕ) → is_structural kind ≡ true
+    → (kind ≡ Space → ⊥) → IsSharplyGiven test Keeps Shares from kind to → ⊥
+not_given test Keeps Shares from kind to structural other (shared giver h is_use has) = false≢true (sym is_use ∙ structural)
+not_given test Keeps Shares from kind to structural other (controlled keeps h) = elim h.given [
   | inl space ↦ other space
   | inr of_use ↦ false≢true (sym of_use.0 ∙ structural)
 ]
 
-asked_if_given : (test : EdgeTest) (Keeps : Keepers) (from : ℕ) (kind : Kind) (to : ℕ) → IsSharplyGiven test Keeps from kind to
-    → IsSharplyAsked test Keeps from kind to
-asked_if_given test Keeps from Derive to h = absurd (not_given test Keeps from Derive to refl (λ e. cc) h)
-asked_if_given test Keeps from Runs to h = absurd (not_given test Keeps from Runs to refl (λ e. cc) h)
-asked_if_given test Keeps from kinds.Holds to h = absurd (not_given test Keeps from kinds.Holds to refl (λ e. cc) h)
-asked_if_given test Keeps from kind to h = h
+asked_if_given : (test : EdgeTest) (Keeps : Keepers) (Shares : ℕ → Type 0) (from : ℕ) (kind : Kind) (to : ℕ)
+    → IsSharplyGiven test Keeps Shares from kind to → IsAskedAmong test Keeps Shares from kind to
+asked_if_given test Keeps Shares from Derive to h = absurd (not_given test Keeps Shares from Derive to refl (λ e. cc) h)
+asked_if_given test Keeps Shares from Runs to h = absurd (not_given test Keeps Shares from Runs to refl (λ e. cc) h)
+asked_if_given test Keeps Shares from kinds.Holds to h = absurd (not_given test Keeps Shares from kinds.Holds to refl (λ e. cc) h)
+asked_if_given test Keeps Shares from kind to h = h
+
+-- what is asked for of a label with which some share is asked for if more do
+module _ (test : EdgeTest) (Keeps : Keepers) (Shares More : ℕ → Type 0) (more : (giver : ℕ) → Shares giver → More giver) where
+  given_among : (from : ℕ) (kind : Kind) (to : ℕ) → IsSharplyGiven test Keeps Shares from kind to → IsSharplyGiven test Keeps More from kind to
+  given_among from kind to (shared giver h of_use has) = shared giver (more giver h) of_use has
+  given_among from kind to (controlled keeps h) = controlled keeps h
+
+  pub asked_among : (from : ℕ) (kind : Kind) (to : ℕ) → IsAskedAmong test Keeps Shares from kind to → IsAskedAmong test Keeps More from kind to
+  asked_among from Derive to h = h
+  asked_among from Runs to h = h
+  asked_among from kinds.Holds to h = h
+  asked_among from kind to h = given_among from kind to h
 
 -- a policy that has all that it asks for is sharply closed
 pub closed_if_sharply_settled :
@@ -111,8 +134,9 @@ closed_if_sharply_settled test Keeps settled = record {
     runs = runs;
   }));
 } where
-  given : (from : ℕ) (kind : Kind) (to : ℕ) → IsSharplyGiven test Keeps from kind to → test from kind to ≡ true
-  given from kind to h = settled from kind to (asked_if_given test Keeps from kind to h)
+  given : (from : ℕ) (kind : Kind) (to : ℕ) → IsSharplyGiven test Keeps (λ giver. SharesSharply test Keeps giver from) from kind to
+      → test from kind to ≡ true
+  given from kind to h = settled from kind to (asked_if_given test Keeps (λ giver. SharesSharply test Keeps giver from) from kind to h)
 
 -- a policy is sharply closed exactly if it has all that it asks for
 pub closed_exactly_if_settled :
@@ -129,7 +153,8 @@ module _ (test : EdgeTest) (Keeps : Keepers) (n : ℕ) (joins : (from : ℕ) (ki
   domain_joins a x (inl e) = joins a Space x e
   domain_joins a x (inr e) = joins a Control x e
 
-  given_starts : (from : ℕ) (kind : Kind) (to : ℕ) → IsSharplyGiven test Keeps from kind to → from < n
+  given_starts : (from : ℕ) (kind : Kind) (to : ℕ) → IsSharplyGiven test Keeps (λ giver. SharesSharply test Keeps giver from) from kind to
+      → from < n
   given_starts from kind to (shared giver (finds domain) of_use has) = (domain_joins from giver domain).0
   given_starts from kind to (shared giver (puts h) of_use has) = (joins giver Control from h.controls).1
   given_starts from kind to (shared giver (grants keeps h) of_use has) = (joins from Receive h.endpoint h.receives).0

@@ -2,13 +2,13 @@
 use Rattle.std.proofs.Common.{[], ℕ, ◌&&◌, ◌==◌, ◌↔◌, ◌∙◌, ◌∷◌, ◌≡◌, ◌⊎◌, Bool, false, inl, inr, refl, subst, sym, true}
 use Rattle.base.specs.declared.kind.Kind.{Kind, Kind as kinds, TheVariants.{Call, Context, Control, Derive, Grant, Receive, Reply, Runs, Space}}
 use Rattle.base.specs.{declared.labels.Labels.Labels, Kinds.is_structural, Labels.is_in}
-use Rattle.policy.specs.{Closed.{ControlGives, MayBeGranted}, Domain.{EdgeTest, IsInDomain}, Sharp.{MayIdle, MayPut, Told}}
+use Rattle.policy.specs.{Closed.{ControlGives, MayBeGranted}, Domain.{EdgeTest, IsInDomain}, Sharp.{Keepers, MayIdle, MayPut, Told}}
 use Rattle.policy.specs.Steps.{IsSource}
 use Rattle.policy.proofs.{Gathering.{both, either, itself_tells, only_tells, row_tells, source_tells, target_tells, told_as}}
 use Rattle.policy.proofs.RuleSets.{Holds, IsDifference, IsReached, IsReaching, IsUnion, lacking_told}
 use Rattle.policy.proofs.Stepping.{IsRow, domain_joined}
-use Rattle.sharp.specs.Asked.{DerivesSharply, HoldsSharply, IsLentSharply, IsSharplyAsked, IsSharplyGiven, IsSharplyMissing, IsSharplySettled, RunsSharply}
-use Rattle.sharp.specs.Asked.{SharesSharply, bound, caller, controlled, derived, granted, lent, put, server, shared}
+use Rattle.sharp.specs.Asked.{DerivesSharply, HoldsSharply, IsAskedAmong, IsLentSharply, IsMissingAmong, IsSettledAmong, IsSharplyGiven}
+use Rattle.sharp.specs.Asked.{RunsSharply, bound, caller, controlled, derived, granted, lent, put, server, shared}
 use mathlib.Core.Bool.{false≢true}
 
 abbrev pub IsOnly : Labels → ℕ → Type 0
@@ -19,10 +19,10 @@ IsIntersection one other common = (label : ℕ) → is_in common label ≡ (is_i
 
 -- why an edge is asked for, as unions and intersections of sets have it
 
-abbrev Gives : EdgeTest → Labels → ℕ → Kind → ℕ → Type 0
-Gives test keeping from kind to =
+abbrev Gives : EdgeTest → Labels → Labels → ℕ → Kind → ℕ → Type 0
+Gives test keeping sharing from kind to =
     ((is_in keeping from ≡ true) × ControlGives test from kind to)
-    ⊎ ((giver : ℕ) × SharesSharply test (Told (is_in keeping)) giver from × (test giver kind to ≡ true))
+    ⊎ ((giver : ℕ) × (is_in sharing giver ≡ true) × (test giver kind to ≡ true))
 
 abbrev MayHave : EdgeTest → ℕ → ℕ → Type 0
 MayHave test label b = IsInDomain test b label ⊎ ((a : ℕ) × IsInDomain test a label × MayBeGranted test a b)
@@ -61,30 +61,20 @@ module _ (test : EdgeTest) (keeping : Labels) where
       (λ w. record { keeps = w.1; controls = w.0 }) (λ h. (h.controls, h.keeps))
 
   -- what control and sharing give
-  pub given_told : (from : ℕ) (kind : Kind) (controls givers shares all : Labels) → is_structural kind ≡ false
-      → Holds controls (λ to. (is_in keeping from ≡ true) × ControlGives test from kind to)
-      → Holds givers (λ giver. SharesSharply test (Told (is_in keeping)) giver from) → IsReached test givers kind shares
-      → IsUnion controls shares all → Holds all (IsSharplyGiven test (Told (is_in keeping)) from kind)
-  given_told from kind controls givers shares all of_use in_controls in_givers in_shares one to = told_as (is_in all to)
+  pub given_told : (sharing : Labels) (from : ℕ) (kind : Kind) (controls shares all : Labels) → is_structural kind ≡ false
+      → Holds controls (λ to. (is_in keeping from ≡ true) × ControlGives test from kind to) → IsReached test sharing kind shares
+      → IsUnion controls shares all → Holds all (IsSharplyGiven test (Told (is_in keeping)) (Told (is_in sharing)) from kind)
+  given_told sharing from kind controls shares all of_use in_controls in_shares one to = told_as (is_in all to)
       (either (is_in all to) (is_in controls to) (is_in shares to) (in_controls to)
-      (target_tells test kind (λ giver. SharesSharply test (Told (is_in keeping)) giver from) givers in_givers to (is_in shares to) (in_shares to)) (one to))
+      (target_tells test kind (Told (is_in sharing)) sharing (λ giver. itself_tells (is_in sharing giver)) to (is_in shares to) (in_shares to)) (one to))
       to_given from_given where
-        to_given : Gives test keeping from kind to → IsSharplyGiven test (Told (is_in keeping)) from kind to
+        to_given : Gives test keeping sharing from kind to → IsSharplyGiven test (Told (is_in keeping)) (Told (is_in sharing)) from kind to
         to_given (inl h) = controlled h.0 h.1
         to_given (inr h) = shared h.0 h.1 of_use h.2
 
-        from_given : IsSharplyGiven test (Told (is_in keeping)) from kind to → Gives test keeping from kind to
+        from_given : IsSharplyGiven test (Told (is_in keeping)) (Told (is_in sharing)) from kind to → Gives test keeping sharing from kind to
         from_given (controlled keeps h) = inl (keeps, h)
         from_given (shared giver h is_use has) = inr (giver, h, has)
-
-  -- what control alone gives, of kinds that are not of use
-  pub structural_told : (from : ℕ) (kind : Kind) (controls : Labels) → is_structural kind ≡ true
-      → Holds controls (λ to. (is_in keeping from ≡ true) × ControlGives test from kind to)
-      → Holds controls (IsSharplyGiven test (Told (is_in keeping)) from kind)
-  structural_told from kind controls structural in_controls to = told_as (is_in controls to) (in_controls to) (λ h. controlled h.0 h.1) from_given where
-    from_given : IsSharplyGiven test (Told (is_in keeping)) from kind to → (is_in keeping from ≡ true) × ControlGives test from kind to
-    from_given (controlled keeps h) = (keeps, h)
-    from_given (shared giver h is_use has) = absurd (false≢true (sym is_use ∙ structural))
 
   -- where capabilities may come to be derived
   pub derived_told : (parent : ℕ) (having putting row further reached all : Labels)
@@ -196,30 +186,25 @@ module _ (test : EdgeTest) where
         from_holds (server endpoint h) = inl ((endpoint, (thread, h.names, h.receives), h.receives), h.names)
         from_holds (caller b endpoint h calls) = inr (endpoint, (b, h.names, h.receives), calls)
 
--- what is asked for and isn't in the row is missing
-pub missing_told :
-    (test : EdgeTest) (keeping : Labels) (from : ℕ) (kind : Kind) (asked row lacks : Labels) → IsRow test from kind row
-    → IsDifference asked row lacks → Holds asked (IsSharplyAsked test (Told (is_in keeping)) from kind)
-    → Holds lacks (IsSharplyMissing test (Told (is_in keeping)) from kind)
-missing_told test keeping from kind asked row lacks in_row differ in_asked =
-    lacking_told test from kind (IsSharplyAsked test (Told (is_in keeping)) from kind) asked row lacks in_row differ in_asked
+module _ (test : EdgeTest) (Keeps : Keepers) (Shares : ℕ → Type 0) (from : ℕ) where
+  -- what is asked for and isn't in the row is missing
+  pub missing_told : (kind : Kind) (asked row lacks : Labels) → IsRow test from kind row → IsDifference asked row lacks
+      → Holds asked (IsAskedAmong test Keeps Shares from kind) → Holds lacks (IsMissingAmong test Keeps Shares from kind)
+  missing_told kind asked row lacks in_row differ in_asked =
+      lacking_told test from kind (IsAskedAmong test Keeps Shares from kind) asked row lacks in_row differ in_asked
 
--- what is given of the other kinds is what is asked for
-pub given_asked :
-    (test : EdgeTest) (keeping : Labels) (from : ℕ) (kind : Kind) (asked : Labels) → (kind ≡ Derive → ⊥) → (kind ≡ Runs → ⊥)
-    → (kind ≡ kinds.Holds → ⊥) → Holds asked (IsSharplyGiven test (Told (is_in keeping)) from kind)
-    → Holds asked (IsSharplyAsked test (Told (is_in keeping)) from kind)
-given_asked test keeping from Derive asked no_derive no_runs no_holds in_asked = absurd (no_derive refl)
-given_asked test keeping from Runs asked no_derive no_runs no_holds in_asked = absurd (no_runs refl)
-given_asked test keeping from kinds.Holds asked no_derive no_runs no_holds in_asked = absurd (no_holds refl)
-given_asked test keeping from kind asked no_derive no_runs no_holds in_asked = in_asked
+  -- what is given of the other kinds is what is asked for
+  pub given_asked : (kind : Kind) (asked : Labels) → (kind ≡ Derive → ⊥) → (kind ≡ Runs → ⊥) → (kind ≡ kinds.Holds → ⊥)
+      → Holds asked (IsSharplyGiven test Keeps Shares from kind) → Holds asked (IsAskedAmong test Keeps Shares from kind)
+  given_asked Derive asked no_derive no_runs no_holds in_asked = absurd (no_derive refl)
+  given_asked Runs asked no_derive no_runs no_holds in_asked = absurd (no_runs refl)
+  given_asked kinds.Holds asked no_derive no_runs no_holds in_asked = absurd (no_holds refl)
+  given_asked kind asked no_derive no_runs no_holds in_asked = in_asked
 
--- where nothing is missing, what is asked for is there
-pub settled_if_none :
-    (test : EdgeTest) (keeping : Labels) (from : ℕ) (kind : Kind) (lacks : Labels)
-    → Holds lacks (IsSharplyMissing test (Told (is_in keeping)) from kind) → ((to : ℕ) → is_in lacks to ≡ false)
-    → IsSharplySettled test (Told (is_in keeping)) from kind
-settled_if_none test keeping from kind lacks in_lacks none to asked = by (test from kind to) refl where
-  by : (b : Bool) → test from kind to ≡ b → test from kind to ≡ true
-  by true is = is
-  by false missing = absurd (false≢true (sym (none to) ∙ (in_lacks to).1 (record { asked = asked; missing = missing })))
+  -- where nothing is missing, what is asked for is there
+  pub settled_if_none : (kind : Kind) (lacks : Labels) → Holds lacks (IsMissingAmong test Keeps Shares from kind)
+      → ((to : ℕ) → is_in lacks to ≡ false) → IsSettledAmong test Keeps Shares from kind
+  settled_if_none kind lacks in_lacks none to asked = by (test from kind to) refl where
+    by : (b : Bool) → test from kind to ≡ b → test from kind to ≡ true
+    by true is = is
+    by false missing = absurd (false≢true (sym (none to) ∙ (in_lacks to).1 (record { asked = asked; missing = missing })))

@@ -7,8 +7,8 @@ use Rattle.policy.specs.{Closing.IsWithin, Domain.EdgeTest, Policy.{allows}, Set
 use Rattle.policy.specs.Sharp.{IsSharplyClosed, KeeperTest, Told}
 use Rattle.policy.proofs.Sharpness.{closed_sharply, fewer_keepers}
 use Rattle.policy.proofs.ClosingGrowth as closing
-use Rattle.sharp.specs.{Asked.IsSharplyMissing, Keeping.KeepsFrom, Least.{GrowsSharply, IsLeastSharp}}
-use Rattle.sharp.proofs.{AskedRules.has_sharply_asked, KeeperSearch.keeps_grow}
+use Rattle.sharp.specs.{Asked.{IsMissingAmong, SharesSharply}, Keeping.KeepsFrom, Least.{GrowsSharply, IsLeastSharp}}
+use Rattle.sharp.proofs.{AskedRules.{asked_among, has_sharply_asked}, KeeperSearch.keeps_grow}
 use mathlib.Core.Bool.{false≢true}
 
 module _ (keeping : Labels) (old middle new : List Edge) (before : Bool) (first : GrowsSharply keeping old middle before) where
@@ -25,10 +25,11 @@ module _ (keeping : Labels) (old middle new : List Edge) (before : Bool) (first 
 
 -- what is missing at a label is added
 pub grows_by_join :
-    (keeping : Labels) (old new : List Edge) (from : ℕ) (kind : Kind) (lacks : Labels) (first : ℕ)
-    → ((to : ℕ) → is_in lacks to ≡ true → IsSharplyMissing (allows old) (Told (is_in keeping)) from kind to)
+    (keeping sharing : Labels) (old new : List Edge) (from : ℕ) (kind : Kind) (lacks : Labels) (first : ℕ)
+    → ((giver : ℕ) → is_in sharing giver ≡ true → SharesSharply (allows old) (Told (is_in keeping)) giver from)
+    → ((to : ℕ) → is_in lacks to ≡ true → IsMissingAmong (allows old) (Told (is_in keeping)) (Told (is_in sharing)) from kind to)
     → Joins old new from kind lacks → first < Label.COUNT → is_in lacks first ≡ true → GrowsSharply keeping old new true
-grows_by_join keeping old new from kind lacks first missing joins below is = record {
+grows_by_join keeping sharing old new from kind lacks first share missing joins below is = record {
   grows = record {
     kept = joins.kept;
     forced = λ other closed. forced other (closed_sharply other (Told (is_in keeping)) closed);
@@ -41,7 +42,9 @@ grows_by_join keeping old new from kind lacks first missing joins below is = rec
   forced other closed within start way end has = elim (joins.only start way end has) [
     | inl before ↦ within start way end before
     | inr (starts, kinds, among) ↦
-        rw (starts, kinds) (has_sharply_asked (allows old) other (Told (is_in keeping)) within closed from kind end (missing end among).asked)
+        rw (starts, kinds) (has_sharply_asked (allows old) other (Told (is_in keeping)) within closed from kind end
+        (asked_among (allows old) (Told (is_in keeping)) (Told (is_in sharing)) (λ giver. SharesSharply (allows old) (Told (is_in keeping)) giver from)
+        share from kind end (missing end among).asked))
   ]
 
 -- where nothing is missing, nothing is added

@@ -11,11 +11,11 @@ pub data SharesSharply (test : EdgeTest) (Keeps : Keepers) (giver taker : ℕ) :
   puts : MayPut test Keeps giver taker → SharesSharply test Keeps giver taker
   grants : Keeps taker → MayBeGranted test giver taker → SharesSharply test Keeps giver taker
 
--- an edge that its label shares with another, or has by control, as a keeper (S2)
-pub data IsSharplyGiven (test : EdgeTest) (Keeps : Keepers) (from : ℕ) (kind : Kind) (to : ℕ) : Type 0 where
-  shared : (giver : ℕ) → SharesSharply test Keeps giver from → is_structural kind ≡ false → test giver kind to ≡ true
-      → IsSharplyGiven test Keeps from kind to
-  controlled : Keeps from → ControlGives test from kind to → IsSharplyGiven test Keeps from kind to
+-- an edge that its label has from one that shares with it, or has by control, as a keeper (S2)
+pub data IsSharplyGiven (test : EdgeTest) (Keeps : Keepers) (Shares : ℕ → Type 0) (from : ℕ) (kind : Kind) (to : ℕ) : Type 0 where
+  shared : (giver : ℕ) → Shares giver → is_structural kind ≡ false → test giver kind to ≡ true
+      → IsSharplyGiven test Keeps Shares from kind to
+  controlled : Keeps from → ControlGives test from kind to → IsSharplyGiven test Keeps Shares from kind to
 
 -- where a label may put capabilities that it finds (S4) or is granted (S5) derives from where they are found, and derive goes on (S5)
 pub data DerivesSharply (test : EdgeTest) (Keeps : Keepers) (parent child : ℕ) : Type 0 where
@@ -45,16 +45,24 @@ pub data HoldsSharply (test : EdgeTest) (reply thread : ℕ) : Type 0 where
   server : (endpoint : ℕ) → MayServe test thread reply endpoint → HoldsSharply test reply thread
   caller : (b endpoint : ℕ) → MayServe test b reply endpoint → test thread Call endpoint ≡ true → HoldsSharply test reply thread
 
--- an edge that sharply closed policies have if they have the edges of this one, by the rules that ask for edges of its kind
+-- an edge that is asked for by the rules that ask for edges of its kind, of a label with which some share
+abbrev pub IsAskedAmong : EdgeTest → Keepers → (ℕ → Type 0) → ℕ → Kind → ℕ → Type 0
+IsAskedAmong test Keeps Shares from Derive to = DerivesSharply test Keeps from to
+IsAskedAmong test Keeps Shares from Runs to = RunsSharply test from to
+IsAskedAmong test Keeps Shares from Holds to = HoldsSharply test from to
+IsAskedAmong test Keeps Shares from kind to = IsSharplyGiven test Keeps Shares from kind to
+
+-- an edge that sharply closed policies have if they have the edges of this one
 abbrev pub IsSharplyAsked : EdgeTest → Keepers → ℕ → Kind → ℕ → Type 0
-IsSharplyAsked test Keeps from Derive to = DerivesSharply test Keeps from to
-IsSharplyAsked test Keeps from Runs to = RunsSharply test from to
-IsSharplyAsked test Keeps from Holds to = HoldsSharply test from to
-IsSharplyAsked test Keeps from kind to = IsSharplyGiven test Keeps from kind to
+IsSharplyAsked test Keeps from kind to = IsAskedAmong test Keeps (λ giver. SharesSharply test Keeps giver from) from kind to
 
 -- an edge that is asked for and isn't there
-abbrev pub IsSharplyMissing : EdgeTest → Keepers → ℕ → Kind → ℕ → Type 0
-IsSharplyMissing test Keeps from kind to = IsLacking (IsSharplyAsked test Keeps from kind to) (test from kind to)
+abbrev pub IsMissingAmong : EdgeTest → Keepers → (ℕ → Type 0) → ℕ → Kind → ℕ → Type 0
+IsMissingAmong test Keeps Shares from kind to = IsLacking (IsAskedAmong test Keeps Shares from kind to) (test from kind to)
+
+-- no edge of this kind is missing at this label, with which some share
+abbrev pub IsSettledAmong : EdgeTest → Keepers → (ℕ → Type 0) → ℕ → Kind → Type 0
+IsSettledAmong test Keeps Shares from kind = (to : ℕ) → IsAskedAmong test Keeps Shares from kind to → test from kind to ≡ true
 
 -- no edge of this kind is missing at this label
 abbrev pub IsSharplySettled : EdgeTest → Keepers → ℕ → Kind → Type 0

@@ -3,7 +3,7 @@ ghost use Rattle.std.specs.Prelude.{ℕ, ◌↔◌, ◌≡◌, ◌⊎◌, IsTrue
 ghost use Rattle.base.specs.Labels.{is_in};
 ghost use Rattle.policy.specs.{Closed.{ControlGives, IsGivenByControl, MayBeGranted}, Domain.IsInDomain, Policy.allows};
 ghost use Rattle.policy.specs.Sharp.{MayIdle, MayPut, Told};
-ghost use Rattle.sharp.specs.Asked.{DerivesSharply, HoldsSharply, IsLentSharply, IsSharplyGiven, IsSharplyMissing};
+ghost use Rattle.sharp.specs.Asked.{DerivesSharply, HoldsSharply, IsLentSharply, IsMissingAmong, IsSharplyGiven};
 ghost use Rattle.sharp.specs.Asked.{RunsSharply, SharesSharply};
 
 use base::{Kind, Label, Labels};
@@ -12,7 +12,7 @@ use policy::Policy;
 // The kinds of edge from a label to those in its domain.
 const DOMAIN: [Kind; 2] = [Kind::Space, Kind::Control];
 
-/// The labels to which the edge of this kind is missing, from a label with which these share.
+/// The labels to which the edge of this kind is missing, from a label, if these share with it.
 pub(crate) fn missing(
     policy: &Policy,
     keeping: Labels,
@@ -20,10 +20,8 @@ pub(crate) fn missing(
     kind: Kind,
     sharing: Labels,
 ) -> Labels
-    requires { (giver : ℕ) → (is_in sharing giver ≡ true)
-        ↔ SharesSharply (allows policy.now) (Told (is_in keeping)) giver from }
     ensures { (to : ℕ) → (is_in result to ≡ true)
-        ↔ IsSharplyMissing (allows policy.now) (Told (is_in keeping)) from kind to }
+        ↔ IsMissingAmong (allows policy.now) (Told (is_in keeping)) (Told (is_in sharing)) from kind to }
 {
     let there = policy.row(from, kind);
     match kind {
@@ -66,12 +64,10 @@ fn granters(policy: &Policy, keeping: Labels, taker: Label) -> Labels
     }
 }
 
-// The labels to which the label is given the edge of this kind, by control or by those who share with it.
+// The labels to which the label is given the edge of this kind, by control or by these, which share with it.
 fn given(policy: &Policy, keeping: Labels, from: Label, kind: Kind, sharing: Labels) -> Labels
-    requires { (giver : ℕ) → (is_in sharing giver ≡ true)
-        ↔ SharesSharply (allows policy.now) (Told (is_in keeping)) giver from }
     ensures { (to : ℕ) → (is_in result to ≡ true)
-        ↔ IsSharplyGiven (allows policy.now) (Told (is_in keeping)) from kind to }
+        ↔ IsSharplyGiven (allows policy.now) (Told (is_in keeping)) (Told (is_in sharing)) from kind to }
 {
     let controlled = controlled(policy, keeping, from, kind);
     if kind.is_structural() {

@@ -2,7 +2,7 @@
 ghost use Rattle.std.specs.Prelude.{ℕ, ◌++◌, ◌||◌, ◌↔◌, ◌≡◌, IfErr, IfOk, OnOk, false, true};
 ghost use Rattle.base.specs.{declared.kind.Kind.Kind, Labels.is_in, Refusals.out_of_memory};
 ghost use Rattle.policy.specs.{Policy.allows, Settling.Joins, Sharp.{IsSharplyClosed, Told}};
-ghost use Rattle.sharp.specs.{Asked.{IsSharplySettled, SharesSharply}, Least.{GrowsSharply, IsLeastSharp}};
+ghost use Rattle.sharp.specs.{Asked.{IsSettledAmong, IsSharplySettled, SharesSharply}, Least.{GrowsSharply, IsLeastSharp}};
 
 use crate::asked::{givers, missing};
 use crate::keeping::keepers;
@@ -84,19 +84,17 @@ fn settle_label(policy: &mut Policy, keeping: Labels, from: Label) -> Result<boo
         changed ≡ false → (kind : Kind) → IsSharplySettled (allows policy.new) (Told (is_in keeping)) from kind) }
     ensures memory { IfErr result (λ refusal. refusal ≡ out_of_memory) }
 {
-    let mut sharing = givers(policy, keeping, from);
+    let sharing = givers(policy, keeping, from);
     let mut changed = false;
     for kind in Kind::ALL {
         if settle_row(policy, keeping, from, kind, sharing)? {
             changed = true;
-            sharing = givers(policy, keeping, from);
         }
     }
     Ok(changed)
 }
 
-// Adds the edges of this kind that are missing at a label, of which these share what they may do. Whether
-// any was.
+// Adds the edges of this kind that are missing at a label, if these share with it. Whether any was.
 fn settle_row(
     policy: &mut Policy,
     keeping: Labels,
@@ -104,11 +102,11 @@ fn settle_row(
     kind: Kind,
     sharing: Labels,
 ) -> Result<bool, Refusal>
-    requires { (giver : ℕ) → (is_in sharing giver ≡ true)
-        ↔ SharesSharply (allows policy.old) (Told (is_in keeping)) giver from }
+    requires { (giver : ℕ) → is_in sharing giver ≡ true
+        → SharesSharply (allows policy.old) (Told (is_in keeping)) giver from }
     ensures grows { IfOk result (λ changed. GrowsSharply keeping policy.old policy.new changed) }
-    ensures settled { IfOk result (λ changed.
-        changed ≡ false → IsSharplySettled (allows policy.new) (Told (is_in keeping)) from kind) }
+    ensures settled { IfOk result (λ changed. changed ≡ false
+        → IsSettledAmong (allows policy.new) (Told (is_in keeping)) (Told (is_in sharing)) from kind) }
     ensures memory { IfErr result (λ refusal. refusal ≡ out_of_memory) }
 {
     let lacks = missing(policy, keeping, from, kind, sharing);

@@ -1,5 +1,6 @@
 use Rattle.std.proofs.Common.{arith}
-use Rattle.policy.specs.Policy.{allows}
+use Rattle.base.specs.Labels.{is_in}
+use Rattle.policy.specs.{Policy.allows, Sharp.Told}
 use Rattle.sharp.proofs.{AskedSets.settled_if_none, SharpGrowth.{grows_by_join, grows_by_none}}
 use Rattle.sharp.proofs.closing.settle_row.Goals as goal
 
@@ -8,10 +9,11 @@ returns-in-None-clause-grows c = grows_by_none c.args.keeping c.args.policy.now
 
 pub returns-in-None-clause-settled : goal.returns-in-None-clause-settled
 returns-in-None-clause-settled c = λ is.
-    settled_if_none (allows c.args.policy.now) c.args.keeping c.args.from c.args.kind c.missing-lacks.result c.missing-lacks.ensures c.in-None.ensures.none
+    settled_if_none (allows c.args.policy.now) (Told (is_in c.args.keeping)) (Told (is_in c.args.sharing)) c.args.from c.args.kind
+    c.missing-lacks.result c.missing-lacks.ensures c.in-None.ensures.none
 
 pub returns-in_ok-join-in-Some-clause-grows : goal.returns-in_ok-join-in-Some-clause-grows
 returns-in_ok-join-in-Some-clause-grows c =
-    grows_by_join c.args.keeping c.args.policy.now c.join.new.policy c.args.from c.args.kind c.missing-lacks.result c.in-Some.first
-    (λ to. (c.missing-lacks.ensures to).0) c.in_ok-join-in-Some.ensures.joins (omega (arith, c.number.ensures.value, c.number.ensures.below))
-    c.in-Some.ensures.some.0
+    grows_by_join c.args.keeping c.args.sharing c.args.policy.now c.join.new.policy c.args.from c.args.kind c.missing-lacks.result c.in-Some.first
+    c.requires (λ to. (c.missing-lacks.ensures to).0) c.in_ok-join-in-Some.ensures.joins
+    (omega (arith, c.number.ensures.value, c.number.ensures.below)) c.in-Some.ensures.some.0
