@@ -1,5 +1,5 @@
 //! The least sharply closed policy that has the edges of a policy, and some more.
-ghost use Rattle.std.specs.Prelude.{ℕ, ◌++◌, ◌||◌, ◌↔◌, ◌≡◌, IfErr, IfOk, OnOk, false, true};
+ghost use Rattle.std.specs.Prelude.{ℕ, ◌++◌, ◌||◌, ◌≡◌, IfErr, IfOk, OnOk, false, true};
 ghost use Rattle.base.specs.{declared.kind.Kind.Kind, Labels.is_in, Refusals.out_of_memory};
 ghost use Rattle.policy.specs.{Policy.allows, Settling.Joins, Sharp.{IsSharplyClosed, Told}};
 ghost use Rattle.sharp.specs.{Asked.{IsSettledAmong, IsSharplySettled, SharesSharply}, Least.{GrowsSharply, IsLeastSharp}};
