@@ -1,6 +1,6 @@
 //! Sharply closed policies: which labels keep capabilities for CNodes, and the least policy that the sharp rules allow.
 //!
-//! No crate stands on it yet. It knows no objects, no table and no text.
+//! `reach` stands on it. It knows no objects, no table and no text.
 #![tactic(auto)]
 
 mod asked;

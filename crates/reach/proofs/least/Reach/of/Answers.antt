@@ -1,0 +1,19 @@
+-- The keepers by the policy are those that may keep.
+use Rattle.reach.{proofs.LeastReach.{from_may, may_from}}
+use Rattle.reach.proofs.least.Reach.of.Goals as goal
+
+pub invariant_of-result : goal.invariant_of-result
+invariant_of-result c =
+    let t = c.args.table.now in
+    let told = c.node_holders-held.ensures in
+    record {
+      least = c.in_ok-policy.ensures.least;
+      keepers = λ a. (
+        λ among. from_may t _ c.node_holders-held.result told ((c.keepers-keepers.ensures a).0 among),
+        λ keeps. (c.keepers-keepers.ensures a).1 (may_from t _ c.node_holders-held.result told keeps),
+      );
+      idlers = c.idlers-idlers.ensures;
+    }
+
+pub returns-clause-reach : goal.returns-clause-reach
+returns-clause-reach c = invariant_of-result c

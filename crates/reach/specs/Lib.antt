@@ -1,0 +1,2 @@
+pub mod Boot
+pub mod Reach
