@@ -6,7 +6,8 @@ use Rattle.policy.{specs.{Closed.IsClosed, Closing.IsWithin, Domain.EdgeTest, Po
 use Rattle.table.proofs.BootState.{boot_state, boot_state_is}
 use Rattle.integrity.specs.Keeping.{HoldsNode, MayKeep, MayKeep.{finds, handed, holds}}
 use Rattle.sharp.specs.{Keeping.{KeepsFrom, KeepsFrom.{finds as found, handed as put, held}}, Least.IsLeastSharp}
-use Rattle.reach.specs.Reach.{HasBootAuthority, IsReach}
+use Rattle.integrity.specs.Acting.{HoldsOfActors}
+use Rattle.reach.specs.Reach.{HasBootAuthority, IsReach, IsTableReach, TableReach}
 
 -- who keeps by the labels that hold such capabilities at boot may keep, and the other way round
 module _ (t : Layout) (test : EdgeTest) (labels : Labels) (told : (a : ℕ) → (is_in labels a ≡ true) ↔ HoldsNode t a) where
@@ -54,3 +55,7 @@ pub one_reach :
 one_reach t edges other one two from kind to =
     alike (allows edges from kind to) (allows other from kind to) (one.least (allows other) two.sharp two.boot from kind to)
     (two.least (allows edges) one.sharp one.boot from kind to)
+
+-- the labels whose threads make calls are all that may act and may have threads
+pub actors_told : (reach : TableReach) → IsTableReach reach → HoldsOfActors reach.table (allows reach.policy) (is_in reach.actors)
+actors_told reach is a acts threads = (is.actors a).1 (acts, threads)

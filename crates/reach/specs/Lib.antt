@@ -1,2 +1,3 @@
+pub mod Acting
 pub mod Boot
 pub mod Reach

@@ -1,6 +1,7 @@
 //! Which labels hold capabilities for CNodes at boot.
 ghost use Rattle.std.specs.Prelude.{ℕ, ◌↔◌, ◌≡◌, true};
 ghost use Rattle.base.specs.Labels.{is_in};
+ghost use Rattle.table.specs.Rules.{IsLawful};
 ghost use Rattle.integrity.specs.Keeping.{HoldsNode};
 ghost use Rattle.reach.specs.Boot.{is_node, is_node_cap, node_holder};
 
@@ -10,7 +11,8 @@ use table::Table;
 
 /// Returns the labels of which a CNode holds a capability for a CNode at boot.
 pub fn node_holders(table: &Table) -> Labels
-    ensures { (a : ℕ) → (is_in result a ≡ true) ↔ HoldsNode table.now a }
+    ensures holders { (a : ℕ) → (is_in result a ≡ true) ↔ HoldsNode table.now a }
+    ensures lawful { IsLawful table.now }
 {
     let mut found = Labels::none();
     for filled in table.caps() {

@@ -2,12 +2,13 @@
 ghost use Rattle.std.specs.Prelude.{ℕ, ◌≡◌, List};
 ghost use Rattle.base.specs.declared.{edge.Edge.Edge, kind.Kind.Kind};
 ghost use Rattle.machine.specs.Layout.{Layout};
-ghost use Rattle.policy.specs.{Closed.IsClosed, Closing.IsWithin, Domain.EdgeTest, Policy.allows};
+ghost use Rattle.policy.specs.{Change.{ActorTest, MayChange}, Closed.IsClosed, Closing.IsWithin, Domain.EdgeTest};
+ghost use Rattle.policy.specs.{NarrowTake.MayShrink, Policy.allows};
 ghost use Rattle.table.specs.Rules.{IsLawful};
-ghost use Rattle.integrity.specs.Safe.{IsSafe};
+ghost use Rattle.integrity.specs.{Acting.HoldsOfActors, Apart.{NeverChanges, OnlyTakes}, Safe.IsSafe};
 ghost use Rattle.reach.specs.Reach.{HasBootAuthority, IsReach};
 
-use integrity::sharply_confined_systems_are_safe;
+use integrity::{bounded_systems_keep_labels_apart, sharply_confined_systems_are_safe};
 
 /// A law: every run of a table stays within what the table can come to, and that needs no policy.
 ///
@@ -29,4 +30,28 @@ pub fn runs_stay_in_reach()
         → (from : ℕ) (kind : Kind) (to : ℕ) → allows edges from kind to ≡ allows other from kind to }
 {
     sharply_confined_systems_are_safe();
+}
+
+/// A law: in every run of a table, threads of a label change only what they may by what the table can come to.
+///
+/// No step of theirs changes, makes or removes an object of a label that they may not change and may
+/// not make smaller. Where they may not change it, each object stays as it is, or shrinks. This is so
+/// for each test of labels that holds of all that may act and may have threads.
+pub fn runs_keep_labels_apart()
+    ensures apart { (t : Layout) (edges : List Edge) (acts : ActorTest) (a l : ℕ)
+        → IsLawful t
+        → IsReach t edges
+        → HoldsOfActors t (allows edges) acts
+        → ¬ MayChange (allows edges) acts a l
+        → ¬ MayShrink (allows edges) acts a l
+        → NeverChanges t a l }
+    ensures takes { (t : Layout) (edges : List Edge) (acts : ActorTest) (a l : ℕ)
+        → IsLawful t
+        → IsReach t edges
+        → HoldsOfActors t (allows edges) acts
+        → ¬ MayChange (allows edges) acts a l
+        → OnlyTakes t a l }
+{
+    runs_stay_in_reach();
+    bounded_systems_keep_labels_apart();
 }

@@ -1,14 +1,17 @@
 //! What a table can come to.
-ghost use Rattle.std.specs.Prelude.{ℕ, ◌↔◌, ◌≡◌, IfErr, IfOk, true};
+ghost use Rattle.std.specs.Prelude.{ℕ, ◌↔◌, ◌≡◌, IfErr, IfOk, false, true};
 ghost use Rattle.base.specs.{Labels.is_in, Refusals.out_of_memory};
-ghost use Rattle.policy.specs.{Policy.allows, Sharp.MayIdle};
-ghost use Rattle.integrity.specs.Keeping.{HoldsNode, MayKeep};
+ghost use Rattle.policy.specs.{ActorReasons.IsWhyAmong, Change.MayChange, NarrowTake.MayShrink, Policy.allows, Sharp.MayIdle};
+ghost use Rattle.integrity.specs.{Apart.{NeverChanges, OnlyTakes}, Keeping.{HoldsNode, MayKeep}};
+ghost use Rattle.reach.specs.Acting.{IsActor};
 ghost use Rattle.reach.specs.Reach.{IsReach, IsTableReach};
 
+use crate::acting::actors;
 use crate::boot::node_holders;
-use base::{Labels, Refusal};
+use crate::laws::runs_keep_labels_apart;
+use base::{Label, Labels, Refusal};
 use labels::authority;
-use policy::Policy;
+use policy::{Policy, Why};
 use sharp::{close_sharply, idlers, keepers};
 use std::alloc::Global;
 use std::marker::Model;
@@ -24,6 +27,7 @@ pub struct Reach<'a> {
     policy: Policy,
     keepers: Labels,
     idlers: Labels,
+    actors: Labels,
 }
 
 impl<'a> Model for Reach<'a> {
@@ -36,6 +40,7 @@ impl<'a> Model for Reach<'a> {
       policy = reach.policy;
       keepers = reach.keepers;
       idlers = reach.idlers;
+      actors = reach.actors;
     } };
 
     ghost invariant = { λ reach. IsTableReach (record {
@@ -43,6 +48,7 @@ impl<'a> Model for Reach<'a> {
       policy = reach.policy;
       keepers = reach.keepers;
       idlers = reach.idlers;
+      actors = reach.actors;
     }) };
 }
 
@@ -61,11 +67,13 @@ impl<'a> Reach<'a> {
         let policy = least_policy(alloc, table, held)?;
         let keepers = keepers(&policy, held);
         let idlers = idlers(&policy);
+        let actors = actors(table, &policy);
         Ok(Reach {
             table,
             policy,
             keepers,
             idlers,
+            actors,
         })
     }
 
@@ -79,7 +87,7 @@ impl<'a> Reach<'a> {
     /// Returns the policy: each edge that a run may come to.
     pub fn policy(&self) -> &Policy
         ensures policy { result.now ≡ self.now.policy }
-        ensures least { IsReach self.now.table self.now.policy }
+        ensures reach { IsTableReach self.now }
     {
         &self.policy
     }
@@ -98,6 +106,57 @@ impl<'a> Reach<'a> {
         ensures idle { (b : ℕ) → (is_in result b ≡ true) ↔ MayIdle (allows self.now.policy) b }
     {
         self.idlers
+    }
+
+    /// Returns the labels whose threads may make calls.
+    ///
+    /// These labels may act, and have threads in the table, or memory of which threads can be made.
+    pub fn actors(&self) -> Labels
+        ensures actors { result ≡ self.now.actors }
+        ensures act { (a : ℕ) → (is_in result a ≡ true) ↔ IsActor self.now.table (allows self.now.policy) a }
+    {
+        self.actors
+    }
+
+    /// Returns the labels whose objects threads of the label `actor` may change.
+    ///
+    /// In no run does a step of theirs change an object of another label, but for one that it makes
+    /// smaller.
+    pub fn changed_by(&self, actor: Label) -> Labels
+        ensures changed { (l : ℕ) → (is_in result l ≡ true)
+            ↔ MayChange (allows self.now.policy) (is_in self.now.actors) actor l }
+        ensures kept { (l : ℕ) → is_in result l ≡ false → OnlyTakes self.now.table actor l }
+    {
+        runs_keep_labels_apart();
+        self.policy().change_labels(self.actors(), actor)
+    }
+
+    /// Returns the labels whose objects may shrink by what threads of the label `actor` do.
+    ///
+    /// In no run does a step of theirs make an object of another label smaller, unless they may change
+    /// it.
+    pub fn shrunk_by(&self, actor: Label) -> Labels
+        ensures shrunk { (l : ℕ) → (is_in result l ≡ true)
+            ↔ MayShrink (allows self.now.policy) (is_in self.now.actors) actor l }
+        ensures kept { (l : ℕ) → is_in result l ≡ false
+            → ¬ MayChange (allows self.now.policy) (is_in self.now.actors) actor l
+            → NeverChanges self.now.table actor l }
+    {
+        runs_keep_labels_apart();
+        self.policy().shrink_labels(self.actors(), actor)
+    }
+
+    /// Returns what threads of the label `actor` may do to objects of the label `object`, and why.
+    ///
+    /// # Errors
+    ///
+    /// 40 where memory is refused.
+    pub fn why(&self, alloc: Global, actor: Label, object: Label) -> Result<Why, Refusal>
+        ensures why { IfOk result
+            (λ why. IsWhyAmong (allows self.now.policy) (is_in self.now.actors) actor object why) }
+        ensures memory { IfErr result (λ refusal. refusal ≡ out_of_memory) }
+    {
+        self.policy().why_among(alloc, self.actors(), actor, object)
     }
 }
 

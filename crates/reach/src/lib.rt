@@ -1,12 +1,14 @@
 //! What a capability table can come to: the least sharply closed policy that has all authority of its boot state.
 //!
-//! No crate stands on it yet. It knows no policy that a person writes, and no code of the kernel.
+//! `verdict` stands on it. It knows no code of the kernel, and decides nothing.
 #![tactic(auto)]
 
+mod acting;
 mod boot;
 mod laws;
 mod least;
 
+pub use acting::{actors, labels_that_act};
 pub use boot::node_holders;
-pub use laws::runs_stay_in_reach;
+pub use laws::{runs_keep_labels_apart, runs_stay_in_reach};
 pub use least::Reach;

@@ -5,7 +5,8 @@ use Rattle.machine.specs.Layout.{Layout}
 use Rattle.policy.specs.{Change.MayChange, Domain.EdgeTest, NarrowTake.MayShrink, Policy.allows}
 use Rattle.integrity.{specs.{Acting.HoldsOfActors, Apart.{NeverChanges, OnlyTakes}, Safe.KeepsNarrowBounds}, proofs.Aparts.never_changes}
 use Rattle.integrity.proofs.Aparts.{only_takes}
-use Rattle.verdict.specs.{declared.extent.Extent.{Extent, Extent as extent}, Extents.{GoesTo, IsActor, IsReachOf, KeepsTo, MayChangeIn}}
+use Rattle.verdict.specs.{declared.extent.Extent.{Extent, Extent as extent}, Extents.{GoesTo, IsReachOf, KeepsTo, MayChangeIn}}
+use Rattle.reach.specs.Acting.{IsActor}
 use Rattle.verdict.specs.Extents.{MayShrinkIn, Reach}
 
 -- the test of a reach holds of all who may act and may have threads

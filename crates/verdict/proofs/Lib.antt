@@ -10,4 +10,4 @@ pub mod OutsideObjects
 pub mod Extents
 pub mod Outsides
 pub mod BootPlaces
-pub mod WhoActs
+pub mod OthersRefused

@@ -4,12 +4,9 @@ use Rattle.std.specs.Prelude.{ℕ, ◌↔◌, ◌≡◌, List, true}
 use Rattle.base.specs.{declared.{edge.Edge.Edge, labels.Labels.Labels}, Labels.is_in}
 use Rattle.machine.specs.Layout.{Layout}
 use Rattle.policy.specs.{Change.{ActorTest, MayChange}, Domain.EdgeTest, NarrowTake.MayShrink, Policy.allows}
-use Rattle.integrity.specs.{Acting.{MayAct, MayHaveThreads}, Apart.{NeverChanges, OnlyTakes}}
+use Rattle.integrity.specs.Apart.{NeverChanges, OnlyTakes}
+use Rattle.reach.specs.Acting.{IsActor}
 use Rattle.verdict.specs.{declared.extent.Extent.{Extent, Extent as extent}, System.{IsAcceptedSystem, System}}
-
--- a label may act and may have threads: only such a label's threads make calls
-abbrev pub IsActor : Layout → EdgeTest → ℕ → Type 0
-IsActor t allowed a = MayAct t allowed a × MayHaveThreads t a
 
 -- what bounds the threads of a system: the edges of a policy, and which labels' threads make calls
 pub record Reach : Type 0 where

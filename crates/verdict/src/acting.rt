@@ -1,16 +1,14 @@
-//! Which labels may act in runs of a system, and whose threads may make calls.
+//! Which labels may act in runs of an accepted system.
 ghost use Rattle.std.specs.Prelude.{ℕ, ◌↔◌, ◌≡◌, false, true};
 ghost use Rattle.base.specs.Labels.{is_in};
-ghost use Rattle.policy.specs.{Closed.IsClosed, Policy.allows};
-ghost use Rattle.integrity.specs.{Acting.{MayAct, MayHaveThreads, Starts}, Apart.NeverChanges};
-ghost use Rattle.verdict.specs.{Acting.{RefusesAllBut, has_threads, is_ready, ready_label}, Extents.IsActor};
+ghost use Rattle.policy.specs.Policy.{allows};
+ghost use Rattle.integrity.specs.{Acting.MayAct, Apart.NeverChanges};
+ghost use Rattle.verdict.specs.Acting.{RefusesAllBut};
 
 use crate::Accepted;
-use base::{Kind, Label, Labels, ObjId};
-use integrity::{changes_are_of_labels_that_act, labels_act_from_boot_or_by_control};
-use machine::{Object, RunState};
-use policy::Policy;
-use table::Table;
+use base::Labels;
+use integrity::changes_are_of_labels_that_act;
+use reach::labels_that_act;
 
 impl Accepted<'_> {
     /// Returns the labels that may act: those with a thread that can run at boot, and those that such a label controls.
@@ -25,79 +23,4 @@ impl Accepted<'_> {
         changes_are_of_labels_that_act();
         labels_that_act(self.table(), self.policy())
     }
-}
-
-/// Returns the labels whose threads may make calls in runs of a table by a closed policy.
-///
-/// These labels may act, and have threads in the table, or memory of which threads can be made.
-pub fn actors(table: &Table, policy: &Policy) -> Labels
-    ensures { IsClosed (allows policy.now) → (a : ℕ)
-        → (is_in result a ≡ true) ↔ IsActor table.now (allows policy.now) a }
-{
-    labels_that_act(table, policy).intersection(with_threads(table))
-}
-
-// The labels that may act by a closed policy.
-fn labels_that_act(table: &Table, policy: &Policy) -> Labels
-    ensures { IsClosed (allows policy.now) → (a : ℕ)
-        → (is_in result a ≡ true) ↔ MayAct table.now (allows policy.now) a }
-{
-    labels_act_from_boot_or_by_control();
-    let starting = starting(table);
-    starting.union(policy.targets(starting, &[Kind::Control]))
-}
-
-// The labels with a thread that is ready at boot and bound to a context.
-fn starting(table: &Table) -> Labels
-    ensures { (a : ℕ) → (is_in result a ≡ true) ↔ Starts table.now a }
-{
-    let mut found = Labels::none();
-    for binding in table.bindings() {
-        if let Some(label) = ready_label(table, binding.thread) {
-            found = found.union(Labels::only(label));
-        }
-    }
-    found
-}
-
-// The label of an initial thread that is ready.
-#[tactic(auto, unfolding(machine::specs::Layout::initial_of))]
-fn ready_label(table: &Table, thread: ObjId) -> Option<Label>
-    ensures { result ≡ ready_label table.now thread }
-{
-    let initial = table.objects().get(thread.0 as usize)?;
-    if is_ready(&initial.object) {
-        return Some(initial.label);
-    }
-    None
-}
-
-// Whether an object is a thread that is ready.
-fn is_ready(object: &Object) -> bool
-    ensures { result ≡ is_ready object.now }
-{
-    match object {
-        Object::Tcb(thread) => matches!(thread.state, RunState::Ready),
-        _ => false,
-    }
-}
-
-// The labels that may have threads.
-fn with_threads(table: &Table) -> Labels
-    ensures { (a : ℕ) → (is_in result a ≡ true) ↔ MayHaveThreads table.now a }
-{
-    let mut found = Labels::none();
-    for initial in table.objects() {
-        if has_threads(&initial.object) {
-            found = found.union(Labels::only(initial.label));
-        }
-    }
-    found
-}
-
-// Whether an object is a thread, or memory of which threads can be made.
-fn has_threads(object: &Object) -> bool
-    ensures { result ≡ has_threads object.now }
-{
-    matches!(object, Object::Tcb(_) | Object::Untyped(_))
 }

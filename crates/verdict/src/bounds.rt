@@ -4,10 +4,10 @@ ghost use Rattle.base.specs.{Labels.is_in, Refusals.out_of_memory};
 ghost use Rattle.policy.specs.{ActorReasons.IsWhyAmong, Policy.allows};
 ghost use Rattle.verdict.specs.Extents.{GoesTo, IsActingSystem, KeepsTo, MayChangeIn, MayShrinkIn, reach_of};
 
-use crate::acting::actors;
 use crate::{Accepted, Extent};
 use base::{Label, Labels, Refusal};
 use policy::{Policy, Why};
+use reach::actors;
 use std::alloc::Global;
 use std::marker::Model;
 use table::Table;

@@ -16,7 +16,6 @@ mod safe;
 mod slots;
 
 pub use accepted::Accepted;
-pub use acting::actors;
 pub use bounds::Bounds;
 pub use check::judge;
 pub use denial::Denial;
@@ -25,4 +24,5 @@ pub use extent::Extent;
 pub use laws::{
     a_system_has_one_verdict, a_verdict_is_on_the_boot_state, confined_states_have_nothing_outside,
 };
+pub use reach::actors;
 pub use safe::{accepted_systems_are_safe, accepted_systems_keep_labels_apart};

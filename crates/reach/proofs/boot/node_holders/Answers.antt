@@ -26,8 +26,8 @@ loop-filled-preserved c a =
           before (sym c.node_holder.ensures ∙ w.in_default.is) so_far)
     ]
 
-pub returns : goal.returns
-returns c a =
+pub returns-clause-holders : goal.returns-clause-holders
+returns-clause-holders c a =
     let t = c.args.table.now in
     let items = c.caps-filled-items in
     let n = c.loop-filled.filled-index in

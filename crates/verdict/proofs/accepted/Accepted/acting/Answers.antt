@@ -1,7 +1,7 @@
 -- An accepted policy is closed.
 use Rattle.std.proofs.{Common.{◌∙◌, sym}, lemmas.Bool.false≢true}
-use Rattle.policy.{specs.Policy.allows, proofs.Unbroken.closed_if}
-use Rattle.verdict.{specs.declared.denial.Denial.Denial as denial, proofs.WhoActs.others_refused}
+use Rattle.policy.{specs.Policy.allows, proofs.{Sharpness.closed_rises, Unbroken.closed_if}}
+use Rattle.verdict.{specs.declared.denial.Denial.Denial as denial, proofs.OthersRefused.others_refused}
 use Rattle.verdict.proofs.accepted.Accepted.acting.Goals as goal
 
 pub returns-clause-acting : goal.returns-clause-acting
@@ -9,7 +9,7 @@ returns-clause-acting c a =
     let allowed = allows c.args.self.now.policy in
     let closed = closed_if allowed (λ broken. c.policy.ensures.accepted.verdict (denial.Policy broken)) in
     let found = rw (c.table.ensures.table, c.policy.ensures.policy) at c.labels_that_act.ensures in
-    found closed a
+    found (closed_rises allowed closed) a
 
 pub returns-clause-refused : goal.returns-clause-refused
 returns-clause-refused c =

@@ -3,9 +3,9 @@ use Rattle.std.proofs.Common.{◌+◌, ◌↔◌, ◌∙◌, ◌||◌, ◌≡◌
 use Rattle.base.specs.Labels.{is_in}
 use Rattle.policy.proofs.Stepping.{IsBelow}
 use Rattle.table.proofs.Lookups.{read_at}
-use Rattle.verdict.proofs.WhoActs.{HasReady, none_ready, one_ready, starts_below, starts_from}
-use Rattle.verdict.proofs.acting.starting.Goals.{in-Some, in_default}
-use Rattle.verdict.proofs.acting.starting.Goals as goal
+use Rattle.reach.proofs.WhoActs.{HasReady, none_ready, one_ready, starts_below, starts_from}
+use Rattle.reach.proofs.acting.starting.Goals.{in-Some, in_default}
+use Rattle.reach.proofs.acting.starting.Goals as goal
 
 pub loop-binding-preserved : goal.loop-binding-preserved
 loop-binding-preserved c a =

@@ -2,8 +2,8 @@
 use Rattle.std.proofs.Common.{ℕ, ◌↔◌, ◌≡◌, true}
 use Rattle.base.specs.Labels.{is_in}
 use Rattle.policy.proofs.Stepping.{IsBelow}
-use Rattle.verdict.proofs.WhoActs.{HasSource}
-use Rattle.verdict.proofs.acting.with_threads.Given as goal
+use Rattle.reach.proofs.WhoActs.{HasSource}
+use Rattle.reach.proofs.acting.with_threads.Given as goal
 
 abbrev pub invariant-loop-initial : goal.invariant-loop-initial
 invariant-loop-initial l = (a : ℕ) → (is_in l.found a ≡ true) ↔ IsBelow (HasSource l.table a) l.initial-index

@@ -5,13 +5,13 @@ use Rattle.std.proofs.lemmas.{Bool.{and_parts, eq-eqb, eqb-true, false≢true, o
 use Rattle.std.proofs.lemmas.Option.{slice_get_within}
 use Rattle.base.specs.{declared.{ids.ObjId.ObjId, kind.Kind.TheVariants.Control, labels.Labels.Labels}, Labels.is_in}
 use Rattle.machine.specs.declared.{layout.{Binding.Binding, Initial.Initial}, object.Object.{Object, Object as o}, thread.RunState.RunState}
-use Rattle.machine.specs.{declared.thread.{RunState.RunState as state, Tcb.Tcb}, Authority.label_of, Layout.{Layout, initial_of}}
-use Rattle.machine.specs.{Objects.kind_of_object, Outcomes.IsRefused}
+use Rattle.machine.specs.{declared.thread.{RunState.RunState as state, Tcb.Tcb}, Layout.{Layout, initial_of}}
+use Rattle.machine.specs.{Objects.kind_of_object}
 use Rattle.machine.specs.declared.object.ObjectKind.TheVariants as kind
 use Rattle.table.{specs.Rules.IsLawful, proofs.Lookups.{bound_at, bound_from}}
 use Rattle.policy.{specs.{Domain.EdgeTest, Steps.IsTarget}, proofs.Stepping.{IsBelow, more_below, none_more, only_kind, target_by}}
-use Rattle.integrity.specs.{Acting.{MayAct, MayHaveThreads, Starts}, Safe.RefusesOthers}
-use Rattle.verdict.specs.{Acting.{RefusesAllBut, has_threads, is_ready, is_ready_state, ready_label}, Extents.IsActor}
+use Rattle.integrity.specs.Acting.{MayAct, MayHaveThreads, Starts}
+use Rattle.reach.specs.Acting.{IsActor, has_threads, is_ready, is_ready_state, ready_label}
 
 -- what it is to be ready
 
@@ -138,19 +138,6 @@ found_actors t allowed starting controlled both union starts targets a = (forth,
       union a
       ∙ or_right (is_in starting a) (is_in controlled a)
       ((targets a).1 (target_by allowed Control starting by.0 a ((starts by.0).1 by.1) by.2))
-
--- all others are refused
-pub others_refused :
-    (t : Layout) (allowed : EdgeTest) (labels : Labels) → ((a : ℕ) → (is_in labels a ≡ true) ↔ MayAct t allowed a)
-    → RefusesOthers t allowed → RefusesAllBut t labels
-others_refused t allowed labels acting refuses m next event outcome reached step =
-    by (refuses m next event outcome reached step)
-  where
-    by :
-        IsRefused outcome ⊎ ((a : ℕ) × (label_of t m event.thread ≡ Some a) × MayAct t allowed a)
-        → IsRefused outcome ⊎ ((a : ℕ) × (label_of t m event.thread ≡ Some a) × (is_in labels a ≡ true))
-    by (inl refused) = inl refused
-    by (inr acts) = inr (acts.0, acts.1, (acting acts.0).1 acts.2)
 
 -- the object at this place is of this label, and a thread or memory of which threads can be made
 pub record HasSource (t : Layout) (a k : ℕ) : Type 0 where

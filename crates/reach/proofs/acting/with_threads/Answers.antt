@@ -3,9 +3,9 @@ use Rattle.std.proofs.Common.{◌+◌, ◌↔◌, ◌∙◌, ◌||◌, ◌≡◌
 use Rattle.base.specs.Labels.{is_in}
 use Rattle.policy.proofs.Stepping.{IsBelow}
 use Rattle.table.proofs.Lookups.{read_at}
-use Rattle.verdict.proofs.WhoActs.{HasSource, no_source, one_source, threads_below, threads_from}
-use Rattle.verdict.proofs.acting.with_threads.Goals.{else-has_threads, then-has_threads}
-use Rattle.verdict.proofs.acting.with_threads.Goals as goal
+use Rattle.reach.proofs.WhoActs.{HasSource, no_source, one_source, threads_below, threads_from}
+use Rattle.reach.proofs.acting.with_threads.Goals.{else-has_threads, then-has_threads}
+use Rattle.reach.proofs.acting.with_threads.Goals as goal
 
 pub loop-initial-preserved : goal.loop-initial-preserved
 loop-initial-preserved c a =

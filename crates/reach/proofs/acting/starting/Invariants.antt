@@ -2,8 +2,8 @@
 use Rattle.std.proofs.Common.{ℕ, ◌↔◌, ◌≡◌, true}
 use Rattle.base.specs.Labels.{is_in}
 use Rattle.policy.proofs.Stepping.{IsBelow}
-use Rattle.verdict.proofs.WhoActs.{HasReady}
-use Rattle.verdict.proofs.acting.starting.Given as goal
+use Rattle.reach.proofs.WhoActs.{HasReady}
+use Rattle.reach.proofs.acting.starting.Given as goal
 
 abbrev pub invariant-loop-binding : goal.invariant-loop-binding
 invariant-loop-binding l = (a : ℕ) → (is_in l.found a ≡ true) ↔ IsBelow (HasReady l.table a) l.binding-index

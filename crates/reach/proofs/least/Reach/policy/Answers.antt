@@ -1,0 +1,7 @@
+-- what the type keeps
+use Rattle.std.proofs.Common.{subst}
+use Rattle.reach.specs.Reach.{IsTableReach, TableReach}
+use Rattle.reach.proofs.least.Reach.policy.Goals as goal
+
+pub returns-clause-reach : goal.returns-clause-reach
+returns-clause-reach c = subst (λ (reach : TableReach). IsTableReach reach) c.self.view_is c.self.invariant
