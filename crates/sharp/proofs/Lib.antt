@@ -3,3 +3,8 @@ pub mod KeeperSearch
 pub mod AskedRules
 pub mod AskedSets
 pub mod SharpGrowth
+pub mod PlaceSearch
+pub mod Unbroken
+pub mod BrokenSets
+pub mod BrokenPlaces
+pub mod RulePlaces

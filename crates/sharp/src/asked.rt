@@ -9,8 +9,8 @@ ghost use Rattle.sharp.specs.Asked.{RunsSharply, SharesSharply};
 use base::{Kind, Label, Labels};
 use policy::Policy;
 
-// The kinds of edge from a label to those in its domain.
-const DOMAIN: [Kind; 2] = [Kind::Space, Kind::Control];
+/// The kinds of edge from a label to those in its domain.
+pub(crate) const DOMAIN: [Kind; 2] = [Kind::Space, Kind::Control];
 
 /// The labels to which the edge of this kind is missing, from a label, if these share with it.
 pub(crate) fn missing(
@@ -76,8 +76,8 @@ fn given(policy: &Policy, keeping: Labels, from: Label, kind: Kind, sharing: Lab
     controlled.union(policy.targets(sharing, &[kind]))
 }
 
-// The labels to which control gives the label the edge of this kind, if it keeps capabilities.
-fn controlled(policy: &Policy, keeping: Labels, from: Label, kind: Kind) -> Labels
+/// The labels to which control gives the label the edge of this kind, if it keeps capabilities.
+pub(crate) fn controlled(policy: &Policy, keeping: Labels, from: Label, kind: Kind) -> Labels
     ensures { (to : ℕ) → (is_in result to ≡ true)
         ↔ ((is_in keeping from ≡ true) × ControlGives (allows policy.now) from kind to) }
 {
@@ -130,8 +130,8 @@ fn run(policy: &Policy, label: Label) -> Labels
     bound.union(lent(policy, label))
 }
 
-// The contexts that a label may be lent while it waits without one.
-fn lent(policy: &Policy, label: Label) -> Labels
+/// The contexts that a label may be lent while it waits without one.
+pub(crate) fn lent(policy: &Policy, label: Label) -> Labels
     ensures { (context : ℕ) → (is_in result context ≡ true) ↔ IsLentSharply (allows policy.now) label context }
 {
     if !has_any(policy.row(label, Kind::Reply)) || !may_idle(policy, label) {
@@ -155,8 +155,8 @@ fn has_any(labels: Labels) -> bool
     labels.first().is_some()
 }
 
-// The labels that a reply may hold: those that may receive with it, and those that may call there.
-fn held(policy: &Policy, reply: Label) -> Labels
+/// The labels that a reply may hold: those that may receive with it, and those that may call there.
+pub(crate) fn held(policy: &Policy, reply: Label) -> Labels
     ensures { (thread : ℕ) → (is_in result thread ≡ true) ↔ HoldsSharply (allows policy.now) reply thread }
 {
     let naming = policy.sources(Labels::only(reply), &[Kind::Reply]);

@@ -1,11 +1,16 @@
-//! Sharply closed policies: which labels keep capabilities for CNodes, and the least policy that the sharp rules allow.
+//! Sharply closed policies: which labels keep capabilities for CNodes, the first sharp rule that a policy breaks, and the least policy
+//! that the sharp rules allow.
 //!
 //! `reach` stands on it. It knows no objects, no table and no text.
 #![tactic(auto)]
 
 mod asked;
+mod broken;
 mod closing;
 mod keeping;
+mod laws;
 
+pub use broken::{SharpBroken, first_broken, is_sharply_closed};
 pub use closing::close_sharply;
 pub use keeping::{idlers, keepers};
+pub use laws::sharply_closed_policies_are_unbroken;

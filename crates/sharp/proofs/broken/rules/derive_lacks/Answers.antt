@@ -1,0 +1,14 @@
+use Rattle.std.proofs.Common.{None, Some}
+use Rattle.base.specs.Labels.{is_in}
+use Rattle.policy.specs.{Policy.allows, Sharp.Told}
+use Rattle.sharp.proofs.BrokenPlaces.{derive_found}
+use Rattle.sharp.proofs.broken.rules.derive_lacks.Goals as goal
+
+pub returns-in_err-child : goal.returns-in_err-child
+returns-in_err-child c =
+    rw c.from_residual.ensures
+    (derive_found (allows c.args.policy.now) (Told (is_in c.args.keeping)) c.args.parent c.not_derived.result c.not_derived.ensures None tt c.in_err-child.ensures.none)
+
+pub returns : goal.returns
+returns c =
+    derive_found (allows c.args.policy.now) (Told (is_in c.args.keeping)) c.args.parent c.not_derived.result c.not_derived.ensures (Some c.in_ok-child.child) c.in_ok-child.ensures.some tt

@@ -1,0 +1,13 @@
+use Rattle.std.proofs.Common.{None, Some}
+use Rattle.policy.specs.{Policy.allows, Sharp.Told}
+use Rattle.sharp.proofs.BrokenPlaces.{reply_found}
+use Rattle.sharp.proofs.broken.rules.reply_lacks.Goals as goal
+
+pub returns-in_err-thread : goal.returns-in_err-thread
+returns-in_err-thread c keeps =
+    rw c.from_residual.ensures
+    (reply_found (allows c.args.policy.now) (Told keeps) c.args.reply c.not_held.result c.not_held.ensures None tt c.in_err-thread.ensures.none)
+
+pub returns : goal.returns
+returns c keeps =
+    reply_found (allows c.args.policy.now) (Told keeps) c.args.reply c.not_held.result c.not_held.ensures (Some c.in_ok-thread.thread) c.in_ok-thread.ensures.some tt

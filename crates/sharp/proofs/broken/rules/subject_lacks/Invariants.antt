@@ -1,0 +1,10 @@
+-- no label so far has a broken place
+use Rattle.std.proofs.Common.{[], ◌∷◌}
+use Rattle.base.specs.Labels.{is_in}
+use Rattle.policy.specs.{Policy.allows, Sharp.Told}
+use Rattle.sharp.{specs.Broken.{IsSharplyBrokenAt, s1, sharp_place}, proofs.PlaceSearch.NoneBelow}
+use Rattle.sharp.proofs.broken.rules.subject_lacks.Given as goal
+
+abbrev pub invariant-loop-number : goal.invariant-loop-number
+invariant-loop-number l =
+    NoneBelow sharp_place (IsSharplyBrokenAt (allows l.policy) (Told (is_in l.keeping))) (s1 ∷ l.subject ∷ []) l.number
