@@ -23,3 +23,4 @@ pub mod GrantUnsafe
 pub mod Unallowed
 pub mod Unsafe
 pub mod SharpUnsafe
+pub mod Following

@@ -15,7 +15,8 @@ ghost use Rattle.policy.specs.{Closed.MayBeGranted, Domain.{EdgeTest, IsInDomain
 ghost use Rattle.policy.specs.Needed.{control_gives_all, derive_by_grant, grant_shares, lent_runs, reply_holds};
 ghost use Rattle.policy.specs.{Needed.subjects_agree, Policy.allows};
 ghost use Rattle.integrity.specs.{Allowed.IsAllowedStep, Confined.IsConfined};
-ghost use Rattle.policy.specs.{Needed.{Rule, derive_in_domain}, Sharp.{DerivesOn, GrantsDerive, UsesFall}};
+ghost use Rattle.policy.specs.{Needed.{Rule, derive_in_domain}, Sharp.{DerivesOn, GrantsDerive, KeeperTest, UsesFall}};
+ghost use Rattle.policy.specs.Sharp.{KeepersAreGranted, KeepersDerive, KeepersHaveAll, MayPut, Told};
 ghost use Rattle.integrity.specs.Keeping.{MayKeep};
 ghost use Rattle.counterexamples.specs.Counterexamples.{SharplyUnsafeWithout, TakesOut, UnallowedSignal, UnsafeWithout};
 
@@ -181,4 +182,23 @@ pub fn sharp_safety_needs_each_rule()
     ensures granted { (system : SharplyUnsafeWithout derive_by_grant) × DerivesOn (allows system.edges) }
     ensures transitive { (system : SharplyUnsafeWithout derive_by_grant)
         × GrantsDerive (allows system.edges) (MayKeep system.t (allows system.edges)) }
+{}
+
+/// A law: S4 follows from S2 and S5, and the second half of S1 from what it says of control, S2 and S3.
+///
+/// This is so for each policy and whichever labels keep, if those keep whom a label that keeps
+/// controls.
+pub fn sharp_rules_that_follow()
+    ensures derive { (test : EdgeTest) (keeps : KeeperTest)
+        → KeepersHaveAll test (Told keeps)
+        → GrantsDerive test (Told keeps)
+        → KeepersDerive test (Told keeps) }
+    ensures fall { (test : EdgeTest) (keeps : KeeperTest)
+        → KeepersHaveAll test (Told keeps)
+        → KeepersAreGranted test (Told keeps)
+        → ((a b : ℕ) → MayPut test (Told keeps) a b → keeps b ≡ true)
+        → ((a b to : ℕ) → MayPut test (Told keeps) a b
+        → test a authority.Control to ≡ true
+        → test b authority.Control to ≡ true)
+        → UsesFall test (Told keeps) }
 {}

@@ -10,5 +10,5 @@ pub use laws::{
     safety_needs_contexts_to_run, safety_needs_control_to_give_all,
     safety_needs_derivation_over_grants, safety_needs_grants_to_share,
     safety_needs_lenders_to_share, safety_needs_replies_to_hold,
-    safety_needs_transitive_derivation, sharp_safety_needs_each_rule,
+    safety_needs_transitive_derivation, sharp_rules_that_follow, sharp_safety_needs_each_rule,
 };
