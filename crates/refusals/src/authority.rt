@@ -1,7 +1,9 @@
-//! `labels::authority` and `labels::slot_edges`.
+//! `labels::authority` and `labels::slot_edges`; and `reach::Reach::of`.
 use crate::bell::{self, SLOT, table_edges};
-use crate::memory::{NO_MEMORY, Stopped, are_made, are_made_again, met};
+use crate::edges::has_edges;
+use crate::memory::{NO_MEMORY, Stopped, are_made, are_made_again, met, passes, passes_again};
 use labels::{authority, slot_edges};
+use reach::Reach;
 use table::Table;
 
 /// Lists the authority of the table's boot state, and once more if memory was refused.
@@ -30,4 +32,22 @@ pub fn lists_edges_of_a_slot<R: AllocGlobal>(rt: &R, table: &Table) -> Result<()
         Some(made) => are_made(made, &expected),
         None => are_made_again(slot_edges(rt.alloc(), table, SLOT), &expected),
     }
+}
+
+/// Finds what the table can come to, and once more if memory was refused.
+///
+/// # Errors
+///
+/// [`Stopped::Refused`] where the call was refused memory and answered when it was made again, and
+/// [`Stopped::Wrong`] where something else isn't as it has to be.
+pub fn reaches_the_edges<R: AllocGlobal>(rt: &R, table: &Table) -> Result<(), Stopped> {
+    match met(NO_MEMORY, Reach::of(rt.alloc(), table))? {
+        Some(made) => passes(made, has_the_edges),
+        None => passes_again(Reach::of(rt.alloc(), table), has_the_edges),
+    }
+}
+
+/// Asserts that a table's reach has the edges that the table gives: nobody keeps a CNode's capability.
+fn has_the_edges(reach: &Reach) -> Result<(), Stopped> {
+    has_edges(reach.policy(), &table_edges()?)
 }

@@ -14,7 +14,7 @@ use table::Table;
 /// The names of the calls, but for those of engines.
 pub const NAMES: &str = "\
 read_table read_policy read_script read_log write_table write_policy write_script write_log add \
-edges close authority slot_edges make_certificate read_certificate write_certificate verify \
+edges close authority slot_edges reach make_certificate read_certificate write_certificate verify \
 judge check open boot run step step_cnode step_frame step_sixteen run_retype replay";
 
 /// Makes a call after `count` allocations.
@@ -93,6 +93,7 @@ fn make_with_table<R: AllocGlobal + Threads + Sync>(
         "write_table" => writers::writes_a_table(rt, table),
         "authority" => authority::lists_authority(rt, table),
         "slot_edges" => authority::lists_edges_of_a_slot(rt, table),
+        "reach" => authority::reaches_the_edges(rt, table),
         "make_certificate" => certificates::makes_a_certificate(rt, table),
         "read_certificate" => certificates::reads_a_certificate(rt, table),
         "write_certificate" => certificates::writes_a_certificate(rt, table),
