@@ -1,10 +1,12 @@
 """The commands: what each writes, and its status, as docs/FORMATS.md has them; authority, certificates, verdicts and last states."""
 import copy
 import json
+from types import SimpleNamespace
 
 import imports
 import kernel
 import policies
+import sharp
 import statements
 import states
 import summaries
@@ -101,6 +103,13 @@ def actors(table, policy):
     while more := {y for x, k, y in policy if k == CONTROL and x in acting} - acting:
         acting |= more
     return frozenset(acting & {item.label for item in table.objects if item.kind in ("tcb", "untyped")})
+
+
+def reach(table):
+    """Returns the least sharply closed policy with the edges of a table, as `edges`, with its `keepers`, its `idlers`, and the labels that
+    act in it, as `acts`. No run of the table leaves it."""
+    edges = sharp.sharp_closure({edge for _, _, _, edge in authority(table, kernel.boot(table))}, sharp.holders(table))
+    return SimpleNamespace(edges=edges, keepers=sharp.keepers(table, edges), idlers=sharp.idlers(edges), acts=actors(table, edges))
 
 
 def denial(table, policy):
