@@ -1,0 +1,34 @@
+-- slot by slot
+use Rattle.std.proofs.Common.{◌∙◌, ap, arith, below_more, length, refl, sym}
+use Rattle.std.proofs.lemmas.Option.{same_Some}
+use Rattle.machine.specs.declared.layout.Filled.{Filled}
+use Rattle.table.proofs.Lookups.{read_at}
+use Rattle.fixed.specs.Loose.{is_loose}
+use Rattle.fixed.proofs.LooseSlots.{loose_breaks, none_loose}
+use Rattle.fixed.proofs.deciding.is_fixed.Goals as goal
+use mathlib.Core.Bool.{false≢true}
+
+pub returns-then-is_loose : goal.returns-then-is_loose
+returns-then-is_loose c =
+    let t = c.args.table.now in (
+      λ is. absurd (false≢true is),
+      λ fixed. absurd (loose_breaks t _ (sym c.is_loose.ensures ∙ c.if-is_loose.true) fixed),
+    )
+
+pub loop-filled-preserved : goal.loop-filled-preserved
+loop-filled-preserved c =
+    let t = c.args.table.now in
+    let items = c.caps-filled-items in
+    let n = c.loop-filled.filled-index in
+    let at = read_at items.result.now t.caps n _ items.ensures.caps c.loop-filled-test.true in
+    below_more _ _ c.loop-filled.invariant
+    (λ filled here.
+    ap (λ (f : Filled). is_loose t f.slot) (same_Some filled _ (sym here ∙ at)) ∙ sym c.is_loose.ensures ∙ c.if-is_loose.false)
+
+pub returns : goal.returns
+returns c =
+    let t = c.args.table.now in
+    let items = c.caps-filled-items in (
+      λ is. none_loose t c.loop-filled.filled-index (omega (arith, ap length items.ensures.caps)) c.loop-filled.invariant,
+      λ fixed. refl,
+    )

@@ -1,0 +1,39 @@
+-- Fixed systems: those in which no slot of a CNode holds a capability for a CNode or for a thread, what stays in their runs, and which
+-- calls they refuse (confine's own).
+use Rattle.std.specs.Prelude.{◌↔◌, ◌≡◌, ◌≢◌, None, Some, option_map}
+use Rattle.base.specs.declared.ids.{ObjId.ObjId, SlotRef.SlotRef}
+use Rattle.machine.specs.declared.{call.Call.{Call, Call as call}, cap.Cap.Cap, object.ObjectKind.ObjectKind as kind}
+use Rattle.machine.specs.{Capabilities.kind_of_detail, Layout.{Layout, initial_cap}, Machine.{Machine, cap_of, object_of, parent_of}}
+use Rattle.machine.specs.{Objects.address_of, WellFormed.kind_of}
+use Rattle.table.specs.Rules.{kind_at}
+
+-- each capability in a slot of a CNode is neither for a CNode nor for a thread; the root slot of a thread holds one for a CNode, and
+-- doesn't count
+abbrev pub IsFixed : Layout → Type 0
+IsFixed t =
+    (slot : SlotRef) (held : Cap) → initial_cap t slot ≡ Some held → kind_at t slot.holder ≡ Some kind.CNode
+    → (kind_of_detail held.detail ≢ kind.CNode) × (kind_of_detail held.detail ≢ kind.Tcb)
+
+-- the machine has the capabilities, the derivation tree and the objects of the boot state, and each object is of its kind and where it was
+pub record StaysFixed (boot m : Machine) : Type 0 where
+  pub caps : (slot : SlotRef) → cap_of m slot ≡ cap_of boot slot
+  pub parents : (slot : SlotRef) → parent_of m slot ≡ parent_of boot slot
+  pub present : (id : ObjId) → (object_of m id ≡ None) ↔ (object_of boot id ≡ None)
+  pub kinds : (id : ObjId) → kind_of m id ≡ kind_of boot id
+  pub addresses : (id : ObjId) → option_map address_of (object_of m id) ≡ option_map address_of (object_of boot id)
+  pub next : m.next ≡ boot.next
+
+-- the call names a slot below a CNode, a CNode or a thread, by a capability for a CNode or a thread that has to be found
+abbrev pub NamesNodeOrThread : Call → Type 0
+NamesNodeOrThread (call.Copy _ _ _) = Unit {0}
+NamesNodeOrThread (call.Mint _ _ _ _) = Unit {0}
+NamesNodeOrThread (call.Move _ _) = Unit {0}
+NamesNodeOrThread (call.Delete _) = Unit {0}
+NamesNodeOrThread (call.Revoke _) = Unit {0}
+NamesNodeOrThread (call.Retype _ _ _ _ _ _) = Unit {0}
+NamesNodeOrThread (call.SetSpace _ _) = Unit {0}
+NamesNodeOrThread (call.ClearSpace _) = Unit {0}
+NamesNodeOrThread (call.Suspend _) = Unit {0}
+NamesNodeOrThread (call.Resume _) = Unit {0}
+NamesNodeOrThread (call.Bind _ _) = Unit {0}
+NamesNodeOrThread _ = ⊥

@@ -1,0 +1,9 @@
+//! Fixed systems: those of which no capability, object or pair of the derivation tree changes in a run.
+//!
+//! The runs are those from the boot state of a table. It knows no code of the kernel and no policy,
+//! only the definitions and laws of the steps.
+#![tactic(auto)]
+
+mod deciding;
+
+pub use deciding::is_fixed;
