@@ -1,1 +1,5 @@
 pub mod LooseSlots
+pub mod Finds
+pub mod Staying
+pub mod CallsStay
+pub mod RunsStay

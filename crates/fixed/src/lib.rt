@@ -5,5 +5,7 @@
 #![tactic(auto)]
 
 mod deciding;
+mod laws;
 
 pub use deciding::is_fixed;
+pub use laws::fixed_systems_stay_fixed;

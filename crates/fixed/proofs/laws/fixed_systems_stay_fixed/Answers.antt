@@ -1,0 +1,13 @@
+-- By induction over the events of the run.
+use Rattle.fixed.proofs.RunsStay.{boot_fixed, run_refuses, run_stays}
+use Rattle.fixed.proofs.laws.fixed_systems_stay_fixed.Goals as goal
+
+pub returns-clause-stays : goal.returns-clause-stays
+returns-clause-stays c = λ t boot m events outcomes lawful fixed booted ran.
+    run_stays boot events outcomes m (c.boot_states_are_well_formed.ensures.well_formed t boot lawful booted)
+    (boot_fixed t boot fixed booted) ran
+
+pub returns-clause-refuses : goal.returns-clause-refuses
+returns-clause-refuses c = λ t boot m next events outcomes event outcome lawful fixed booted ran names step.
+    run_refuses boot m next events outcomes event outcome (c.boot_states_are_well_formed.ensures.well_formed t boot lawful booted)
+    (boot_fixed t boot fixed booted) ran names step

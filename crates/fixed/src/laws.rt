@@ -1,0 +1,33 @@
+//! Laws about the runs of fixed systems.
+ghost use Rattle.std.specs.Prelude.{List};
+ghost use Rattle.machine.specs.declared.call.{Event.Event, Outcome.Outcome};
+ghost use Rattle.machine.specs.{Boot.IsBoot, Layout.Layout, Machine.Machine, Outcomes.IsRefused, Run.Run, Step.Step};
+ghost use Rattle.table.specs.Rules.{IsLawful};
+ghost use Rattle.fixed.specs.Fixed.{IsFixed, NamesNodeOrThread, StaysFixed};
+
+use table::boot_states_are_well_formed;
+
+/// A law: in every run of a fixed system its capabilities, objects and derivation tree stay as they were at boot.
+///
+/// The runs are those from the boot state of its lawful table. Each call that names a CNode or a
+/// thread is refused. What changes are the states of threads, notifications and replies, who waits
+/// where, the words of frames, and what scheduling contexts give to whom.
+pub fn fixed_systems_stay_fixed()
+    ensures stays { (t : Layout) (boot m : Machine) (events : List Event) (outcomes : List Outcome)
+        → IsLawful t
+        → IsFixed t
+        → IsBoot t boot
+        → Run boot events outcomes m
+        → StaysFixed boot m }
+    ensures refuses { (t : Layout) (boot m next : Machine) (events : List Event) (outcomes : List Outcome) (event : Event)
+        (outcome : Outcome)
+        → IsLawful t
+        → IsFixed t
+        → IsBoot t boot
+        → Run boot events outcomes m
+        → NamesNodeOrThread event.call
+        → Step m event outcome next
+        → IsRefused outcome }
+{
+    boot_states_are_well_formed();
+}
