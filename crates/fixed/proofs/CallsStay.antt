@@ -12,14 +12,14 @@ use Rattle.machine.specs.Step.{Receive.{awaiting_message, with_reply_ended}, Rep
 use Rattle.steps.proofs.{Arrival.arrives, Calls.CallDone, PollRow.PollDone}
 use Rattle.steps.proofs.{ReceiveRow.ReceiveDone, ReplyRow.ReplyDone, SendRow.{EndpointCallDone, SendDone}}
 use Rattle.steps.proofs.{SignalRow.{SignalDone, roused}, SlotRows.target_leads, WaitRow.WaitDone}
-use Rattle.fixed.specs.Fixed.{NamesNodeOrThread, StaysFixed}
+use Rattle.fixed.specs.Fixed.{NeedsNodeOrThread, StaysFixed}
 use Rattle.fixed.proofs.Finds.{IsFixedAt, finds_no_taker, finds_no_thread, leads_nowhere}
 use Rattle.fixed.proofs.Staying.{blocked_stays, called_stays, emptied_stays, fixed_stays, halted_stays, handed_stays, holder_halted_stays}
 use Rattle.fixed.proofs.Staying.{named_stays, object_stays, released_stays, share_stays, stays_along, stays_itself, unbound_stays, word_stays}
 
 -- a call that names a CNode or a thread isn't done
 pub none_done :
-    (m next : Machine) (caller : ObjId) → IsFixedAt m → (which : Call) → NamesNodeOrThread which → CallDone m caller which next → ⊥
+    (m next : Machine) (caller : ObjId) → IsFixedAt m → (which : Call) → NeedsNodeOrThread which → CallDone m caller which next → ⊥
 none_done m next caller fixed (call.Copy to from rights) names done =
     leads_nowhere m fixed caller to done.target done.finds.leads_to
 none_done m next caller fixed (call.Mint to from rights gift) names done =

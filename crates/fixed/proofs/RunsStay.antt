@@ -6,7 +6,7 @@ use Rattle.machine.specs.{Boot.IsBoot, Layout.Layout, Machine.Machine, Outcomes.
 use Rattle.machine.specs.{Step.Step.{ends, lacks}, WellFormed.IsWellFormed}
 use Rattle.steps.proofs.Calls.{EventDone, event_done, run_formed, step_done, step_formed}
 use Rattle.table.proofs.AtBoot.{boot_kind}
-use Rattle.fixed.specs.Fixed.{IsFixed, NamesNodeOrThread, StaysFixed}
+use Rattle.fixed.specs.Fixed.{IsFixed, NeedsNodeOrThread, StaysFixed}
 use Rattle.fixed.proofs.{CallsStay.{call_stays, none_done}, Finds.IsFixedAt, Staying.{fixed_stays, stays_along, stays_itself}}
 
 -- the boot state of a fixed system
@@ -51,7 +51,7 @@ refused_or_made m next event outcome formed (ends e) = by_made (made_by m event)
   by_made (Err cause) is same = inl (subst IsRefused (ap (λ p. p.0) same) tt)
 
 pub step_refused :
-    (m next : Machine) (event : Event) (outcome : Outcome) → IsWellFormed m → IsFixedAt m → NamesNodeOrThread event.call
+    (m next : Machine) (event : Event) (outcome : Outcome) → IsWellFormed m → IsFixedAt m → NeedsNodeOrThread event.call
     → Step m event outcome next → IsRefused outcome
 step_refused m next event outcome formed fixed names step = by_case (refused_or_made m next event outcome formed step) where
   by_case : IsRefused outcome ⊎ EventDone m event next → IsRefused outcome
@@ -61,7 +61,7 @@ step_refused m next event outcome formed fixed names step = by_case (refused_or_
 -- from the boot state on
 pub run_refuses :
     (boot m next : Machine) (events : List Event) (outcomes : List Outcome) (event : Event) (outcome : Outcome) → IsWellFormed boot
-    → IsFixedAt boot → Run boot events outcomes m → NamesNodeOrThread event.call → Step m event outcome next → IsRefused outcome
+    → IsFixedAt boot → Run boot events outcomes m → NeedsNodeOrThread event.call → Step m event outcome next → IsRefused outcome
 run_refuses boot m next events outcomes event outcome formed fixed ran =
     step_refused m next event outcome (run_formed boot events outcomes m formed ran)
     (fixed_stays boot m fixed (run_stays boot events outcomes m formed fixed ran))

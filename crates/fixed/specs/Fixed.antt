@@ -14,7 +14,7 @@ IsFixed t =
     (slot : SlotRef) (held : Cap) → initial_cap t slot ≡ Some held → kind_at t slot.holder ≡ Some kind.CNode
     → (kind_of_detail held.detail ≢ kind.CNode) × (kind_of_detail held.detail ≢ kind.Tcb)
 
--- the machine has the capabilities, the derivation tree and the objects of the boot state, and each object is of its kind and where it was
+-- the machine has the capabilities, the derivation tree and the objects of the boot state, each of its kind and at its address
 pub record StaysFixed (boot m : Machine) : Type 0 where
   pub caps : (slot : SlotRef) → cap_of m slot ≡ cap_of boot slot
   pub parents : (slot : SlotRef) → parent_of m slot ≡ parent_of boot slot
@@ -23,17 +23,17 @@ pub record StaysFixed (boot m : Machine) : Type 0 where
   pub addresses : (id : ObjId) → option_map address_of (object_of m id) ≡ option_map address_of (object_of boot id)
   pub next : m.next ≡ boot.next
 
--- the call names a slot below a CNode, a CNode or a thread, by a capability for a CNode or a thread that has to be found
-abbrev pub NamesNodeOrThread : Call → Type 0
-NamesNodeOrThread (call.Copy _ _ _) = Unit {0}
-NamesNodeOrThread (call.Mint _ _ _ _) = Unit {0}
-NamesNodeOrThread (call.Move _ _) = Unit {0}
-NamesNodeOrThread (call.Delete _) = Unit {0}
-NamesNodeOrThread (call.Revoke _) = Unit {0}
-NamesNodeOrThread (call.Retype _ _ _ _ _ _) = Unit {0}
-NamesNodeOrThread (call.SetSpace _ _) = Unit {0}
-NamesNodeOrThread (call.ClearSpace _) = Unit {0}
-NamesNodeOrThread (call.Suspend _) = Unit {0}
-NamesNodeOrThread (call.Resume _) = Unit {0}
-NamesNodeOrThread (call.Bind _ _) = Unit {0}
-NamesNodeOrThread _ = ⊥
+-- the call needs a capability for a CNode or for a thread: it names a slot below a CNode, a CNode to fill or a thread
+abbrev pub NeedsNodeOrThread : Call → Type 0
+NeedsNodeOrThread (call.Copy _ _ _) = Unit {0}
+NeedsNodeOrThread (call.Mint _ _ _ _) = Unit {0}
+NeedsNodeOrThread (call.Move _ _) = Unit {0}
+NeedsNodeOrThread (call.Delete _) = Unit {0}
+NeedsNodeOrThread (call.Revoke _) = Unit {0}
+NeedsNodeOrThread (call.Retype _ _ _ _ _ _) = Unit {0}
+NeedsNodeOrThread (call.SetSpace _ _) = Unit {0}
+NeedsNodeOrThread (call.ClearSpace _) = Unit {0}
+NeedsNodeOrThread (call.Suspend _) = Unit {0}
+NeedsNodeOrThread (call.Resume _) = Unit {0}
+NeedsNodeOrThread (call.Bind _ _) = Unit {0}
+NeedsNodeOrThread _ = ⊥

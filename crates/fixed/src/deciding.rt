@@ -9,7 +9,8 @@ use table::Table;
 
 /// Returns whether no slot of a CNode holds a capability for a CNode or for a thread.
 ///
-/// Then no capability, object or pair of the derivation tree changes in any run of the table.
+/// Then no run of the table changes a capability or the derivation tree, or makes or removes an object.
+/// The root slot of a thread holds a capability for a CNode, and doesn't count.
 pub fn is_fixed(table: &Table) -> bool
     ensures { IsTrue result ↔ IsFixed table.now }
 {

@@ -3,15 +3,16 @@ ghost use Rattle.std.specs.Prelude.{List};
 ghost use Rattle.machine.specs.declared.call.{Event.Event, Outcome.Outcome};
 ghost use Rattle.machine.specs.{Boot.IsBoot, Layout.Layout, Machine.Machine, Outcomes.IsRefused, Run.Run, Step.Step};
 ghost use Rattle.table.specs.Rules.{IsLawful};
-ghost use Rattle.fixed.specs.Fixed.{IsFixed, NamesNodeOrThread, StaysFixed};
+ghost use Rattle.fixed.specs.Fixed.{IsFixed, NeedsNodeOrThread, StaysFixed};
 
 use table::boot_states_are_well_formed;
 
-/// A law: in every run of a fixed system its capabilities, objects and derivation tree stay as they were at boot.
+/// A law: in every run of a fixed system its capabilities and derivation tree stay as they were at boot.
 ///
-/// The runs are those from the boot state of its lawful table. Each call that names a CNode or a
-/// thread is refused. What changes are the states of threads, notifications and replies, who waits
-/// where, the words of frames, and what scheduling contexts give to whom.
+/// No object is made or removed, and each keeps its kind and its address. A call that needs a
+/// capability for a CNode or for a thread is refused. The runs are those from the boot state of the
+/// lawful table. What changes in them: the states of threads, notifications, replies and scheduling
+/// contexts, who waits where, and the words of frames.
 pub fn fixed_systems_stay_fixed()
     ensures stays { (t : Layout) (boot m : Machine) (events : List Event) (outcomes : List Outcome)
         → IsLawful t
@@ -25,7 +26,7 @@ pub fn fixed_systems_stay_fixed()
         → IsFixed t
         → IsBoot t boot
         → Run boot events outcomes m
-        → NamesNodeOrThread event.call
+        → NeedsNodeOrThread event.call
         → Step m event outcome next
         → IsRefused outcome }
 {

@@ -1,4 +1,4 @@
-//! Fixed systems: those of which no capability, object or pair of the derivation tree changes in a run.
+//! Fixed systems: in their runs no capability changes, and no object is made or removed.
 //!
 //! The runs are those from the boot state of a table. It knows no code of the kernel and no policy,
 //! only the definitions and laws of the steps.
