@@ -2,42 +2,46 @@
 use Rattle.std.{specs.Prelude.{Err, None, Ok, Option, Result, Some, if◌then◌else◌, is_ok}, proofs.Common.{ℕ, ◌≡◌, Bool, List}}
 use Rattle.std.proofs.Common.{false, inl, inr, refl, subst, sym, true}
 use Rattle.base.specs.declared.{ids.ObjId.ObjId, refusal.Cause.Cause}
-use Rattle.machine.specs.declared.{call.Call.{Call, Call as call}, object.Object.Object as o, slot_address.{Ends.Ends, SlotAddress.SlotAddress}}
+use Rattle.machine.specs.declared.{call.Call.{Call, Call as call}, object.Object.Object as o, slot_address.Ends.Ends}
+use Rattle.machine.specs.declared.slot_address.SlotAddress.{SlotAddress}
 use Rattle.machine.specs.declared.thread.{Lent.Lent, Receiving.Receiving, RunState.RunState as state, Sending.Sending}
 use Rattle.machine.specs.declared.object.ReplyState.TheVariants as reply
-use Rattle.machine.specs.{Machine.{Machine, object_of}, Releasing.{given, ready, with_blocked, with_called, with_halted}}
+use Rattle.machine.specs.declared.object.Notification.{Notification}
+use Rattle.machine.specs.{Machine.{Machine, object_of, with_object}, Releasing.{given, ready, with_blocked, with_called, with_halted}}
 use Rattle.machine.specs.{Releasing.with_ready, Step.Bind.{thread_on, with_handed}}
 use Rattle.machine.specs.Step.{Bind.without_thread, Deliver.{answer_through, arrival_of, delivered, linked, message_of, sent, with_arrival}}
-use Rattle.machine.specs.Step.{Receive.{awaiting_message, with_reply_ended}, Reply.{gives_back, with_returned}, Send.{called_through, loan_made, with_lent}}
+use Rattle.machine.specs.Step.{Receive.{awaiting_message, with_reply_ended}, Reply.{gives_back, with_returned}, Send.called_through}
+use Rattle.machine.specs.Step.Send.{loan_made, with_lent}
 use Rattle.steps.proofs.{Arrival.arrives, Calls.CallDone, PollRow.PollDone}
 use Rattle.steps.proofs.{ReceiveRow.ReceiveDone, ReplyRow.ReplyDone, SendRow.{EndpointCallDone, SendDone}}
 use Rattle.steps.proofs.{SignalRow.{SignalDone, roused}, SlotRows.target_leads, WaitRow.WaitDone}
 use Rattle.fixed.specs.Fixed.{NeedsNodeOrThread, StaysFixed}
 use Rattle.fixed.proofs.Finds.{IsFixedAt, finds_no_taker, finds_no_thread, leads_nowhere}
 use Rattle.fixed.proofs.Staying.{blocked_stays, called_stays, emptied_stays, fixed_stays, halted_stays, handed_stays, holder_halted_stays}
-use Rattle.fixed.proofs.Staying.{named_stays, object_stays, released_stays, share_stays, stays_along, stays_itself, unbound_stays, word_stays}
+use Rattle.fixed.proofs.Staying.{named_stays, object_stays, released_stays, share_stays, stays_along, stays_itself, unbound_stays}
+use Rattle.fixed.proofs.Staying.{word_stays}
 
--- a call that names a CNode or a thread isn't done
+-- a call that needs a capability for a CNode or for a thread isn't done
 pub none_done :
     (m next : Machine) (caller : ObjId) → IsFixedAt m → (which : Call) → NeedsNodeOrThread which → CallDone m caller which next → ⊥
-none_done m next caller fixed (call.Copy to from rights) names done =
+none_done m next caller fixed (call.Copy to from rights) needs done =
     leads_nowhere m fixed caller to done.target done.finds.leads_to
-none_done m next caller fixed (call.Mint to from rights gift) names done =
+none_done m next caller fixed (call.Mint to from rights gift) needs done =
     leads_nowhere m fixed caller to done.target done.finds.leads_to
-none_done m next caller fixed (call.Move to from) names done = leads_nowhere m fixed caller to done.target done.finds.leads_to
-none_done m next caller fixed (call.Delete slot) names done =
+none_done m next caller fixed (call.Move to from) needs done = leads_nowhere m fixed caller to done.target done.finds.leads_to
+none_done m next caller fixed (call.Delete slot) needs done =
     leads_nowhere m fixed caller slot done.slot (target_leads m caller slot done.slot done.found)
-none_done m next caller fixed (call.Revoke slot) names done =
+none_done m next caller fixed (call.Revoke slot) needs done =
     leads_nowhere m fixed caller slot done.slot (target_leads m caller slot done.slot done.found)
-none_done m next caller fixed (call.Retype untyped of bits to offset count) names done =
+none_done m next caller fixed (call.Retype untyped of bits to offset count) needs done =
     finds_no_taker m fixed caller to done.node done.takes
-none_done m next caller fixed (call.SetSpace thread space) names done = finds_no_thread m fixed caller thread done.thread done.finds
-none_done m next caller fixed (call.ClearSpace thread) names done = finds_no_thread m fixed caller thread done.thread done.finds
-none_done m next caller fixed (call.Suspend thread) names done = finds_no_thread m fixed caller thread done.thread done.finds
-none_done m next caller fixed (call.Resume thread) names done = finds_no_thread m fixed caller thread done.thread done.finds
-none_done m next caller fixed (call.Bind context thread) names done =
+none_done m next caller fixed (call.SetSpace thread space) needs done = finds_no_thread m fixed caller thread done.thread done.finds
+none_done m next caller fixed (call.ClearSpace thread) needs done = finds_no_thread m fixed caller thread done.thread done.finds
+none_done m next caller fixed (call.Suspend thread) needs done = finds_no_thread m fixed caller thread done.thread done.finds
+none_done m next caller fixed (call.Resume thread) needs done = finds_no_thread m fixed caller thread done.thread done.finds
+none_done m next caller fixed (call.Bind context thread) needs done =
     finds_no_thread m fixed caller thread done.thread done.finds_thread
-none_done m next caller fixed _ names done = names
+none_done m next caller fixed _ needs done = needs
 
 -- no capability arrives with a message
 none_arrives :
@@ -116,24 +120,29 @@ module _ (m next : Machine) (caller : ObjId) where
   abbrev as_next : (after : Machine) → next ≡ after → StaysFixed m after → StaysFixed m next
   as_next after is stays = subst (λ (n : Machine). StaysFixed m n) (sym is) stays
 
+  notification_stays :
+      (id : ObjId) (old new : Notification) → object_of m id ≡ Some (o.Notification old) → new.address ≡ old.address
+      → StaysFixed m (with_object m id (o.Notification new))
+  notification_stays id old new there address =
+      object_stays m id (o.Notification old) (o.Notification new) there (λ still. still) refl address
+
   signal_stays : (address : ℕ) → SignalDone m caller address next → StaysFixed m next
   signal_stays address done =
       let id = done.open_to.id in
       elim done.changes as (λ _. StaysFixed m next) [
         | inl wakes ↦ as_next _ wakes.changes (released_stays m wakes.first (roused done.open_to.end.badge) (λ tcb. refl))
-        | inr joins ↦ as_next _ joins (object_stays m id (o.Notification done.open_to.notification) _ done.open_to.there refl refl)
+        | inr joins ↦ as_next _ joins (notification_stays id done.open_to.notification _ done.open_to.there refl)
       ]
 
   poll_stays : (address : ℕ) → PollDone m caller address next → StaysFixed m next
   poll_stays address done =
-      as_next _ done.changes
-      (object_stays m done.open_to.id (o.Notification done.open_to.notification) _ done.open_to.there refl refl)
+      as_next _ done.changes (notification_stays done.open_to.id done.open_to.notification _ done.open_to.there refl)
 
   wait_stays : (address : ℕ) → WaitDone m caller address next → StaysFixed m next
   wait_stays address done =
       let id = done.open_to.id in
       elim done.changes as (λ _. StaysFixed m next) [
-        | inl taken ↦ as_next _ taken (object_stays m id (o.Notification done.open_to.notification) _ done.open_to.there refl refl)
+        | inl taken ↦ as_next _ taken (notification_stays id done.open_to.notification _ done.open_to.there refl)
         | inr blocks ↦ as_next _ blocks (blocked_stays m caller id (state.Waiting id))
       ]
 

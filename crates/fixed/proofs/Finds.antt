@@ -6,7 +6,8 @@ use Rattle.base.specs.declared.{ids.{ObjId.ObjId, SlotRef.SlotRef}, refusal.{Cau
 use Rattle.base.specs.declared.refusal.LookupFailure.TheVariants.{InvalidRoot}
 use Rattle.machine.specs.declared.{cap.{Cap.Cap, Detail.{Detail, Detail as d}}, object.Object.{Object, Object as o}}
 use Rattle.machine.specs.{declared.{object.ObjectKind.ObjectKind as kind, slot_address.SlotAddress.SlotAddress, thread.Tcb.Tcb}, Bits.bits}
-use Rattle.machine.specs.{Capabilities.kind_of_detail, Lookup.{Level, counted, hop, level_at, level_of_cap, lookup_of, onward, root_of, walk}}
+use Rattle.machine.specs.{Capabilities.kind_of_detail, Lookup.{Level, counted, hop, level_at, level_of_cap, lookup_of, onward}}
+use Rattle.machine.specs.Lookup.{root_of, walk}
 use Rattle.machine.specs.{Machine.{Machine, cap_of, object_of}, Objects.kind_of_object, WellFormed.kind_of}
 use Rattle.steps.proofs.{Conditions.same_ok, Finding.FindsObject, LedSlots.node_at, RetypeRow.FindsTaker, SlotRows.LeadsTo}
 
@@ -90,7 +91,9 @@ lookup_node m caller address slot left e = by_caller (object_of m caller) refl w
       let parts : (last, length rest) ≡ (slot, left) = same_ok e in
       subst (IsOfNode m) (ap (λ p. p.0) parts) (walk_node 65 m level (bits 64 address) (last, rest) node h)
 
-  by_root : (tcb : Tcb) → object_of m caller ≡ Some (o.Tcb tcb) → (level : Option Level) → level_at m (root_of caller) ≡ level → IsOfNode m slot
+  by_root :
+      (tcb : Tcb) → object_of m caller ≡ Some (o.Tcb tcb) → (level : Option Level) → level_at m (root_of caller) ≡ level
+      → IsOfNode m slot
   by_root tcb is None at = let failed : lookup_of m caller address ≡ Err (cause.FailedLookup InvalidRoot) = rw (is, at) refl in cc
   by_root tcb is (Some level) at =
       let ends : lookup_of m caller address ≡ counted (walk 65 m level (bits 64 address)) = rw (is, at) refl in
@@ -112,8 +115,8 @@ module _ (m : Machine) (fixed : IsFixedAt m) (caller : ObjId) where
       (found_apart address f.slot f.finds.left f.held f.finds.ends f.finds.holds).1 (ap kind_of_detail f.detail)
 
   shows_no_node :
-      (address : ℕ) (slot : SlotRef) (left : ℕ) (level : Level) → lookup_of m caller address ≡ Ok (slot, left) → level_at m slot ≡ Some level
-      → ⊥
+      (address : ℕ) (slot : SlotRef) (left : ℕ) (level : Level) → lookup_of m caller address ≡ Ok (slot, left)
+      → level_at m slot ≡ Some level → ⊥
   shows_no_node address slot left level ends shows =
       let shown = shown_cap m slot level shows in (found_apart address slot left shown.0 ends shown.1).0 shown.2
 

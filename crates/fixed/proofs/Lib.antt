@@ -3,3 +3,4 @@ pub mod Finds
 pub mod Staying
 pub mod CallsStay
 pub mod RunsStay
+pub mod SameFinds

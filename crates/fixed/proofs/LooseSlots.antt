@@ -1,5 +1,6 @@
 -- A table is of a fixed system exactly if none of its filled slots is loose.
-use Rattle.std.proofs.{Common.{ℕ, ◌<◌, ◌∙◌, ◌≡◌, ◌≢◌, ◌≤◌, Option, Some, ap, arith, false, length, refl, slice_get, sym, true}, lemmas.Option.slice_get_within}
+use Rattle.std.proofs.Common.{ℕ, ◌<◌, ◌∙◌, ◌≡◌, ◌≢◌, ◌≤◌, Option, Some, ap, arith, false, length, refl, slice_get, sym, true}
+use Rattle.std.proofs.lemmas.Option.{slice_get_within}
 use Rattle.base.specs.declared.ids.SlotRef.{SlotRef}
 use Rattle.machine.specs.declared.{cap.{Cap.Cap, Detail.{Detail, Detail as d}}, layout.Filled.Filled}
 use Rattle.machine.specs.declared.object.ObjectKind.{ObjectKind, ObjectKind as kind}

@@ -1,6 +1,7 @@
--- Every run of a fixed system leaves it as it is, by induction over its events, and each call that names a CNode or a thread is refused.
+-- Every run of a fixed system leaves it as it is, by induction over its events, and each call is refused that needs a capability for a
+-- CNode or for a thread.
 use Rattle.std.proofs.Common.{[], ◌∙◌, ◌∷◌, ◌≡◌, ◌⊎◌, Err, List, Ok, Result, ap, inl, inr, refl, subst, sym}
-use Rattle.base.specs.declared.{refusal.Cause.Cause}
+use Rattle.base.specs.declared.refusal.Cause.{Cause}
 use Rattle.machine.specs.declared.{call.{Event.Event, Made.Made, Outcome.Outcome}}
 use Rattle.machine.specs.{Boot.IsBoot, Layout.Layout, Machine.Machine, Outcomes.IsRefused, Run.Run, Step.{Step, made_by, settled, step_of}}
 use Rattle.machine.specs.{Step.Step.{ends, lacks}, WellFormed.IsWellFormed}
@@ -53,10 +54,10 @@ refused_or_made m next event outcome formed (ends e) = by_made (made_by m event)
 pub step_refused :
     (m next : Machine) (event : Event) (outcome : Outcome) → IsWellFormed m → IsFixedAt m → NeedsNodeOrThread event.call
     → Step m event outcome next → IsRefused outcome
-step_refused m next event outcome formed fixed names step = by_case (refused_or_made m next event outcome formed step) where
+step_refused m next event outcome formed fixed needs step = by_case (refused_or_made m next event outcome formed step) where
   by_case : IsRefused outcome ⊎ EventDone m event next → IsRefused outcome
   by_case (inl refused) = refused
-  by_case (inr done) = absurd (none_done m next event.thread fixed event.call names done.done)
+  by_case (inr done) = absurd (none_done m next event.thread fixed event.call needs done.done)
 
 -- from the boot state on
 pub run_refuses :

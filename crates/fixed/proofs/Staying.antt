@@ -1,5 +1,5 @@
 -- Changes that leave capabilities, the derivation tree and the next number as they are, and each object there, of its kind and where it is.
-use Rattle.std.{specs.Prelude.{None, Option, Some, option_map}, proofs.Common.{ℕ, ◌∙◌, ◌≡◌, List, ap, refl, sym}}
+use Rattle.std.{specs.Prelude.{None, Option, Some, option_map}, proofs.Common.{ℕ, ◌∙◌, ◌≡◌, List, ap, refl, subst, sym}}
 use Rattle.std.proofs.lemmas.Option.{none-some, same_Some}
 use Rattle.base.specs.declared.ids.{ObjId.ObjId, SlotRef.SlotRef}
 use Rattle.machine.specs.declared.object.{Context.Context, Object.{Object, Object as o}, Reply.Reply}
@@ -13,8 +13,8 @@ use Rattle.machine.specs.Releasing.{with_idle_context, with_named, with_released
 use Rattle.machine.specs.Step.{Bind.{context_under, with_bound, with_handed}, Configure.with_share, Fetch.emptied}
 use Rattle.machine.proofs.LookUps.{cap_of-with_object, number_of-with_object, object_of-with_object, parent_of-with_object}
 use Rattle.machine.specs.declared.object.ReplyState.TheVariants as reply
-use Rattle.steps.proofs.Outlines.{shown_kept}
-use Rattle.fixed.{specs.Fixed.StaysFixed, proofs.Finds.IsFixedAt}
+use Rattle.steps.proofs.{Outlines.shown_kept, SetObject.other_after}
+use Rattle.fixed.{specs.Fixed.{IsStill, StaysFixed}, proofs.Finds.IsFixedAt}
 
 -- nothing is there where an object of the same kind is not
 none_alike :
@@ -25,9 +25,10 @@ none_alike (Some object) other e none = absurd (none-some (kind_of_object object
 pub stays_by :
     (m next : Machine) → ((slot : SlotRef) → cap_of next slot ≡ cap_of m slot) → ((slot : SlotRef) → parent_of next slot ≡ parent_of m slot)
     → ((id : ObjId) → kind_of next id ≡ kind_of m id)
-    → ((id : ObjId) → option_map address_of (object_of next id) ≡ option_map address_of (object_of m id)) → next.next ≡ m.next
-    → StaysFixed m next
-stays_by m next caps parents kinds addresses number = record {
+    → ((id : ObjId) → option_map address_of (object_of next id) ≡ option_map address_of (object_of m id))
+    → ((id : ObjId) (object : Object) → object_of m id ≡ Some object → IsStill object → object_of next id ≡ Some object)
+    → next.next ≡ m.next → StaysFixed m next
+stays_by m next caps parents kinds addresses contents number = record {
   caps = caps;
   parents = parents;
   present = λ id. (
@@ -36,40 +37,46 @@ stays_by m next caps parents kinds addresses number = record {
   );
   kinds = kinds;
   addresses = addresses;
+  contents = contents;
   next = number;
 }
 
 pub stays_itself : (m : Machine) → StaysFixed m m
-stays_itself m = stays_by m m (λ slot. refl) (λ slot. refl) (λ id. refl) (λ id. refl) refl
+stays_itself m = stays_by m m (λ slot. refl) (λ slot. refl) (λ id. refl) (λ id. refl) (λ id object is still. is) refl
 
 pub stays_along : (m mid next : Machine) → StaysFixed m mid → StaysFixed mid next → StaysFixed m next
 stays_along m mid next one two =
     stays_by m next (λ slot. two.caps slot ∙ one.caps slot) (λ slot. two.parents slot ∙ one.parents slot)
-    (λ id. two.kinds id ∙ one.kinds id) (λ id. two.addresses id ∙ one.addresses id) (two.next ∙ one.next)
+    (λ id. two.kinds id ∙ one.kinds id) (λ id. two.addresses id ∙ one.addresses id)
+    (λ id object is still. two.contents id object (one.contents id object is still) still) (two.next ∙ one.next)
 
 -- a machine that stays so is of a fixed system if the first is
 pub fixed_stays : (m next : Machine) → IsFixedAt m → StaysFixed m next → IsFixedAt next
 fixed_stays m next fixed stays =
     record { none = λ slot held filled node. fixed.none slot held (sym (stays.caps slot) ∙ filled) (sym (stays.kinds slot.holder) ∙ node) }
 
--- an object gets another content, of its kind and where it is
+-- a thread, a notification, a reply or a context gets another content, of its kind and where it is
 pub object_stays :
-    (m : Machine) (id : ObjId) (old new : Object) → object_of m id ≡ Some old → kind_of_object new ≡ kind_of_object old
+    (m : Machine) (id : ObjId) (old new : Object) → object_of m id ≡ Some old → ¬ (IsStill old) → kind_of_object new ≡ kind_of_object old
     → address_of new ≡ address_of old → StaysFixed m (with_object m id new)
-object_stays m id old new was kind address =
+object_stays m id old new was moves kind address =
     stays_by m (with_object m id new) (cap_of-with_object m id new) (parent_of-with_object m id new)
     (λ q. ap (option_map kind_of_object) (object_of-with_object m id new q) ∙ shown_kept kind_of_object (object_of m) id old new was kind q)
     (λ q. ap (option_map address_of) (object_of-with_object m id new q) ∙ shown_kept address_of (object_of m) id old new was address q)
+    (λ q object is still.
+    other_after m (with_object m id new) id new (object_of-with_object m id new) old was q object
+    (λ same. moves (subst IsStill same still)) is)
     (number_of-with_object m id new)
 
 queue_stays : (m : Machine) (id : ObjId) (threads : List ObjId) → StaysFixed m (with_queue m id threads)
 unfolding with_queue object_of cap_of parent_of
 queue_stays m id threads =
-    stays_by m (with_queue m id threads) (λ slot. refl) (λ slot. refl) (λ q. refl) (λ q. refl) refl
+    stays_by m (with_queue m id threads) (λ slot. refl) (λ slot. refl) (λ q. refl) (λ q. refl) (λ q object is still. is) refl
 
 words_stay : (m : Machine) (id : ObjId) (words : List ℕ) → StaysFixed m (with_words m id words)
 unfolding with_words object_of cap_of parent_of
-words_stay m id words = stays_by m (with_words m id words) (λ slot. refl) (λ slot. refl) (λ q. refl) (λ q. refl) refl
+words_stay m id words =
+    stays_by m (with_words m id words) (λ slot. refl) (λ slot. refl) (λ q. refl) (λ q. refl) (λ q object is still. is) refl
 
 pub word_stays : (m : Machine) (id : ObjId) (index word : ℕ) → StaysFixed m (with_word m id index word)
 unfolding with_word
@@ -110,7 +117,8 @@ unfolding with_tcb
 tcb_stays m id thread at = by_content (object_of m id) refl where
   by_content : (object : Option Object) → object_of m id ≡ object → StaysFixed m (with_tcb m id thread)
   by_content (Some (o.Tcb old)) e =
-      rw e (object_stays m id (o.Tcb old) (o.Tcb thread) e refl (same_address m id (o.Tcb old) thread.address at e))
+      rw e
+      (object_stays m id (o.Tcb old) (o.Tcb thread) e (λ still. still) refl (same_address m id (o.Tcb old) thread.address at e))
   by_content None e = rw e (stays_itself m)
   by_content (Some _) e = rw e (stays_itself m)
 
@@ -119,16 +127,20 @@ unfolding with_reply
 reply_stays m id holding at = by_content (object_of m id) refl where
   by_content : (object : Option Object) → object_of m id ≡ object → StaysFixed m (with_reply m id holding)
   by_content (Some (o.Reply old)) e =
-      rw e (object_stays m id (o.Reply old) (o.Reply holding) e refl (same_address m id (o.Reply old) holding.address at e))
+      rw e
+      (object_stays m id (o.Reply old) (o.Reply holding) e (λ still. still) refl (same_address m id (o.Reply old) holding.address at e))
   by_content None e = rw e (stays_itself m)
   by_content (Some _) e = rw e (stays_itself m)
 
-context_stays : (m : Machine) (id : ObjId) (context : Context) → address_at m id ≡ Some context.address → StaysFixed m (with_context m id context)
+context_stays :
+    (m : Machine) (id : ObjId) (context : Context) → address_at m id ≡ Some context.address → StaysFixed m (with_context m id context)
 unfolding with_context
 context_stays m id context at = by_content (object_of m id) refl where
   by_content : (object : Option Object) → object_of m id ≡ object → StaysFixed m (with_context m id context)
   by_content (Some (o.Context old)) e =
-      rw e (object_stays m id (o.Context old) (o.Context context) e refl (same_address m id (o.Context old) context.address at e))
+      rw e
+      (object_stays m id (o.Context old) (o.Context context) e (λ still. still) refl
+      (same_address m id (o.Context old) context.address at e))
   by_content None e = rw e (stays_itself m)
   by_content (Some _) e = rw e (stays_itself m)
 
@@ -244,7 +256,8 @@ pub unbound_stays : (m : Machine) (thread : ObjId) → StaysFixed m (with_unboun
 unfolding with_unbound
 unbound_stays m thread = by_content (object_of m thread) refl where
   by_link :
-      (tcb : Tcb) (link : Option ObjId) → object_of m thread ≡ Some (o.Tcb (record tcb { context = link })) → StaysFixed m (with_unbound m thread)
+      (tcb : Tcb) (link : Option ObjId) → object_of m thread ≡ Some (o.Tcb (record tcb { context = link }))
+      → StaysFixed m (with_unbound m thread)
   by_link tcb None e = rw e (stays_itself m)
   by_link tcb (Some id) e =
       let new : Tcb = record tcb { context = None } in
@@ -281,4 +294,6 @@ handed_stays m from to = by_context (context_under (object_of m from)) refl wher
   by_context : (context : Option ObjId) → context_under (object_of m from) ≡ context → StaysFixed m (with_handed m from to)
   by_context None e = rw e (stays_itself m)
   by_context (Some id) e =
-      rw e (stays_along m (with_unbound m from) (with_bound (with_unbound m from) id to) (unbound_stays m from) (bound_stays (with_unbound m from) id to))
+      rw e
+      (stays_along m (with_unbound m from) (with_bound (with_unbound m from) id to) (unbound_stays m from)
+      (bound_stays (with_unbound m from) id to))

@@ -3,6 +3,7 @@
 use Rattle.std.specs.Prelude.{◌↔◌, ◌≡◌, ◌≢◌, None, Some, option_map}
 use Rattle.base.specs.declared.ids.{ObjId.ObjId, SlotRef.SlotRef}
 use Rattle.machine.specs.declared.{call.Call.{Call, Call as call}, cap.Cap.Cap, object.ObjectKind.ObjectKind as kind}
+use Rattle.machine.specs.declared.object.Object.{Object, Object as o}
 use Rattle.machine.specs.{Capabilities.kind_of_detail, Layout.{Layout, initial_cap}, Machine.{Machine, cap_of, object_of, parent_of}}
 use Rattle.machine.specs.{Objects.address_of, WellFormed.kind_of}
 use Rattle.table.specs.Rules.{kind_at}
@@ -14,13 +15,24 @@ IsFixed t =
     (slot : SlotRef) (held : Cap) → initial_cap t slot ≡ Some held → kind_at t slot.holder ≡ Some kind.CNode
     → (kind_of_detail held.detail ≢ kind.CNode) × (kind_of_detail held.detail ≢ kind.Tcb)
 
--- the machine has the capabilities, the derivation tree and the objects of the boot state, each of its kind and at its address
+-- an object that isn't a thread, a notification, a reply or a scheduling context: no call changes its content that needs no capability
+-- for a CNode or for a thread
+abbrev pub IsStill : Object → Type 0
+IsStill (o.Tcb _) = ⊥
+IsStill (o.Notification _) = ⊥
+IsStill (o.Reply _) = ⊥
+IsStill (o.Context _) = ⊥
+IsStill _ = Unit {0}
+
+-- the machine has the capabilities, the derivation tree and the objects of the boot state, each of its kind and at its address, and all
+-- but threads, notifications, replies and scheduling contexts just as they were
 pub record StaysFixed (boot m : Machine) : Type 0 where
   pub caps : (slot : SlotRef) → cap_of m slot ≡ cap_of boot slot
   pub parents : (slot : SlotRef) → parent_of m slot ≡ parent_of boot slot
   pub present : (id : ObjId) → (object_of m id ≡ None) ↔ (object_of boot id ≡ None)
   pub kinds : (id : ObjId) → kind_of m id ≡ kind_of boot id
   pub addresses : (id : ObjId) → option_map address_of (object_of m id) ≡ option_map address_of (object_of boot id)
+  pub contents : (id : ObjId) (object : Object) → object_of boot id ≡ Some object → IsStill object → object_of m id ≡ Some object
   pub next : m.next ≡ boot.next
 
 -- the call needs a capability for a CNode or for a thread: it names a slot below a CNode, a CNode to fill or a thread

@@ -1,5 +1,5 @@
 -- By induction over the events of the run.
-use Rattle.fixed.proofs.RunsStay.{boot_fixed, run_refuses, run_stays}
+use Rattle.fixed.proofs.{RunsStay.{boot_fixed, run_refuses, run_stays}, SameFinds.find_alike}
 use Rattle.fixed.proofs.laws.fixed_systems_stay_fixed.Goals as goal
 
 pub returns-clause-stays : goal.returns-clause-stays
@@ -8,6 +8,13 @@ returns-clause-stays c = λ t boot m events outcomes lawful fixed booted ran.
     (boot_fixed t boot fixed booted) ran
 
 pub returns-clause-refuses : goal.returns-clause-refuses
-returns-clause-refuses c = λ t boot m next events outcomes event outcome lawful fixed booted ran names step.
+returns-clause-refuses c = λ t boot m next events outcomes event outcome lawful fixed booted ran needs step.
     run_refuses boot m next events outcomes event outcome (c.boot_states_are_well_formed.ensures.well_formed t boot lawful booted)
-    (boot_fixed t boot fixed booted) ran names step
+    (boot_fixed t boot fixed booted) ran needs step
+
+pub returns-clause-finds : goal.returns-clause-finds
+returns-clause-finds c = λ t boot m events outcomes thread address lawful fixed booted ran.
+    find_alike boot m
+    (run_stays boot events outcomes m (c.boot_states_are_well_formed.ensures.well_formed t boot lawful booted)
+    (boot_fixed t boot fixed booted) ran)
+    thread address
