@@ -3,8 +3,8 @@
 //! `serving` stands on it. It knows no claim, no run, no device and no command.
 #![tactic(auto)]
 
-mod reach;
+mod label_notes;
 mod table_notes;
 
-pub use reach::explain_reach;
+pub use label_notes::explain_reach;
 pub use table_notes::explain_notes;
