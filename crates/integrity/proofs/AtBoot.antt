@@ -1,4 +1,5 @@
 -- The boot state of a table belongs to it: in particular the label of untyped memory is found by any address in it.
+use Rattle.machine.specs.Machine.{object_of}
 use Rattle.std.proofs.Common.{ℕ, ◌&&◌, ◌<◌, ◌∙◌, ◌≡◌, ◌≢◌, ◌≤◌, Bool, None, Option, Some, ap, arith, false, find, inl, inr, nat_le, nat_lt}
 use Rattle.std.proofs.{Common.{option_map, refl, slice_get, subst, sym, true}, lemmas.Bool.{and_from, and_parts, cases_order, le-leb}}
 use Rattle.std.proofs.lemmas.{Bool.{leb-true, Decides.Decides-ltb}, Option.{none-some, same_Some}}
@@ -14,7 +15,9 @@ use Rattle.table.proofs.{AtBoot.{initial_lawful, label_declared, rest_lends}, Lo
 use Rattle.policy.specs.Domain.{EdgeTest}
 use Rattle.integrity.specs.{Acting.MayAct.starts, Awake.{CallersAreServed, OthersSleep, SleepsOrActs}, OfTable.IsOfTable}
 use Rattle.integrity.proofs.{Asleep.acts_of, InMemory.takes_memory, Shrinking.{same_reply, same_tcb}}
-use Rattle.integrity.{specs.Keeping.{KeepersHoldNodes, MayKeep.holds, WaitersMayIdle}, proofs.ObjectLabels.kind_there}
+use Rattle.integrity.{specs.Keeping.{BorrowersMayIdle, IsIdleBorrower, KeepersHoldNodes, MayKeep.holds, WaitersMayIdle}, proofs.ObjectLabels.kind_there}
+use Rattle.machine.specs.{Step.Reply.loan_in}
+use Rattle.integrity.proofs.Borrowers.{lent_back}
 use mathlib.Core.Bool.{false≢true}
 
 -- untyped memory that has an address
@@ -228,3 +231,20 @@ boot_idlers t allowed m lawful boot id thread receiving at waits none label labe
     let blank : IsBlank (o.Tcb is.0) =
     subst IsBlank is.1 (initial_lawful t lawful id declared.initial declared.declares).blank in
     absurd (subst IsAtRest (ap (λ (x : Tcb). x.state) (sym is.2) ∙ waits) blank.0)
+
+-- nor is a context lent
+pub boot_borrowers : (t : Layout) (allowed : EdgeTest) (m : Machine) → IsLawful t → IsBoot t m → BorrowersMayIdle t allowed m
+boot_borrowers t allowed m lawful boot id lent lends = by_content (object_of m id) refl where
+  by_content : (content : Option Object) → object_of m id ≡ content → IsIdleBorrower t allowed m lent
+  by_content (Some (o.Tcb thread)) at =
+      absurd (none-some lent.context (sym (sleeps thread at) ∙ lent_back thread thread.state lent (ap loan_in (sym at) ∙ lends)))
+    where
+      sleeps : (thread : Tcb) → object_of m id ≡ Some (o.Tcb thread) → context_lent thread.state ≡ None
+      sleeps thread at =
+          let declared = declared_at t m boot id (o.Tcb thread) at in
+          let is = bound_thread_is t id declared.initial.object thread declared.object_is in
+          let blank : IsBlank (o.Tcb is.0) =
+          subst IsBlank is.1 (initial_lawful t lawful id declared.initial declared.declares).blank in
+          ap context_lent (ap (λ (x : Tcb). x.state) is.2) ∙ rest_lends is.0.state blank.0
+  by_content None at = absurd (none-some lent (ap loan_in (sym at) ∙ lends))
+  by_content (Some _) at = absurd (none-some lent (ap loan_in (sym at) ∙ lends))

@@ -13,6 +13,9 @@ use Rattle.integrity.proofs.TouchKeeps.{Fits}
 use Rattle.std.proofs.Common.{None}
 use Rattle.machine.specs.declared.thread.{Receiving.Receiving, RunState.RunState as state}
 use Rattle.policy.specs.Sharp.{MayIdle}
+use Rattle.machine.specs.{declared.thread.Lent.Lent, Step.Reply.loan_in}
+use Rattle.std.proofs.lemmas.Option.{none-some}
+use Rattle.integrity.specs.Keeping.{IsIdleBorrower}
 
 -- the label may change the object's
 pub changed :
@@ -38,8 +41,7 @@ loses_links t allowed began a m id label old new labelled take there less thread
 
 module _ (t : Layout) (allowed : EdgeTest) (began : Machine) (event : Event) (a : ℕ) (m : Machine) (id : ObjId) where
   -- a thread stays where it is, each link was there or is in the policy, the number of what it lent was given out, its label may idle if it
-  -- waits for a message without a context, and it sleeps, or
-  -- its label may act
+  -- waits for a message without a context, and so may that of whom it lent one, and it sleeps, or its label may act
   pub tcb_fits :
       (old new : Tcb) → object_of m id ≡ Some (o.Tcb old) → new.address ≡ old.address
       → ((end : ObjId) (k : Kind) → links (o.Tcb new) k end ≡ true
@@ -48,9 +50,10 @@ module _ (t : Layout) (allowed : EdgeTest) (began : Machine) (event : Event) (a 
       → ((context : ObjId) → context_lent new.state ≡ Some context → context.0 < m.next)
       → ((receiving : Receiving) → new.state ≡ state.Receiving receiving → new.context ≡ None → (label : ℕ)
       → label_of t m id ≡ Some label → MayIdle allowed label)
+      → ((lent : Lent) → loan_in (Some (o.Tcb new)) ≡ Some lent → IsIdleBorrower t allowed m lent)
       → (IsAwake t allowed began a → OthersSleep t allowed m → SleepsOrActs t allowed m id new)
       → Fits t allowed began event a m id (o.Tcb old) (o.Tcb new)
-  tcb_fits old new was same within below idles sleeps =
+  tcb_fits old new was same within below idles borrows sleeps =
       record {
         was = was;
         kind = refl;
@@ -61,6 +64,7 @@ module _ (t : Layout) (allowed : EdgeTest) (began : Machine) (event : Event) (a 
         idles = λ thread receiving is waits none.
             let same = same_tcb new thread is in
             idles receiving (ap (λ (x : Tcb). x.state) same ∙ waits) (ap (λ (x : Tcb). x.context) same ∙ none);
+        borrows = borrows;
         sleeps = λ awake others thread is.
             subst (λ (x : Tcb). SleepsOrActs t allowed m id x) (same_tcb new thread is) (sleeps awake others);
         serves = λ awake served reply e. cc;
@@ -80,6 +84,7 @@ module _ (t : Layout) (allowed : EdgeTest) (began : Machine) (event : Event) (a 
         links = λ end k e. cc;
         lent = λ context thread e lends. cc;
         idles = λ thread receiving e waits none label labelled. cc;
+        borrows = λ lent lends. absurd (none-some lent lends);
         sleeps = λ awake others thread e. cc;
         serves = λ awake served reply e. cc;
         share = λ before after e. cc;
@@ -101,6 +106,7 @@ module _ (t : Layout) (allowed : EdgeTest) (began : Machine) (event : Event) (a 
         links = held;
         lent = λ context thread e lends. cc;
         idles = λ thread receiving e waits none label labelled. cc;
+        borrows = λ lent lends. absurd (none-some lent lends);
         sleeps = λ awake others thread e. cc;
         serves = λ awake served reply is.
             subst (λ (x : Reply). IsHeldAfterCall t allowed m id x) (same_reply new reply is) (serves awake);
@@ -128,6 +134,7 @@ module _ (t : Layout) (allowed : EdgeTest) (began : Machine) (event : Event) (a 
         links = λ end k e. cc;
         lent = λ context thread e lends. cc;
         idles = λ thread receiving e waits none label labelled. cc;
+        borrows = λ lent lends. absurd (none-some lent lends);
         sleeps = λ awake others thread e. cc;
         serves = λ awake served reply e. cc;
         share = share;

@@ -16,6 +16,7 @@ use Rattle.integrity.proofs.{Keeps.{Alters, Keeps, Takes, keeps_keeps, unchanged
 use Rattle.integrity.proofs.{SetKeeps.set_keeps, SlotKeeps.IsOpened}
 use Rattle.machine.specs.declared.thread.{Receiving.Receiving, RunState.RunState as state}
 use Rattle.policy.specs.Sharp.{MayIdle}
+use Rattle.machine.specs.Step.Reply.{loan_in}
 
 -- the contents of a thread with another context, and of a context with another thread
 
@@ -64,7 +65,8 @@ module _
   thread_keeps thread tcb link there may_run wakes idles may =
       set_keeps t allowed began event a m thread held (o.Tcb tcb) (o.Tcb (runs_on tcb link))
       (tcb_fits t allowed began event a m thread tcb (runs_on tcb link) there refl within
-      (λ context lent. held.of_table.lent thread context tcb there lent) idles (sleeps wakes)) may
+      (λ context lent. held.of_table.lent thread context tcb there lent) idles
+      (λ lent lends. held.borrowers thread lent (ap loan_in there ∙ lends)) (sleeps wakes)) may
     where
       sleeps :
           (link ≡ None) ⊎ ActsAt t allowed began a m thread → IsAwake t allowed began a → OthersSleep t allowed m

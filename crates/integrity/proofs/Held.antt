@@ -29,6 +29,7 @@ held_of t allowed m sound = record {
   confined = sound.confined;
   nodes = sound.nodes;
   idlers = sound.idlers;
+  borrowers = sound.borrowers;
   kinds = sound.well_formed.slots.object;
   numbered = sound.well_formed.numbers.below_next;
   bare = bare_of m sound.well_formed;

@@ -1,9 +1,13 @@
 -- A call that lends its context to the receiver keeps what a part of a call keeps: the receiver may run on it, since it receives where
 -- one calls that runs on it; and so does an answer with which the context goes back to the thread that lent it.
+use Rattle.std.proofs.Common.{arith}
+use Rattle.integrity.proofs.Borrowers.{lent_back}
+use Rattle.integrity.specs.Keeping.{IsIdleBorrower}
+use Rattle.policy.specs.Sharp.{MayIdle}
 use Rattle.std.proofs.Common.{ℕ, ◌∙◌, ◌≡◌, ◌≢◌, ◌⊎◌, None, Option, Some, ap, inl, inr, option_map, refl, subst, sym, true}
 use Rattle.std.proofs.lemmas.Option.{none-some, same_Some}
 use Rattle.base.specs.declared.{ids.ObjId.ObjId, kind.Kind.Kind as authority}
-use Rattle.machine.specs.declared.{call.Event.Event, object.Object.Object as o, thread.{Lent.Lent, Receiving.Receiving, RunState.RunState, Tcb.Tcb}}
+use Rattle.machine.specs.declared.{call.Event.Event, object.Object.Object as o, thread.{Lent.Lent, Receiving.Receiving, Tcb.Tcb}}
 use Rattle.machine.specs.{Authority.{label_of, context_lent, links}, Layout.Layout, Machine.{Machine, object_of}, Step.Bind.context_under}
 use Rattle.machine.specs.Step.{Bind.with_handed, Reply.{loan_in, with_returned}, Send.{called_through, loan_made, with_lent}}
 use Rattle.machine.{specs.WellFormed.{IsFree, IsIdle, IsThread, WaitsAt}, proofs.{Idle.{idle_names, idle_waits}, Leaving.Names}}
@@ -21,13 +25,6 @@ own_context :
     (m : Machine) (thread context : ObjId) (tcb : Tcb) → IsThread m thread tcb → context_under (object_of m thread) ≡ Some context
     → tcb.context ≡ Some context
 own_context m thread context tcb there runs = sym (ap context_under there) ∙ runs
-
--- what a thread that called lent is among what it runs on
-lent_back :
-    (tcb : Tcb) (run : RunState) (lent : Lent) → loan_in (Some (o.Tcb (record tcb { state = run }))) ≡ Some lent
-    → context_lent run ≡ Some lent.context
-lent_back tcb (state.Called calling) lent e = ap (option_map (λ (l : Lent). l.context)) e
-lent_back tcb _ lent e = absurd (none-some lent e)
 
 module _
     (t : Layout) (allowed : EdgeTest) (began : Machine) (event : Event) (a : ℕ) (m : Machine) (sound : IsSound t allowed m) where
@@ -66,7 +63,7 @@ module _
       (thread called : ObjId) (giver tcb : Tcb) → IsThread m thread giver → IsIdle giver.state → label_of t m thread ≡ Some a
       → IsThread m called tcb
       → (l : ℕ) → label_of t m called ≡ Some l → Changes t allowed began a l → (IsAwake t allowed began a → MayAct t allowed l)
-      → ((s : ℕ) → allowed a authority.Runs s ≡ true → Changes t allowed began a s) → GivesBack m thread called
+      → (MayIdle allowed a → (s : ℕ) → allowed a authority.Runs s ≡ true → Changes t allowed began a s) → GivesBack m thread called
       → Keeps t allowed began event a m (with_handed m thread called)
   returned_back thread called giver tcb there idle mine at l labelled has acts may_give back =
       handed_keeps t allowed began event a m sound thread called back.free (λ id runs.
@@ -75,13 +72,14 @@ module _
       lent_back tcb tcb.state (record { context = back.context; borrower = thread }) (sym (ap loan_in at) ∙ back.lent)
       ∙ ap (λ (i : ObjId). Some i) same in
       handing thread called id giver tcb there mine (own_context m thread id giver there runs) at l labelled has acts
-      (idle_receives giver.state idle) (λ s target ran. inl (runs_lent tcb id lent)) may_give)
+      (idle_receives giver.state idle) (λ s target ran. inl (runs_lent tcb id lent))
+      (may_give ((sound.borrowers called _ back.lent).idles a mine)))
 
   pub returned_keeps :
       (thread called : ObjId) (giver tcb : Tcb) → IsThread m thread giver → IsIdle giver.state → label_of t m thread ≡ Some a
       → IsThread m called tcb
       → (l : ℕ) → label_of t m called ≡ Some l → Changes t allowed began a l → (IsAwake t allowed began a → MayAct t allowed l)
-      → ((s : ℕ) → allowed a authority.Runs s ≡ true → Changes t allowed began a s)
+      → (MayIdle allowed a → (s : ℕ) → allowed a authority.Runs s ≡ true → Changes t allowed began a s)
       → Keeps t allowed began event a m (with_returned m thread called)
   returned_keeps thread called giver tcb there idle mine at l labelled has acts may_give = by_case (returned_or_same m thread called) where
     by_case :
@@ -109,6 +107,7 @@ module _
   module _
       (id : ObjId) (free : IsFree m id)
       (may : (r : ℕ) → label_of t m id ≡ Some r → MayHold t allowed began a r a)
+      (may_idle : its.context ≡ None → MayIdle allowed b)
       (may_lend :
       its.context ≡ None → (s : ℕ) → allowed a authority.Runs s ≡ true
       → (allowed b authority.Runs s ≡ true) × Changes t allowed began a s) where
@@ -131,11 +130,24 @@ module _
     lends_own (Some lent) is context e =
         own_context m thread lent.context tcb there (lends m thread receiver lent is).runs ∙ e
 
+    borrows : (loan : Lent) → own_loan ≡ Some loan → IsIdleBorrower t allowed m loan
+    borrows loan is =
+        let w = lends m thread receiver loan is in
+        record {
+          number =
+              let below = sound.well_formed.numbers.below_next receiver (o.Tcb its) receives in
+              let same = ap (λ (i : ObjId). i.0) w.borrower in
+              omega (arith, below, same);
+          idles = λ label at.
+              subst (MayIdle allowed) (same_Some b label (sym labelled ∙ ap (label_of t m) (sym w.borrower) ∙ at))
+              (may_idle (sym (ap context_under receives) ∙ w.free));
+        }
+
     calls : Keeps t allowed began event a m waits
     calls =
         waits_keep t allowed began event a m sound thread tcb there a mine (λ awake. own refl) (λ awake. awake.acting) names_none
         waits_nowhere id own_loan free
-        (lends_own own_loan refl) may
+        (lends_own own_loan refl) borrows may
 
     there_now : IsThread waits thread now
     there_now = lending_there m thread receiver tcb its sound.well_formed there receives apart id free
@@ -175,11 +187,12 @@ module _
   pub called_through_keeps :
       (through : Option ObjId) → ((id : ObjId) → through ≡ Some id → IsFree m id)
       → ((id : ObjId) (r : ℕ) → through ≡ Some id → label_of t m id ≡ Some r → MayHold t allowed began a r a)
+      → ((id : ObjId) → through ≡ Some id → its.context ≡ None → MayIdle allowed b)
       → ((id : ObjId) → through ≡ Some id → its.context ≡ None → (s : ℕ) → allowed a authority.Runs s ≡ true
       → (allowed b authority.Runs s ≡ true) × Changes t allowed began a s)
       → Keeps t allowed began event a m (called_through m thread receiver through)
-  called_through_keeps None free may may_lend =
+  called_through_keeps None free may may_idle may_lend =
       halts t allowed began event a m sound thread tcb there a mine (inl (λ awake. own refl)) (λ awake. awake.acting) names_none
       waits_nowhere
-  called_through_keeps (Some id) free may may_lend =
-      by_loan id (free id refl) (λ r. may id r refl) (may_lend id refl) (loan_made m thread receiver) refl
+  called_through_keeps (Some id) free may may_idle may_lend =
+      by_loan id (free id refl) (λ r. may id r refl) (may_idle id refl) (may_lend id refl) (loan_made m thread receiver) refl

@@ -9,6 +9,7 @@ pub mod InMemory
 pub mod Bounds
 pub mod Keeps
 pub mod Steady
+pub mod Borrowers
 pub mod TouchKeeps
 pub mod SlotKeeps
 pub mod FillKeeps

@@ -133,6 +133,7 @@ module _
         end = refl;
         links = λ end k e. cc;
         lent = λ context thread e lends. cc;
+        borrows = λ lent lends. cc;
         idles = λ thread receiving e waits none label labelled. cc;
         sleeps = λ awake others thread e. cc;
         serves = λ awake served reply e. cc;

@@ -1,5 +1,6 @@
 -- Send, Call, Receive, Reply and Fetch within a caller's authority: the endpoint or the reply that is found is one that its label
 -- may use so, and whom a message or an answer reaches waits there by a recorded edge.
+use Rattle.policy.specs.Sharp.{MayIdle}
 use Rattle.std.{specs.Prelude.{if◌then◌else◌, is_ok}, proofs.Common.{ℕ, ◌&&◌, ◌∙◌, ◌≡◌, ◌≢◌, ◌⊎◌, Bool, List, None, Option, Some, ap}}
 use Rattle.std.proofs.{Common.{false, inl, inr, refl, subst, sym, true}, lemmas.Bool.{and_from, and_parts, false≢true}}
 use Rattle.base.specs.declared.{ids.ObjId.ObjId, kind.Kind.{Kind, Kind as authority}}
@@ -228,10 +229,13 @@ module _
           (λ id through.
           delivered_free m thread sending open_to.id receiver receiving sound.well_formed waits id
           (answers_through sending receiving.reply id through))
-          answers_within lends_to)
+          answers_within (λ id through. receiver_idles) lends_to)
         where
           b : (label : ℕ) × (label_of t m receiver ≡ Some label)
           b = thread_label t allowed m event a m sound receiver waits.tcb waits.there
+
+          receiver_idles : waits.tcb.context ≡ None → MayIdle allowed b.0
+          receiver_idles none = sound.idlers receiver waits.tcb receiving waits.there waits.state none b.0 b.1
 
           lends_to :
               (id : ObjId) → answer_through sending receiving.reply ≡ Some id → waits.tcb.context ≡ None → (s : ℕ)
@@ -239,8 +243,7 @@ module _
           lends_to id through none s runs =
               let calls = may_call (answers_allowed sending receiving.reply id through) in
               let served = served_with id (answers_through sending receiving.reply id through) b.0 b.1 in (
-                closed.lends_to_servers b.0 served.0 to_end.label a s served.1
-                    (sound.idlers receiver waits.tcb receiving waits.there waits.state none b.0 b.1) calls runs,
+                closed.lends_to_servers b.0 served.0 to_end.label a s served.1 (receiver_idles none) calls runs,
                 λ awake. shares (lends to_end.label runs calls),
               )
 
@@ -537,7 +540,7 @@ module _
         λ awake. blocked_acts t allowed m called w.0 awake.others w.1 (calling_blocked w.0.state done.id w.2) l.0 l.1 in
         let back =
         returned_keeps t allowed m event a m sound thread called is.thread w.0 is.there (caller_idle m thread is) mine w.1 l.0 l.1 has acts
-        (λ s runs awake. shares (returns to_reply.label runs may_reply)) in
+        (λ idles s runs awake. shares (returns to_reply.label runs may_reply)) in
         let link = returned_there m thread called w.0 sound.well_formed w.1 in
         keeps_keeps t allowed m event a m mid (with_given mid called message) before back
         (released_keeps t allowed m event a mid back.held called (record w.0 { context = link.0 }) (given message) link.1 refl refl

@@ -1,6 +1,7 @@
 -- What the parts of a message's way keep: a receiver gets it, who called waits for the answer, and the thread of a reply is
 -- halted. All that these take is what a label has over an endpoint or a reply that is found, and the recorded edges of the
 -- threads there.
+use Rattle.integrity.{specs.Keeping.IsIdleBorrower, proofs.Borrowers.borrower_stays}
 use Rattle.std.{specs.Prelude.{if◌then◌else◌, is_ok}, proofs.Common.{ℕ, ◌&&◌, ◌<◌, ◌∙◌, ◌≡◌, ◌≢◌, ◌⊎◌, Bool, List, None, Option, Some, ap}}
 use Rattle.std.proofs.{Common.{arith, false, inl, inr, option_map, refl, subst, sym, true}, lemmas.{Bool.and_from, Option.none-some}}
 use Rattle.std.proofs.lemmas.Option.{same_Some}
@@ -83,6 +84,22 @@ module _ (t : Layout) (allowed : EdgeTest) (began : Machine) (event : Event) (a 
       let old = labelled_there t m id before was in
       let new = labelled_there t next id after is in
       same_Some after before (sym is ∙ label_kept m next id old.0 new.0 keeps old.1 new.1 ∙ was)
+
+  -- a borrower stays one
+  pub borrower_kept :
+      (m next : Machine) (lent : Lent) → Does m next → IsIdleBorrower t allowed m lent → IsIdleBorrower t allowed next lent
+  borrower_kept m next lent keeps before =
+      borrower_stays t allowed m next lent keeps.grows
+      (λ label labelled.
+      let new = labelled_there t next lent.borrower label labelled in
+      by_content label labelled new.0 new.1 (object_of m lent.borrower) refl) before
+    where
+      by_content :
+          (label : ℕ) → label_of t next lent.borrower ≡ Some label → (new : Object) → object_of next lent.borrower ≡ Some new
+          → (content : Option Object) → object_of m lent.borrower ≡ content → label_of t m lent.borrower ≡ Some label
+      by_content label labelled new is None gone =
+          let high = keeps.born lent.borrower new gone is in let low = before.number in absurd (omega (arith, low, high))
+      by_content label labelled new is (Some old) was = sym (label_kept m next lent.borrower old new keeps was is) ∙ labelled
 
   -- a caller whose label is served is one that a reply may hold
   pub held_caller :
@@ -288,9 +305,10 @@ module _ (t : Layout) (allowed : EdgeTest) (began : Machine) (event : Event) (a 
       pub waits_keep :
           (id : ObjId) (lent : Option Lent) → IsFree m id
           → ((context : ObjId) → option_map (λ (l : Lent). l.context) lent ≡ Some context → tcb.context ≡ Some context)
+          → ((loan : Lent) → lent ≡ Some loan → IsIdleBorrower t allowed m loan)
           → ((r : ℕ) → label_of t m id ≡ Some r → MayHold t allowed began a r l)
           → Does m (with_called (with_halted m thread) thread (record { reply = id; lent = lent }))
-      waits_keep id lent before lends may =
+      waits_keep id lent before lends borrows may =
           let next = with_halted m thread in
           let between = halted_between m thread tcb sound.well_formed there in
           let after = between.3 id before in
@@ -299,7 +317,8 @@ module _ (t : Layout) (allowed : EdgeTest) (began : Machine) (event : Event) (a 
           let r = sound.of_table.labelled id (o.Reply was) before.1 in
           keeps_keeps t allowed began event a m next (with_called next thread (record { reply = id; lent = lent })) held halting
           (called_keeps t allowed began event a next halting.held thread (halted tcb) (record { reply = id; lent = lent }) is
-          between.1 between.2 (λ context loan. (lends context loan, given_out context (lends context loan))) after.1 l
+          between.1 between.2 (λ context loan. (lends context loan, given_out context (lends context loan)))
+          (λ loan is. borrower_kept m next loan halting (borrows loan is)) after.1 l
           (label_kept m next thread (o.Tcb tcb) (o.Tcb (halted tcb)) halting there between.1 ∙ labelled) has acts r.0
           (label_kept m next id (o.Reply was) (o.Reply is) halting before.1 after.1 ∙ r.1) (may r.0 r.1))
 
@@ -309,7 +328,8 @@ module _ (t : Layout) (allowed : EdgeTest) (began : Machine) (event : Event) (a 
           → Does m (linked m thread through)
       link_keeps None free may = halting
       link_keeps (Some id) free may =
-          waits_keep id None (free id refl) (λ context loan. absurd (none-some context loan)) (λ r. may id r refl)
+          waits_keep id None (free id refl) (λ context loan. absurd (none-some context loan)) (λ loan is. absurd (none-some loan is))
+          (λ r. may id r refl)
 
     -- the thread that a reply holds is halted
     module _ (id : ObjId) (r : ℕ) (labelled : label_of t m id ≡ Some r) (may_reply : allowed a authority.Reply r ≡ true)

@@ -23,6 +23,9 @@ use Rattle.integrity.proofs.{Contents.{reply_fits, shrunk, tcb_fits}, Keeps.{Cha
 use Rattle.integrity.proofs.{ObjectLabels.{label_stays, same_label}, RemovalShrinks.part_of_all, SetKeeps.{queue_keeps, set_keeps}}
 use Rattle.machine.specs.declared.thread.Receiving.{Receiving}
 use Rattle.policy.specs.Sharp.{MayIdle}
+use Rattle.machine.specs.{declared.thread.Lent.Lent, Step.Reply.loan_in}
+use Rattle.integrity.specs.Keeping.{IsIdleBorrower}
+use Rattle.integrity.proofs.Borrowers.{lent_back}
 
 -- what each change is
 
@@ -387,6 +390,7 @@ module _
       (tcb_fits t allowed began event a mid thread tcb new at address (λ end k e. inl (links_left tcb new context idle k end e))
       (λ end lent. absurd (idle_lends new.state end idle lent))
       (λ receiving waits. absurd (idle_receives new.state idle receiving waits))
+      (λ lent lends. absurd (idle_lends new.state lent.context idle (lent_back new new.state lent lends)))
       (λ awake others. inr (acts_of t allowed mid thread label (label_kept ∙ labelled) (acts awake))))
       (elim has [
         | inl may ↦ changed t allowed began a mid (with_object mid thread (o.Tcb new)) thread label (label_kept ∙ labelled) may
@@ -433,6 +437,7 @@ module _
           (λ context lent. absurd (none-some context (sym alone ∙ lent)))
           (λ receiving waits none l at.
           subst (MayIdle allowed) (same_Some a l (sym mine ∙ at)) (idles receiving waits none))
+          (λ lent lends. absurd (none-some lent.context (sym alone ∙ lent_back tcb run lent lends)))
           (λ awake others. inr (acts_of t allowed m caller a mine awake.acting)))
           (changed t allowed began a m mid caller a mine (λ awake. own refl))
 
@@ -454,12 +459,13 @@ module _
   pub called_keeps :
       (thread : ObjId) (tcb : Tcb) (calling : Calling) (old : Reply) → IsThread m thread tcb → IsIdle tcb.state
       → ((context : ObjId) → context_lent (state.Called calling) ≡ Some context → (tcb.context ≡ Some context) × (context.0 < m.next))
+      → ((lent : Lent) → calling.lent ≡ Some lent → IsIdleBorrower t allowed m lent)
       → object_of m calling.reply ≡ Some (o.Reply old)
       → (label : ℕ) → label_of t m thread ≡ Some label → Changes t allowed began a label
       → (IsAwake t allowed began a → MayAct t allowed label)
       → (holder : ℕ) → label_of t m calling.reply ≡ Some holder → MayHold t allowed began a holder label
       → Keeps t allowed began event a m (with_called m thread calling)
-  called_keeps thread tcb calling old there idle lends at label labelled has acts holder reply_labelled may_hold =
+  called_keeps thread tcb calling old there idle lends borrows at label labelled has acts holder reply_labelled may_hold =
       let id = calling.reply in
       let calls : Tcb = record tcb { state = state.Called calling } in
       let mid = with_object m thread (o.Tcb calls) in
@@ -468,6 +474,7 @@ module _
       (tcb_fits t allowed began event a m thread tcb calls there refl (λ end k e. inl (links_kept k end e))
       (λ context lent. (lends context lent).1)
       (λ receiving waits none l at. cc)
+      borrows
       (λ awake others. inr (acts_of t allowed m thread label labelled (acts awake))))
       (changed t allowed began a m mid thread label labelled has) in
       let apart : id ≢ thread = λ same. apart_by_kind m id thread old tcb at there (sym same) in
@@ -518,6 +525,7 @@ module _
       (tcb_fits t allowed began event a m caller tcb new there refl (λ end k e. inl (links_kept k end e))
       (λ context lent. held.of_table.lent caller context tcb there lent)
       (λ receiving. held.idlers caller tcb receiving there)
+      (λ lent lends. held.borrowers caller lent (ap loan_in there ∙ lends))
       (λ awake others. inr (acts_of t allowed m caller a mine awake.acting)))
       (changed t allowed began a m (with_object m caller (o.Tcb new)) caller a mine (λ awake. own refl)))
     where
@@ -538,4 +546,5 @@ sound_after t allowed began event a m next sound keeps formed =
       confined = keeps.held.confined;
       nodes = keeps.held.nodes;
       idlers = keeps.held.idlers;
+      borrowers = keeps.held.borrowers;
     }

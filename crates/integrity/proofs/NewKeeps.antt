@@ -16,7 +16,9 @@ use Rattle.policy.specs.Domain.{EdgeTest}
 use Rattle.integrity.specs.{Awake.{IsAsleep, IsAwake}, Confined.IsConfined, Invariant.{IsBare, IsHeld}, OfTable.IsOfTable}
 use Rattle.integrity.proofs.{Asleep.sleeps_on, Joined.IsJoined, Keeps.{Acts, Changes, Keeps}, ObjectLabels.{kind_there, same_label}}
 use Rattle.integrity.proofs.{Asleep.asleep_waits, Shrinking.same_context}
-use Rattle.integrity.specs.Keeping.{KeepersHoldNodes, WaitersMayIdle}
+use Rattle.integrity.specs.Keeping.{BorrowersMayIdle, KeepersHoldNodes, WaitersMayIdle}
+use Rattle.machine.specs.Step.Reply.{loan_in}
+use Rattle.integrity.proofs.Borrowers.{borrower_stays, lender_runs}
 
 -- an object that may be made in a step of a label's thread
 pub record IsMakeable (t : Layout) (allowed : EdgeTest) (began : Machine) (a : ℕ) (object : Object) : Type 0 where
@@ -208,6 +210,19 @@ module _
     | inr new ↦ absurd (asleep_waits thread receiving (made.sleeps thread (sym new.1)) waits)
   ]
 
+  -- nor does one that is made lend anything
+  borrowers : BorrowersMayIdle t allowed next
+  borrowers q lent lends = elim (one_or_two q id) [
+    | inl same ↦
+        let made_lends : loan_in (Some object) ≡ Some lent = ap loan_in (sym (ap (object_of next) same ∙ here)) ∙ lends in
+        absurd (false≢true (sym (made.alone authority.Runs lent.context) ∙ lender_runs object lent made_lends))
+    | inr apart ↦
+        let before = held.borrowers q lent (ap loan_in (sym (elsewhere q apart)) ∙ lends) in
+        borrower_stays t allowed m next lent (omega (arith, more))
+        (λ label labelled. sym (same_label t m next lent.borrower (elsewhere lent.borrower (below_apart lent.borrower before.number))) ∙ labelled)
+        before
+  ]
+
   pub new_keeps : Keeps t allowed began event a m (with_new m object)
   unfolding next id
   new_keeps = record {
@@ -216,6 +231,7 @@ module _
       confined = confined;
       nodes = nodes;
       idlers = idlers;
+      borrowers = borrowers;
       kinds = λ slot cap filled.
           let at = sym (cap_of-with_new m object slot) ∙ filled in
           let of = kind_there m cap.object _ (held.kinds slot cap at) in

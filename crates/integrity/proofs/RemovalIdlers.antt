@@ -1,5 +1,5 @@
 -- A removal leaves a thread that waits for a message without a context only where the thread's label may idle: its context vanished,
--- and so the last capability for it stood in a CNode, whose label may use it.
+-- and so the last capability for it stood in a CNode, whose label may use it. Nobody is lent a context by it.
 use Rattle.std.proofs.Common.{ℕ, ◌∙◌, ◌≡◌, ◌⊎◌, Bool, None, Option, Some, ap, cond, false, inl, inr, option_map, refl, sym, true}
 use Rattle.std.proofs.lemmas.Option.{none-some, same_Some}
 use Rattle.base.specs.declared.{ids.{ObjId.ObjId, SlotRef.SlotRef}, kind.Kind.Kind as authority}
@@ -10,7 +10,10 @@ use Rattle.machine.specs.{Finalising.{aborted, finalised, halted, is_aborted, is
 use Rattle.machine.specs.{Machine.{Machine, cap_of, object_of}, Objects.kind_of_object, Removal.{removed, vanishes}, WellFormed.kind_of}
 use Rattle.machine.proofs.{GoneLemmas.losing_decided, RemovalStays.object_was, RunsLinks.runs_bound}
 use Rattle.policy.specs.{Domain.EdgeTest, Sharp.MayIdle}
-use Rattle.integrity.specs.{Invariant.IsSound, Keeping.WaitersMayIdle, Removals.use_of}
+use Rattle.integrity.specs.{Invariant.IsSound, Keeping.{BorrowersMayIdle, IsIdleBorrower, WaitersMayIdle}, Removals.use_of}
+use Rattle.std.proofs.Common.{arith}
+use Rattle.machine.{specs.Step.Reply.loan_in, proofs.RemovalLooks.next-removed}
+use Rattle.integrity.proofs.Borrowers.{borrower_stays, finalised_lends}
 use Rattle.integrity.proofs.{Cascade.{HasSlots, counted_kinds, gives_use}, RemovalConfined.label_was, Shrinking.same_tcb}
 
 -- a link after a removal is gone, where it was or what it led to vanished
@@ -107,3 +110,17 @@ module _ (t : Layout) (allowed : EdgeTest) (m : Machine) (chosen : SlotRef → B
         | inl none ↦ sound.idlers id old receiving there waited.waits none label before
         | inr gone ↦ left_idle id gone.0 old there gone.1 gone.2 label before
       ]
+
+  -- whom a thread lent its context before is the same, and has the same label if it is still there
+  pub removed_borrowers : BorrowersMayIdle t allowed (removed m chosen)
+  removed_borrowers id lent lends = by_content (object_of (removed m chosen) id) refl where
+    by_content : (content : Option Object) → object_of (removed m chosen) id ≡ content → IsIdleBorrower t allowed (removed m chosen) lent
+    by_content None at = absurd (none-some lent (ap loan_in (sym at) ∙ lends))
+    by_content (Some object) at =
+        let was = object_was m chosen id object at in
+        let number = next-removed m chosen in
+        borrower_stays t allowed m (removed m chosen) lent (omega (arith, number)) (label_was t m chosen lent.borrower)
+        (sound.borrowers id lent
+        (ap loan_in was.1
+        ∙ finalised_lends m (vanishes m chosen) was.0 lent
+        (ap (λ (x : Object). loan_in (Some x)) was.3 ∙ ap loan_in (sym at) ∙ lends)))

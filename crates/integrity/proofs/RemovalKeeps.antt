@@ -8,7 +8,7 @@ use Rattle.machine.{specs.{Objects.{address_of, kind_of_object}, Removal.{remove
 use Rattle.machine.proofs.RemovalStays.{like_finalised, object_was}
 use Rattle.steps.proofs.RemovalNumbers.{removed_formed}
 use Rattle.policy.specs.{Change.WayToChange, Domain.EdgeTest, NarrowTake.WayToShrink}
-use Rattle.integrity.proofs.RemovalIdlers.{removed_idlers}
+use Rattle.integrity.proofs.RemovalIdlers.{removed_borrowers, removed_idlers}
 use Rattle.integrity.specs.{Awake.{IsAwake, OthersSleep, SleepsOrActs}, Invariant.IsSound, Removals.MayRemove, Shrinks.IsSame}
 use Rattle.integrity.proofs.{Asleep.shrunk_asleep, Held.held_of, Keeps.{Acts, Keeps}, ObjectLabels.labelled_there}
 use Rattle.integrity.proofs.{RemovalConfined.{label_was, removed_confined, removed_nodes, removed_of_table}, RemovalCuts.removed_alters}
@@ -48,6 +48,7 @@ module _
     confined = removed_confined t m chosen allowed sound closed.derives_on;
     nodes = removed_nodes t m chosen allowed sound;
     idlers = removed_idlers t allowed m chosen sound;
+    borrowers = removed_borrowers t allowed m chosen sound;
   }
 
   pub removed_keeps :

@@ -224,6 +224,7 @@ step_keeps t allowed m next kept closed event outcome step =
               confined = keeps.held.confined;
               nodes = keeps.held.nodes;
               idlers = keeps.held.idlers;
+              borrowers = keeps.held.borrowers;
             };
             others = keeps.sleeps everyone kept.others;
             served = keeps.serves everyone kept.served;

@@ -1,5 +1,7 @@
 -- A change of slots keeps what a part of a call keeps: each capability and pair of the tree that is new is in the policy, and the
 -- objects whose slots change are the caller's to change.
+use Rattle.machine.specs.Step.Reply.{loan_in}
+use Rattle.integrity.proofs.Borrowers.{borrower_stays}
 use Rattle.std.proofs.{Common.{ℕ, ◌∙◌, ◌≡◌, ◌⊎◌, None, Some, ap, arith, inl, inr, refl, sym, true}, lemmas.Option.{none-some, same_Some}}
 use Rattle.base.specs.declared.{ids.{ObjId.ObjId, SlotRef.SlotRef}, kind.Kind.Kind}
 use Rattle.base.specs.declared.kind.Kind.TheVariants as authority
@@ -136,6 +138,10 @@ module _
       nodes = nodes;
       idlers = λ q thread receiving at waits none label labelled.
           held.idlers q thread receiving (was q (o.Tcb thread) at) waits none label (sym (labels q) ∙ labelled);
+      borrowers = λ q lent lends.
+          let number = fit.same.number in
+          borrower_stays t allowed m next lent (omega (arith, number)) (λ label labelled. sym (labels lent.borrower) ∙ labelled)
+          (held.borrowers q lent (ap loan_in (sym (fit.same.objects q)) ∙ lends));
       kinds = fit.kinds;
       numbered = λ q object at.
           let below = held.numbered q object (was q object at) in

@@ -3,7 +3,7 @@ use Rattle.machine.specs.{Boot.IsBoot, Layout.Layout, Machine.Machine, WellForme
 use Rattle.policy.specs.Domain.{EdgeTest}
 use Rattle.table.specs.Rules.{IsLawful}
 use Rattle.integrity.specs.Confined.{IsConfined}
-use Rattle.integrity.proofs.{AtBoot.{boot_asleep, boot_idlers, boot_nodes, boot_of_table, boot_served}, Runs.StartsKept}
+use Rattle.integrity.proofs.{AtBoot.{boot_asleep, boot_borrowers, boot_idlers, boot_nodes, boot_of_table, boot_served}, Runs.StartsKept}
 
 pub starts_kept :
     (t : Layout) (allowed : EdgeTest) → ((boot : Machine) → IsLawful t → IsBoot t boot → IsWellFormed boot) → IsLawful t
@@ -15,6 +15,7 @@ starts_kept t allowed formed lawful confined boot booted = (
     confined = confined boot booted;
     nodes = boot_nodes t allowed boot booted;
     idlers = boot_idlers t allowed boot lawful booted;
+    borrowers = boot_borrowers t allowed boot lawful booted;
   },
   boot_asleep t allowed boot lawful booted,
   boot_served t allowed boot lawful booted,

@@ -15,7 +15,9 @@ use Rattle.integrity.proofs.{Keeps.{Alters, Keeps}, ObjectLabels.{kind_stays, la
 use Rattle.integrity.proofs.Steady.{IsSteady, LinksAllowed, steady_confined}
 use Rattle.machine.specs.declared.thread.{Receiving.Receiving, RunState.RunState as state}
 use Rattle.policy.specs.Sharp.{MayIdle}
-use Rattle.integrity.specs.Keeping.{KeepersHoldNodes, WaitersMayIdle}
+use Rattle.integrity.specs.Keeping.{BorrowersMayIdle, IsIdleBorrower, KeepersHoldNodes, WaitersMayIdle}
+use Rattle.machine.specs.{declared.thread.Lent.Lent, Step.Reply.loan_in}
+use Rattle.integrity.proofs.Borrowers.{borrower_stays}
 
 -- all but one object's content, queue and words is as it was
 pub record Touches (m : Machine) (id : ObjId) (next : Machine) : Type 0 where
@@ -45,6 +47,8 @@ pub record Fits
   pub idles :
       (thread : Tcb) (receiving : Receiving) → new ≡ o.Tcb thread → thread.state ≡ state.Receiving receiving → thread.context ≡ None
       → (label : ℕ) → label_of t m id ≡ Some label → MayIdle allowed label
+  -- who is lent a context may idle
+  pub borrows : (lent : Lent) → loan_in (Some new) ≡ Some lent → IsIdleBorrower t allowed m lent
   -- a thread sleeps, or its label may act
   pub sleeps :
       IsAwake t allowed began a → OthersSleep t allowed m → (thread : Tcb) → new ≡ o.Tcb thread
@@ -69,6 +73,7 @@ same_fits t allowed began event a m id held object there = record {
   links = λ end k had. inl had;
   lent = λ context thread is lends. held.of_table.lent id context thread (there ∙ ap Some is) lends;
   idles = λ thread receiving is. held.idlers id thread receiving (there ∙ ap Some is);
+  borrows = λ lent lends. held.borrowers id lent (ap loan_in there ∙ lends);
   sleeps = λ awake others thread is. others id thread (there ∙ ap Some is);
   serves = λ awake served reply is. served id reply (there ∙ ap Some is);
   share = λ before after was is. inl (ap (λ (c : Context). c.share) (same_context after before (sym is ∙ was)));
@@ -173,6 +178,16 @@ module _
         (ap (label_of t m) (sym same) ∙ sym (steady.labels q) ∙ labelled)
   ]
 
+  borrowers : BorrowersMayIdle t allowed next
+  unfolding Seen
+  borrowers q lent lends =
+      let number = touches.number in
+      borrower_stays t allowed m next lent (omega (arith, number)) (λ label labelled. sym (steady.labels lent.borrower) ∙ labelled)
+      (elim (seen q) [
+        | inl same ↦ held.borrowers q lent (ap loan_in (sym same) ∙ lends)
+        | inr same ↦ fits.borrows lent (ap loan_in (sym (is_at q same)) ∙ lends)
+      ])
+
   bare : (q : ObjId) → object_of next q ≡ None → IsBare next q
   bare q absent = elim (one_or_two q id) [
     | inl same ↦ absurd (none-some new (sym absent ∙ is_at q same))
@@ -260,6 +275,7 @@ module _
       confined = steady_confined t allowed m next steady linked held.confined;
       nodes = nodes;
       idlers = idlers;
+      borrowers = borrowers;
       kinds = λ slot cap at. steady.kinds cap.object ∙ held.kinds slot cap (sym (steady.caps slot) ∙ at);
       numbered = λ q object at.
           let before = before_there q object at in

@@ -1,12 +1,13 @@
 -- Which labels keep capabilities for CNodes, and so may receive, copy, move and make capabilities: those of which a CNode holds one at
 -- boot, those that find one in the space of a keeper, and those whose CNodes a keeper may put one into (confine's own).
-use Rattle.std.specs.Prelude.{ℕ, ◌≡◌, None, Some, true}
+use Rattle.std.specs.Prelude.{ℕ, ◌<◌, ◌≡◌, None, Some, true}
 use Rattle.base.specs.declared.{ids.{ObjId.ObjId, SlotRef.SlotRef}, kind.Kind.Kind as authority}
 use Rattle.machine.specs.{declared.{cap.Cap.Cap, layout.Initial.Initial}, Capabilities.kind_of_detail, Layout.{Layout, initial_cap, initial_of}}
 use Rattle.machine.specs.declared.object.ObjectKind.TheVariants as kind
 use Rattle.machine.specs.Objects.{kind_of_object}
 use Rattle.machine.specs.{Authority.label_of, Machine.{Machine, cap_of, object_of}, WellFormed.kind_of}
-use Rattle.machine.specs.declared.{object.Object.Object as o, thread.{Receiving.Receiving, RunState.RunState as state, Tcb.Tcb}}
+use Rattle.machine.specs.declared.{object.Object.Object as o, thread.{Lent.Lent, Receiving.Receiving, RunState.RunState as state, Tcb.Tcb}}
+use Rattle.machine.specs.Step.Reply.{loan_in}
 use Rattle.policy.specs.{Domain.EdgeTest, Sharp.{IsSharplyClosed, KeeperTest, MayIdle}}
 
 -- a CNode of the label holds a capability for a CNode at boot
@@ -42,6 +43,15 @@ abbrev pub WaitersMayIdle : Layout → EdgeTest → Machine → Type 0
 WaitersMayIdle t allowed m =
     (id : ObjId) (thread : Tcb) (receiving : Receiving) → object_of m id ≡ Some (o.Tcb thread) → thread.state ≡ state.Receiving receiving
     → thread.context ≡ None → (label : ℕ) → label_of t m id ≡ Some label → MayIdle allowed label
+
+-- the borrower of a loan has a number that was given out, and a label that may idle
+pub record IsIdleBorrower (t : Layout) (allowed : EdgeTest) (m : Machine) (lent : Lent) : Type 0 where
+  pub number : lent.borrower.0 < m.next
+  pub idles : (label : ℕ) → label_of t m lent.borrower ≡ Some label → MayIdle allowed label
+
+-- each thread to which a context is lent is of a label that may idle
+abbrev pub BorrowersMayIdle : Layout → EdgeTest → Machine → Type 0
+BorrowersMayIdle t allowed m = (id : ObjId) (lent : Lent) → loan_in (object_of m id) ≡ Some lent → IsIdleBorrower t allowed m lent
 
 -- the policy is sharply closed, where the labels that may keep are the keepers
 abbrev pub IsSharp : Layout → EdgeTest → Type 0
