@@ -127,7 +127,8 @@ a grant e, b receive e, b control l
 a reply r, r holds l
 """)
 
-# How a may change objects of l.
+# How a may change objects of l. A context of l goes to another thread by a call only if an idler may receive the call with a reply, and back by
+# an answer only if a is an idler.
 CHANGE = ways_in("""\
 a control l
 a send l
@@ -138,8 +139,8 @@ a write l
 a reply l
 a context l; a schedcontrol k
 a context l; a control t
-a runs l; a call e
-a runs l; a reply r
+a runs l; a call e, b receive e, b reply r, b runs s, d context s, b acts
+a runs l; a reply r, a runs s, d context s
 a send e, l receive e; l acts
 a receive e, l send e; l acts
 a notify n, l await n; l acts

@@ -1,8 +1,6 @@
-"""The sharp rules S1 to S8, keepers, idlers and the least sharply closed policy, as docs/RULES.md and docs/POLICY.md have them, and a
-narrower bound on lent contexts, which no document has. No command judges by them. Policies are as in policies.py. `holders` are the labels
-whose CNodes hold a capability for a CNode at boot."""
-from policies import CALL, CHANGE, CONTEXT, CONTROL, DERIVE, GRANT, HOLDS, PLAIN, RECEIVE, REPLY, RUNS, SCHEDCONTROL, SPACE
-from policies import ways_from, ways_in
+"""The sharp rules S1 to S8, keepers, idlers and the least sharply closed policy, as docs/RULES.md and docs/POLICY.md have them. No command
+judges by them. Policies are as in policies.py. `holders` are the labels whose CNodes hold a capability for a CNode at boot."""
+from policies import CALL, CONTEXT, CONTROL, DERIVE, GRANT, HOLDS, PLAIN, RECEIVE, REPLY, RUNS, SCHEDCONTROL, SPACE
 
 
 # Sets of labels.
@@ -186,18 +184,3 @@ def sharp_closure(edges, holders):
         if not missing:
             return closed
         closed |= missing
-
-
-# How a may change objects of l: as policies.CHANGE has it, but a context of l goes to another thread by a call only if an idler may receive
-# the call with a reply, and back by an answer only if a is an idler.
-LENT = ways_in("""\
-a runs l; a call e, b receive e, b reply r, b runs s, d context s, b acts
-a runs l; a reply r, a runs s, d context s
-""")
-NARROW_CHANGE = [way for way in CHANGE if way[0] != LENT[0][0]] + LENT
-
-
-def narrow_change_ways(edges, acts, a):
-    """Returns each way in which a may change objects of a label, as change_ways of policies.py does, by the narrower bound on lent
-    contexts."""
-    return [(a, []), *ways_from(edges, acts, a, NARROW_CHANGE)] if a in acts else []

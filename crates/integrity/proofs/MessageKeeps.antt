@@ -244,7 +244,16 @@ module _
               let calls = may_call (answers_allowed sending receiving.reply id through) in
               let served = served_with id (answers_through sending receiving.reply id through) b.0 b.1 in (
                 closed.lends_to_servers b.0 served.0 to_end.label a s served.1 (receiver_idles none) calls runs,
-                λ awake. shares (lends to_end.label runs calls),
+                λ awake.
+                    shares
+                    (lends runs (record {
+                      endpoint = to_end.label;
+                      calls = calls;
+                      receiver = b.0;
+                      receives = served.1.receives;
+                      serves = receiver_actor awake b.0 b.1;
+                      borrows = record { idles = receiver_idles none; reply = served.0; names = served.1.names };
+                    })),
               )
 
   module _ (address : ℕ) (words : List ℕ) (capability : Option ℕ) where
@@ -540,7 +549,7 @@ module _
         λ awake. blocked_acts t allowed m called w.0 awake.others w.1 (calling_blocked w.0.state done.id w.2) l.0 l.1 in
         let back =
         returned_keeps t allowed m event a m sound thread called is.thread w.0 is.there (caller_idle m thread is) mine w.1 l.0 l.1 has acts
-        (λ idles s runs awake. shares (returns to_reply.label runs may_reply)) in
+        (λ idles s runs awake. shares (returns runs (record { idles = idles; reply = to_reply.label; names = may_reply }))) in
         let link = returned_there m thread called w.0 sound.well_formed w.1 in
         keeps_keeps t allowed m event a m mid (with_given mid called message) before back
         (released_keeps t allowed m event a mid back.held called (record w.0 { context = link.0 }) (given message) link.1 refl refl

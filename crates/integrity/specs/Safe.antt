@@ -26,8 +26,8 @@ KeepsIntegrity t allowed =
     (m next : Machine) (event : Event) (outcome : Outcome) → IsReached t m → Step m event outcome next
     → IsAllowedStep t allowed m event next
 
--- no step changes an object of a label that its caller's label may not change, but for one that only shrinks, of a label that its may
--- make smaller; whichever test of labels holds of all that may act and may have threads
+-- no step changes an object of a label that its caller's label may not change, unless the object only shrinks and the caller's label may
+-- make that label's objects smaller; this is so for each test of labels that holds of all that may act and may have threads
 abbrev pub KeepsNarrowBounds : Layout → EdgeTest → Type 0
 KeepsNarrowBounds t allowed =
     (acts : ActorTest) → HoldsOfActors t allowed acts

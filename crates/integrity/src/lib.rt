@@ -3,8 +3,8 @@
 //! The boot state is that of a table. The policy has the authority of every state of the run, and
 //! no step changes more than it allows.
 //!
-//! `verdict` and `cores` stand on it. It knows no code of the kernel, only the definitions and laws
-//! of the steps.
+//! `reach`, `verdict` and `cores` stand on it. It knows no code of the kernel, only the definitions
+//! and laws of the steps.
 #![tactic(auto)]
 
 mod laws;
@@ -22,6 +22,6 @@ pub use removing::{
 };
 pub use safe::{
     bounded_systems_keep_labels_apart, changes_are_of_labels_that_act, confined_systems_are_safe,
-    keepers_hold_cnode_capabilities, labels_act_from_boot_or_by_control,
-    sharply_confined_systems_are_safe,
+    idlers_wait_without_contexts, keepers_hold_cnode_capabilities,
+    labels_act_from_boot_or_by_control, sharply_confined_systems_are_safe,
 };

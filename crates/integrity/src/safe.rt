@@ -8,7 +8,8 @@ ghost use Rattle.policy.specs.{Change.{ActorTest, MayChange}, Closed.IsClosed, D
 ghost use Rattle.policy.specs.Sharp.{IsSharplyClosed, KeeperTest, Told, UsesRise};
 ghost use Rattle.table.specs.Rules.{IsLawful};
 ghost use Rattle.integrity.specs.{Acting.{HoldsOfActors, MayAct, Starts}, Apart.{NeverChanges, OnlyTakes}};
-ghost use Rattle.integrity.specs.{Budgets.Finds, Keeping.{HoldsOfKeepers, IsSharp, KeepersHoldNodes, MayKeep}};
+ghost use Rattle.integrity.specs.{Budgets.Finds, Keeping.{BorrowersMayIdle, HoldsNode, HoldsOfKeepers, IsSharp, KeepersHoldNodes, MayKeep}};
+ghost use Rattle.integrity.specs.Keeping.{WaitersMayIdle};
 ghost use Rattle.integrity.specs.{Confined.IsConfined, Safe.{IsReached, IsSafe, KeepsNarrowBounds, RefusesOthers}};
 ghost use Rattle.integrity.specs.Shrinks.{IsSame};
 
@@ -28,10 +29,11 @@ pub fn confined_systems_are_safe()
     boot_states_are_well_formed();
 }
 
-/// A law, the headline over the sharp rules: every run of a confined system is safe where its policy is sharply closed.
+/// A law, the headline over the sharp rules: if a sharply closed policy has all authority of the boot state, every run is safe.
 ///
-/// The keepers are the labels that may keep capabilities for CNodes, or any labels among which
-/// these are. A closed policy is sharply closed, whichever labels keep.
+/// The boot state is that of a lawful table. The keepers are the labels that may keep capabilities
+/// for CNodes (clause `keepers`), or any labels among which these are (clause `told`). A closed
+/// policy is sharply closed, whichever labels keep.
 pub fn sharply_confined_systems_are_safe()
     ensures keepers { (t : Layout) (allowed : EdgeTest)
         → IsLawful t
@@ -48,10 +50,11 @@ pub fn sharply_confined_systems_are_safe()
     boot_states_are_well_formed();
 }
 
-/// A law: in every run of such a system only keepers hold capabilities for CNodes.
+/// A law: if a sharply closed policy has all authority of the boot state, in every run only keepers hold capabilities for CNodes.
 ///
-/// A CNode that holds one in a slot is of a label that may keep one, and a thread that finds one is
-/// of such a label.
+/// The boot state is that of a lawful table. A CNode that holds a capability for a CNode in a slot
+/// is of a label that may keep one, and a thread that finds one is of such a label. If no label holds
+/// one at boot, no label may keep one.
 pub fn keepers_hold_cnode_capabilities()
     ensures holds { (t : Layout) (allowed : EdgeTest)
         → IsLawful t
@@ -67,6 +70,29 @@ pub fn keepers_hold_cnode_capabilities()
         → Finds m thread address kind.CNode node
         → label_of t m thread ≡ Some a
         → MayKeep t allowed a }
+    ensures none { (t : Layout) (allowed : EdgeTest)
+        → ((a : ℕ) → ¬ HoldsNode t a)
+        → (a : ℕ) → ¬ MayKeep t allowed a }
+{
+    boot_states_are_well_formed();
+}
+
+/// A law: if a sharply closed policy has all authority of the boot state, in every run only idlers wait without a context.
+///
+/// The boot state is that of a lawful table. A thread that waits for a message without a context is
+/// of a label that may idle, and so is each thread to which a caller lent its context, for as long
+/// as the caller waits for the answer.
+pub fn idlers_wait_without_contexts()
+    ensures waits { (t : Layout) (allowed : EdgeTest)
+        → IsLawful t
+        → IsSharp t allowed
+        → ((boot : Machine) → IsBoot t boot → IsConfined t allowed boot)
+        → (m : Machine) → IsReached t m → WaitersMayIdle t allowed m }
+    ensures borrows { (t : Layout) (allowed : EdgeTest)
+        → IsLawful t
+        → IsSharp t allowed
+        → ((boot : Machine) → IsBoot t boot → IsConfined t allowed boot)
+        → (m : Machine) → IsReached t m → BorrowersMayIdle t allowed m }
 {
     boot_states_are_well_formed();
 }

@@ -34,7 +34,7 @@ module _ (test : EdgeTest) (acts : ActorTest) (a : ℕ) where
   module _ (l : ℕ) where
     abbrev pub ChangeParts : Type 0
     ChangeParts =
-        ((((((((l ≡ a) ⊎ OneOf is_changing a l) ⊎ MayChangeContext test a l) ⊎ Meets Send Receive l) ⊎ Meets Receive Send l) ⊎ Meets Notify Await l)
+        ((((((((l ≡ a) ⊎ OneOf is_changing a l) ⊎ MayChangeContext test acts a l) ⊎ Meets Send Receive l) ⊎ Meets Receive Send l) ⊎ Meets Notify Await l)
         ⊎ ((receiver : ℕ) × IsCallee receiver × (test receiver Reply l ≡ true)))
         ⊎ ((receiver : ℕ) × Meets Grant Receive receiver × (test receiver Control l ≡ true)))
         ⊎ MayAnswer test acts a l

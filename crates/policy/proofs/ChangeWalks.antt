@@ -4,7 +4,7 @@ use Rattle.std.proofs.Common.{inl, inr, not, refl, subst, sym, true}
 use Rattle.base.specs.declared.{edge.Edge.Edge, kind.Kind.{Kind, TheVariants.{Await, Call, Context, Control, Grant, Holds, Notify}}}
 use Rattle.base.specs.{declared.{kind.Kind.TheVariants.{Receive, Reply, Runs, SchedControl, Send}, labels.Labels.Labels}, Labels.is_in}
 use Rattle.policy.specs.{declared.{change.TheConstants.CHANGING, guarded.Turn.Turn}, ActorReasons.{IsChangeBy, change_edges, context_edges}}
-use Rattle.policy.specs.Change.{ActorTest, MayChangeContext, MayHoldCaller, WayToChange, is_changing, MayChangeContext.{binds, configures}}
+use Rattle.policy.specs.Change.{ActorTest, MayBorrow, MayChangeContext, MayHoldCaller, MayLend, WayToChange, is_changing, MayChangeContext.{binds, configures}}
 use Rattle.policy.specs.Change.{MayChangeContext.{lends, returns}, WayToChange.{grants, links, modifies, notifies, own, receives, replies}}
 use Rattle.policy.specs.{Change.WayToChange.{sends, shares}, Domain.EdgeTest, Guarded.{FindsLesserGuarded, IsGuardedWalk, lets_through}}
 use Rattle.policy.{specs.{Reasons.edge, Steps.is_joined, Walks.{FindsWalk, GoesAgainst, GoesAlong, is_of}}, proofs.Gathering.first_joined}
@@ -43,7 +43,7 @@ pub record ChangeTurns (test : EdgeTest) (acts : ActorTest) (a l : ℕ)
   pub bind_lets :
       Lets (λ to. (test a Context to ≡ true) × ((other : ℕ) × (is_joined test (SchedControl ∷ Control ∷ []) a other ≡ true))) bind
   pub lend_is : GoesAlong (Runs ∷ []) lend.step
-  pub lend_lets : Lets (λ to. (test a Runs to ≡ true) × ((other : ℕ) × (is_joined test (Call ∷ Reply ∷ []) a other ≡ true))) lend
+  pub lend_lets : Lets (λ to. (test a Runs to ≡ true) × (MayLend test acts a ⊎ MayBorrow test a)) lend
   pub send_is : GoesAlong (Send ∷ []) send.step
   pub send_lets : LetsAll send
   pub sender_is : GoesAgainst (Send ∷ []) sender.step
@@ -103,10 +103,9 @@ module _ (test : EdgeTest) (acts : ActorTest) (a l : ℕ) (actor : acts a ≡ tr
   lends_by : (x : List Edge) → Walk (lend ∷ []) x → By x
   lends_by x walk =
       let last = last_turn_along test lend Runs a l x turns.lend_is walk in
-      let beside = ((turns.lend_lets l).0 last.1).1 in
-      elim (joined_either test Call Reply a beside.0 beside.1) [
-        | inl calls ↦ by_way x (shares (lends beside.0 last.0 calls)) (sym last.2)
-        | inr answers ↦ by_way x (shares (returns beside.0 last.0 answers)) (sym last.2)
+      elim ((turns.lend_lets l).0 last.1).1 [
+        | inl lent ↦ by_way x (shares (lends last.0 lent)) (sym last.2)
+        | inr borrowed ↦ by_way x (shares (returns last.0 borrowed)) (sym last.2)
       ]
 
   sends_by : (x : List Edge) → Walk (send ∷ receiver ∷ []) x → By x
@@ -178,19 +177,19 @@ module _ (test : EdgeTest) (acts : ActorTest) (a l : ℕ) (actor : acts a ≡ tr
   near_all : (x : List Edge) → Near x → All x
   near_all x near = inl (inl (inl (inl near)))
 
-  context_of : (way : MayChangeContext test a l) → All (context_edges way)
+  context_of : (way : MayChangeContext test acts a l) → All (context_edges way)
   context_of (configures core used governs) =
       near_all (edge a Context l ∷ []) (inl (inl (inl (inr (more_turn_along test bind Context [] a l l [] turns.bind_is used
       ((turns.bind_lets l).1 (used, (core, first_joined test SchedControl Control a core governs))) refl)))))
   context_of (binds thread used controls) =
       near_all (edge a Context l ∷ []) (inl (inl (inl (inr (more_turn_along test bind Context [] a l l [] turns.bind_is used
       ((turns.bind_lets l).1 (used, (thread, second_joined test SchedControl Control a thread controls))) refl)))))
-  context_of (lends endpoint ran calls) =
+  context_of (lends ran lent) =
       near_all (edge a Runs l ∷ []) (inl (inl (inr (more_turn_along test lend Runs [] a l l [] turns.lend_is ran
-      ((turns.lend_lets l).1 (ran, (endpoint, first_joined test Call Reply a endpoint calls))) refl))))
-  context_of (returns reply_to ran answers) =
+      ((turns.lend_lets l).1 (ran, inl lent)) refl))))
+  context_of (returns ran borrowed) =
       near_all (edge a Runs l ∷ []) (inl (inl (inr (more_turn_along test lend Runs [] a l l [] turns.lend_is ran
-      ((turns.lend_lets l).1 (ran, (reply_to, second_joined test Call Reply a reply_to answers))) refl))))
+      ((turns.lend_lets l).1 (ran, inr borrowed)) refl))))
 
   case_of : (way : WayToChange test acts a l) → All (change_edges way)
   case_of (own same) = near_all [] (inl (inl (inl (inl (inl (sym same))))))

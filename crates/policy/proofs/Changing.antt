@@ -3,7 +3,7 @@
 use Rattle.std.proofs.Common.{ℕ, ◌∙◌, ◌≡◌, ◌⊎◌, inl, inr, refl, sym, true}
 use Rattle.base.specs.declared.kind.Kind.{Kind, TheVariants.{Await, Call, Context, Control, Derive, Grant, Holds, Notify, Receive, Reply}}
 use Rattle.base.specs.declared.kind.Kind.TheVariants.{Reset, Runs, SchedControl, Send, Space, Write}
-use Rattle.policy.specs.Change.{ActorTest, MayAnswer, MayChange, MayChangeContext, WayToChange, is_changing, MayChangeContext.binds}
+use Rattle.policy.specs.Change.{ActorTest, MayAnswer, MayBorrow, MayChange, MayChangeContext, MayLend, WayToChange, is_changing, MayChangeContext.binds}
 use Rattle.policy.specs.Change.{MayChangeContext.{configures, lends, returns}, WayToChange.{grants, links, modifies, notifies, own}}
 use Rattle.policy.specs.{Change.WayToChange.{receives, replies, sends, shares}, Closing.IsWithin, Cut.{IsCut, IsHolding, IsNear, is_link}}
 use Rattle.policy.specs.{Cut.IsNear.{against, along, stays}, Domain.EdgeTest, Full.{IsFull, is_modifying, IsFull.grants as full_grants}}
@@ -25,11 +25,11 @@ is_modifying_too Reply is = refl
 is_modifying_too _ is = absurd (false≢true is)
 
 module _ (test : EdgeTest) (acts : ActorTest) (a l : ℕ) where
-  context_is_full : MayChangeContext test a l → IsFull test a l
+  context_is_full : MayChangeContext test acts a l → IsFull test a l
   context_is_full (configures core uses governs) = full_modifies Context refl uses
   context_is_full (binds thread uses controls_it) = full_modifies Context refl uses
-  context_is_full (lends endpoint runs calls) = full_modifies Runs refl runs
-  context_is_full (returns reply runs answers) = full_modifies Runs refl runs
+  context_is_full (lends runs lent) = full_modifies Runs refl runs
+  context_is_full (returns runs borrowed) = full_modifies Runs refl runs
 
   way_is_full : WayToChange test acts a l → IsFull test a l
   way_is_full (own same) = full_own same
@@ -143,11 +143,33 @@ module _ (test : EdgeTest) (acts : ActorTest) (a l : ℕ) where
 -- more edges and more labels that act leave what may be done
 module _ (test other : EdgeTest) (acts more : ActorTest) (within : IsWithin test other) (also : (x : ℕ) → acts x ≡ true → more x ≡ true)
     (a l : ℕ) where
-  context_grows : MayChangeContext test a l → MayChangeContext other a l
+  borrow_grows : (b : ℕ) → MayBorrow test b → MayBorrow other b
+  borrow_grows b may = record {
+    idles = record {
+      context = may.idles.context;
+      runs = within b Runs may.idles.context may.idles.runs;
+      owner = may.idles.owner;
+      owns = within may.idles.owner Context may.idles.context may.idles.owns;
+    };
+    reply = may.reply;
+    names = within b Reply may.reply may.names;
+  }
+
+  lend_grows : MayLend test acts a → MayLend other more a
+  lend_grows may = record {
+    endpoint = may.endpoint;
+    calls = within a Call may.endpoint may.calls;
+    receiver = may.receiver;
+    receives = within may.receiver Receive may.endpoint may.receives;
+    serves = also may.receiver may.serves;
+    borrows = borrow_grows may.receiver may.borrows;
+  }
+
+  context_grows : MayChangeContext test acts a l → MayChangeContext other more a l
   context_grows (configures core uses governs) = configures core (within a Context l uses) (within a SchedControl core governs)
   context_grows (binds thread uses control) = binds thread (within a Context l uses) (within a Control thread control)
-  context_grows (lends endpoint runs calls) = lends endpoint (within a Runs l runs) (within a Call endpoint calls)
-  context_grows (returns reply runs answers) = returns reply (within a Runs l runs) (within a Reply reply answers)
+  context_grows (lends runs lent) = lends (within a Runs l runs) (lend_grows lent)
+  context_grows (returns runs borrowed) = returns (within a Runs l runs) (borrow_grows a borrowed)
 
   answer_grows : MayAnswer test acts a l → MayAnswer other more a l
   answer_grows may = record {

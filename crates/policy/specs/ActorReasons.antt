@@ -9,11 +9,11 @@ use Rattle.policy.specs.NarrowTake.{MayShrink, TakesByControl, WayToShrink, cont
 use Rattle.policy.specs.{NarrowTake.{unbinds, wakes}, Places.IsLeast, Reasons.{edge, reason_place}}
 
 -- the edge by which a label has to do with a context that it may change
-abbrev pub context_edges : {test : EdgeTest} {a l : ℕ} → MayChangeContext test a l → List Edge
-context_edges {test} {a} {l} (configures core used governed) = edge a Context l ∷ []
-context_edges {test} {a} {l} (binds thread used controlled) = edge a Context l ∷ []
-context_edges {test} {a} {l} (lends endpoint ran called) = edge a Runs l ∷ []
-context_edges {test} {a} {l} (returns reply ran answered) = edge a Runs l ∷ []
+abbrev pub context_edges : {test : EdgeTest} {acts : ActorTest} {a l : ℕ} → MayChangeContext test acts a l → List Edge
+context_edges {test} {acts} {a} {l} (configures core used governed) = edge a Context l ∷ []
+context_edges {test} {acts} {a} {l} (binds thread used controlled) = edge a Context l ∷ []
+context_edges {test} {acts} {a} {l} (lends ran lent) = edge a Runs l ∷ []
+context_edges {test} {acts} {a} {l} (returns ran borrowed) = edge a Runs l ∷ []
 
 -- the edges of a way to change
 abbrev pub change_edges : {test : EdgeTest} {acts : ActorTest} {a l : ℕ} → WayToChange test acts a l → List Edge

@@ -3,7 +3,7 @@
 use Rattle.std.specs.Prelude.{ℕ, ◌≡◌, Bool, false, true}
 use Rattle.base.specs.declared.kind.Kind.{Kind, TheVariants.{Await, Call, Context, Control, Grant, Holds, Notify, Receive, Reply, Runs}}
 use Rattle.base.specs.declared.kind.Kind.TheVariants.{SchedControl, Send, Write}
-use Rattle.policy.specs.Domain.{EdgeTest}
+use Rattle.policy.specs.{Domain.EdgeTest, Sharp.MayIdle}
 
 -- whether threads of a label act
 abbrev pub ActorTest : Type 0
@@ -20,14 +20,29 @@ is_changing Write = true
 is_changing Reply = true
 is_changing _ = false
 
-pub data MayChangeContext (test : EdgeTest) (a l : ℕ) : Type 0 where
+-- b may be lent a context: it may wait for a message without one, and names a reply
+pub record MayBorrow (test : EdgeTest) (b : ℕ) : Type 0 where
+  pub idles : MayIdle test b
+  pub reply : ℕ
+  pub names : test b Reply reply ≡ true
+
+-- a may lend a context by a call: a label that acts and may be lent one receives its calls
+pub record MayLend (test : EdgeTest) (acts : ActorTest) (a : ℕ) : Type 0 where
+  pub endpoint : ℕ
+  pub calls : test a Call endpoint ≡ true
+  pub receiver : ℕ
+  pub receives : test receiver Receive endpoint ≡ true
+  pub serves : acts receiver ≡ true
+  pub borrows : MayBorrow test receiver
+
+pub data MayChangeContext (test : EdgeTest) (acts : ActorTest) (a l : ℕ) : Type 0 where
   -- a context's share of a core
-  configures : (core : ℕ) → test a Context l ≡ true → test a SchedControl core ≡ true → MayChangeContext test a l
+  configures : (core : ℕ) → test a Context l ≡ true → test a SchedControl core ≡ true → MayChangeContext test acts a l
   -- the thread that a context is bound to
-  binds : (thread : ℕ) → test a Context l ≡ true → test a Control thread ≡ true → MayChangeContext test a l
-  -- a context that a runs on goes to another thread by a call, and back by an answer
-  lends : (endpoint : ℕ) → test a Runs l ≡ true → test a Call endpoint ≡ true → MayChangeContext test a l
-  returns : (reply : ℕ) → test a Runs l ≡ true → test a Reply reply ≡ true → MayChangeContext test a l
+  binds : (thread : ℕ) → test a Context l ≡ true → test a Control thread ≡ true → MayChangeContext test acts a l
+  -- a context that a runs on goes by a call to a thread that waits without one; who was lent one gives it back
+  lends : test a Runs l ≡ true → MayLend test acts a → MayChangeContext test acts a l
+  returns : test a Runs l ≡ true → MayBorrow test a → MayChangeContext test acts a l
 
 -- this reply may hold threads of l that called: a server that names the reply receives their calls
 pub record MayHoldCaller (test : EdgeTest) (acts : ActorTest) (reply l : ℕ) : Type 0 where
@@ -53,7 +68,7 @@ pub data WayToChange (test : EdgeTest) (acts : ActorTest) (a l : ℕ) : Type 0 w
   -- what it has a capability to
   modifies : (kind : Kind) → is_changing kind ≡ true → test a kind l ≡ true → WayToChange test acts a l
   -- a context
-  shares : MayChangeContext test a l → WayToChange test acts a l
+  shares : MayChangeContext test acts a l → WayToChange test acts a l
   -- who waits at an endpoint or a notification that it uses
   sends : (endpoint : ℕ) → test a Send endpoint ≡ true → test l Receive endpoint ≡ true → acts l ≡ true → WayToChange test acts a l
   receives : (endpoint : ℕ) → test a Receive endpoint ≡ true → test l Send endpoint ≡ true → acts l ≡ true → WayToChange test acts a l

@@ -10,15 +10,16 @@ use Rattle.policy.specs.{Closed.{ControlGives, GrantGives, MayBeGranted}, Domain
 abbrev pub Keepers : Type 1
 Keepers = ℕ → Type 0
 
--- whether a label keeps them, and the labels of which a test says so
+-- whether a label keeps them
 abbrev pub KeeperTest : Type 0
 KeeperTest = ℕ → Bool
 
+-- the labels of which a test holds
 abbrev pub Told : KeeperTest → Keepers
 Told keeps a = keeps a ≡ true
 
--- S1: who finds its capabilities with a label has the label's edges of use; so has who controls the label, though it may find none of its
--- capabilities, since it may remove them all
+-- S1: a label has the edges of use of each label in its domain. It finds capabilities there; or it controls that label, and then may find
+-- none of its capabilities, but may remove them all
 abbrev pub UsesRise : EdgeTest → Type 0
 UsesRise test = (a b : ℕ) (kind : Kind) → ShareUse test a b kind → (to : ℕ) → test b kind to ≡ true → test a kind to ≡ true
 
@@ -27,7 +28,7 @@ pub record MayPut (test : EdgeTest) (Keeps : Keepers) (a b : ℕ) : Type 0 where
   pub keeps : Keeps a
   pub controls : test a Control b ≡ true
 
--- S1, the other way: where a label may put its capabilities has its edges of use
+-- S1, the other half: a label that a keeper controls has the keeper's edges of use
 abbrev pub UsesFall : EdgeTest → Keepers → Type 0
 UsesFall test Keeps =
     (a b : ℕ) (kind : Kind) (to : ℕ) → MayPut test Keeps a b → is_structural kind ≡ false → test a kind to ≡ true
@@ -42,20 +43,21 @@ abbrev pub KeepersAreGranted : EdgeTest → Keepers → Type 0
 KeepersAreGranted test Keeps =
     (a b : ℕ) (kind : Kind) (to : ℕ) → Keeps b → GrantGives test a b kind to → test b kind to ≡ true
 
--- S4: where a keeper may put a capability may derive from where it finds one
+-- S4: each label in a keeper's domain has derive to each label that the keeper controls
 abbrev pub KeepersDerive : EdgeTest → Keepers → Type 0
 KeepersDerive test Keeps = (a x y : ℕ) → IsInDomain test a x → MayPut test Keeps a y → test x Derive y ≡ true
 
--- S5: where a keeper may put a capability may derive from where one is found that it may be granted
+-- S5: if a keeper may be granted a label's capabilities, each label in that label's domain has derive to each label that the keeper
+-- controls
 abbrev pub GrantsDerive : EdgeTest → Keepers → Type 0
 GrantsDerive test Keeps =
     (a b x y : ℕ) → MayBeGranted test a b → IsInDomain test a x → MayPut test Keeps b y → test x Derive y ≡ true
 
--- S5, the other part: derive goes on
+-- S5, the other half: two derive edges in a row need a third
 abbrev pub DerivesOn : EdgeTest → Type 0
 DerivesOn test = (x y z : ℕ) → test x Derive y ≡ true → test y Derive z ≡ true → test x Derive z ≡ true
 
--- S6: a thread of a label may run on what one may bind it to
+-- S6: if a label may bind a context, each label that it controls may run on the context
 abbrev pub BoundRun : EdgeTest → Type 0
 BoundRun test = (a b s : ℕ) → test a Context s ≡ true → test a Control b ≡ true → test b Runs s ≡ true
 
@@ -64,24 +66,24 @@ pub record MayServe (test : EdgeTest) (server reply endpoint : ℕ) : Type 0 whe
   pub names : test server Reply reply ≡ true
   pub receives : test server Receive endpoint ≡ true
 
--- S7: a reply may hold who may receive with it
+-- S7: a reply may hold the threads of a label that may receive with it
 abbrev pub HoldsServers : EdgeTest → Type 0
 HoldsServers test = (server reply endpoint : ℕ) → MayServe test server reply endpoint → test reply Holds server ≡ true
 
--- S7, the other part: and those who may call there
+-- S7, the other half: the reply may hold the threads that may call where that label receives
 abbrev pub HoldsCallers : EdgeTest → Type 0
 HoldsCallers test =
     (server reply endpoint caller : ℕ) → MayServe test server reply endpoint → test caller Call endpoint ≡ true
     → test reply Holds caller ≡ true
 
--- a thread of a label may come to wait for a message without a context: it may run on one that somebody may take from it
+-- a thread of a label may wait for a message without a context: it may run on a context that some label may take from it
 pub record MayIdle (test : EdgeTest) (b : ℕ) : Type 0 where
   pub context : ℕ
   pub runs : test b Runs context ≡ true
   pub owner : ℕ
   pub owns : test owner Context context ≡ true
 
--- S8: who may receive with a reply, and may wait there without a context, may run on what its callers may run on
+-- S8: a label that may receive with a reply, and may wait without a context, may run on the contexts on which its callers may run
 abbrev pub LendsToServers : EdgeTest → Type 0
 LendsToServers test =
     (server reply endpoint caller context : ℕ) → MayServe test server reply endpoint → MayIdle test server

@@ -70,14 +70,21 @@ pub fn changes_follow_paths()
         → test a authority.Context l ≡ true
         → test a authority.Control thread ≡ true
         → MayChange test acts a l }
-    ensures lends { (test : EdgeTest) (acts : ActorTest) (a l endpoint : ℕ)
+    ensures lends { (test : EdgeTest) (acts : ActorTest) (a l endpoint receiver context owner reply : ℕ)
         → acts a ≡ true
         → test a authority.Runs l ≡ true
         → test a authority.Call endpoint ≡ true
+        → test receiver authority.Receive endpoint ≡ true
+        → acts receiver ≡ true
+        → test receiver authority.Runs context ≡ true
+        → test owner authority.Context context ≡ true
+        → test receiver authority.Reply reply ≡ true
         → MayChange test acts a l }
-    ensures returns { (test : EdgeTest) (acts : ActorTest) (a l reply : ℕ)
+    ensures returns { (test : EdgeTest) (acts : ActorTest) (a l context owner reply : ℕ)
         → acts a ≡ true
         → test a authority.Runs l ≡ true
+        → test a authority.Runs context ≡ true
+        → test owner authority.Context context ≡ true
         → test a authority.Reply reply ≡ true
         → MayChange test acts a l }
     ensures sends { (test : EdgeTest) (acts : ActorTest) (a l endpoint : ℕ)

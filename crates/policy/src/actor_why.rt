@@ -54,11 +54,11 @@ impl Policy {
             return Ok(None);
         }
         let bound = self.row_beside(actor, Kind::Context, &[Kind::SchedControl, Kind::Control]);
-        let lent = self.row_beside(actor, Kind::Runs, &[Kind::Call, Kind::Reply]);
+        let moved = self.moved(actors, actor);
         let answered = self.holding(actors, object);
         let modify = along(&CHANGING, None);
         let bind = along(&[Kind::Context], Some(bound));
-        let lend = along(&[Kind::Runs], Some(lent));
+        let lend = along(&[Kind::Runs], Some(moved));
         let send = along(&[Kind::Send], None);
         let sender = against(&[Kind::Send], Some(actors));
         let receive = along(&[Kind::Receive], None);

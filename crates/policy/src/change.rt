@@ -1,8 +1,8 @@
 //! Whose objects a label may change where only some labels act.
-ghost use Rattle.std.specs.Prelude.{ℕ, ◌↔◌, ◌≡◌, IsTrue, true};
-ghost use Rattle.base.specs.Labels.{is_in};
-ghost use Rattle.policy.specs.{Change.{MayAnswer, MayChange, MayChangeContext, MayHoldCaller}, Policy.allows};
-ghost use Rattle.policy.specs.Steps.{IsSource, is_joined};
+ghost use Rattle.std.specs.Prelude.{ℕ, ◌↔◌, ◌≡◌, ◌⊎◌, IsTrue, true};
+ghost use Rattle.base.specs.{declared.kind.Kind.TheVariants.Runs, Labels.is_in};
+ghost use Rattle.policy.specs.Change.{MayAnswer, MayBorrow, MayChange, MayChangeContext, MayHoldCaller, MayLend};
+ghost use Rattle.policy.specs.{Policy.allows, Sharp.MayIdle, Steps.{IsSource, is_joined}};
 
 use crate::Policy;
 use base::{Kind, Label, Labels};
@@ -45,7 +45,7 @@ impl Policy {
         let takers = self.waiting(actors, grant, &[Kind::Receive]);
         Labels::only(actor)
             .union(self.row_of_kinds(actor, &CHANGING))
-            .union(self.contexts(actor))
+            .union(self.contexts(actors, actor))
             .union(self.waiting(actors, send, &[Kind::Receive]))
             .union(self.waiting(actors, receive, &[Kind::Send]))
             .union(self.waiting(actors, notify, &[Kind::Await]))
@@ -63,11 +63,55 @@ impl Policy {
     }
 
     // The labels whose contexts the label may change.
-    fn contexts(&self, actor: Label) -> Labels
-        ensures { (object : ℕ) → (is_in result object ≡ true) ↔ MayChangeContext (allows self.now) actor object }
+    fn contexts(&self, actors: Labels, actor: Label) -> Labels
+        ensures { (object : ℕ)
+            → (is_in result object ≡ true) ↔ MayChangeContext (allows self.now) (is_in actors) actor object }
     {
         let bound = self.row_beside(actor, Kind::Context, &[Kind::SchedControl, Kind::Control]);
-        bound.union(self.row_beside(actor, Kind::Runs, &[Kind::Call, Kind::Reply]))
+        bound.union(self.moved(actors, actor))
+    }
+
+    /// The labels that the label may run on, if it may lend a context or give one back.
+    pub(crate) fn moved(&self, actors: Labels, actor: Label) -> Labels
+        ensures { (object : ℕ) → (is_in result object ≡ true)
+            ↔ ((allows self.now actor Runs object ≡ true)
+            × (MayLend (allows self.now) (is_in actors) actor ⊎ MayBorrow (allows self.now) actor)) }
+    {
+        let movers = self.lenders(actors).union(self.borrowers());
+        self.targets(movers.intersection(Labels::only(actor)), &[Kind::Runs])
+    }
+
+    /// Returns the labels that may lend a context by a call, where only threads of the labels `actors` act.
+    ///
+    /// A label that acts and may be lent one receives their calls.
+    pub fn lenders(&self, actors: Labels) -> Labels
+        ensures { (a : ℕ) → (is_in result a ≡ true) ↔ MayLend (allows self.now) (is_in actors) a }
+    {
+        let servers = self.borrowers().intersection(actors);
+        let endpoints = self.targets(servers, &[Kind::Receive]);
+        self.sources(endpoints, &[Kind::Call])
+    }
+
+    /// Returns the labels that may be lent a context.
+    ///
+    /// Each may wait for a message without one, and names a reply.
+    pub fn borrowers(&self) -> Labels
+        ensures { (b : ℕ) → (is_in result b ≡ true) ↔ MayBorrow (allows self.now) b }
+    {
+        self.edges_rise();
+        let naming = self.sources(Labels::all(), &[Kind::Reply]);
+        self.idlers().intersection(naming)
+    }
+
+    /// Returns the labels of which a thread may come to wait for a message without a context.
+    ///
+    /// Each may run on a context that some label may take from it.
+    pub fn idlers(&self) -> Labels
+        ensures { (b : ℕ) → (is_in result b ≡ true) ↔ MayIdle (allows self.now) b }
+    {
+        self.edges_rise();
+        let contexts = self.targets(Labels::all(), &[Kind::Context]);
+        self.sources(contexts, &[Kind::Runs])
     }
 
     /// The labels to which the label has an edge of this kind, if it has an edge of one of the others.

@@ -1,6 +1,7 @@
 //! Policies: the edges of authority that a system may have.
 //!
-//! `labels`, `integrity` and `verdict` stand on it, and the texts of policies. It knows no objects.
+//! `sharp`, `labels`, `integrity` and `verdict` stand on it, and the texts of policies. It knows no
+//! objects.
 #![tactic(auto)]
 
 mod acting;

@@ -2,7 +2,7 @@
 use Rattle.std.proofs.Common.{ℕ, ◌≡◌, ◌⊎◌, inl, inr, refl, sym, true}
 use Rattle.base.specs.declared.kind.Kind.{Kind, TheVariants.{Await, Call, Context, Control, Grant, Notify, Receive, Reply, Runs}}
 use Rattle.base.specs.declared.kind.Kind.TheVariants.{SchedControl, Send, Write}
-use Rattle.policy.specs.Change.{ActorTest, MayAnswer, WayToChange, is_changing, MayChangeContext.{binds, configures, lends}}
+use Rattle.policy.specs.Change.{ActorTest, MayAnswer, MayBorrow, MayLend, WayToChange, is_changing, MayChangeContext.{binds, configures, lends}}
 use Rattle.policy.specs.Change.{MayChangeContext.returns as returns_it, WayToChange.{grants, links, modifies, notifies, own, receives}}
 use Rattle.policy.{specs.{Change.WayToChange.{replies, sends, shares}, Domain.EdgeTest}, proofs.ChangeSets.{IsCallee, Meets}}
 use Rattle.summary.specs.{Letters.{Letter, by_answer, by_call, by_other, by_signal, letter_of, unlettered, way_letter}, Ways.IsBeside}
@@ -35,8 +35,8 @@ module _ (test : EdgeTest) (acts : ActorTest) (a l : ℕ) where
   call_from (modifies kind changing there) is = inl (inl (modified_by_call kind changing is there))
   call_from (shares (configures core used governed)) is = absurd (cc)
   call_from (shares (binds thread used controlled)) is = absurd (cc)
-  call_from (shares (lends endpoint ran called)) is = absurd (cc)
-  call_from (shares (returns_it reply ran answered)) is = absurd (cc)
+  call_from (shares (lends ran lent)) is = absurd (cc)
+  call_from (shares (returns_it ran borrowed)) is = absurd (cc)
   call_from (sends endpoint sent received waits) is = inl (inr (endpoint, sent, received, waits))
   call_from (receives endpoint received sent waits) is = absurd (cc)
   call_from (notifies notification notified awaited waits) is = absurd (cc)
@@ -46,13 +46,13 @@ module _ (test : EdgeTest) (acts : ActorTest) (a l : ℕ) where
 
   abbrev pub AnswerParts : Type 0
   AnswerParts =
-      ((((test a Receive l ≡ true) ⊎ (test a Reply l ≡ true)) ⊎ Meets test acts a Receive Send l) ⊎ IsBeside test Runs Reply a l) ⊎ MayAnswer test acts a l
+      ((((test a Receive l ≡ true) ⊎ (test a Reply l ≡ true)) ⊎ Meets test acts a Receive Send l) ⊎ ((test a Runs l ≡ true) × MayBorrow test a)) ⊎ MayAnswer test acts a l
 
   pub answer_to : AnswerParts → WaysOf by_answer
   answer_to (inl (inl (inl (inl there)))) = (modifies Receive refl there, refl)
   answer_to (inl (inl (inl (inr there)))) = (modifies Reply refl there, refl)
   answer_to (inl (inl (inr w))) = (receives w.0 w.1 w.2 w.3, refl)
-  answer_to (inl (inr w)) = (shares (returns_it w.1.0 w.0 w.1.1), refl)
+  answer_to (inl (inr w)) = (shares (returns_it w.0 w.1), refl)
   answer_to (inr answer) = (replies answer, refl)
 
   modified_by_answer : (kind : Kind) → letter_of kind ≡ by_answer → test a kind l ≡ true → (test a Receive l ≡ true) ⊎ (test a Reply l ≡ true)
@@ -65,8 +65,8 @@ module _ (test : EdgeTest) (acts : ActorTest) (a l : ℕ) where
   answer_from (modifies kind changing there) is = inl (inl (inl (modified_by_answer kind is there)))
   answer_from (shares (configures core used governed)) is = absurd (cc)
   answer_from (shares (binds thread used controlled)) is = absurd (cc)
-  answer_from (shares (lends endpoint ran called)) is = absurd (cc)
-  answer_from (shares (returns_it reply ran answered)) is = inl (inr (ran, (reply, answered)))
+  answer_from (shares (lends ran lent)) is = absurd (cc)
+  answer_from (shares (returns_it ran borrowed)) is = inl (inr (ran, borrowed))
   answer_from (sends endpoint sent received waits) is = absurd (cc)
   answer_from (receives endpoint received sent waits) is = inl (inl (inr (endpoint, received, sent, waits)))
   answer_from (notifies notification notified awaited waits) is = absurd (cc)
@@ -90,8 +90,8 @@ module _ (test : EdgeTest) (acts : ActorTest) (a l : ℕ) where
   signal_from (modifies kind changing there) is = inl (modified_by_signal kind is there)
   signal_from (shares (configures core used governed)) is = absurd (cc)
   signal_from (shares (binds thread used controlled)) is = absurd (cc)
-  signal_from (shares (lends endpoint ran called)) is = absurd (cc)
-  signal_from (shares (returns_it reply ran answered)) is = absurd (cc)
+  signal_from (shares (lends ran lent)) is = absurd (cc)
+  signal_from (shares (returns_it ran borrowed)) is = absurd (cc)
   signal_from (sends endpoint sent received waits) is = absurd (cc)
   signal_from (receives endpoint received sent waits) is = absurd (cc)
   signal_from (notifies notification notified awaited waits) is = inr (notification, notified, awaited, waits)
@@ -100,20 +100,21 @@ module _ (test : EdgeTest) (acts : ActorTest) (a l : ℕ) where
   signal_from (replies answer) is = absurd (cc)
 
   abbrev pub ContextParts : Type 0
-  ContextParts = (IsBeside test Context SchedControl a l ⊎ IsBeside test Context Control a l) ⊎ IsBeside test Runs Call a l
+  ContextParts = IsBeside test Context SchedControl a l ⊎ IsBeside test Context Control a l
 
   abbrev pub OtherParts : Type 0
   OtherParts =
-      ((((test a Control l ≡ true) ⊎ (test a Await l ≡ true)) ⊎ (test a Write l ≡ true)) ⊎ ContextParts)
+      (((((test a Control l ≡ true) ⊎ (test a Await l ≡ true)) ⊎ (test a Write l ≡ true)) ⊎ ContextParts)
+      ⊎ ((test a Runs l ≡ true) × MayLend test acts a))
       ⊎ ((receiver : ℕ) × Meets test acts a Grant Receive receiver × (test receiver Control l ≡ true))
 
   pub other_to : OtherParts → WaysOf by_other
-  other_to (inl (inl (inl (inl there)))) = (modifies Control refl there, refl)
-  other_to (inl (inl (inl (inr there)))) = (modifies Await refl there, refl)
-  other_to (inl (inl (inr there))) = (modifies Write refl there, refl)
-  other_to (inl (inr (inl (inl w)))) = (shares (configures w.1.0 w.0 w.1.1), refl)
-  other_to (inl (inr (inl (inr w)))) = (shares (binds w.1.0 w.0 w.1.1), refl)
-  other_to (inl (inr (inr w))) = (shares (lends w.1.0 w.0 w.1.1), refl)
+  other_to (inl (inl (inl (inl (inl there))))) = (modifies Control refl there, refl)
+  other_to (inl (inl (inl (inl (inr there))))) = (modifies Await refl there, refl)
+  other_to (inl (inl (inl (inr there)))) = (modifies Write refl there, refl)
+  other_to (inl (inl (inr (inl w)))) = (shares (configures w.1.0 w.0 w.1.1), refl)
+  other_to (inl (inl (inr (inr w)))) = (shares (binds w.1.0 w.0 w.1.1), refl)
+  other_to (inl (inr w)) = (shares (lends w.0 w.1), refl)
   other_to (inr w) = (grants w.1.0 w.0 w.1.1 w.1.2 w.1.3 w.2, refl)
 
   modified_otherwise : (kind : Kind) → is_changing kind ≡ true → letter_of kind ≡ by_other → test a kind l ≡ true
@@ -129,11 +130,11 @@ module _ (test : EdgeTest) (acts : ActorTest) (a l : ℕ) where
 
   pub other_from : (way : WayToChange test acts a l) → way_letter way ≡ by_other → OtherParts
   other_from (own same) is = absurd (cc)
-  other_from (modifies kind changing there) is = inl (inl (modified_otherwise kind changing is there))
-  other_from (shares (configures core used governed)) is = inl (inr (inl (inl (used, (core, governed)))))
-  other_from (shares (binds thread used controlled)) is = inl (inr (inl (inr (used, (thread, controlled)))))
-  other_from (shares (lends endpoint ran called)) is = inl (inr (inr (ran, (endpoint, called))))
-  other_from (shares (returns_it reply ran answered)) is = absurd (cc)
+  other_from (modifies kind changing there) is = inl (inl (inl (modified_otherwise kind changing is there)))
+  other_from (shares (configures core used governed)) is = inl (inl (inr (inl (used, (core, governed)))))
+  other_from (shares (binds thread used controlled)) is = inl (inl (inr (inr (used, (thread, controlled)))))
+  other_from (shares (lends ran lent)) is = inl (inr (ran, lent))
+  other_from (shares (returns_it ran borrowed)) is = absurd (cc)
   other_from (sends endpoint sent received waits) is = absurd (cc)
   other_from (receives endpoint received sent waits) is = absurd (cc)
   other_from (notifies notification notified awaited waits) is = absurd (cc)
@@ -158,8 +159,8 @@ module _ (test : EdgeTest) (acts : ActorTest) (a l : ℕ) where
   lettered (modifies kind changing there) apart = kind_lettered kind changing there (letter_of kind) refl
   lettered (shares (configures core used governed)) apart = inr (inr (shares (configures core used governed), refl))
   lettered (shares (binds thread used controlled)) apart = inr (inr (shares (binds thread used controlled), refl))
-  lettered (shares (lends endpoint ran called)) apart = inr (inr (shares (lends endpoint ran called), refl))
-  lettered (shares (returns_it reply ran answered)) apart = inl (inr (shares (returns_it reply ran answered), refl))
+  lettered (shares (lends ran lent)) apart = inr (inr (shares (lends ran lent), refl))
+  lettered (shares (returns_it ran borrowed)) apart = inl (inr (shares (returns_it ran borrowed), refl))
   lettered (sends endpoint sent received waits) apart = inl (inl (sends endpoint sent received waits, refl))
   lettered (receives endpoint received sent waits) apart = inl (inr (receives endpoint received sent waits, refl))
   lettered (notifies notification notified awaited waits) apart = inr (inl (notifies notification notified awaited waits, refl))

@@ -24,11 +24,11 @@ letter_of Notify = by_signal
 letter_of _ = by_other
 
 -- the letter of a way to change a context: an answer gives back one that the server ran on
-abbrev pub context_letter : {test : EdgeTest} {a l : ℕ} → MayChangeContext test a l → Letter
+abbrev pub context_letter : {test : EdgeTest} {acts : ActorTest} {a l : ℕ} → MayChangeContext test acts a l → Letter
 context_letter (configures core used governed) = by_other
 context_letter (binds thread used controlled) = by_other
-context_letter (lends endpoint ran called) = by_other
-context_letter (returns reply ran answered) = by_answer
+context_letter (lends ran lent) = by_other
+context_letter (returns ran borrowed) = by_answer
 
 -- the letter of a way to change objects of another label; that a label may change its own has none
 abbrev pub way_letter : {test : EdgeTest} {acts : ActorTest} {a l : ℕ} → WayToChange test acts a l → Letter

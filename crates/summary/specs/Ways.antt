@@ -2,7 +2,7 @@
 use Rattle.std.specs.Prelude.{ℕ, ◌<◌, ◌↔◌, ◌≡◌, List, length, true}
 use Rattle.base.specs.{declared.{edge.Edge.Edge, kind.Kind.{Kind, TheVariants.{Await, Receive, Send}}, labels.Labels.Labels}, Labels.is_in}
 use Rattle.base.specs.declared.label.TheConstants.Label as Label
-use Rattle.policy.specs.{Change.{ActorTest, MayHoldCaller}, Domain.EdgeTest, Policy.allows}
+use Rattle.policy.specs.{Change.{ActorTest, MayBorrow, MayHoldCaller, MayLend}, Domain.EdgeTest, Policy.allows}
 use Rattle.summary.specs.Sources.{SourcesOf, row_at}
 
 -- the edges of a policy, and the labels whose threads make calls
@@ -22,11 +22,14 @@ pub record IsHeldBy (test : EdgeTest) (acts : ActorTest) (replies : Labels) (l :
   pub called : MayHoldCaller test acts reply l
 
 -- what is kept is of these edges and these labels
-pub record IsWays (edges : List Edge) (actors : Labels) (sending receiving waiting : SourcesOf) (rows : List Labels) : Type 0 where
+pub record IsWays (edges : List Edge) (actors : Labels) (sending receiving waiting : SourcesOf) (rows : List Labels) (lending borrowing : Labels) :
+    Type 0 where
   pub senders : sending ≡ record { edges = edges; kind = Send }
   pub receivers : receiving ≡ record { edges = edges; kind = Receive }
   pub waiters : waiting ≡ record { edges = edges; kind = Await }
   pub callers : IsCallers (allows edges) (is_in actors) rows
+  pub lenders : (a : ℕ) → (is_in lending a ≡ true) ↔ MayLend (allows edges) (is_in actors) a
+  pub borrowers : (b : ℕ) → (is_in borrowing b ≡ true) ↔ MayBorrow (allows edges) b
 
 -- an edge of a kind from one label to another, beside one of another kind from the one
 abbrev pub IsBeside : EdgeTest → Kind → Kind → ℕ → ℕ → Type 0

@@ -14,6 +14,14 @@ pub(crate) fn row(policy: &Policy, from: Label, kind: Kind) -> Labels
     policy.targets(Labels::only(from), &[kind])
 }
 
+/// Returns the labels to which a label has an edge of a kind, if the label is in a set.
+pub(crate) fn row_among(policy: &Policy, among: Labels, from: Label, kind: Kind) -> Labels
+    ensures { (to : ℕ) → (is_in result to ≡ true)
+        ↔ ((allows policy.now from kind to ≡ true) × (is_in among from ≡ true)) }
+{
+    policy.targets(among.intersection(Labels::only(from)), &[kind])
+}
+
 /// Returns the labels to which a label has an edge of a kind, if it has an edge of the other kind.
 pub(crate) fn beside(policy: &Policy, from: Label, kind: Kind, other: Kind) -> Labels
     ensures { (to : ℕ) → (is_in result to ≡ true) ↔ IsBeside (allows policy.now) kind other from to }

@@ -7,15 +7,17 @@ ghost use Rattle.verdict.specs.Extents.{reach_by};
 ghost use Rattle.summary.specs.Letters.{HasLetter, by_answer, by_call, by_other, by_signal};
 ghost use Rattle.summary.specs.Ways.{IsBeside, IsCallers, IsHeldBy};
 
-use crate::edges::{beside, row};
+use crate::edges::{beside, row, row_among};
 use crate::sources::{Sources, join, waiting};
 use base::{Kind, Label, Labels};
 use policy::Policy;
 use std::alloc::{AllocError, Global};
 use std::marker::Model;
 
-/// What says in which ways labels may change others: a policy, the labels whose threads make calls, and for
-/// each label those that have to do with it.
+/// What says in which ways labels may change others.
+///
+/// It is a policy, the labels whose threads make calls, for each label those that have to do with it, and the
+/// labels that may lend a context or be lent one.
 #[derive(Drop)]
 pub(crate) struct Ways<'a> {
     policy: &'a Policy,
@@ -24,6 +26,8 @@ pub(crate) struct Ways<'a> {
     receivers: Sources<'a>,
     waiters: Sources<'a>,
     callers: Vec<Labels>,
+    lenders: Labels,
+    borrowers: Labels,
 }
 
 impl<'a> Model for Ways<'a> {
@@ -34,7 +38,7 @@ impl<'a> Model for Ways<'a> {
     ghost view = { λ ways. record { edges = ways.policy.now; actors = ways.actors } };
 
     ghost invariant = { λ ways. IsWays ways.policy.now ways.actors
-        ways.senders ways.receivers ways.waiters ways.callers.items };
+        ways.senders ways.receivers ways.waiters ways.callers.items ways.lenders ways.borrowers };
 }
 
 impl<'a> Ways<'a> {
@@ -57,6 +61,8 @@ impl<'a> Ways<'a> {
             receivers,
             waiters,
             callers,
+            lenders: policy.lenders(actors),
+            borrowers: policy.borrowers(),
         })
     }
 
@@ -89,7 +95,7 @@ impl<'a> Ways<'a> {
         let receive = row(self.policy, actor, Kind::Receive);
         let reply = row(self.policy, actor, Kind::Reply);
         let reached = waiting(&self.senders, receive, self.actors);
-        let returned = beside(self.policy, actor, Kind::Runs, Kind::Reply);
+        let returned = row_among(self.policy, self.borrowers, actor, Kind::Runs);
         let answered = self.answered(reply);
         let own = receive.union(reply);
         let met = own.union(reached);
@@ -126,8 +132,10 @@ impl<'a> Ways<'a> {
         let granted = self.policy.targets(takers, &[Kind::Control]);
         let taken = control.union(poll);
         let own = taken.union(write);
-        let contexts = own.union(contexts(self.policy, actor));
-        contexts.union(granted)
+        let lent = row_among(self.policy, self.lenders, actor, Kind::Runs);
+        let used = own.union(contexts(self.policy, actor));
+        let moved = used.union(lent);
+        moved.union(granted)
     }
 
     // The labels whose threads these replies may hold since they called.
@@ -140,18 +148,15 @@ impl<'a> Ways<'a> {
     }
 }
 
-// The labels whose contexts the label may configure or bind, or lend by a call.
+// The labels whose contexts the label may configure or bind.
 fn contexts(policy: &Policy, actor: Label) -> Labels
     ensures { (l : ℕ) → (is_in result l ≡ true)
-        ↔ ((IsBeside (allows policy.now) authority.Context authority.SchedControl actor l
-        ⊎ IsBeside (allows policy.now) authority.Context authority.Control actor l)
-        ⊎ IsBeside (allows policy.now) authority.Runs authority.Call actor l) }
+        ↔ (IsBeside (allows policy.now) authority.Context authority.SchedControl actor l
+        ⊎ IsBeside (allows policy.now) authority.Context authority.Control actor l) }
 {
     let configured = beside(policy, actor, Kind::Context, Kind::SchedControl);
     let bound = beside(policy, actor, Kind::Context, Kind::Control);
-    let lent = beside(policy, actor, Kind::Runs, Kind::Call);
-    let used = configured.union(bound);
-    used.union(lent)
+    configured.union(bound)
 }
 
 // For each label, the labels whose threads replies of it may hold since they called.

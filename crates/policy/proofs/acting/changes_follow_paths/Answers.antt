@@ -16,10 +16,31 @@ pub returns-clause-binds : goal.returns-clause-binds
 returns-clause-binds c = λ test acts a l thread actor uses controls. record { actor = actor; way = shares (binds thread uses controls) }
 
 pub returns-clause-lends : goal.returns-clause-lends
-returns-clause-lends c = λ test acts a l endpoint actor runs calls. record { actor = actor; way = shares (lends endpoint runs calls) }
+returns-clause-lends c = λ test acts a l endpoint receiver context owner reply actor runs calls receives serves idles owns names. record {
+  actor = actor;
+  way = shares (lends runs (record {
+    endpoint = endpoint;
+    calls = calls;
+    receiver = receiver;
+    receives = receives;
+    serves = serves;
+    borrows = record {
+      idles = record { context = context; runs = idles; owner = owner; owns = owns };
+      reply = reply;
+      names = names;
+    };
+  }));
+}
 
 pub returns-clause-returns : goal.returns-clause-returns
-returns-clause-returns c = λ test acts a l reply actor runs answers. record { actor = actor; way = shares (returns_it reply runs answers) }
+returns-clause-returns c = λ test acts a l context owner reply actor runs idles owns names. record {
+  actor = actor;
+  way = shares (returns_it runs (record {
+    idles = record { context = context; runs = idles; owner = owner; owns = owns };
+    reply = reply;
+    names = names;
+  }));
+}
 
 pub returns-clause-sends : goal.returns-clause-sends
 returns-clause-sends c = λ test acts a l endpoint actor sent received waits. record { actor = actor; way = sends endpoint sent received waits }

@@ -4,7 +4,5 @@ use Rattle.summary.proofs.ways.contexts.Goals as goal
 
 pub returns : goal.returns
 returns c l =
-    either (is_in c.union.result l) (is_in c.union-used.result l) (is_in c.beside-lent.result l)
-    (either (is_in c.union-used.result l) (is_in c.beside-configured.result l) (is_in c.beside-bound.result l) (c.beside-configured.ensures l)
-    (c.beside-bound.ensures l) (c.union-used.ensures l))
-    (c.beside-lent.ensures l) (c.union.ensures l)
+    either (is_in c.union.result l) (is_in c.beside-configured.result l) (is_in c.beside-bound.result l) (c.beside-configured.ensures l)
+    (c.beside-bound.ensures l) (c.union.ensures l)

@@ -30,8 +30,10 @@ returns c l =
     (of_kind edges Send c.self.inside.senders c.self.invariant.senders c.row-receive.result actors c.waiting-reached.result c.waiting-reached.ensures l) in
     let answered = held_answers edges acts actor l c.row-reply.result (is_in c.answered-answered.result l) reply
     (subst (λ (w : WaysOf). (is_in c.answered-answered.result l ≡ true) ↔ IsHeldBy (allows w.edges) (is_in w.actors) c.row-reply.result l) (sym c.self.view_is) (c.answered-answered.ensures l)) in
+    let returned = told_as (is_in c.row_among-returned.result l) (c.row_among-returned.ensures l)
+    (λ w. (w.0, (c.self.invariant.borrowers actor).0 w.1)) (λ h. (h.0, (c.self.invariant.borrowers actor).1 h.1)) in
     subst (λ (w : WaysOf). (is_in c.union.result l ≡ true) ↔ HasLetter by_answer (reach_by w.edges w.actors) actor l) c.self.view_is
     (told_as (is_in c.union.result l)
-    (either (is_in c.union.result l) (is_in c.union-given_back.result l) (is_in c.answered-answered.result l) (either (is_in c.union-given_back.result l) (is_in c.union-met.result l) (is_in c.beside-returned.result l) (either (is_in c.union-met.result l) (is_in c.union-own.result l) (is_in c.waiting-reached.result l) (either (is_in c.union-own.result l) (is_in c.row-receive.result l) (is_in c.row-reply.result l) (receive l) (reply l) (c.union-own.ensures l)) reached (c.union-met.ensures l)) (c.beside-returned.ensures l) (c.union-given_back.ensures l)) answered (c.union.ensures l))
+    (either (is_in c.union.result l) (is_in c.union-given_back.result l) (is_in c.answered-answered.result l) (either (is_in c.union-given_back.result l) (is_in c.union-met.result l) (is_in c.row_among-returned.result l) (either (is_in c.union-met.result l) (is_in c.union-own.result l) (is_in c.waiting-reached.result l) (either (is_in c.union-own.result l) (is_in c.row-receive.result l) (is_in c.row-reply.result l) (receive l) (reply l) (c.union-own.ensures l)) reached (c.union-met.ensures l)) returned (c.union-given_back.ensures l)) answered (c.union.ensures l))
     (λ w. let way = answer_to test acts actor l w in (record { actor = is_actor; way = way.0 }, way.1))
     (λ has. answer_from test acts actor l has.0.way has.1))

@@ -30,8 +30,10 @@ returns c l =
     waiting_tells test Receive _ c.row-grant.result grant receiver (is_in c.waiting-takers.result receiver) (acts receiver)
     (of_kind edges Receive c.self.inside.receivers c.self.invariant.receivers c.row-grant.result actors c.waiting-takers.result c.waiting-takers.ensures receiver) in
     let granted = target_tells test Control _ c.waiting-takers.result takers l (is_in c.targets-granted.result l) (c.targets-granted.ensures l) in
+    let lent = told_as (is_in c.row_among-lent.result l) (c.row_among-lent.ensures l)
+    (λ w. (w.0, (c.self.invariant.lenders actor).0 w.1)) (λ h. (h.0, (c.self.invariant.lenders actor).1 h.1)) in
     subst (λ (w : WaysOf). (is_in c.union.result l ≡ true) ↔ HasLetter by_other (reach_by w.edges w.actors) actor l) c.self.view_is
     (told_as (is_in c.union.result l)
-    (either (is_in c.union.result l) (is_in c.union-contexts.result l) (is_in c.targets-granted.result l) (either (is_in c.union-contexts.result l) (is_in c.union-own.result l) (is_in c.contexts.result l) (either (is_in c.union-own.result l) (is_in c.union-taken.result l) (is_in c.row-write.result l) (either (is_in c.union-taken.result l) (is_in c.row-control.result l) (is_in c.row-poll.result l) (control l) (poll l) (c.union-taken.ensures l)) (write l) (c.union-own.ensures l)) (c.contexts.ensures l) (c.union-contexts.ensures l)) granted (c.union.ensures l))
+    (either (is_in c.union.result l) (is_in c.union-moved.result l) (is_in c.targets-granted.result l) (either (is_in c.union-moved.result l) (is_in c.union-used.result l) (is_in c.row_among-lent.result l) (either (is_in c.union-used.result l) (is_in c.union-own.result l) (is_in c.contexts.result l) (either (is_in c.union-own.result l) (is_in c.union-taken.result l) (is_in c.row-write.result l) (either (is_in c.union-taken.result l) (is_in c.row-control.result l) (is_in c.row-poll.result l) (control l) (poll l) (c.union-taken.ensures l)) (write l) (c.union-own.ensures l)) (c.contexts.ensures l) (c.union-used.ensures l)) lent (c.union-moved.ensures l)) granted (c.union.ensures l))
     (λ w. let way = other_to test acts actor l w in (record { actor = is_actor; way = way.0 }, way.1))
     (λ has. other_from test acts actor l has.0.way has.1))
