@@ -14,17 +14,17 @@ ENTITIES = {"lt": "<", "gt": ">", "amp": "&", "quot": '"', "apos": "'"}
 
 # Which attributes an element has within another, and of which form; `!` stands where one is required.
 TIMES = "priority=number budget=number period=number"
-DOMAIN = f"name!text {TIMES} passive=flag stack_size=number smc=flag cpu=number fpu=flag pp=flag"
+DOMAIN = f"name!name {TIMES} passive=flag stack_size=number smc=flag cpu=number fpu=flag pp=flag"
 MAP = "mr!text vaddr!number perms=rights cached=flag setvar_vaddr=text setvar_size=text setvar_prefill_size=text"
 ATTRIBUTES_OF = {
     "/system": "",
-    "system/memory_region": "name!text size!number page_size=page phys_addr=number",
+    "system/memory_region": "name!name size!number page_size=page phys_addr=number",
     "system/protection_domain": DOMAIN, "protection_domain/protection_domain": f"id!number setvar_id=text {DOMAIN}",
     "protection_domain/program_image": "path!text", "protection_domain/map": MAP, "virtual_machine/map": MAP,
     "protection_domain/irq": "irq!number id!number trigger=trigger setvar_id=text",
     "protection_domain/ioport": "id!number addr!number size!number setvar_id=text setvar_addr=text",
     "protection_domain/setvar": "symbol!text region_paddr!text",
-    "protection_domain/virtual_machine": f"name!text {TIMES} id=number",
+    "protection_domain/virtual_machine": f"name!name {TIMES} id=number",
     "virtual_machine/vcpu": "id!number setvar_id=text cpu=number",
     "system/channel": "", "channel/end": "pd!text id!number pp=flag notify=flag setvar_id=text",
 }
@@ -159,7 +159,7 @@ def elements(text):
 
 
 NUMBER = "_*[0-9][0-9_]*|0x_*[0-9a-fA-F][0-9a-fA-F_]*"
-FORMS = {"text": ".*", "number": NUMBER, "page": NUMBER, "flag": "true|false", "trigger": "level|edge", "rights": "(?=.*r)[rwx]+|x+"}
+FORMS = {"text": ".*", "name": ".+", "number": NUMBER, "page": NUMBER, "flag": "true|false", "trigger": "level|edge", "rights": "(?=.*r)[rwx]+|x+"}
 
 
 def value_of(form, value):
@@ -279,10 +279,10 @@ def read_end(d, node, line, says):
     if len(d.begun.ends) == 2:
         first, second = d.begun.ends
         for own, other in [(first, second), (second, first)]:
-            own.calls = own.calls or bool(d.domains[other.domain].serves)
-        for own, other in [(first, second), (second, first)]:
-            unless(55, d.begun.line, not (first.calls and second.calls))
-            unless(55, d.begun.line, not own.calls or d.domains[own.domain].priority < d.domains[other.domain].priority)
+            below = d.domains[own.domain].priority < d.domains[other.domain].priority
+            unless(55, d.begun.line, below or not own.calls)
+            own.calls = own.calls or below and bool(d.domains[other.domain].serves)
+        unless(55, d.begun.line, not (first.calls and second.calls))
         d.channels.append((first, second))
         d.begun = None
     d.ids.add((domain, says.id))

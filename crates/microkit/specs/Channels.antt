@@ -34,7 +34,7 @@ end_fits ids domains domain node = do
   _ ← free_at node.line ids (id_in domain node)
   if is_mixed node domains then Err (fault_at node.line WrongKind) else Ok tt
 
--- whether the domain of this number says that others may call it
+-- whether the domain of this number says that those of lower priority may call it
 unfoldable pub serves : List Domain → ℕ → Bool
 serves domains number = option_map_or (λ (domain : Domain). unwrap_or domain.serves false) (slice_get domains number) false
 
@@ -42,14 +42,18 @@ serves domains number = option_map_or (λ (domain : Domain). unwrap_or domain.se
 unfoldable pub priority_of : List Domain → ℕ → ℕ
 priority_of domains number = option_map_or (λ (domain : Domain). domain.schedule.priority) (slice_get domains number) 0
 
--- an end, which may call also where the domain of the other end says so
+-- whether the domain of an end has a lower priority than that of the other end
+unfoldable pub is_below : List Domain → End → End → Bool
+is_below domains end other = nat_lt (priority_of domains end.id.domain) (priority_of domains other.id.domain)
+
+-- an end, which may call also where the domain of the other end says that those of lower priority may call it, and its own is one of these
 unfoldable pub calling : List Domain → End → End → End
-calling domains end other = record end { may_call = end.may_call || serves domains other.id.domain }
+calling domains end other =
+    record end { may_call = end.may_call || (serves domains other.id.domain && is_below domains end other) }
 
 -- an end may call nobody, or a domain of a higher priority
 unfoldable pub calls_upwards : List Domain → End → End → Bool
-calls_upwards domains end other =
-    not end.may_call || nat_lt (priority_of domains end.id.domain) (priority_of domains other.id.domain)
+calls_upwards domains end other = not end.may_call || is_below domains end other
 
 -- two ends go together: not both may call, and each only upwards
 unfoldable pub go_together : List Domain → Channel → Bool

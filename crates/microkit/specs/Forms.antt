@@ -31,9 +31,15 @@ unfoldable pub is_rights : List ℕ → Bool
 is_rights [] = false
 is_rights (b ∷ bs) = list_all is_right (b ∷ bs) && (not (has_byte 119 (b ∷ bs)) || has_byte 114 (b ∷ bs))
 
+-- a name has a letter at least
+unfoldable pub is_name : List ℕ → Bool
+is_name [] = false
+is_name (b ∷ bs) = true
+
 -- a value has this form
 unfoldable pub has_form : Form → List ℕ → Bool
 has_form form.Text value = true
+has_form form.Name value = is_name value
 has_form form.Number value = is_some (number_of value)
 has_form form.Flag value = is_some (flag_of value)
 has_form form.PageSize value = is_page_size (number_of value)
@@ -62,13 +68,13 @@ map_rules =
 -- machine has one processor, of the id that it may have itself.
 unfoldable pub rules_of : Kind → List Rule
 rules_of kind.Region =
-    required (codes "name") form.Text
+    required (codes "name") form.Name
     ∷ required (codes "size") form.Number
     ∷ optional (codes "page_size") form.PageSize
     ∷ optional (codes "phys_addr") form.Number
     ∷ []
 rules_of kind.Domain =
-    required (codes "name") form.Text
+    required (codes "name") form.Name
     ∷ optional (codes "priority") form.Number
     ∷ optional (codes "budget") form.Number
     ∷ optional (codes "period") form.Number
@@ -82,7 +88,7 @@ rules_of kind.Domain =
 rules_of kind.Child =
     required (codes "id") form.Number
     ∷ optional (codes "setvar_id") form.Text
-    ∷ required (codes "name") form.Text
+    ∷ required (codes "name") form.Name
     ∷ optional (codes "priority") form.Number
     ∷ optional (codes "budget") form.Number
     ∷ optional (codes "period") form.Number
@@ -111,7 +117,7 @@ rules_of kind.Port =
     ∷ []
 rules_of kind.Variable = required (codes "symbol") form.Text ∷ required (codes "region_paddr") form.Text ∷ []
 rules_of kind.Machine =
-    required (codes "name") form.Text
+    required (codes "name") form.Name
     ∷ optional (codes "priority") form.Number
     ∷ optional (codes "budget") form.Number
     ∷ optional (codes "period") form.Number

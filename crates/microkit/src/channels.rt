@@ -3,7 +3,7 @@ ghost use Rattle.std.specs.{List.{list_any, position}, Prelude.{◌≡◌, is_so
 ghost use Rattle.words.specs.Reading.{Gives, Reads};
 ghost use Rattle.xml.specs.View.{node_of};
 ghost use Rattle.microkit.specs.Channels.{calling, calls_upwards, channel_at, channel_part_at, domain_number};
-ghost use Rattle.microkit.specs.Channels.{end_added, end_at, end_fits, end_in, go_together, is_mixed, joined_at};
+ghost use Rattle.microkit.specs.Channels.{end_added, end_at, end_fits, end_in, go_together, is_below, is_mixed, joined_at};
 ghost use Rattle.microkit.specs.{Channels.{priority_of, serves, whole_at}, Draft.Draft, View.{domain_of, domains_of}};
 
 use crate::attributes::{flag_in, flag_or, name_in};
@@ -170,7 +170,7 @@ fn calling(domains: &[Domain], end: End, other: End) -> End
     ensures { result ≡ calling (domains_of domains.now) end other }
 {
     End {
-        may_call: end.may_call || serves(domains, other.id.domain),
+        may_call: end.may_call || serves(domains, other.id.domain) && is_below(domains, end, other),
         ..end
     }
 }
@@ -188,7 +188,15 @@ fn go_together(domains: &[Domain], channel: Channel) -> bool
 fn calls_upwards(domains: &[Domain], end: End, other: End) -> bool
     ensures { result ≡ calls_upwards (domains_of domains.now) end other }
 {
-    !end.may_call || priority_of(domains, end.id.domain) < priority_of(domains, other.id.domain)
+    !end.may_call || is_below(domains, end, other)
+}
+
+// Whether the domain of an end has a lower priority than that of the other end.
+#[tactic(auto, unfolding(crate::specs::Channels::is_below))]
+fn is_below(domains: &[Domain], end: End, other: End) -> bool
+    ensures { result ≡ is_below (domains_of domains.now) end other }
+{
+    priority_of(domains, end.id.domain) < priority_of(domains, other.id.domain)
 }
 
 #[tactic(auto, using(crate::proofs::Items::get_seen), unfolding(crate::specs::Channels::serves))]

@@ -81,7 +81,7 @@ pub struct Domain {
     pub passive: bool,
     /// Whether it may make secure monitor calls.
     pub smc: bool,
-    /// Whether others may call it, where the description has the form of version 1.2.
+    /// Whether domains of lower priority may call it, where the description has the form of version 1.2.
     pub serves: Option<bool>,
     pub line: u64,
 }

@@ -2,7 +2,7 @@
 ghost use Rattle.std.specs.{List.{list_all, list_any}, Prelude.{◌&&◌, ◌≡◌, codes, map}, Str.bytes_eq};
 ghost use Rattle.xml.specs.{Tag.is_given, View.{node_of, pair_of, pairs_of}};
 ghost use Rattle.microkit.specs.{FormView.rule_of, Forms.{follows, form_at, has_byte, has_form, is_formed, is_met}};
-ghost use Rattle.microkit.specs.Forms.{is_page_size, is_right, is_rights, is_within};
+ghost use Rattle.microkit.specs.Forms.{is_name, is_page_size, is_right, is_rights, is_within};
 
 use crate::attributes::number_or;
 use crate::kinds::Kind;
@@ -122,11 +122,22 @@ pub fn has_form(form: Form, value: &[u8]) -> bool
 {
     match form {
         Form::Text => true,
+        Form::Name => is_name(value),
         Form::Number => number_of(value).is_some(),
         Form::Flag => flag_of(value).is_some(),
         Form::PageSize => is_page_size(number_of(value)),
         Form::Rights => is_rights(value),
         Form::Trigger => value == b"level".as_slice() || value == b"edge".as_slice(),
+    }
+}
+
+#[tactic(auto, unfolding(crate::specs::Forms::is_name))]
+fn is_name(value: &[u8]) -> bool
+    ensures { result ≡ is_name value.now }
+{
+    match value {
+        [] => false,
+        [_, ..] => true,
     }
 }
 

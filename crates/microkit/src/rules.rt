@@ -10,6 +10,8 @@ use crate::kinds::Kind;
 pub enum Form {
     /// Any text.
     Text,
+    /// Any text that isn't empty.
+    Name,
     /// A number below 2 ^ 64, in decimal, or in hexadecimal after `0x`; `_` may stand anywhere among the digits.
     Number,
     /// `true` or `false`.
@@ -55,14 +57,14 @@ pub fn rules_of(kind: Kind) -> &'static [Rule]
 }
 
 const REGION: [Rule; 4] = [
-    Rule("name", Form::Text, Need::Required),
+    Rule("name", Form::Name, Need::Required),
     Rule("size", Form::Number, Need::Required),
     Rule("page_size", Form::PageSize, Need::Optional),
     Rule("phys_addr", Form::Number, Need::Optional),
 ];
 
 const DOMAIN: [Rule; 10] = [
-    Rule("name", Form::Text, Need::Required),
+    Rule("name", Form::Name, Need::Required),
     Rule("priority", Form::Number, Need::Optional),
     Rule("budget", Form::Number, Need::Optional),
     Rule("period", Form::Number, Need::Optional),
@@ -78,7 +80,7 @@ const DOMAIN: [Rule; 10] = [
 const CHILD: [Rule; 12] = [
     Rule("id", Form::Number, Need::Required),
     Rule("setvar_id", Form::Text, Need::Optional),
-    Rule("name", Form::Text, Need::Required),
+    Rule("name", Form::Name, Need::Required),
     Rule("priority", Form::Number, Need::Optional),
     Rule("budget", Form::Number, Need::Optional),
     Rule("period", Form::Number, Need::Optional),
@@ -124,7 +126,7 @@ const VARIABLE: [Rule; 2] = [
 
 // Before version 1.4 a virtual machine has one processor, of this id.
 const MACHINE: [Rule; 5] = [
-    Rule("name", Form::Text, Need::Required),
+    Rule("name", Form::Name, Need::Required),
     Rule("priority", Form::Number, Need::Optional),
     Rule("budget", Form::Number, Need::Optional),
     Rule("period", Form::Number, Need::Optional),

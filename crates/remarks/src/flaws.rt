@@ -27,8 +27,8 @@ pub(crate) enum Flaw<'a> {
     Interrupt(u64),
     /// A domain has another virtual machine, in this line.
     SecondMachine(u64),
-    /// The size of a region isn't made of whole pages.
-    Pages,
+    /// The size of a region isn't made of whole pages; this number of hexadecimal digits would be, with 0x before them.
+    Pages(Option<&'a [u8]>),
     /// An address doesn't begin a page, or the region goes beyond the last address.
     Address,
     /// A region has bytes of another one, in this line.
@@ -46,7 +46,7 @@ pub(crate) enum Flaw<'a> {
     /// Both ends of a channel may call.
     BothCall,
     /// An end calls a domain that hasn't a higher priority.
-    Priority,
+    Priority(Ranked<'a>, Ranked<'a>),
     /// A number is larger than this.
     Large(&'static str, u64),
     /// A time that is no number of microseconds within the limits.
@@ -57,6 +57,13 @@ pub(crate) enum Flaw<'a> {
     Table,
     /// None of these.
     Other(u64),
+}
+
+/// A domain, by its name, with its priority.
+#[derive(Clone, Copy)]
+pub(crate) struct Ranked<'a> {
+    pub name: &'a [u8],
+    pub priority: u64,
 }
 
 impl fmt::Display for Flaw<'_> {
@@ -84,12 +91,27 @@ impl fmt::Display for Flaw<'_> {
                 "this domain already has a virtual machine, in line {line}"
             ),
             Flaw::Overlap(line) => write!(f, "this region overlaps the region in line {line}"),
+            Flaw::Pages(None) => f.write_str(PAGES),
+            Flaw::Pages(Some(digits)) => {
+                write!(f, "{PAGES}: meant 0x{}?", Shown { bytes: digits })
+            }
+            Flaw::Priority(caller, server) => {
+                let (lower, higher) = (caller.priority, server.priority);
+                let (caller, server) = (Shown { bytes: caller.name }, Shown { bytes: server.name });
+                write!(
+                    f,
+                    "`{caller}` has priority {lower}, and `{server}` has {higher}: an end with pp may only call a domain \
+                     of a higher priority"
+                )
+            }
             Flaw::Large(name, most) => write!(f, "{name} must be at most {most}"),
             Flaw::Time(name) => write!(f, "{name} must be 1 to {MAX_PERIOD} microseconds"),
             flaw => f.write_str(plain(flaw)),
         }
     }
 }
+
+const PAGES: &str = "its size must be a multiple of the page size";
 
 // Which attributes there are.
 fn tell_attribute<W: fmt::Write>(
@@ -123,6 +145,7 @@ fn tell_element<W: fmt::Write>(
 fn form_words(form: Form) -> &'static str {
     match form {
         Form::Text => "a text",
+        Form::Name => "a text that isn't empty",
         Form::Number => "a number below 2^64, in decimal, or in hexadecimal after 0x",
         Form::Flag => "true or false",
         Form::PageSize => "0x1000 or 0x200000",
@@ -134,7 +157,6 @@ fn form_words(form: Form) -> &'static str {
 // A sentence without words of its own.
 fn plain(flaw: Flaw<'_>) -> &'static str {
     match flaw {
-        Flaw::Pages => "its size must be a multiple of the page size",
         Flaw::Address =>
             "its address must be a multiple of the page size, and its end must be below 2^64",
         Flaw::Budget => "its budget is more than its period",
@@ -144,7 +166,6 @@ fn plain(flaw: Flaw<'_>) -> &'static str {
         Flaw::ThirdEnd => "a channel has two ends",
         Flaw::Ends => "it has fewer than two ends",
         Flaw::BothCall => "only one end may have pp",
-        Flaw::Priority => "an end with pp may only call a domain of a higher priority",
         Flaw::Domains => "there are more than 63 protection domains",
         Flaw::Table =>
             "its table exceeds a limit here: 256 labels, cores 0 to 15, times of 1 to 3600000000 \

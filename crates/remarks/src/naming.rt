@@ -1,6 +1,6 @@
 //! Names that aren't known, what is given twice, and what doesn't go together.
 use crate::elements::Place;
-use crate::flaws::Flaw;
+use crate::flaws::{Flaw, Ranked};
 use microkit::number_of;
 
 /// An attribute with what is wrong with it, or what is wrong with the element.
@@ -102,7 +102,7 @@ fn region_flaw<'a>(place: Place<'a, '_>) -> Option<Found<'a>> {
         return None;
     }
     if size % page != 0 {
-        return Some((Some(b"size"), Flaw::Pages));
+        return Some((Some(b"size"), Flaw::Pages(meant_digits(place, page))));
     }
     let address = number_of(place.value("phys_addr")?)?;
     if address % page != 0 || address.checked_add(size).is_none() {
@@ -118,6 +118,29 @@ fn region_flaw<'a>(place: Place<'a, '_>) -> Option<Found<'a>> {
         }
     }
     None
+}
+
+// The digits of a decimal size that would be whole pages in hexadecimal.
+fn meant_digits<'a>(place: Place<'a, '_>, page: u64) -> Option<&'a [u8]> {
+    let digits = place.value("size")?;
+    let meant = hexadecimal_of(digits)?;
+    if page != 0 && meant % page == 0 {
+        Some(digits)
+    } else {
+        None
+    }
+}
+
+// The number that these digits are in hexadecimal.
+fn hexadecimal_of(digits: &[u8]) -> Option<u64> {
+    let mut number: u64 = 0;
+    for byte in digits {
+        if *byte != b'_' {
+            let digit = (*byte as char).to_digit(16)?;
+            number = number.checked_mul(16)?.checked_add(u64::from(digit))?;
+        }
+    }
+    Some(number)
 }
 
 // Whether memory has bytes of a region at a fixed address.
@@ -143,7 +166,7 @@ fn end_flaw<'a>(place: Place<'a, '_>) -> Option<Found<'a>> {
 }
 
 // What is wrong with a channel that has its ends, or lacks one.
-fn channel_flaw(place: Place<'_, '_>) -> Flaw<'static> {
+fn channel_flaw<'a>(place: Place<'a, '_>) -> Flaw<'a> {
     let ends = [
         Place {
             elements: place.elements,
@@ -157,10 +180,25 @@ fn channel_flaw(place: Place<'_, '_>) -> Flaw<'static> {
     if !ends[0].is_named("end") || !ends[1].is_named("end") {
         return Flaw::Ends;
     }
-    if ends[0].value("pp") == Some(b"true") && ends[1].value("pp") == Some(b"true") {
-        return Flaw::BothCall;
+    match (is_calling(ends[0]), is_calling(ends[1])) {
+        (true, true) => Flaw::BothCall,
+        (true, false) => Flaw::Priority(ranked(ends[0]), ranked(ends[1])),
+        _ => Flaw::Priority(ranked(ends[1]), ranked(ends[0])),
     }
-    Flaw::Priority
+}
+
+fn is_calling(end: Place<'_, '_>) -> bool {
+    end.value("pp") == Some(b"true")
+}
+
+// The domain of an end, with its priority.
+fn ranked<'a>(end: Place<'a, '_>) -> Ranked<'a> {
+    let name = end.value("pd").unwrap_or(b"");
+    let priority = match named(end, "protection_domain", name) {
+        Some(domain) => number(domain, "priority", 0),
+        None => 0,
+    };
+    Ranked { name, priority }
 }
 
 fn number(place: Place<'_, '_>, name: &str, default: u64) -> u64 {

@@ -3,7 +3,7 @@ use base::Label;
 use captext::label_name;
 use forms::Shown;
 use importing::labelled_of;
-use microkit::{Description, Map, Region, Subject, subjects_of};
+use microkit::{Description, End, Map, Region, Subject, subjects_of};
 use std::alloc::{AllocError, Global};
 use std::fmt;
 use table::Table;
@@ -37,6 +37,10 @@ pub enum Matter<'a> {
     Faults(&'a [u8]),
     /// A domain that runs on the contexts of its callers.
     Passive(&'a [u8]),
+    /// A domain that may call another one, which has `pp`, since it has the lower priority.
+    Caller(&'a [u8], &'a [u8]),
+    /// A domain that can't call another one, which has `pp`, since it hasn't the lower priority.
+    NoCaller(&'a [u8], &'a [u8]),
     /// A region of a device.
     Device(&'a [u8]),
     /// A name that was changed, and the label that it became.
@@ -66,6 +70,7 @@ pub fn notes_of<'a>(
     add_regions(&mut notes, description)?;
     add_domains(&mut notes, description)?;
     add_devices(&mut notes, description)?;
+    add_callers(&mut notes, description)?;
     notes.sort_by_key(|note| note.line)?;
     Ok(notes)
 }
@@ -130,6 +135,20 @@ impl fmt::Display for Note<'_> {
                     f,
                     "`{domain}` is passive: it is bound to the context on which it runs `init`, and loses that context \
                      after `init`"
+                )
+            }
+            Matter::Caller(caller, server) => {
+                let (caller, server) = (Shown { bytes: caller }, Shown { bytes: server });
+                write!(
+                    f,
+                    "`{caller}` may call `{server}`: `{server}` has `pp`, and the priority of `{caller}` is lower"
+                )
+            }
+            Matter::NoCaller(caller, server) => {
+                let (caller, server) = (Shown { bytes: caller }, Shown { bytes: server });
+                write!(
+                    f,
+                    "`{caller}` can't call `{server}`: `{server}` has `pp`, but the priority of `{caller}` isn't lower"
                 )
             }
             Matter::Device(region) => {
@@ -278,6 +297,41 @@ fn add_devices<'a>(
         add_note(notes, processor.line, matter)?;
     }
     Ok(())
+}
+
+// Adds who may call whom, and who can't, in channels of domains that have `pp`.
+fn add_callers<'a>(
+    notes: &mut Vec<Note<'a>>,
+    description: &'a Description,
+) -> Result<(), AllocError> {
+    for channel in &description.channels {
+        add_caller(notes, description, channel.first, channel.second)?;
+        add_caller(notes, description, channel.second, channel.first)?;
+    }
+    Ok(())
+}
+
+// Adds whether the domain of an end may call that of the other one, if the latter has `pp`.
+fn add_caller<'a>(
+    notes: &mut Vec<Note<'a>>,
+    description: &'a Description,
+    end: End,
+    other: End,
+) -> Result<(), AllocError> {
+    let serves = match description.domains.get(other.id.domain) {
+        Some(domain) => domain.serves.unwrap_or(false),
+        None => false,
+    };
+    if !serves {
+        return Ok(());
+    }
+    let caller = domain_name(description, end.id.domain);
+    let server = domain_name(description, other.id.domain);
+    if end.may_call {
+        add_note(notes, end.line, Matter::Caller(caller, server))
+    } else {
+        add_note(notes, end.line, Matter::NoCaller(caller, server))
+    }
 }
 
 fn domain_name(description: &Description, number: usize) -> &[u8] {
