@@ -50,8 +50,8 @@ pub record UnsafeWithout (rule : Rule) : Type 0 where
   pub confined : (boot : Machine) → IsBoot t boot → IsConfined t (allows edges) boot
   pub unsafe : ¬ HoldsHeadline t (allows edges)
 
--- a lawful table and a policy that obeys every sharp rule but one, where those keep that may; the table's boot state is confined, and
--- the headline doesn't hold
+-- a lawful table and a policy that obeys every sharp rule but one, where the keepers are the labels that may keep; the table's boot state
+-- is confined, and the headline doesn't hold
 pub record SharplyUnsafeWithout (rule : Rule) : Type 0 where
   pub t : Layout
   pub edges : List Edge

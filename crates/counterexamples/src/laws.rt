@@ -170,11 +170,12 @@ pub fn safety_needs_lenders_to_share()
     ensures { UnsafeWithout lent_runs }
 {}
 
-/// A law: safety over the sharp rules needs each of them but S4, which asks for what the others ask for.
+/// A law: safety needs each sharp rule except S4, which follows from others.
 ///
-/// For each other rule there is a system that obeys all others of the sharp rules, where those keep
-/// that may, and whose boot state is confined, and which isn't safe. Of the first rule that is so
-/// for the half by which uses rise, and of the fifth for each of its parts.
+/// For each of the rules S1 to S3 and S5 to S8 there is a system that isn't safe, though its policy
+/// obeys all other sharp rules and its boot state is confined. The keepers are the labels that may
+/// keep. There is one for S1 that obeys the second half of S1, by which uses fall. There is one for
+/// each half of S5 that obeys the other half.
 pub fn sharp_safety_needs_each_rule()
     ensures each { (rule : Rule) → rule ≢ derive_in_domain → SharplyUnsafeWithout rule }
     ensures rise { (system : SharplyUnsafeWithout subjects_agree)
@@ -184,10 +185,10 @@ pub fn sharp_safety_needs_each_rule()
         × GrantsDerive (allows system.edges) (MayKeep system.t (allows system.edges)) }
 {}
 
-/// A law: S4 follows from S2 and S5, and the second half of S1 from what it says of control, S2 and S3.
+/// A law: S4 follows from S2 and S5, and the second half of S1 from its part for control, S2 and S3.
 ///
-/// This is so for each policy and whichever labels keep, if those keep whom a label that keeps
-/// controls.
+/// This is so for each policy and each test of keepers. For the half of S1, the test must hold of
+/// each label that a keeper controls.
 pub fn sharp_rules_that_follow()
     ensures derive { (test : EdgeTest) (keeps : KeeperTest)
         → KeepersHaveAll test (Told keeps)

@@ -1,6 +1,6 @@
--- What a capability table can come to: the least sharply closed policy that has all authority of the boot state, with the labels that may
--- keep capabilities for CNodes, those that may idle, and those whose threads make calls (confine's own; compare the policies that have all authority of an initial state
--- in 'seL4 Enforces Integrity', section 3).
+-- The reach of a capability table: the least sharply closed policy that has all authority of the boot state, with the labels that may keep
+-- capabilities for CNodes, those that may idle, and those whose threads make calls (confine's own; compare the policies that have all
+-- authority of an initial state in 'seL4 Enforces Integrity', section 3).
 use Rattle.std.specs.Prelude.{ℕ, ◌↔◌, ◌≡◌, List, true}
 use Rattle.base.specs.{declared.{edge.Edge.Edge, labels.Labels.Labels}, Labels.is_in}
 use Rattle.machine.specs.{Boot.IsBoot, Layout.Layout, Machine.Machine}

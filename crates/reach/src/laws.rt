@@ -1,4 +1,4 @@
-//! Laws about what a table can come to.
+//! Laws about the reach of a table.
 ghost use Rattle.std.specs.Prelude.{ℕ, ◌≡◌, List};
 ghost use Rattle.base.specs.declared.{edge.Edge.Edge, kind.Kind.Kind};
 ghost use Rattle.machine.specs.Layout.{Layout};
@@ -10,10 +10,10 @@ ghost use Rattle.reach.specs.Reach.{HasBootAuthority, IsReach};
 
 use integrity::{bounded_systems_keep_labels_apart, sharply_confined_systems_are_safe};
 
-/// A law: every run of a table stays within what the table can come to, and that needs no policy.
+/// A law: every run of a table is safe by the reach of the table, and that needs no other policy.
 ///
-/// It lies within each closed policy that has all authority of the boot state, so within each policy
-/// by which the table is accepted. It is one for a table, as far as its edges go.
+/// The reach lies within each closed policy that has all authority of the boot state, so within each
+/// policy by which the table is accepted. A table has only one reach: two have the same edges.
 pub fn runs_stay_in_reach()
     ensures safe { (t : Layout) (edges : List Edge)
         → IsLawful t
@@ -32,7 +32,7 @@ pub fn runs_stay_in_reach()
     sharply_confined_systems_are_safe();
 }
 
-/// A law: in every run of a table, threads of a label change only what they may by what the table can come to.
+/// A law: in every run of a table, threads of a label change only what they may change by the reach of the table.
 ///
 /// No step of theirs changes, makes or removes an object of a label that they may not change and may
 /// not make smaller. Where they may not change it, each object stays as it is, or shrinks. This is so

@@ -1,4 +1,4 @@
-//! What a table can come to.
+//! The reach of a table.
 ghost use Rattle.std.specs.Prelude.{ℕ, ◌↔◌, ◌≡◌, IfErr, IfOk, false, true};
 ghost use Rattle.base.specs.{Labels.is_in, Refusals.out_of_memory};
 ghost use Rattle.policy.specs.{ActorReasons.IsWhyAmong, Change.MayChange, NarrowTake.MayShrink, Policy.allows, Sharp.MayIdle};
@@ -17,10 +17,10 @@ use std::alloc::Global;
 use std::marker::Model;
 use table::Table;
 
-/// What a capability table can come to, whatever calls its threads make.
+/// The reach of a capability table: no run leaves it, whatever calls the threads make.
 ///
 /// It is the least sharply closed policy that has all authority of the boot state. So it lies within
-/// each closed policy that has this authority.
+/// each closed policy that has this authority. It may have edges that no run has.
 #[derive(Drop)]
 pub struct Reach<'a> {
     table: &'a Table,
@@ -53,7 +53,7 @@ impl<'a> Model for Reach<'a> {
 }
 
 impl<'a> Reach<'a> {
-    /// Returns what a table can come to.
+    /// Returns the reach of a table.
     ///
     /// # Errors
     ///
@@ -84,7 +84,7 @@ impl<'a> Reach<'a> {
         self.table
     }
 
-    /// Returns the policy: each edge that a run may come to.
+    /// Returns the policy, which has each edge of authority of every state of a run.
     pub fn policy(&self) -> &Policy
         ensures policy { result.now ≡ self.now.policy }
         ensures reach { IsTableReach self.now }
@@ -100,7 +100,7 @@ impl<'a> Reach<'a> {
         self.keepers
     }
 
-    /// Returns the labels of which a thread may come to wait for a message without a context.
+    /// Returns the labels of which a thread may wait for a message without a context.
     pub fn idlers(&self) -> Labels
         ensures idlers { result ≡ self.now.idlers }
         ensures idle { (b : ℕ) → (is_in result b ≡ true) ↔ MayIdle (allows self.now.policy) b }
@@ -120,8 +120,8 @@ impl<'a> Reach<'a> {
 
     /// Returns the labels whose objects threads of the label `actor` may change.
     ///
-    /// In no run does a step of theirs change an object of another label, but for one that it makes
-    /// smaller.
+    /// In no run does a step of such a thread change an object of a label that isn't among these, unless
+    /// the object only shrinks.
     pub fn changed_by(&self, actor: Label) -> Labels
         ensures changed { (l : ℕ) → (is_in result l ≡ true)
             ↔ MayChange (allows self.now.policy) (is_in self.now.actors) actor l }
@@ -133,8 +133,8 @@ impl<'a> Reach<'a> {
 
     /// Returns the labels whose objects may shrink by what threads of the label `actor` do.
     ///
-    /// In no run does a step of theirs make an object of another label smaller, unless they may change
-    /// it.
+    /// In no run does a step of such a thread change an object of a label that isn't among these, unless
+    /// the label is one of [`Reach::changed_by`].
     pub fn shrunk_by(&self, actor: Label) -> Labels
         ensures shrunk { (l : ℕ) → (is_in result l ≡ true)
             ↔ MayShrink (allows self.now.policy) (is_in self.now.actors) actor l }

@@ -1,4 +1,4 @@
-//! What a capability table can come to: the least sharply closed policy that has all authority of its boot state.
+//! The reach of a capability table: the least sharply closed policy that has all authority of its boot state.
 //!
 //! `verdict` stands on it. It knows no code of the kernel, and decides nothing.
 #![tactic(auto)]

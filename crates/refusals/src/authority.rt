@@ -34,7 +34,7 @@ pub fn lists_edges_of_a_slot<R: AllocGlobal>(rt: &R, table: &Table) -> Result<()
     }
 }
 
-/// Finds what the table can come to, and once more if memory was refused.
+/// Finds the reach of the table, and once more if memory was refused.
 ///
 /// # Errors
 ///

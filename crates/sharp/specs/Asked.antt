@@ -17,7 +17,7 @@ pub data IsSharplyGiven (test : EdgeTest) (Keeps : Keepers) (Shares : ℕ → Ty
       → IsSharplyGiven test Keeps Shares from kind to
   controlled : Keeps from → ControlGives test from kind to → IsSharplyGiven test Keeps Shares from kind to
 
--- where a label may put capabilities that it finds (S4) or is granted (S5) derives from where they are found, and derive goes on (S5)
+-- a keeper that controls the child finds capabilities of the parent (S4), or is granted them (S5); or two derive edges lead there (S5)
 pub data DerivesSharply (test : EdgeTest) (Keeps : Keepers) (parent child : ℕ) : Type 0 where
   put : (a : ℕ) → IsInDomain test a parent → MayPut test Keeps a child → DerivesSharply test Keeps parent child
   granted : (giver taker : ℕ) → MayBeGranted test giver taker → IsInDomain test giver parent → MayPut test Keeps taker child

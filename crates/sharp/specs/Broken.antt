@@ -56,7 +56,7 @@ pub record PutsInDomain (test : EdgeTest) (Keeps : Keepers) (parent child : ℕ)
   pub of_parent : IsInDomain test subject parent
   pub puts : MayPut test Keeps subject child
 
--- S5: a keeper may put there what it is granted, or derive goes on
+-- S5: a keeper may put there what it is granted, or two derive edges lead there
 pub data PutsByGrant (test : EdgeTest) (Keeps : Keepers) (parent child : ℕ) : Type 0 where
   granted : (giver taker : ℕ) → MayBeGranted test giver taker → IsInDomain test giver parent → MayPut test Keeps taker child
       → PutsByGrant test Keeps parent child

@@ -14,7 +14,7 @@ use rules::{
     subject_lacks,
 };
 
-/// A sharp rule that a policy breaks, and where, if some labels keep capabilities for CNodes.
+/// A sharp rule that a policy breaks, and where, given which labels keep capabilities for CNodes.
 ///
 /// Each names the edge that is missing. They are ordered by rule, and then by what they name, from left to
 /// right.
@@ -48,8 +48,9 @@ pub enum SharpBroken {
         parent: Label,
         child: Label,
     },
-    /// S5: capabilities of `child` may come to be derived from those of `parent`, by a grant to a label
-    /// that keeps or in two steps, and the edge of kind derive is missing.
+    /// S5: a label that keeps and controls `child` may be granted capabilities by a label that has `parent`
+    /// in its domain, or two edges of kind derive lead from `parent` to `child`. The edge of kind derive is
+    /// missing.
     DeriveLacks {
         parent: Label,
         child: Label,
@@ -60,8 +61,8 @@ pub enum SharpBroken {
         subject: Label,
         context: Label,
     },
-    /// S7: a reply object of the label `reply` may come to hold a thread of the label `thread`, and the
-    /// edge of kind holds is missing.
+    /// S7: `thread` may receive with a reply object of the label `reply`, or may call where a label receives
+    /// that may do so, and the edge of kind holds is missing.
     ReplyLacks {
         reply: Label,
         thread: Label,

@@ -12,8 +12,8 @@ use std::alloc::Global;
 
 /// Returns the least sharply closed policy that has the edges of a policy, and these.
 ///
-/// Of the labels, those of `held` keep capabilities for CNodes at first. Every sharply closed policy that
-/// has the edges has all of its edges.
+/// The labels of `held` hold capabilities for CNodes at boot, and a policy's keepers are those that
+/// [`keepers`] gives by it. Every sharply closed policy that has these edges has all edges of the result.
 ///
 /// # Errors
 ///

@@ -1,4 +1,4 @@
-//! Which labels keep capabilities for CNodes, and which may come to wait without a context.
+//! Which labels keep capabilities for CNodes, and which may wait for a message without a context.
 ghost use Rattle.std.specs.Prelude.{ℕ, ◌↔◌, ◌≡◌, true};
 ghost use Rattle.base.specs.Labels.{is_in};
 ghost use Rattle.policy.specs.{Policy.allows, Sharp.MayIdle};
@@ -7,10 +7,10 @@ ghost use Rattle.sharp.specs.Keeping.{IsBeside, KeepsFrom};
 use base::{Kind, Labels};
 use policy::Policy;
 
-/// Returns the labels that keep capabilities for CNodes, if at first those of a set do.
+/// Returns the labels that keep capabilities for CNodes by a policy, if the labels of `held` hold some at boot.
 ///
-/// A label keeps them if the CNodes of its capability space are of a label that keeps them, or if
-/// a label that keeps them controls it.
+/// The labels of `held` keep them. So does each label with the edge `space` to a label that keeps them,
+/// and each label to which such a label has the edge `control`. No other label does.
 pub fn keepers(policy: &Policy, held: Labels) -> Labels
     ensures { (a : ℕ) → (is_in result a ≡ true) ↔ KeepsFrom (allows policy.now) (is_in held) a }
 {
@@ -34,9 +34,9 @@ fn beside(policy: &Policy, keeping: Labels) -> Labels
     finding.union(handed).difference(keeping)
 }
 
-/// Returns the labels of which a thread may come to wait without a context.
+/// Returns the labels of which a thread may wait for a message without a context.
 ///
-/// Each may run on a context that some label may take from it.
+/// Each has the edge `runs` to a label to which some label has the edge `context`.
 pub fn idlers(policy: &Policy) -> Labels
     ensures { (b : ℕ) → (is_in result b ≡ true) ↔ MayIdle (allows policy.now) b }
 {

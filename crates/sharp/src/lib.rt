@@ -1,5 +1,5 @@
-//! Sharply closed policies: which labels keep capabilities for CNodes, the first sharp rule that a policy breaks, and the least policy
-//! that the sharp rules allow.
+//! Sharply closed policies: which labels keep capabilities for CNodes, the first sharp rule that a policy breaks, and the least sharply
+//! closed policy that has some edges.
 //!
 //! `reach` stands on it. It knows no objects, no table and no text.
 #![tactic(auto)]
