@@ -163,7 +163,7 @@ A system description, as Microkit 1.x reads it: protection domains, virtual mach
 memory regions, maps and channels, in XML. What it doesn't show is told with `--explain`.
 docs/IMPORT.md says what each element becomes.";
 
-pub const VERSION: &str = "0.17.0";
+pub const VERSION: &str = "0.18.0";
 
 pub const EXPLAIN: &str =
     "Says in sentences, on standard error, what is denied or faulty, and what to do";
@@ -687,10 +687,11 @@ The last command prints who may change whom, as `confine summary --help` explain
 2 client    CS     =
 
 client_time
-    changed by server, client
+    changed and read by nobody
 
 So the client may call and signal, and the server may answer and signal: no other way leads from the
-one to the other. `client_time` is the context on which the client runs, and lends with a call.
+one to the other. `client_time` is the context on which the client runs. No call lends it: the server
+has one of its own.
 
 With `--rights all` a capability has every right of its kind, as the tool mints them. Compare both:
 many answers rest on the rights, which no description shows. The rights that your tool mints are in
