@@ -690,8 +690,8 @@ client_time
     changed and read by nobody
 
 So the client may call and signal, and the server may answer and signal: no other way leads from the
-one to the other. `client_time` is the context on which the client runs. No call lends it: the server
-has one of its own.
+one to the other. `client_time` is the context on which the client runs. No call lends it: the
+server has one of its own.
 
 With `--rights all` a capability has every right of its kind, as the tool mints them. Compare both:
 many answers rest on the rights, which no description shows. The rights that your tool mints are in
