@@ -23,6 +23,8 @@ pub use acting::{
     changes_follow_paths, shrinks_follow_paths, what_may_be_changed_is_within_full_authority,
     what_may_shrink_may_be_cut,
 };
+pub use broken::rules::is_given_by_control;
+pub use broken::steps::{DOMAIN, is_in_domain, may_be_granted, subjects};
 pub use broken::{Broken, first_broken};
 pub use closing::close;
 pub use laws::{

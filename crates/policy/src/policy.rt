@@ -4,7 +4,7 @@ ghost use Rattle.std.specs.Prelude.{SomeIff, max, true, vec_len};
 ghost use Rattle.base.specs.{declared.{edge.Edge.Edge, kind.Kind.Kind}, Labels.is_in, Refusals.out_of_memory};
 ghost use Rattle.base.specs.declared.label.TheConstants.Label as Label;
 ghost use Rattle.policy.specs.Policy.{IsAboveLast, IsRising, JoinsBelow, JoinsLabels, allows, is_edge, last_edge};
-ghost use Rattle.policy.specs.Rows.{edge_at, edge_count, last_with, row_number, row_of};
+ghost use Rattle.policy.specs.{Rows.{edge_at, edge_count, last_with, row_number, row_of}, Settling.Joins};
 
 use base::{Edge, Kind, Label, Labels, Refusal};
 use std::alloc::{AllocError, Global};
@@ -70,6 +70,45 @@ impl Policy {
             set(&mut self.rows, &edge)?;
             self.last = Some(later(self.last, edge));
             self.span = span_with(self.span, &edge);
+        }
+        Ok(())
+    }
+
+    /// Adds each of these edges that isn't there.
+    ///
+    /// # Errors
+    ///
+    /// 40 where memory is refused. Some of the edges may then be added.
+    pub fn extend(&mut self, edges: &[Edge]) -> Result<(), Refusal>
+        ensures added { OnOk result ((from : ℕ) (kind : Kind) (to : ℕ) →
+            allows self.new from kind to ≡ (allows edges.now from kind to || allows self.old from kind to)) }
+        ensures memory { IfErr result (λ refusal. refusal ≡ out_of_memory) }
+    {
+        for edge in edges {
+            self.add(*edge)?;
+        }
+        Ok(())
+    }
+
+    /// Adds the edges of this kind from the label to each label of `to`.
+    ///
+    /// # Errors
+    ///
+    /// 40 where memory is refused. Some of the edges may then be added.
+    pub fn add_row(&mut self, from: Label, kind: Kind, to: Labels) -> Result<(), Refusal>
+        ensures joins { OnOk result (Joins self.old self.new from kind to) }
+        ensures memory { IfErr result (λ refusal. refusal ≡ out_of_memory) }
+    {
+        for number in 0..Label::COUNT {
+            if let Some(label) = Label::new(number) {
+                if to.has(label) {
+                    self.add(Edge {
+                        from,
+                        kind,
+                        to: label,
+                    })?;
+                }
+            }
         }
         Ok(())
     }

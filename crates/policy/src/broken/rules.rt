@@ -65,8 +65,10 @@ pub(crate) fn control_lacks(policy: &Policy, subject: Label) -> Option<Broken>
     })
 }
 
-/// Whether control gives the edge of this kind.
-pub(crate) fn is_given_by_control(kind: Kind) -> bool
+/// Returns whether P2 requires the edge of this kind to each label that a label controls.
+///
+/// It does for [`Kind::Space`], and for each kind that isn't structural but [`Kind::SchedControl`].
+pub fn is_given_by_control(kind: Kind) -> bool
     ensures { IsTrue result ↔ IsGivenByControl kind }
 {
     match kind {

@@ -6,8 +6,8 @@ ghost use Rattle.policy.specs.{Closed.MayBeGranted, Domain.IsInDomain, Policy.al
 use crate::Policy;
 use base::{Kind, Label, Labels};
 
-// The kinds of edge from a label to those in its domain.
-const DOMAIN: [Kind; 2] = [Kind::Space, Kind::Control];
+/// The kinds of edge from a label to those in its domain.
+pub const DOMAIN: [Kind; 2] = [Kind::Space, Kind::Control];
 
 /// The labels in the domain of one of these.
 pub(crate) fn domain(policy: &Policy, subjects: Labels) -> Labels
@@ -17,22 +17,22 @@ pub(crate) fn domain(policy: &Policy, subjects: Labels) -> Labels
     policy.targets(subjects, &DOMAIN)
 }
 
-/// The labels that have this one in their domain.
-pub(crate) fn subjects(policy: &Policy, label: Label) -> Labels
+/// Returns the labels that have this one in their domain.
+pub fn subjects(policy: &Policy, label: Label) -> Labels
     ensures { (subject : ℕ) → (is_in result subject ≡ true) ↔ IsInDomain (allows policy.now) subject label }
 {
     policy.sources(Labels::only(label), &DOMAIN)
 }
 
-/// Whether a label is in the domain of a subject.
-pub(crate) fn is_in_domain(policy: &Policy, subject: Label, label: Label) -> bool
+/// Returns whether a label is in the domain of a subject.
+pub fn is_in_domain(policy: &Policy, subject: Label, label: Label) -> bool
     ensures { IsTrue result ↔ IsInDomain (allows policy.now) subject label }
 {
     policy.row_of_kinds(subject, &DOMAIN).has(label)
 }
 
-/// Whether one label may get capabilities from another by a grant.
-pub(crate) fn may_be_granted(policy: &Policy, giver: Label, taker: Label) -> bool
+/// Returns whether the label `taker` may get capabilities from the label `giver` by a grant over some endpoint.
+pub fn may_be_granted(policy: &Policy, giver: Label, taker: Label) -> bool
     ensures { IsTrue result ↔ MayBeGranted (allows policy.now) giver taker }
 {
     let endpoints = policy.row(giver, Kind::Grant);

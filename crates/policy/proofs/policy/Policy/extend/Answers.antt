@@ -1,6 +1,6 @@
 use Rattle.std.proofs.{Common.{◌||◌, ◌∙◌, ◌≡◌, Bool, ap, arith, false, refl, sym, take, true}, lemmas.List.Folds.list_any_more}
 use Rattle.policy.specs.Policy.{allows, is_edge}
-use Rattle.policy.proofs.closing.add_all.Goals as goal
+use Rattle.policy.proofs.policy.Policy.extend.Goals as goal
 
 turned : (here before old : Bool) → (here || (before || old)) ≡ ((before || here) || old)
 turned true true old = refl
@@ -17,7 +17,7 @@ unfolding allows
 loop-edge-preserved c from kind to =
     let edges = c.args.edges.now in
     let edge = c.edge-item.result in
-    let old = allows c.args.policy.now from kind to in
+    let old = allows c.args.self.now from kind to in
     c.in_ok-add.ensures.added from kind to ∙ ap (λ b. is_edge from kind to edge || b) (c.loop-edge.invariant from kind to)
     ∙ turned (is_edge from kind to edge) (allows (take c.loop-edge.edge-index edges) from kind to) old
     ∙ ap (λ e. (allows (take c.loop-edge.edge-index edges) from kind to || is_edge from kind to e) || old) c.edge-item.is

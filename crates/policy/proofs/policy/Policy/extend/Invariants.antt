@@ -1,10 +1,10 @@
 use Rattle.std.proofs.Common.{ℕ, ◌||◌, ◌≡◌, take}
 use Rattle.base.specs.declared.kind.Kind.{Kind}
 use Rattle.policy.specs.Policy.{allows}
-use Rattle.policy.proofs.closing.add_all.Given as goal
+use Rattle.policy.proofs.policy.Policy.extend.Given as goal
 
 -- the edges so far are added
 abbrev pub invariant-loop-edge : goal.invariant-loop-edge
 invariant-loop-edge l =
     (from : ℕ) (kind : Kind) (to : ℕ)
-    → allows l.policy from kind to ≡ (allows (take l.edge-index l.edges) from kind to || allows l.initial.policy from kind to)
+    → allows l.self from kind to ≡ (allows (take l.edge-index l.edges) from kind to || allows l.initial.self from kind to)
