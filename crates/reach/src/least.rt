@@ -12,7 +12,7 @@ use crate::laws::runs_keep_labels_apart;
 use base::{Label, Labels, Refusal};
 use labels::authority;
 use policy::{Policy, Why};
-use sharp::{close_sharply, idlers, keepers};
+use sharp::{close_sharply, keepers};
 use std::alloc::Global;
 use std::marker::Model;
 use table::Table;
@@ -66,7 +66,7 @@ impl<'a> Reach<'a> {
         let held = node_holders(table);
         let policy = least_policy(alloc, table, held)?;
         let keepers = keepers(&policy, held);
-        let idlers = idlers(&policy);
+        let idlers = policy.idlers();
         let actors = actors(table, &policy);
         Ok(Reach {
             table,

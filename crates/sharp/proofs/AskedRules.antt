@@ -1,5 +1,5 @@
 -- What the sharp rules ask for: every sharply closed policy has it, and a policy that has all of it is sharply closed.
-use Rattle.std.proofs.Common.{ℕ, ◌<◌, ◌↔◌, ◌∙◌, ◌≡◌, false, inl, inr, refl, sym, true}
+use Rattle.std.proofs.Common.{ℕ, ◌<◌, ◌∙◌, ◌≡◌, false, inl, inr, refl, sym, true}
 use Rattle.base.specs.declared.kind.Kind.{Kind, Kind as kinds}
 use Rattle.base.specs.declared.kind.Kind.TheVariants.{Call, Context, Control, Derive, Grant, Receive, Reply, Runs, Space}
 use Rattle.base.specs.Kinds.{is_structural}
@@ -137,15 +137,6 @@ closed_if_sharply_settled test Keeps settled = record {
   given : (from : ℕ) (kind : Kind) (to : ℕ) → IsSharplyGiven test Keeps (λ giver. SharesSharply test Keeps giver from) from kind to
       → test from kind to ≡ true
   given from kind to h = settled from kind to (asked_if_given test Keeps (λ giver. SharesSharply test Keeps giver from) from kind to h)
-
--- a policy is sharply closed exactly if it has all that it asks for
-pub closed_exactly_if_settled :
-    (test : EdgeTest) (Keeps : Keepers)
-    → IsSharplyClosed test Keeps ↔ ((from : ℕ) (kind : Kind) → IsSharplySettled test Keeps from kind)
-closed_exactly_if_settled test Keeps = (
-  λ closed from kind to asked. has_sharply_asked test test Keeps (λ a k b has. has) closed from kind to asked,
-  closed_if_sharply_settled test Keeps,
-)
 
 -- what is asked for starts at a label of an edge
 module _ (test : EdgeTest) (Keeps : Keepers) (n : ℕ) (joins : (from : ℕ) (kind : Kind) (to : ℕ) → test from kind to ≡ true → (from < n) × (to < n)) where

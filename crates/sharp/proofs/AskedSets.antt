@@ -1,12 +1,11 @@
 -- The sets of labels to which the sharp rules ask for edges, as the rows put them together.
-use Rattle.std.proofs.Common.{[], ℕ, ◌&&◌, ◌==◌, ◌↔◌, ◌∙◌, ◌∷◌, ◌≡◌, ◌⊎◌, Bool, false, inl, inr, refl, subst, sym, true}
-use Rattle.base.specs.declared.kind.Kind.{Kind, Kind as kinds, TheVariants.{Call, Context, Control, Derive, Grant, Receive, Reply, Runs, Space}}
+use Rattle.std.proofs.Common.{ℕ, ◌&&◌, ◌==◌, ◌↔◌, ◌∙◌, ◌≡◌, ◌⊎◌, Bool, false, inl, inr, refl, subst, sym, true}
+use Rattle.base.specs.declared.kind.Kind.{Kind, Kind as kinds, TheVariants.{Call, Context, Control, Derive, Grant, Receive, Reply, Runs}}
 use Rattle.base.specs.{declared.labels.Labels.Labels, Kinds.is_structural, Labels.is_in}
 use Rattle.policy.specs.{Closed.{ControlGives, MayBeGranted}, Domain.{EdgeTest, IsInDomain}, Sharp.{Keepers, MayIdle, MayPut, Told}}
-use Rattle.policy.specs.Steps.{IsSource}
 use Rattle.policy.proofs.{Gathering.{both, either, itself_tells, only_tells, row_tells, source_tells, target_tells, told_as}}
 use Rattle.policy.proofs.RuleSets.{Holds, IsDifference, IsReached, IsReaching, IsUnion, lacking_told}
-use Rattle.policy.proofs.Stepping.{IsRow, domain_joined}
+use Rattle.policy.proofs.Stepping.{IsRow}
 use Rattle.sharp.specs.Asked.{DerivesSharply, HoldsSharply, IsAskedAmong, IsLentSharply, IsMissingAmong, IsSettledAmong, IsSharplyGiven}
 use Rattle.sharp.specs.Asked.{RunsSharply, bound, caller, controlled, derived, granted, lent, put, server, shared}
 use mathlib.Core.Bool.{false≢true}
@@ -101,19 +100,13 @@ module _ (test : EdgeTest) (keeping : Labels) where
 
 module _ (test : EdgeTest) where
   -- who finds a label's capabilities, or may be granted them
-  pub holders_told : (label : ℕ) (one finding endpoints takers all : Labels) → IsOnly one label
-      → ((a : ℕ) → (is_in finding a ≡ true) ↔ IsSource test (Space ∷ Control ∷ []) one a) → IsReached test finding Grant endpoints
-      → IsReaching test Receive endpoints takers → IsUnion finding takers all
+  pub holders_told : (label : ℕ) (finding endpoints takers all : Labels) → Holds finding (λ a. IsInDomain test a label)
+      → IsReached test finding Grant endpoints → IsReaching test Receive endpoints takers → IsUnion finding takers all
       → Holds all (λ b. MayHave test label b)
-  holders_told label one finding endpoints takers all only in_finding in_endpoints in_takers union b =
-      either (is_in all b) (is_in finding b) (is_in takers b) (domain b) taker (union b) where
-        domain : (a : ℕ) → (is_in finding a ≡ true) ↔ IsInDomain test a label
-        domain a = told_as (is_in finding a) (in_finding a)
-            (λ step. subst (IsInDomain test a) ((only_tells one label only step.to).0 step.among) ((domain_joined test a step.to).0 step.joined))
-            (λ h. record { to = label; among = (only_tells one label only label).1 refl; joined = (domain_joined test a label).1 h })
-
+  holders_told label finding endpoints takers all in_finding in_endpoints in_takers union b =
+      either (is_in all b) (is_in finding b) (is_in takers b) (in_finding b) taker (union b) where
         grant : (endpoint : ℕ) → (is_in endpoints endpoint ≡ true) ↔ ((a : ℕ) × IsInDomain test a label × (test a Grant endpoint ≡ true))
-        grant endpoint = target_tells test Grant (λ a. IsInDomain test a label) finding domain endpoint (is_in endpoints endpoint) (in_endpoints endpoint)
+        grant endpoint = target_tells test Grant (λ a. IsInDomain test a label) finding in_finding endpoint (is_in endpoints endpoint) (in_endpoints endpoint)
 
         taker : (is_in takers b ≡ true) ↔ ((a : ℕ) × IsInDomain test a label × MayBeGranted test a b)
         taker = told_as (is_in takers b)

@@ -1,16 +1,13 @@
 //! The labels to which the sharp rules ask for an edge of a kind, from a label.
-ghost use Rattle.std.specs.Prelude.{ℕ, ◌↔◌, ◌≡◌, ◌⊎◌, IsTrue, true};
+ghost use Rattle.std.specs.Prelude.{ℕ, ◌↔◌, ◌≡◌, ◌⊎◌, true};
 ghost use Rattle.base.specs.Labels.{is_in};
-ghost use Rattle.policy.specs.{Closed.{ControlGives, IsGivenByControl, MayBeGranted}, Domain.IsInDomain, Policy.allows};
-ghost use Rattle.policy.specs.Sharp.{MayIdle, MayPut, Told};
+ghost use Rattle.policy.specs.{Closed.{ControlGives, MayBeGranted}, Domain.IsInDomain, Policy.allows};
+ghost use Rattle.policy.specs.Sharp.{MayPut, Told};
 ghost use Rattle.sharp.specs.Asked.{DerivesSharply, HoldsSharply, IsLentSharply, IsMissingAmong, IsSharplyGiven};
 ghost use Rattle.sharp.specs.Asked.{RunsSharply, SharesSharply};
 
 use base::{Kind, Label, Labels};
-use policy::Policy;
-
-/// The kinds of edge from a label to those in its domain.
-pub(crate) const DOMAIN: [Kind; 2] = [Kind::Space, Kind::Control];
+use policy::{DOMAIN, Policy, is_given_by_control, subjects};
 
 /// The labels to which the edge of this kind is missing, from a label, if these share with it.
 pub(crate) fn missing(
@@ -88,17 +85,6 @@ pub(crate) fn controlled(policy: &Policy, keeping: Labels, from: Label, kind: Ki
     }
 }
 
-// Whether control gives the edge of this kind.
-fn is_given_by_control(kind: Kind) -> bool
-    ensures { IsTrue result ↔ IsGivenByControl kind }
-{
-    match kind {
-        Kind::Space => true,
-        Kind::SchedControl => false,
-        _ => !kind.is_structural(),
-    }
-}
-
 // The labels that may come to derive from a label, where capabilities are put or derived further.
 fn derived(policy: &Policy, keeping: Labels, parent: Label) -> Labels
     ensures { (child : ℕ) → (is_in result child ≡ true)
@@ -116,7 +102,7 @@ fn holders(policy: &Policy, label: Label) -> Labels
         ↔ (IsInDomain (allows policy.now) b label
         ⊎ ((a : ℕ) × IsInDomain (allows policy.now) a label × MayBeGranted (allows policy.now) a b)) }
 {
-    let finding = policy.sources(Labels::only(label), &DOMAIN);
+    let finding = subjects(policy, label);
     let endpoints = policy.targets(finding, &[Kind::Grant]);
     finding.union(policy.sources(endpoints, &[Kind::Receive]))
 }
@@ -134,25 +120,11 @@ fn run(policy: &Policy, label: Label) -> Labels
 pub(crate) fn lent(policy: &Policy, label: Label) -> Labels
     ensures { (context : ℕ) → (is_in result context ≡ true) ↔ IsLentSharply (allows policy.now) label context }
 {
-    if !has_any(policy.row(label, Kind::Reply)) || !may_idle(policy, label) {
+    if policy.row(label, Kind::Reply).first().is_none() || !policy.idlers().has(label) {
         return Labels::none();
     }
     let callers = policy.sources(policy.row(label, Kind::Receive), &[Kind::Call]);
     policy.targets(callers, &[Kind::Runs])
-}
-
-// Whether a thread of a label may come to wait without a context.
-fn may_idle(policy: &Policy, label: Label) -> bool
-    ensures { IsTrue result ↔ MayIdle (allows policy.now) label }
-{
-    has_any(policy.sources(policy.row(label, Kind::Runs), &[Kind::Context]))
-}
-
-// Whether there is a label in the set.
-fn has_any(labels: Labels) -> bool
-    ensures { IsTrue result ↔ ((label : ℕ) × (is_in labels label ≡ true)) }
-{
-    labels.first().is_some()
 }
 
 /// The labels that a reply may hold: those that may receive with it, and those that may call there.

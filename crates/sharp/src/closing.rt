@@ -1,7 +1,7 @@
 //! The least sharply closed policy that has the edges of a policy, and some more.
-ghost use Rattle.std.specs.Prelude.{ℕ, ◌++◌, ◌||◌, ◌≡◌, IfErr, IfOk, OnOk, false, true};
+ghost use Rattle.std.specs.Prelude.{ℕ, ◌++◌, ◌≡◌, IfErr, IfOk, OnOk, false, true};
 ghost use Rattle.base.specs.{declared.kind.Kind.Kind, Labels.is_in, Refusals.out_of_memory};
-ghost use Rattle.policy.specs.{Policy.allows, Settling.Joins, Sharp.{IsSharplyClosed, Told}};
+ghost use Rattle.policy.specs.{Policy.allows, Sharp.{IsSharplyClosed, Told}};
 ghost use Rattle.sharp.specs.{Asked.{IsSettledAmong, IsSharplySettled, SharesSharply}, Least.{GrowsSharply, IsLeastSharp}};
 
 use crate::asked::{givers, missing};
@@ -28,22 +28,10 @@ pub fn close_sharply(
     ensures memory { IfErr result (λ refusal. refusal ≡ out_of_memory) }
 {
     let mut closed = Policy::new(alloc);
-    add_all(&mut closed, &policy.edges(alloc)?)?;
-    add_all(&mut closed, edges)?;
+    closed.extend(&policy.edges(alloc)?)?;
+    closed.extend(edges)?;
     settle(&mut closed, held)?;
     Ok(closed)
-}
-
-// Adds edges.
-fn add_all(policy: &mut Policy, edges: &[Edge]) -> Result<(), Refusal>
-    ensures added { OnOk result ((from : ℕ) (kind : Kind) (to : ℕ) →
-        allows policy.new from kind to ≡ (allows edges.now from kind to || allows policy.old from kind to)) }
-    ensures memory { IfErr result (λ refusal. refusal ≡ out_of_memory) }
-{
-    for edge in edges {
-        policy.add(*edge)?;
-    }
-    Ok(())
 }
 
 // Adds the edges that sharply closed policies have, until none is missing.
@@ -115,23 +103,8 @@ fn settle_row(
         Some(first) => {
             // A label's number is below `Label::COUNT`.
             first.number();
-            join(policy, from, kind, lacks)?;
+            policy.add_row(from, kind, lacks)?;
             Ok(true)
         }
     }
-}
-
-// Adds the edges of this kind from a label to those of a set.
-fn join(policy: &mut Policy, from: Label, kind: Kind, labels: Labels) -> Result<(), Refusal>
-    ensures joins { OnOk result (Joins policy.old policy.new from kind labels) }
-    ensures memory { IfErr result (λ refusal. refusal ≡ out_of_memory) }
-{
-    for number in 0..Label::COUNT {
-        if let Some(to) = Label::new(number) {
-            if labels.has(to) {
-                policy.add(Edge { from, kind, to })?;
-            }
-        }
-    }
-    Ok(())
 }

@@ -1,7 +1,7 @@
-//! Which labels keep capabilities for CNodes, and which may wait for a message without a context.
+//! Which labels keep capabilities for CNodes.
 ghost use Rattle.std.specs.Prelude.{ℕ, ◌↔◌, ◌≡◌, true};
 ghost use Rattle.base.specs.Labels.{is_in};
-ghost use Rattle.policy.specs.{Policy.allows, Sharp.MayIdle};
+ghost use Rattle.policy.specs.Policy.{allows};
 ghost use Rattle.sharp.specs.Keeping.{IsBeside, KeepsFrom};
 
 use base::{Kind, Labels};
@@ -32,15 +32,4 @@ fn beside(policy: &Policy, keeping: Labels) -> Labels
     let finding = policy.sources(keeping, &[Kind::Space]);
     let handed = policy.targets(keeping, &[Kind::Control]);
     finding.union(handed).difference(keeping)
-}
-
-/// Returns the labels of which a thread may wait for a message without a context.
-///
-/// Each has the edge `runs` to a label to which some label has the edge `context`.
-pub fn idlers(policy: &Policy) -> Labels
-    ensures { (b : ℕ) → (is_in result b ≡ true) ↔ MayIdle (allows policy.now) b }
-{
-    policy.edges_rise();
-    let contexts = policy.targets(Labels::all(), &[Kind::Context]);
-    policy.sources(contexts, &[Kind::Runs])
 }

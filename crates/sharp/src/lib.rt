@@ -12,5 +12,5 @@ mod laws;
 
 pub use broken::{SharpBroken, first_broken, is_sharply_closed};
 pub use closing::close_sharply;
-pub use keeping::{idlers, keepers};
+pub use keeping::keepers;
 pub use laws::sharply_closed_policies_are_unbroken;

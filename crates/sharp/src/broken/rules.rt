@@ -2,14 +2,14 @@
 ghost use Rattle.std.specs.Prelude.{[], ℕ, ◌↔◌, ◌∷◌, ◌≡◌, ◌⊎◌, IsTrue, false, true};
 ghost use Rattle.base.specs.declared.kind.Kind.TheVariants as kinds;
 ghost use Rattle.base.specs.{Kinds.is_structural, Labels.is_in};
-ghost use Rattle.policy.specs.{Closed.{IsLacking, MayBeGranted}, Domain.IsInDomain, Policy.allows, Sharp.{KeeperTest, MayPut, Told}};
+ghost use Rattle.policy.specs.{Closed.IsLacking, Domain.IsInDomain, Policy.allows, Sharp.{KeeperTest, MayPut, Told}};
 ghost use Rattle.sharp.specs.{Asked.{HoldsSharply, IsLentSharply}, Broken.{ControlGivesKeeper, FindsSharply, MayBeBound, PutsByGrant, PutsInDomain}};
 ghost use Rattle.sharp.specs.Broken.{s1, s2, s3, s4, s5, s6, s7, s8};
 
 use super::{SharpBroken, label};
-use crate::asked::{DOMAIN, controlled, held, lent};
+use crate::asked::{controlled, held, lent};
 use base::{Kind, Label, Labels};
-use policy::Policy;
+use policy::{Policy, is_in_domain, may_be_granted, subjects};
 
 /// S1 at a subject.
 pub(crate) fn subject_lacks(policy: &Policy, keeping: Labels, subject: Label) -> Option<SharpBroken>
@@ -55,7 +55,7 @@ fn gives_use(policy: &Policy, keeping: Labels, subject: Label, other: Label) -> 
         ↔ (IsInDomain (allows policy.now) subject other
         ⊎ MayPut (allows policy.now) (Told (is_in keeping)) other subject) }
 {
-    policy.row_of_kinds(subject, &DOMAIN).has(other)
+    is_in_domain(policy, subject, other)
         || (keeping.has(other) && policy.row(other, Kind::Control).has(subject))
 }
 
@@ -133,17 +133,6 @@ fn grant_lacks_of(
     None
 }
 
-// Whether one label may get capabilities from another by a grant.
-fn may_be_granted(policy: &Policy, giver: Label, taker: Label) -> bool
-    ensures { IsTrue result ↔ MayBeGranted (allows policy.now) giver taker }
-{
-    let endpoints = policy.row(giver, Kind::Grant);
-    endpoints
-        .intersection(policy.row(taker, Kind::Receive))
-        .first()
-        .is_some()
-}
-
 /// S4 at a parent.
 pub(crate) fn domain_lacks(policy: &Policy, keeping: Labels, parent: Label) -> Option<SharpBroken>
     ensures { FindsSharply (allows policy.now) (Told (is_in keeping)) (s4 ∷ parent ∷ []) result }
@@ -162,13 +151,6 @@ fn not_put(policy: &Policy, keeping: Labels, parent: Label) -> Labels
     policy
         .targets(putting, &[Kind::Control])
         .difference(policy.row(parent, Kind::Derive))
-}
-
-// The labels that have this one in their domain.
-fn subjects(policy: &Policy, label: Label) -> Labels
-    ensures { (subject : ℕ) → (is_in result subject ≡ true) ↔ IsInDomain (allows policy.now) subject label }
-{
-    policy.sources(Labels::only(label), &DOMAIN)
 }
 
 /// S5 at a parent.

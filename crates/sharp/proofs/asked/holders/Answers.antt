@@ -4,5 +4,5 @@ use Rattle.sharp.proofs.asked.holders.Goals as goal
 
 pub returns : goal.returns
 returns c =
-    holders_told (allows c.args.policy.now) c.args.label _ _ _ _ _ c.only.ensures c.sources-finding.ensures c.targets-endpoints.ensures
-    c.sources.ensures c.union.ensures
+    holders_told (allows c.args.policy.now) c.args.label _ _ _ _ c.subjects-finding.ensures c.targets-endpoints.ensures c.sources.ensures
+    c.union.ensures

@@ -8,8 +8,8 @@ pub returns-clause-least : goal.returns-clause-least
 returns-clause-least c =
     let old = c.args.policy.now in
     let edges = c.args.edges.now in
-    let second = c.add_all-2.new.policy in
+    let second = c.extend-2.new.self in
     least_of_same (old ++ edges) second c.settle.new.policy (is_in c.args.held)
-    (both_added old edges c.deref.result.now c.new-closed.result c.add_all.new.policy second (c.deref.ensures.value ∙ c.in_ok-edges.ensures.all) c.new-closed.ensures
-    c.in_ok-add_all.ensures.added c.in_ok-add_all-2.ensures.added)
+    (both_added old edges c.deref.result.now c.new-closed.result c.extend.new.self second (c.deref.ensures.value ∙ c.in_ok-edges.ensures.all) c.new-closed.ensures
+    c.in_ok-extend.ensures.added c.in_ok-extend-2.ensures.added)
     c.in_ok-settle.ensures.least
