@@ -1,4 +1,4 @@
-//! The sentences on a run that leaves a policy that breaks a rule of closed policies, or that no such run was found.
+//! The sentences on a run that leaves a policy that breaks a rule on policies, or that no such run was found.
 use crate::scripts::push_run;
 use base::{Edge, Kind, Refusal};
 use captext::label_name;
@@ -125,7 +125,7 @@ fn edge_in(table: &Table, state: &State, place: &Denial) -> Option<Edge> {
             kind,
             label,
         } => (thread, kind, Some(label)),
-        Denial::Policy(_) | Denial::Certificate { .. } => return None,
+        Denial::Policy(_) | Denial::Sharp(_) | Denial::Certificate { .. } => return None,
     };
     Some(Edge {
         from: label_of(table, state, from)?,

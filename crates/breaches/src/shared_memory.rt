@@ -8,7 +8,6 @@ use policy::Policy;
 use stated::{Stated, StatedLines, Who, claim_text};
 use std::alloc::{AllocError, Global};
 use table::Table;
-use verdict::actors;
 
 /// How many notes are printed.
 const MOST: usize = 16;
@@ -68,7 +67,7 @@ fn push_note(
     let Some(ends) = ends_of(claim) else {
         return Ok(false);
     };
-    let table = judged.table;
+    let table = judged.reach.table();
     let writers = memory.writers.intersection(ends.actors);
     let users = memory.users.intersection(ends.objects);
     if writers == Labels::none() || users == Labels::none() {
@@ -118,10 +117,13 @@ fn named(end: Who, other: Who) -> Labels {
 
 /// The memories on which there is no claim `only`, with those who use them.
 fn memories_of(alloc: Global, judged: &Judged<'_>) -> Result<Vec<Memory>, AllocError> {
-    let Judged { table, policy, .. } = *judged;
-    let actors = actors(table, policy);
+    let reach = judged.reach;
+    let (policy, actors) = (reach.policy(), reach.actors());
     let mut memories = Vec::new(alloc);
-    for label in with_memory(table).difference(guarded(judged.lines)).iter() {
+    for label in with_memory(reach.table())
+        .difference(guarded(judged.lines))
+        .iter()
+    {
         let writers = sources(policy, actors, Kind::Write, label);
         let readers = sources(policy, actors, Kind::Read, label);
         memories.push(Memory {

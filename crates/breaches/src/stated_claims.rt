@@ -2,15 +2,14 @@
 use crate::scripts::push_run;
 use base::{Edge, Label, Labels, Refusal};
 use captext::label_name;
-use explain::{EdgeLine, EdgeList, Names, Start, line_of_edge, push_origins};
-use policy::{Policy, Why};
+use explain::{EdgeLine, EdgeList, Origins, OtherWays, Start};
+use policy::Why;
+use reach::{Extent, Reach};
 use runs::Question;
 use search::find;
 use stated::{Breach, Broken, Failure, Stated, StatedLines, claim_text};
 use std::alloc::{AllocError, Global};
-use std::thread::Threads;
 use table::Table;
-use verdict::{Extent, actors};
 
 /// How many calls a search for a run tries.
 const STEPS: u64 = 1_000;
@@ -22,12 +21,13 @@ const SEARCHES: usize = 10;
 const NOT_SEARCHED: &str =
     "no run was looked for: that is done for the first 10 broken claims. `confine show` looks for one.\n";
 
-/// An accepted system on which claims were judged, with the names of the files.
+/// A table on which claims were judged, with the names of the files.
 #[derive(Clone, Copy)]
 pub struct Judged<'a> {
-    pub names: Names<'a>,
-    pub table: &'a Table,
-    pub policy: &'a Policy,
+    /// The name of the file of the table.
+    pub file: &'a str,
+    /// The reach of the table.
+    pub reach: &'a Reach<'a>,
     /// The name of the file of the claims.
     pub claims: &'a str,
     pub lines: &'a StatedLines,
@@ -39,15 +39,15 @@ pub struct Judged<'a> {
 /// # Errors
 ///
 /// 40 where memory is refused.
-pub fn explain_breaches<R: Threads + Sync>(
-    rt: &R,
+pub fn explain_breaches(
     alloc: Global,
     judged: &Judged<'_>,
     broken: &[Broken],
 ) -> Result<String, Refusal> {
     let mut lines = String::new(alloc);
+    let origins = Origins::of(alloc, judged.reach)?;
     for (number, one) in broken.iter().enumerate() {
-        push_claim(rt, alloc, &mut lines, judged, number, one)?;
+        push_claim(alloc, &mut lines, judged, &origins, number, one)?;
     }
     Ok(lines)
 }
@@ -63,31 +63,28 @@ pub fn breach_lines(
     broken: &[Broken],
 ) -> Result<String, Refusal> {
     let mut lines = String::new(alloc);
+    let origins = Origins::of(alloc, judged.reach)?;
     for one in broken {
-        push_line(alloc, &mut lines, judged, one)?;
+        push_line(alloc, &mut lines, judged, &origins, one)?;
     }
     Ok(lines)
 }
 
 /// Adds all lines on the broken claim of this number, from 0.
-fn push_claim<R: Threads + Sync>(
-    rt: &R,
+fn push_claim(
     alloc: Global,
     lines: &mut String,
     judged: &Judged<'_>,
+    origins: &Origins<'_>,
     number: usize,
     broken: &Broken,
 ) -> Result<(), Refusal> {
-    let Judged {
-        names,
-        table,
-        policy,
-        ..
-    } = *judged;
-    let mut edges = push_line(alloc, lines, judged, broken)?;
-    push_origins(rt, alloc, lines, names.table, table, policy, &mut edges)?;
+    let mut edges = push_line(alloc, lines, judged, origins, broken)?;
+    origins.push_lines(alloc, lines, judged.file, &mut edges)?;
     match broken.failure {
-        Failure::Pair(breach) if number < SEARCHES => push_shown(alloc, lines, table, breach),
+        Failure::Pair(breach) if number < SEARCHES => {
+            push_shown(alloc, lines, judged.reach.table(), breach)
+        }
         Failure::Pair(_) => Ok(lines.push_str(NOT_SEARCHED)?),
         Failure::Chain | Failure::Edge => Ok(()),
     }
@@ -98,12 +95,13 @@ fn push_line(
     alloc: Global,
     lines: &mut String,
     judged: &Judged<'_>,
+    origins: &Origins<'_>,
     broken: &Broken,
 ) -> Result<Vec<Edge>, Refusal> {
     match judged.lines.claim_at(broken.line) {
         Some(claim) => {
             push_start(alloc, lines, judged, claim, broken.line)?;
-            push_failure(alloc, lines, judged, claim, broken.failure)
+            push_failure(alloc, lines, judged, origins, claim, broken.failure)
         }
         None => Ok(Vec::new(alloc)),
     }
@@ -118,7 +116,7 @@ fn push_start(
     line: usize,
 ) -> Result<(), AllocError> {
     let file = judged.claims;
-    let text = claim_text(alloc, claim, judged.table)?;
+    let text = claim_text(alloc, claim, judged.reach.table())?;
     write!(lines, "{file}:{line}: `{text}` doesn't hold: ")
 }
 
@@ -127,14 +125,14 @@ fn push_failure(
     alloc: Global,
     lines: &mut String,
     judged: &Judged<'_>,
+    origins: &Origins<'_>,
     claim: &Stated,
     failure: Failure,
 ) -> Result<Vec<Edge>, Refusal> {
-    let Judged { table, policy, .. } = *judged;
     match (failure, claim) {
-        (Failure::Pair(breach), _) => push_breach(alloc, lines, table, policy, breach),
+        (Failure::Pair(breach), _) => push_breach(alloc, lines, judged, origins, breach),
         (Failure::Chain, Stated::Apart(from, to)) => {
-            push_chain(lines, table, policy, *from, *to)?;
+            push_chain(lines, judged.reach, *from, *to)?;
             Ok(Vec::new(alloc))
         }
         (Failure::Edge, Stated::Without(actor, kind, object)) => {
@@ -143,7 +141,7 @@ fn push_failure(
                 kind: *kind,
                 to: *object,
             };
-            push_edge(alloc, lines, judged, edge)
+            push_edge(alloc, lines, judged, origins, edge)
         }
         _ => {
             lines.push('\n')?;
@@ -156,66 +154,103 @@ fn push_failure(
 fn push_breach(
     alloc: Global,
     lines: &mut String,
-    table: &Table,
-    policy: &Policy,
+    judged: &Judged<'_>,
+    origins: &Origins<'_>,
     breach: Breach,
 ) -> Result<Vec<Edge>, Refusal> {
-    let actor = label_name(table, breach.actor);
-    let object = label_name(table, breach.object);
-    let why = policy.why_among(alloc, actors(table, policy), breach.actor, breach.object)?;
+    let why = judged.reach.why(alloc, breach.actor, breach.object)?;
     let (does, edges) = match why {
         Why::Full(edges) => ("may change objects of", edges),
         Why::Take(edges) => ("may take from", edges),
         Why::Nothing => ("has no authority on", Vec::new(alloc)),
     };
-    let list = EdgeList {
+    let table = judged.reach.table();
+    let places = origins.places(alloc, &edges)?;
+    let ways = OtherWays {
+        file: judged.file,
         table,
-        edges: &edges,
+        places: &places,
     };
-    writeln!(
-        lines,
-        "`{actor}` {does} `{object}`, by {list}. Change the claim, or remove an edge from the policy and what requires \
-         that edge from the table."
-    )?;
+    push_deed(lines, table, breach, does, &edges, &ways)?;
     Ok(edges)
 }
 
-/// Adds that a policy has an edge, and gives it.
+/// Adds what a label may do to another, by these edges, and what may be changed.
+fn push_deed(
+    lines: &mut String,
+    table: &Table,
+    breach: Breach,
+    does: &str,
+    edges: &[Edge],
+    ways: &OtherWays<'_>,
+) -> Result<(), AllocError> {
+    let actor = label_name(table, breach.actor);
+    let object = label_name(table, breach.object);
+    let list = EdgeList { table, edges };
+    writeln!(
+        lines,
+        "`{actor}` {does} `{object}`, by {list}. Change the claim{ways}."
+    )
+}
+
+/// Adds that the reach has an edge, and gives it.
 fn push_edge(
     alloc: Global,
     lines: &mut String,
     judged: &Judged<'_>,
+    origins: &Origins<'_>,
     edge: Edge,
 ) -> Result<Vec<Edge>, Refusal> {
+    let edges = vec![in alloc; edge]?;
+    let given_at = origins.line_of(alloc, edge)?;
+    let places = origins.places(alloc, &edges)?;
+    let ways = OtherWays {
+        file: judged.file,
+        table: judged.reach.table(),
+        places: &places,
+    };
+    push_had(lines, judged, given_at, edge, &ways)?;
+    Ok(edges)
+}
+
+/// Adds that a label has an edge, which this line of the table gives, or comes to have it.
+fn push_had(
+    lines: &mut String,
+    judged: &Judged<'_>,
+    given_at: Option<usize>,
+    edge: Edge,
+    ways: &OtherWays<'_>,
+) -> Result<(), AllocError> {
+    let table = judged.reach.table();
     let start = Start {
-        file: judged.names.policy,
-        line: line_of_edge(alloc, judged.policy, edge)?,
+        file: judged.file,
+        line: given_at,
     };
-    let line = EdgeLine {
-        table: judged.table,
-        edge,
+    let has = if given_at.is_some() {
+        "has"
+    } else {
+        "may come to have"
     };
+    let from = label_name(table, edge.from);
+    let edge = EdgeLine { table, edge };
     writeln!(
         lines,
-        "{start}the policy has `{line}`. Change the claim, or remove the edge from the policy and what requires the \
-         edge from the table."
-    )?;
-    Ok(vec![in alloc; edge]?)
+        "{start}`{from}` {has} `{edge}`. Change the claim{ways}."
+    )
 }
 
 /// Adds the labels on a chain of changes from one label to another, a shortest one.
 fn push_chain(
     lines: &mut String,
-    table: &Table,
-    policy: &Policy,
+    reach: &Reach<'_>,
     from: Label,
     to: Label,
 ) -> Result<(), AllocError> {
-    let actors = actors(table, policy);
+    let table = reach.table();
     let mut here = from;
     let mut separator = "";
     for _ in 0..Label::COUNT {
-        match next_on_chain(policy, actors, here, to) {
+        match next_on_chain(reach, here, to) {
             Some(next) => {
                 let (actor, object) = (label_name(table, here), label_name(table, next));
                 write!(
@@ -235,35 +270,33 @@ fn push_chain(
 }
 
 /// The label after this one on a shortest chain to another, if this isn't that other one.
-fn next_on_chain(policy: &Policy, actors: Labels, here: Label, to: Label) -> Option<Label> {
+fn next_on_chain(reach: &Reach<'_>, here: Label, to: Label) -> Option<Label> {
     if here == to {
         return None;
     }
     // Labels from which the chain to the last is shorter and shorter; the first that the first label affects.
-    let reached = affected(policy, actors, here);
+    let reached = affected(reach, here);
     let mut near = Labels::only(to);
     for _ in 0..Label::COUNT {
         let next = reached.intersection(near);
         if let Some(label) = next.first() {
             return Some(label);
         }
-        near = near.union(affecting(policy, actors, near));
+        near = near.union(affecting(reach, near));
     }
     None
 }
 
 /// The labels that a label affects.
-fn affected(policy: &Policy, actors: Labels, actor: Label) -> Labels {
-    policy
-        .change_labels(actors, actor)
-        .union(policy.shrink_labels(actors, actor))
+fn affected(reach: &Reach<'_>, actor: Label) -> Labels {
+    reach.changed_by(actor).union(reach.shrunk_by(actor))
 }
 
 /// The labels that affect one of these.
-fn affecting(policy: &Policy, actors: Labels, objects: Labels) -> Labels {
+fn affecting(reach: &Reach<'_>, objects: Labels) -> Labels {
     let mut labels = Labels::none();
     for label in Labels::all().iter() {
-        if affected(policy, actors, label).intersection(objects) != Labels::none() {
+        if affected(reach, label).intersection(objects) != Labels::none() {
             labels = labels.union(Labels::only(label));
         }
     }
@@ -292,8 +325,8 @@ fn push_shown(
             let steps = found.steps;
             writeln!(
                 lines,
-                "no run that shows it was found ({steps} calls tried). The claim is broken all the same: the policy's \
-                 bound doesn't exclude such a run."
+                "no run that shows it was found ({steps} calls tried). The claim is broken all the same: the \
+                 table's bound doesn't exclude such a run."
             )?;
             Ok(())
         }

@@ -4,10 +4,10 @@ use Rattle.std.proofs.lemmas.Option.{none-some, slice_get_cases, slice_get_past}
 use Rattle.base.specs.declared.edge.Edge.{Edge}
 use Rattle.machine.specs.Layout.{Layout}
 use Rattle.policy.specs.Policy.{allows}
-use Rattle.verdict.specs.{declared.denial.Denial.Denial, Verdict.IsLeastBroken}
+use Rattle.verdict.specs.{ByRules.IsLeastBrokenBy, declared.{denial.Denial.Denial, rules.Rules.{Rules, Rules as rules}}, Verdict.IsLeastBroken}
 use Rattle.verdict.specs.declared.denial.Denial.TheVariants as denial
 use Rattle.certificate.specs.declared.line.Line.{Line}
-use Rattle.checker.specs.Verified.{DiffersFirst, IsDenied}
+use Rattle.checker.specs.Verified.{DiffersFirst, IsDenied, IsDeniedBy}
 
 -- lists agree below a place
 abbrev pub Agree : List Line → List Line → ℕ → Type 0
@@ -45,9 +45,24 @@ pub rules_deny : (t : Layout) (edges : List Edge) (lines : List Line) (d : Denia
     → IsDenied t edges lines d
 rules_deny t edges lines (denial.Certificate line) least = absurd least.has
 rules_deny t edges lines (denial.Policy broken) least = least
+rules_deny t edges lines (denial.Sharp broken) least = least
 rules_deny t edges lines (denial.Capability slot kind label) least = least
 rules_deny t edges lines (denial.Root slot label) least = least
 rules_deny t edges lines (denial.Pair child parent) least = least
 rules_deny t edges lines (denial.Binding thread context) least = least
 rules_deny t edges lines (denial.Holding reply thread) least = least
 rules_deny t edges lines (denial.Recorded thread kind label) least = least
+
+-- so it is by a set of rules
+pub rules_deny_by : (set : Rules) (t : Layout) (edges : List Edge) (lines : List Line) (d : Denial) → IsLeastBrokenBy set t (allows edges) d
+    → IsDeniedBy set t edges lines d
+rules_deny_by rules.Closed t edges lines (denial.Certificate line) least = absurd least.has
+rules_deny_by rules.Sharp t edges lines (denial.Certificate line) least = absurd least.has
+rules_deny_by set t edges lines (denial.Policy broken) least = least
+rules_deny_by set t edges lines (denial.Sharp broken) least = least
+rules_deny_by set t edges lines (denial.Capability slot kind label) least = least
+rules_deny_by set t edges lines (denial.Root slot label) least = least
+rules_deny_by set t edges lines (denial.Pair child parent) least = least
+rules_deny_by set t edges lines (denial.Binding thread context) least = least
+rules_deny_by set t edges lines (denial.Holding reply thread) least = least
+rules_deny_by set t edges lines (denial.Recorded thread kind label) least = least

@@ -4,7 +4,8 @@ use Rattle.std.specs.Prelude.{ℕ, ◌+◌, ◌<◌, ◌≡◌, ◌≢◌, Err, 
 use Rattle.base.specs.declared.edge.Edge.{Edge}
 use Rattle.machine.specs.Layout.{Layout}
 use Rattle.policy.specs.Policy.{allows}
-use Rattle.verdict.specs.{declared.denial.Denial.Denial, System.{IsVerdict, System}, Verdict.IsAccepted}
+use Rattle.verdict.specs.{ByRules.{IsAcceptedBy, IsLeastBrokenBy}, declared.{denial.Denial.Denial, rules.Rules.Rules}}
+use Rattle.verdict.specs.{System.{IsVerdict, System}, Verdict.IsAccepted}
 use Rattle.verdict.specs.declared.denial.Denial.TheVariants as denial
 use Rattle.certificate.specs.{declared.line.Line.Line, Right.right_certificate}
 use Rattle.checker.specs.declared.verifying.NotAccepted.{NotAccepted, TheVariants.{Denied, NoMemory}}
@@ -27,3 +28,15 @@ abbrev pub IsVerified : Layout → List Edge → List Line → Result System Not
 IsVerified t edges lines (Ok accepted) = IsVerdict t edges (Ok accepted) × (lines ≡ right_certificate t)
 IsVerified t edges lines (Err (Denied denial)) = IsDenied t edges lines denial
 IsVerified t edges lines (Err NoMemory) = Unit {0}
+
+-- by a set of rules: the rules of the set and of authority come first, and then C1
+
+abbrev pub IsDeniedBy : Rules → Layout → List Edge → List Line → Denial → Type 0
+IsDeniedBy set t edges lines (denial.Certificate line) =
+    IsAcceptedBy set t (allows edges) × DiffersFirst line lines (right_certificate t)
+IsDeniedBy set t edges lines other = IsLeastBrokenBy set t (allows edges) other
+
+abbrev pub IsVerifiedBy : {X : Type 0} → Rules → Layout → List Edge → List Line → Result X NotAccepted → Type 0
+IsVerifiedBy set t edges lines (Ok accepted) = IsAcceptedBy set t (allows edges) × (lines ≡ right_certificate t)
+IsVerifiedBy set t edges lines (Err (Denied denial)) = IsDeniedBy set t edges lines denial
+IsVerifiedBy set t edges lines (Err NoMemory) = Unit {0}

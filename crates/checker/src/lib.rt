@@ -12,5 +12,5 @@ pub use certificate::Certificate;
 pub use checking::{CheckError, Verdict, check};
 pub use deal::{Gate, Open};
 pub use laws::upgraded_tables_are_judged_alike;
-pub use verdict::{Accepted, Denial};
-pub use verifying::{NotAccepted, verify};
+pub use verdict::{Accepted, Denial, Rules};
+pub use verifying::{NotAccepted, verify, verify_by};

@@ -2,21 +2,23 @@
 ghost use Rattle.std.specs.Prelude.{◌↔◌, ◌≡◌, IfNone, IfOk, IfSome, IsTrue};
 ghost use Rattle.policy.specs.Policy.{allows};
 ghost use Rattle.integrity.specs.Safe.{GuardsBudgets, KeepsIntegrity, KeepsNarrowBounds, LabelsObjects, RefusesOthers};
-ghost use Rattle.integrity.specs.Safe.{StaysConfined};
-ghost use Rattle.checker.specs.Verified.{DiffersFirst, IsVerified};
+ghost use Rattle.integrity.specs.Safe.{IsSafe, StaysConfined};
+ghost use Rattle.certificate.specs.Right.{right_certificate};
+ghost use Rattle.checker.specs.Verified.{DiffersFirst, IsVerified, IsVerifiedBy};
 
+use base::Refusal;
 use certificate::{Certificate, Line, make};
 use deal::Open;
 use policy::Policy;
 use std::alloc::Global;
 use std::thread::Threads;
 use table::Table;
-use verdict::{Accepted, Denial, judge};
+use verdict::{Accepted, Denial, Rules, judge, judge_by};
 
 /// The reason why a table, a policy and a certificate aren't accepted.
 #[derive(Clone, Copy, PartialEq, Eq, Debug)]
 pub enum NotAccepted {
-    /// A rule is broken: P1 to P8 or A1 to A4, or C1 where the certificate isn't the right one.
+    /// A rule is broken: P1 to P8, S1 to S8 or A1 to A4, or C1 where the certificate isn't the right one.
     Denied(Denial),
     /// Memory was refused.
     NoMemory,
@@ -55,13 +57,58 @@ pub fn verify<'a, R: Threads + Sync>(
         Ok(Err(denial)) => return Err(NotAccepted::Denied(denial)),
         Err(_) => return Err(NotAccepted::NoMemory),
     };
-    let Ok(right) = make(alloc, table) else {
-        return Err(NotAccepted::NoMemory);
-    };
-    match first_difference(certificate.lines(), right.lines()) {
-        None => Ok(accepted),
-        Some(line) => Err(NotAccepted::Denied(Denial::Certificate { line })),
+    match wrong_line(alloc, table, certificate) {
+        Ok(None) => Ok(accepted),
+        Ok(Some(line)) => Err(NotAccepted::Denied(Denial::Certificate { line })),
+        Err(_) => Err(NotAccepted::NoMemory),
     }
+}
+
+/// Verifies a certificate with a capability table and a policy, which a set of rules judges, as
+/// [`verify`] does by P1 to P8.
+///
+/// The rules of the set and A1 to A4 come first, as [`judge_by`] has them, and then C1. Where all three
+/// are accepted, every run from the table's boot state is safe.
+///
+/// # Errors
+///
+/// [`NotAccepted::Denied`] with the denial of the table and the policy, or with C1 and the first
+/// line that differs; [`NotAccepted::NoMemory`] where memory is refused.
+#[tactic(auto, using(crate::proofs::Differences::rules_deny_by))]
+pub fn verify_by<R: Threads + Sync>(
+    rt: &R,
+    alloc: Global,
+    table: &Table,
+    policy: &Policy,
+    rules: Rules,
+    certificate: &Certificate,
+) -> Result<(), NotAccepted>
+    ensures verdict { IsVerifiedBy rules table.now policy.now certificate.now result }
+    ensures safe { IfOk result (λ accepted. IsSafe table.now (allows policy.now)) }
+{
+    match judge_by(rt, alloc, table, policy, rules, 1, &Open) {
+        Ok(Ok(())) => match wrong_line(alloc, table, certificate) {
+            Ok(None) => Ok(()),
+            Ok(Some(line)) => Err(NotAccepted::Denied(Denial::Certificate { line })),
+            Err(_) => Err(NotAccepted::NoMemory),
+        },
+        Ok(Err(denial)) => Err(NotAccepted::Denied(denial)),
+        Err(_) => Err(NotAccepted::NoMemory),
+    }
+}
+
+/// The number, from 1, of the first line in which a certificate differs from the table's.
+fn wrong_line(
+    alloc: Global,
+    table: &Table,
+    certificate: &Certificate,
+) -> Result<Option<usize>, Refusal>
+    ensures some { IfOk result (λ found. IfSome found
+        (λ line. DiffersFirst line certificate.now (right_certificate table.now))) }
+    ensures none { IfOk result (λ found. IfNone found (certificate.now ≡ right_certificate table.now)) }
+{
+    let right = make(alloc, table)?;
+    Ok(first_difference(certificate.lines(), right.lines()))
 }
 
 /// Whether two lines are the same.

@@ -12,9 +12,9 @@ use Rattle.forms.specs.declared.file.File.{File, TheVariants.{Policy, Table}}
 use Rattle.forms.specs.declared.file.File.TheVariants as files
 use Rattle.reptext.specs.Reports.{fault_report}
 use Rattle.commands.specs.Described.{Described}
-use Rattle.commands.specs.declared.{answer.Answer.Answer, end.{Asked.Asked, End.End}, load.{Stop.{Stop, Stop as stop}, System.System, Three.Three}}
+use Rattle.commands.specs.declared.{answer.Answer.Answer, end.{Asked.Asked, End.End}, load.{Stop.{Stop, Stop as stop}, System.System, Three.Three, Two.Two}}
 use Rattle.commands.specs.{Ends.{IfCannotWrite, IfNoLabel, IfStatus, IfUnwritten, is_unwritable, status_of, unread_file}, Files.{Contents, faulty, first_failed}}
-use Rattle.commands.specs.Files.{described_contents, system_contents, table_contents, three_contents, unknown, unread_of, whole}
+use Rattle.commands.specs.Files.{described_contents, system_contents, table_contents, three_contents, two_contents, unknown, unread_of, whole}
 
 -- a source, before and after a command: the bytes that it had left, where they are known, and whether it failed
 pub record Input (S : Type 0) : Type 0 where
@@ -105,6 +105,15 @@ pub record IsDoneOnSystem
   -- each file is as it was, or those before it were read and are texts
   pub policy_waits : (policy.new ≡ policy.old) ⊎ HasTable table
 
+-- a command of a table and a second file of this name, which is read so, was carried out
+pub record IsDoneOnTwo
+    {T S O X : Type 0} (name : File) (read : Layout → List ℕ → Result X Fault) (judges : Layout → X → List ℕ → ℕ → Type 0)
+    (table : Input T) (second : Input S) (out : Output O) (end : End) : Type 0 where
+  pub done : IsCarriedOut (λ (s : Two X). no_label s.table) (λ (s : Two X). judges s.table s.second)
+      (two_contents name read table.bytes second.bytes)
+      (first_failed ((Table, table.failed) ∷ (name, second.failed) ∷ [])) out end
+  pub second_waits : (second.new ≡ second.old) ⊎ HasTable table
+
 -- a command of a table, a policy and a third file of this name, which is read so, was carried out
 pub record IsDoneOnThree
     {T P S O X : Type 0} (name : File) (read : Layout → List ℕ → Result X Fault) (judges : Layout → List Edge → X → List ℕ → ℕ → Type 0)
@@ -133,6 +142,10 @@ SystemIsJudged lacks judges = IsJudged (λ s. lacks s.table) (λ s. judges s.tab
 -- a description and its table were judged so
 abbrev pub DescriptionIsJudged : (Description → Layout → List ℕ → ℕ → Type 0) → Result Described Stop → Result Answer Stop → Type 0
 DescriptionIsJudged judges = IsJudged (λ d. no_label d.table) (λ d. judges d.description d.table)
+
+-- what two files hold was judged so
+abbrev pub TwoIsJudged : {X : Type 0} → (Layout → X → List ℕ → ℕ → Type 0) → Result (Two X) Stop → Result Answer Stop → Type 0
+TwoIsJudged judges = IsJudged (λ s. no_label s.table) (λ s. judges s.table s.second)
 
 -- what three files hold was judged so
 abbrev pub ThreeIsJudged : {X : Type 0} → (Layout → List Edge → X → List ℕ → ℕ → Type 0) → Result (Three X) Stop → Result Answer Stop → Type 0

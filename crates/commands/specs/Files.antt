@@ -6,7 +6,7 @@ use Rattle.microkit.specs.Reading.{description_of_text}
 use Rattle.machine.specs.Layout.{Layout}
 use Rattle.captext.specs.{Policies.read_policy_of, Tables.read_table_of}
 use Rattle.importing.specs.{declared.pieces.{Children.Children, Minting.Minting}, Tables.table_at}
-use Rattle.commands.specs.{declared.{end.Asked.Asked, load.{Stop.{Stop, Stop as stop}, System.System, Three.Three}}, Described.Described}
+use Rattle.commands.specs.{declared.{end.Asked.Asked, load.{Stop.{Stop, Stop as stop}, System.System, Three.Three, Two.Two}}, Described.Described}
 
 -- what the files hold; or the first file that isn't a text of its kind, with its fault; or nothing is known, since a file's bytes aren't
 pub data Contents (X : Type 0) : Type 0 where
@@ -33,6 +33,12 @@ abbrev pub system_contents : Option (List ℕ) → Option (List ℕ) → Content
 system_contents table policy =
     read_then Table table read_table_of (λ t.
     read_then Policy policy (read_policy_of t) (λ edges. whole (record { table = t; policy = edges })))
+
+-- what a table and a second file of this name hold, which is read so
+abbrev pub two_contents : {X : Type 0} → File → (Layout → List ℕ → Result X Fault) → Option (List ℕ) → Option (List ℕ) → Contents (Two X)
+two_contents name read table second =
+    read_then Table table read_table_of (λ t.
+    read_then name second (read t) (λ x. whole (record { table = t; second = x })))
 
 -- what a table, a policy and a third file of this name hold, which is read so
 abbrev pub three_contents : {X : Type 0} → File → (Layout → List ℕ → Result X Fault) → Option (List ℕ) → Option (List ℕ) → Option (List ℕ) → Contents (Three X)

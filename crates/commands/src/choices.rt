@@ -1,4 +1,4 @@
-//! What a user chooses of a command: what it writes, or on what its answer rests.
+//! What a user chooses of a command: what it writes, or what it looks for.
 use importing::{Children, Minting};
 
 /// What `check` writes where a table and a policy are accepted.
@@ -40,15 +40,6 @@ pub struct OnImport {
     /// What a parent holds of a child.
     pub children: Children,
     pub writes: Imported,
-}
-
-/// What an answer on labels rests on.
-#[derive(Clone, Copy, PartialEq, Eq, Debug)]
-pub enum Basis {
-    /// The system, which is judged first: only threads of labels that may act make calls.
-    System,
-    /// The policy alone: each label counts as one whose threads make calls. This holds of no run.
-    Policy,
 }
 
 /// Which labels a drawing has.

@@ -16,13 +16,14 @@ mod telling;
 
 pub use answer::{Answer, Made, denied};
 pub use captext::Fault;
-pub use choices::{Basis, Imported, OnAccept, OnClose, OnImport, Picture, Search};
+pub use choices::{Imported, OnAccept, OnClose, OnImport, Picture, Search};
 pub use described::{Described, load_description};
 pub use devices::{ReadError, Sink, Source};
 pub use end::{Asked, End};
 pub use importing::{Children, Minting};
 pub use later::{ClaimList, Entries, LaterFile, Script};
 pub use listener::{Finding, Heard, Listener, Outcomes, Silence};
-pub use load::{Held, Stop, System, Three, load_system, load_table, load_three};
+pub use load::{Held, Stop, System, Three, Two, load_system, load_table, load_three, load_two};
 pub use reptext::File;
 pub use telling::tell;
+pub use verdict::Rules;

@@ -8,7 +8,8 @@ ghost use Rattle.captext.specs.Tables.{read_table_of};
 ghost use Rattle.commands.specs.{declared.{answer.Answer.Answer, load.Stop.Stop}, Commands.{HasPolicy, HasTable}};
 ghost use Rattle.commands.specs.{Commands.input, Files.{Gives, IsDeviceStop, IsStopOf, LoadsAs, first_failed}};
 ghost use Rattle.commands.specs.Files.{is_unread, lacking_of, system_contents, table_contents, three_contents};
-ghost use Rattle.commands.specs.{Files.unread_of, Hearing.{Hearing, HearsFault, HearsStop, answered, hearing_of}};
+ghost use Rattle.commands.specs.Files.{two_contents, unread_of};
+ghost use Rattle.commands.specs.Hearing.{Hearing, HearsFault, HearsStop, answered, hearing_of};
 
 use crate::later::LaterFile;
 use crate::{Answer, Asked, File, Heard, Listener, ReadError, Source};
@@ -55,6 +56,13 @@ pub struct System {
     pub policy: Policy,
 }
 
+/// A table, and what a second file holds.
+#[derive(Drop)]
+pub struct Two<X: Drop> {
+    pub table: Table,
+    pub second: X,
+}
+
 /// A table, a policy, and what a third file holds.
 #[derive(Drop)]
 pub struct Three<X: Drop> {
@@ -97,7 +105,7 @@ impl Held for Table {
             outcomes: None,
             finding: answer.finding.as_ref(),
             claims: None,
-            script: None,
+            script: answer.script.as_deref(),
         }
     }
 }
@@ -119,7 +127,29 @@ impl Held for System {
             outcomes: None,
             finding: answer.finding.as_ref(),
             claims: None,
-            script: answer.script.as_deref(),
+            script: None,
+        }
+    }
+}
+
+impl<X: LaterFile> Held for Two<X> {
+    ghost layout = { λ two. two.table };
+
+    ghost hears = { λ two answer. answered two.table None None (X.calls two.second answer.made) answer.finding };
+
+    fn table(&self) -> &Table {
+        &self.table
+    }
+
+    fn heard<'a>(&'a self, answer: &'a Answer) -> Heard<'a> {
+        Heard {
+            table: &self.table,
+            description: None,
+            policy: None,
+            outcomes: self.second.outcomes(answer.made.as_ref()),
+            finding: answer.finding.as_ref(),
+            claims: self.second.claims(),
+            script: None,
         }
     }
 }
@@ -255,6 +285,37 @@ pub fn load_system<T: Source, P: Source, L: Listener>(
     let table = load_table(alloc, table, listener)?;
     match load_later::<Policy, P, L>(alloc, &table, policy, listener) {
         Ok(policy) => Ok(System { table, policy }),
+        Err(stop) => {
+            drop(table);
+            Err(stop)
+        }
+    }
+}
+
+/// Loads a table and a second file one after another, up to the first that stops it.
+///
+/// # Errors
+///
+/// Those of [`load_table`], and then the same for the second file, with the first fault of its text.
+/// The second file is read only if the table has no fault.
+pub fn load_two<X: LaterFile, T: Source, S: Source, L: Listener>(
+    alloc: Global,
+    table: &mut T,
+    second: &mut S,
+    listener: &mut L,
+) -> Result<Two<X>, Stop>
+    requires table { T.failed table.old ≡ false }
+    requires second { S.failed second.old ≡ false }
+    ensures loaded { Gives (two_contents X.named X.read_of (T.remaining table.old) (S.remaining second.old)) result }
+    ensures second_waits { (second.new ≡ second.old) ⊎ HasTable (input T.remaining T.failed table.old table.new) }
+    ensures unread { unread_of result ≡ first_failed
+        ((file.Table, T.failed table.new) ∷ (X.named, S.failed second.new) ∷ []) }
+    ensures labels { lacking_of result ≡ None }
+    ensures heard { HearsFault L.Hears result listener.old listener.new }
+{
+    let table = load_table(alloc, table, listener)?;
+    match load_later::<X, S, L>(alloc, &table, second, listener) {
+        Ok(second) => Ok(Two { table, second }),
         Err(stop) => {
             drop(table);
             Err(stop)

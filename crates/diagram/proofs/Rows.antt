@@ -3,13 +3,13 @@ use Rattle.std.{specs.List.{flat_map, list_all}, proofs.Common.{ℕ, ◌&&◌, �
 use Rattle.std.proofs.{Common.{sym, true}, lemmas.{List.{Elements.All-map, Folds.{flat_map-map, list_all-map}}, Simd.map-map}}
 use Rattle.machine.specs.Layout.{Layout}
 use Rattle.policy.specs.Domain.{EdgeTest}
-use Rattle.verdict.specs.Extents.{Reach}
+use Rattle.reach.specs.Extents.{Limits}
 use Rattle.summary.specs.{declared.rows.Row.Row, Labelled.others_of, Rows.{AreRowsOf, IsRowOf}}
 use Rattle.diagram.specs.{declared.drawing.TheConstants.HEAD, Folded.{IsFoldedDrawing, arrow_text, arrows_text, box_text, folded_text}}
 use Rattle.diagram.specs.{Folded.rows_text, Programs.{ArePrograms, IsProgram, Program, program_of}, Regions.{is_inside, uses}}
 
-program_is : (t : Layout) (reach : Reach) (row : Row) → IsRowOf t reach row → IsProgram reach (program_of reach.test row)
-program_is t reach row is = record {
+program_is : (t : Layout) (limits : Limits) (row : Row) → IsRowOf t limits row → IsProgram limits (program_of limits.test row)
+program_is t limits row is = record {
   calls = is.calls;
   answers = is.answers;
   signals = is.signals;
@@ -20,10 +20,10 @@ program_is t reach row is = record {
   reads = is.reads;
 }
 
-pub programs_are : (t : Layout) (reach : Reach) (rows : List Row) → AreRowsOf t reach rows → ArePrograms t reach (map (program_of reach.test) rows)
-programs_are t reach rows are = record {
-  labels = map-map (λ (p : Program). p.label) (program_of reach.test) rows ∙ are.labels;
-  each = All-map (IsProgram reach) (program_of reach.test) rows (λ k d within. program_is t reach _ (are.each k d within));
+pub programs_are : (t : Layout) (limits : Limits) (rows : List Row) → AreRowsOf t limits rows → ArePrograms t limits (map (program_of limits.test) rows)
+programs_are t limits rows are = record {
+  labels = map-map (λ (p : Program). p.label) (program_of limits.test) rows ∙ are.labels;
+  each = All-map (IsProgram limits) (program_of limits.test) rows (λ k d within. program_is t limits _ (are.each k d within));
 }
 
 pub text_is : (t : Layout) (test : EdgeTest) (rows : List Row) (others : List ℕ)
@@ -39,14 +39,14 @@ text_is t test rows others =
     sym (λ i. HEAD.now ++ (boxes i ++ (arrows i ++ codes "}\n")))
 
 -- what is written of the rows of a table, and of its labels without a thread, is its folded drawing
-pub drawing_is : (t : Layout) (reach : Reach) (rows shown : List Row) (others listed text : List ℕ) → AreRowsOf t reach rows → shown ≡ rows
-    → others ≡ others_of t → listed ≡ others → text ≡ rows_text t reach.test shown listed → IsFoldedDrawing t reach text
-drawing_is t reach rows shown others listed text are shown_is others_are listed_is told = record {
-  programs = map (program_of reach.test) rows;
-  are = programs_are t reach rows are;
+pub drawing_is : (t : Layout) (limits : Limits) (rows shown : List Row) (others listed text : List ℕ) → AreRowsOf t limits rows → shown ≡ rows
+    → others ≡ others_of t → listed ≡ others → text ≡ rows_text t limits.test shown listed → IsFoldedDrawing t limits text
+drawing_is t limits rows shown others listed text are shown_is others_are listed_is told = record {
+  programs = map (program_of limits.test) rows;
+  are = programs_are t limits rows are;
   is =
-      told ∙ ap (λ (some : List Row). rows_text t reach.test some listed) shown_is
-      ∙ ap (λ (some : List ℕ). rows_text t reach.test rows some) (listed_is ∙ others_are) ∙ text_is t reach.test rows (others_of t);
+      told ∙ ap (λ (some : List Row). rows_text t limits.test some listed) shown_is
+      ∙ ap (λ (some : List ℕ). rows_text t limits.test rows some) (listed_is ∙ others_are) ∙ text_is t limits.test rows (others_of t);
 }
 
 -- no other program uses a label, as no other row does

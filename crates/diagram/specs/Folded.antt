@@ -4,7 +4,7 @@
 use Rattle.std.specs.{Fmt.decimal, List.flat_map, Prelude.{[], ℕ, ◌++◌, ◌==◌, ◌∷◌, ◌≡◌, Bool, List, codes, if◌then◌else◌, length, map, not}}
 use Rattle.machine.specs.Layout.{Layout}
 use Rattle.policy.specs.Domain.{EdgeTest}
-use Rattle.verdict.specs.Extents.{Reach}
+use Rattle.reach.specs.Extents.{Limits}
 use Rattle.captext.specs.PolicyText.{label_name}
 use Rattle.summary.specs.{declared.rows.Row.Row, Labelled.others_of, Padding.given, Regions.names_text}
 use Rattle.diagram.specs.declared.{drawing.TheConstants.HEAD, verbs.Verb.{Verb, TheVariants.{Changes, Takes, Writes}}}
@@ -81,7 +81,7 @@ rows_text t test rows others =
     ++ (flat_map (λ row. flat_map (λ other. arrow_text t others (program_of test row) (program_of test other)) rows) rows ++ codes "}\n"))
 
 -- a text is the folded drawing of a table's programs with this reach
-pub record IsFoldedDrawing (t : Layout) (reach : Reach) (text : List ℕ) : Type 0 where
+pub record IsFoldedDrawing (t : Layout) (limits : Limits) (text : List ℕ) : Type 0 where
   pub programs : List Program
-  pub are : ArePrograms t reach programs
+  pub are : ArePrograms t limits programs
   pub is : text ≡ folded_text t programs (others_of t)

@@ -3,7 +3,7 @@ use Rattle.std.specs.Prelude.{ℕ, ◌↔◌, ◌≡◌, All, Bool, List, map, t
 use Rattle.base.specs.{declared.kind.Kind.TheVariants.Write, Labels.is_in}
 use Rattle.machine.specs.Layout.{Layout}
 use Rattle.policy.specs.Domain.{EdgeTest}
-use Rattle.verdict.specs.Extents.{MayChangeIn, MayShrinkIn, Reach}
+use Rattle.reach.specs.Extents.{MayChangeIn, MayShrinkIn, Limits}
 use Rattle.summary.specs.{Labelled.programs_of, Letters.{HasLetter, by_answer, by_call, by_other, by_signal}, Sharing.reads_of}
 use Rattle.summary.specs.declared.rows.Row.{Row}
 
@@ -21,20 +21,20 @@ pub record Program : Type 0 where
 
 -- the tests of a program say by which kinds of reasons it may change objects, whether it may, whether these may shrink by what it does,
 -- and whether it has an edge to write or to read
-pub record IsProgram (reach : Reach) (p : Program) : Type 0 where
-  pub calls : (l : ℕ) → (p.calls l ≡ true) ↔ HasLetter by_call reach p.label l
-  pub answers : (l : ℕ) → (p.answers l ≡ true) ↔ HasLetter by_answer reach p.label l
-  pub signals : (l : ℕ) → (p.signals l ≡ true) ↔ HasLetter by_signal reach p.label l
-  pub does_else : (l : ℕ) → (p.does_else l ≡ true) ↔ HasLetter by_other reach p.label l
-  pub changes : (l : ℕ) → (p.changes l ≡ true) ↔ MayChangeIn reach p.label l
-  pub shrinks : (l : ℕ) → (p.shrinks l ≡ true) ↔ MayShrinkIn reach p.label l
-  pub writes : (l : ℕ) → p.writes l ≡ reach.test p.label Write l
-  pub reads : (l : ℕ) → p.reads l ≡ reads_of reach.test p.label l
+pub record IsProgram (limits : Limits) (p : Program) : Type 0 where
+  pub calls : (l : ℕ) → (p.calls l ≡ true) ↔ HasLetter by_call limits p.label l
+  pub answers : (l : ℕ) → (p.answers l ≡ true) ↔ HasLetter by_answer limits p.label l
+  pub signals : (l : ℕ) → (p.signals l ≡ true) ↔ HasLetter by_signal limits p.label l
+  pub does_else : (l : ℕ) → (p.does_else l ≡ true) ↔ HasLetter by_other limits p.label l
+  pub changes : (l : ℕ) → (p.changes l ≡ true) ↔ MayChangeIn limits p.label l
+  pub shrinks : (l : ℕ) → (p.shrinks l ≡ true) ↔ MayShrinkIn limits p.label l
+  pub writes : (l : ℕ) → p.writes l ≡ limits.test p.label Write l
+  pub reads : (l : ℕ) → p.reads l ≡ reads_of limits.test p.label l
 
 -- the programs of a table, in the order of their labels
-pub record ArePrograms (t : Layout) (reach : Reach) (programs : List Program) : Type 0 where
+pub record ArePrograms (t : Layout) (limits : Limits) (programs : List Program) : Type 0 where
   pub labels : map (λ p. p.label) programs ≡ programs_of t
-  pub each : All (IsProgram reach) programs
+  pub each : All (IsProgram limits) programs
 
 -- the program of a row of the summary
 abbrev pub program_of : EdgeTest → Row → Program

@@ -2,7 +2,7 @@
 ghost use Rattle.std.specs.Prelude.{◌≡◌, IfErr, IfOk, string_bytes};
 ghost use Rattle.base.specs.Refusals.{out_of_memory};
 ghost use Rattle.policy.specs.Policy.{allows};
-ghost use Rattle.verdict.specs.Extents.{reach_by};
+ghost use Rattle.reach.specs.Extents.{limits_by};
 ghost use Rattle.diagram.specs.Folded.{IsFoldedDrawing, rows_text};
 
 use crate::arrows::write_arrows;
@@ -40,7 +40,7 @@ pub fn write_programs(
     policy: &Policy,
     actors: Labels,
 ) -> Result<Vec<u8>, Refusal>
-    ensures text { IfOk result (λ text. IsFoldedDrawing table.now (reach_by policy.now actors) text.items) }
+    ensures text { IfOk result (λ text. IsFoldedDrawing table.now (limits_by policy.now actors) text.items) }
     ensures memory { IfErr result (λ refusal. refusal ≡ out_of_memory) }
 {
     let rows = rows_of(alloc, table, policy, actors)?;

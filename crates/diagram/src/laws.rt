@@ -1,13 +1,13 @@
 //! Theorems about folded drawings, with nothing to run.
 ghost use Rattle.std.specs.Prelude.{ℕ, ◌≡◌, ◌⊎◌, List, true};
 ghost use Rattle.machine.specs.Layout.{Layout};
-ghost use Rattle.verdict.specs.Extents.{Reach};
+ghost use Rattle.reach.specs.Extents.{Limits};
 ghost use Rattle.diagram.specs.{Folded.IsFoldedDrawing, Programs.Program, Regions.{StandsBetween, is_inside}};
 
 /// Proves that a table has one folded drawing with a reach.
 pub fn each_system_has_one_drawing()
-    ensures { (t : Layout) (reach : Reach) (text other : List ℕ)
-        → IsFoldedDrawing t reach text → IsFoldedDrawing t reach other → text ≡ other }
+    ensures { (t : Layout) (limits : Limits) (text other : List ℕ)
+        → IsFoldedDrawing t limits text → IsFoldedDrawing t limits other → text ≡ other }
 {}
 
 /// Proves that a label that a program may change or make smaller stands inside the program, or in

@@ -19,6 +19,7 @@ pub fn asked_edge(table: &Table, denial: &Denial) -> Option<Edge>
 {
     match *denial {
         Denial::Policy(broken) => broken.edge(),
+        Denial::Sharp(broken) => Some(broken.edge()),
         Denial::Capability { slot, kind, label } => {
             joined(declared_label(table, slot.holder), kind, Some(label))
         }

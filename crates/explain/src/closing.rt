@@ -8,15 +8,15 @@ use policy::{Broken, Policy};
 use std::alloc::{AllocError, Global};
 use std::thread::Threads;
 use table::Table;
-use verdict::{Denial, judge};
+use verdict::{Denial, Rules, judge_by};
 
 /// As many edges as there may be: from each label, of each kind, to each label.
 pub(crate) const MOST_EDGES: usize = LABELS * Kind::ALL.len() * LABELS;
 
 const LABELS: usize = Label::COUNT as usize;
 
-/// Returns a line for each edge that a policy lacks: the rule and the place that ask for it, and the edge, as
-/// `table:11: A1 space.0: edge app await bell`, where the place is a line of the table of this name.
+/// Returns a line for each edge that a policy lacks by a set of rules: the rule and the place that ask for it, and the
+/// edge, as `table:11: A1 space.0: edge app await bell`, where the place is a line of the table of this name.
 ///
 /// Each is what the verdict asks for first, where the edges of the lines before are there. So each
 /// line costs a verdict.
@@ -27,12 +27,13 @@ const LABELS: usize = Label::COUNT as usize;
 pub fn explain_closing<R: Threads + Sync>(
     rt: &R,
     alloc: Global,
+    rules: Rules,
     file: &str,
     table: &Table,
     policy: &Policy,
 ) -> Result<String, Refusal> {
     let mut closed = Policy::new(alloc);
-    let lines = lines_for(rt, alloc, file, table, policy, &mut closed);
+    let lines = lines_for(rt, alloc, rules, file, table, policy, &mut closed);
     drop(closed);
     lines
 }
@@ -41,39 +42,33 @@ pub fn explain_closing<R: Threads + Sync>(
 fn lines_for<R: Threads + Sync>(
     rt: &R,
     alloc: Global,
+    rules: Rules,
     file: &str,
     table: &Table,
     policy: &Policy,
     closed: &mut Policy,
 ) -> Result<String, Refusal> {
-    add_edges(alloc, closed, policy)?;
+    closed.extend(&policy.edges(alloc)?)?;
     let mut lines = String::new(alloc);
     for _ in 0..MOST_EDGES {
-        if !push_line(rt, alloc, file, table, closed, &mut lines)? {
+        if !push_line(rt, alloc, rules, file, table, closed, &mut lines)? {
             break;
         }
     }
     Ok(lines)
 }
 
-/// Adds the edges of another policy.
-fn add_edges(alloc: Global, closed: &mut Policy, policy: &Policy) -> Result<(), Refusal> {
-    for edge in policy.edges(alloc)?.iter() {
-        closed.add(*edge)?;
-    }
-    Ok(())
-}
-
 /// Adds the edge that the verdict asks for first, and the line for it, if the policy lacks one.
 fn push_line<R: Threads + Sync>(
     rt: &R,
     alloc: Global,
+    rules: Rules,
     file: &str,
     table: &Table,
     closed: &mut Policy,
     lines: &mut String,
 ) -> Result<bool, Refusal> {
-    match first_denial(rt, alloc, table, closed)? {
+    match first_denial(rt, alloc, rules, table, closed)? {
         Some(denial) => push_edge(file, table, &denial, closed, lines),
         None => Ok(false),
     }
@@ -83,11 +78,12 @@ fn push_line<R: Threads + Sync>(
 fn first_denial<R: Threads + Sync>(
     rt: &R,
     alloc: Global,
+    rules: Rules,
     table: &Table,
     policy: &Policy,
 ) -> Result<Option<Denial>, Refusal> {
-    match judge(rt, alloc, table, policy, 1, &Open)? {
-        Ok(_) => Ok(None),
+    match judge_by(rt, alloc, table, policy, rules, 1, &Open)? {
+        Ok(()) => Ok(None),
         Err(denial) => Ok(Some(denial)),
     }
 }

@@ -2,15 +2,17 @@
 use crate::asked::asked_edge;
 use crate::capability::push_capability;
 use crate::closing::mending_edge;
+use crate::grounds::first_premise;
 use crate::lines::{Start, line_of_edge, line_of_place};
 use crate::premises::premises;
 use crate::sentences::{EdgeAfter, EdgeLine, OtherWay, Reason};
-use base::Refusal;
+use crate::sharp_denials::push_sharp;
+use base::{Edge, Refusal};
 use policy::{Broken, Policy};
 use std::alloc::{AllocError, Global};
 use std::fmt;
 use table::Table;
-use verdict::Denial;
+use verdict::{Denial, Rules};
 
 /// The names of the files that a denial is on. One that isn't read has an empty name.
 #[derive(Clone, Copy)]
@@ -22,8 +24,8 @@ pub struct Names<'a> {
 
 /// Returns a sentence on a denial: the line of its place, why the rule is broken there, and what may be done.
 ///
-/// Of A1 it names all edges that the policy lacks for the capability. The place of a rule of closed
-/// policies is the first edge by which the rule asks for another.
+/// Of A1 it names all edges that the policy lacks for the capability. The place of a rule on the policy alone
+/// is the first edge by which the rule asks for another. The system was judged by these rules.
 ///
 /// # Errors
 ///
@@ -33,14 +35,16 @@ pub fn explain_denial(
     names: &Names<'_>,
     table: &Table,
     policy: &Policy,
+    rules: Rules,
     denial: &Denial,
 ) -> Result<String, Refusal> {
     let mut sentence = String::new(alloc);
-    push_denial(alloc, &mut sentence, names, table, policy, denial)?;
+    let missing = push_denial(alloc, &mut sentence, names, table, policy, denial)?;
+    push_command(&mut sentence, names, rules, missing)?;
     Ok(sentence)
 }
 
-/// Adds the sentence on a denial.
+/// Adds the sentence on a denial, but for a command; gives how many edges are missing.
 fn push_denial(
     alloc: Global,
     sentence: &mut String,
@@ -48,16 +52,18 @@ fn push_denial(
     table: &Table,
     policy: &Policy,
     denial: &Denial,
-) -> Result<(), Refusal> {
+) -> Result<usize, Refusal> {
     push_start(alloc, sentence, names, table, policy, denial)?;
-    let missing = match *denial {
+    match *denial {
         Denial::Capability { slot, label, .. } => {
-            push_capability(alloc, sentence, table, policy, slot, label)?
+            push_capability(alloc, sentence, table, policy, slot, label)
         }
-        _ => push_place(sentence, table, policy, denial)?,
-    };
-    push_command(sentence, names, missing)?;
-    Ok(())
+        Denial::Sharp(broken) => {
+            push_sharp(alloc, sentence, table, policy, &broken)?;
+            Ok(1)
+        }
+        _ => Ok(push_place(sentence, table, policy, denial)?),
+    }
 }
 
 /// Adds the line of the place of a denial, of the file that it is in, and the rule.
@@ -70,7 +76,14 @@ fn push_start(
     denial: &Denial,
 ) -> Result<(), Refusal> {
     let (file, line) = match *denial {
-        Denial::Policy(broken) => (names.policy, line_of_premise(alloc, policy, broken)?),
+        Denial::Policy(broken) => {
+            let [first, _, _, _] = premises(policy, broken);
+            (names.policy, line_of_premise(alloc, policy, first)?)
+        }
+        Denial::Sharp(broken) => {
+            let first = first_premise(table, policy, &broken);
+            (names.policy, line_of_premise(alloc, policy, first)?)
+        }
         // The report counts lines after the header.
         Denial::Certificate { line } => (names.certificate, Some(line.saturating_add(1))),
         _ => (names.table, line_of_place(table, denial)),
@@ -81,13 +94,12 @@ fn push_start(
     Ok(())
 }
 
-/// Returns the line of the first edge by which a rule of closed policies asks for another.
+/// Returns the line of the first edge by which a rule asks for another, if there is one.
 fn line_of_premise(
     alloc: Global,
     policy: &Policy,
-    broken: Broken,
+    first: Option<Edge>,
 ) -> Result<Option<usize>, Refusal> {
-    let [first, _, _, _] = premises(policy, broken);
     match first {
         Some(edge) => line_of_edge(alloc, policy, edge),
         None => Ok(None),
@@ -127,6 +139,7 @@ fn push_place(
 fn push_command(
     sentence: &mut String,
     names: &Names<'_>,
+    rules: Rules,
     missing: usize,
 ) -> Result<(), AllocError> {
     let (table, policy) = (Pasted(names.table), Pasted(names.policy));
@@ -135,9 +148,13 @@ fn push_command(
         1 => "edge",
         _ => "edges",
     };
+    let by = match rules {
+        Rules::Closed => "",
+        Rules::Sharp => "--rules sharp ",
+    };
     write!(
         sentence,
-        " `confine close {table} {policy}` adds the {edges} for you."
+        " `confine close {by}{table} {policy}` adds the {edges} for you."
     )
 }
 

@@ -1,5 +1,5 @@
-//! Words to a person: why a table and a policy are denied, and what may be done; where edges of a
-//! policy come from, or why there are none; and that a word is no label.
+//! Words to a person: why a table and a policy are denied, and what may be done; where edges of the reach of a
+//! table come from, or of a policy, or why there are none; and that a word is no label.
 //!
 //! `breaches`, `notes` and `serving` stand on it. It knows no claim, no run, no device and no command.
 #![tactic(auto)]
@@ -8,12 +8,16 @@ mod asked;
 mod capability;
 mod closing;
 mod denials;
+mod grounds;
 mod label_sets;
 mod lines;
 mod nothing;
 mod origins;
 mod premises;
+mod reach_origins;
+mod rounds;
 mod sentences;
+mod sharp_denials;
 mod unlabelled;
 
 pub use asked::{an_asked_edge_is_missing, asked_edge};
@@ -24,6 +28,7 @@ pub use lines::{
     Start, line_of_binding, line_of_child, line_of_edge, line_of_label, line_of_object,
     line_of_slot,
 };
-pub use origins::{explain_why, push_origins};
+pub use origins::explain_why_allowed;
+pub use reach_origins::{Origins, OtherWays, explain_why};
 pub use sentences::{EdgeLine, EdgeList, Reason};
 pub use unlabelled::explain_unlabelled;

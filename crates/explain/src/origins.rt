@@ -1,49 +1,40 @@
-//! The sentences on where the edges of a reason come from: a place of the table, by a rule from other edges,
-//! or the policy alone; and, for labels with no reason, why there is none.
+//! The sentences on where the edges of a reason come from that a policy has: a place of the table, by a rule of closed policies from other
+//! edges, or the policy alone; and, for labels with no reason, why there is none.
 use crate::asked::asked_edge;
 use crate::closing::{MOST_EDGES, mending_edge};
 use crate::lines::{Start, line_of_place};
-use crate::nothing::push_nothing;
+use crate::nothing::push_not_allowed;
 use crate::premises::premises;
 use crate::sentences::{EdgeLine, EdgeList, Reason};
-use base::{Edge, Kind, Label, Labels, Refusal, SlotRef};
+use base::{Edge, Kind, Label, Refusal, SlotRef};
 use labels::{authority, filled_edges};
 use policy::{Broken, Policy, Why, first_broken};
 use std::alloc::{AllocError, Global};
 use std::thread::Threads;
 use table::Table;
-use verdict::{Denial, actors};
+use verdict::Denial;
 
-/// Returns a line for each edge of the reason that [`Policy::why_among`] gives, and then for each
-/// edge by which a rule asks for one of those before: where it comes from. Where there is no
-/// authority, it returns why that is so.
+/// Returns a line for each edge of the reason why a policy allows the one label to do something to the other, and then
+/// for each edge by which a rule asks for one of those before: where it comes from. Where nothing is allowed, it
+/// returns why that is so.
 ///
-/// If `alone`, each label counts as one whose threads make calls, else those of which it is so in the system.
-/// `file` is the table's name.
+/// Each label counts as one whose threads make calls. `file` is the table's name.
 ///
 /// # Errors
 ///
 /// 40 where memory is refused.
-pub fn explain_why<R: Threads + Sync>(
+pub fn explain_why_allowed<R: Threads + Sync>(
     rt: &R,
     alloc: Global,
     file: &str,
     table: &Table,
     policy: &Policy,
-    alone: bool,
     actor: &str,
     object: &str,
 ) -> Result<String, Refusal> {
     let mut lines = String::new(alloc);
-    let actors = if alone {
-        table.labels()
-    } else {
-        actors(table, policy)
-    };
     if let (Some(actor), Some(object)) = (table.label_named(actor), table.label_named(object)) {
-        push_why(
-            rt, alloc, &mut lines, file, table, policy, actors, actor, object,
-        )?;
+        push_why(rt, alloc, &mut lines, file, table, policy, actor, object)?;
     }
     Ok(lines)
 }
@@ -56,25 +47,20 @@ fn push_why<R: Threads + Sync>(
     file: &str,
     table: &Table,
     policy: &Policy,
-    actors: Labels,
     actor: Label,
     object: Label,
 ) -> Result<(), Refusal> {
-    match policy.why_among(alloc, actors, actor, object)? {
+    match policy.why_among(alloc, table.labels(), actor, object)? {
         Why::Full(mut edges) | Why::Take(mut edges) => {
             push_origins(rt, alloc, lines, file, table, policy, &mut edges)
         }
-        Why::Nothing => push_nothing(alloc, lines, table, policy, actors, actor, object),
+        Why::Nothing => push_not_allowed(alloc, lines, table, policy, actor, object),
     }
 }
 
 /// Adds a line for each of these edges: where it comes from. The edges by which a rule asks for one of them are added
 /// to `edges`, and get lines too. `file` is the table's name.
-///
-/// # Errors
-///
-/// 40 where memory is refused. Then some of the lines may have been added.
-pub fn push_origins<R: Threads + Sync>(
+fn push_origins<R: Threads + Sync>(
     rt: &R,
     alloc: Global,
     lines: &mut String,
@@ -127,8 +113,43 @@ fn push_place(
     writeln!(lines, "`{edge}` comes from {start}{reason}")
 }
 
+/// Adds that an edge comes from a place of the table, if one gives it, and returns whether one does.
+pub(crate) fn push_place_of(
+    alloc: Global,
+    lines: &mut String,
+    file: &str,
+    table: &Table,
+    edge: &Edge,
+) -> Result<bool, Refusal> {
+    match place_of(alloc, table, edge) {
+        Ok(Some(denial)) => {
+            push_place(lines, file, table, *edge, &denial)?;
+            Ok(true)
+        }
+        Ok(None) => Ok(false),
+        Err(refusal) => Err(refusal),
+    }
+}
+
+/// Returns the line of the place of a table that gives an edge first, from 1.
+pub(crate) fn line_of_origin(
+    alloc: Global,
+    table: &Table,
+    edge: &Edge,
+) -> Result<Option<usize>, Refusal> {
+    match place_of(alloc, table, edge) {
+        Ok(Some(place)) => Ok(line_of_place(table, &place)),
+        Ok(None) => Ok(None),
+        Err(refusal) => Err(refusal),
+    }
+}
+
 /// The place of a table that gives an edge first, as the denial of a policy that lacks the edge.
-fn place_of(alloc: Global, table: &Table, edge: &Edge) -> Result<Option<Denial>, Refusal> {
+pub(crate) fn place_of(
+    alloc: Global,
+    table: &Table,
+    edge: &Edge,
+) -> Result<Option<Denial>, Refusal> {
     for filled in table.caps() {
         if filled_edges(alloc, table, filled)?.contains(edge) {
             return Ok(place_at(table, filled.slot, edge));
@@ -207,11 +228,17 @@ fn push_asked(
 }
 
 /// Adds those edges to a list that it doesn't have.
-fn push_new(edges: &mut Vec<Edge>, others: &[Edge]) -> Result<(), AllocError> {
+pub(crate) fn push_new(edges: &mut Vec<Edge>, others: &[Edge]) -> Result<(), AllocError> {
     for edge in others {
-        if !edges.contains(edge) {
-            edges.push(*edge)?;
-        }
+        push_edge(edges, *edge)?;
+    }
+    Ok(())
+}
+
+/// Adds an edge to a list that doesn't have it.
+pub(crate) fn push_edge(edges: &mut Vec<Edge>, edge: Edge) -> Result<(), AllocError> {
+    if !edges.contains(&edge) {
+        edges.push(edge)?;
     }
     Ok(())
 }

@@ -4,6 +4,7 @@ use base::{Edge, Kind, Label, ObjId, SlotRef};
 use captext::{SlotName, label_name, object_name};
 use labels::declared_label;
 use policy::{Broken, Policy};
+use sharp::SharpBroken;
 use std::fmt::{self, Display};
 use table::Table;
 use verdict::Denial;
@@ -135,6 +136,7 @@ impl fmt::Display for Reason<'_> {
         let table = self.table;
         match *self.denial {
             Denial::Policy(broken) => tell_rule(f, table, &broken),
+            Denial::Sharp(broken) => tell_required(f, table, &broken),
             Denial::Capability { slot, kind, label } => {
                 tell_capability(f, table, slot, kind, label)
             }
@@ -154,6 +156,20 @@ impl fmt::Display for Reason<'_> {
             Denial::Certificate { line } => tell_certificate(f, line),
         }
     }
+}
+
+/// Which edge a sharp rule requires. On which grounds it does so, the policy shows.
+fn tell_required<W: fmt::Write>(
+    f: &mut fmt::Formatter<W>,
+    table: &Table,
+    broken: &SharpBroken,
+) -> fmt::Result {
+    let rule = broken.rule();
+    let edge = EdgeLine {
+        table,
+        edge: broken.edge(),
+    };
+    write!(f, "{rule} requires `{edge}`")
 }
 
 /// What the capability in a slot lets the label of its holder do.
@@ -417,6 +433,7 @@ impl fmt::Display for PlaceNames<'_> {
         let table = self.table;
         let (one, two) = match *self.denial {
             Denial::Policy(broken) => names_of_ends(table, &broken),
+            Denial::Sharp(broken) => names_of_sharp_ends(table, &broken),
             Denial::Capability { slot, .. } | Denial::Root { slot, .. } => {
                 return SlotName { table, slot }.fmt(f);
             }
@@ -455,6 +472,26 @@ fn names_of_ends<'a>(table: &'a Table, broken: &Broken) -> (&'a str, &'a str) {
     (label_name(table, one), label_name(table, two))
 }
 
+/// The names of the two labels between which a sharp rule is broken.
+fn names_of_sharp_ends<'a>(table: &'a Table, broken: &SharpBroken) -> (&'a str, &'a str) {
+    let (one, two) = match *broken {
+        SharpBroken::SubjectLacks { subject, other, .. } => (subject, other),
+        SharpBroken::ControlLacks {
+            subject,
+            object,
+            ..
+        } => (subject, object),
+        SharpBroken::GrantLacks { giver, taker, .. } => (giver, taker),
+        SharpBroken::DomainLacks { parent, child } | SharpBroken::DeriveLacks { parent, child } => {
+            (parent, child)
+        }
+        SharpBroken::ContextLacks { subject, context } => (subject, context),
+        SharpBroken::ReplyLacks { reply, thread } => (reply, thread),
+        SharpBroken::LentLacks { borrower, context } => (borrower, context),
+    };
+    (label_name(table, one), label_name(table, two))
+}
+
 /// The two labels between which a rule of closed policies is broken.
 pub(crate) fn ends(broken: &Broken) -> (Label, Label) {
     match *broken {
@@ -487,6 +524,7 @@ impl fmt::Display for OtherWay<'_> {
         let (table, policy) = (self.table, self.policy);
         let words = match *self.denial {
             Denial::Policy(broken) => return tell_rule_way(f, table, policy, &broken),
+            Denial::Sharp(_) => "Remove an edge by which the rule requires it",
             Denial::Capability { .. } => "Give the capability fewer rights",
             Denial::Root { .. } => {
                 "Make the root a CNode of a label to which the policy has such an edge"

@@ -25,11 +25,11 @@ AreFound found words =
     ((codes "description", words.description) ∷ (codes "table", words.table) ∷ (codes "policy", words.policy) ∷ (codes "certificate", words.certificate)
     ∷ (codes "script", words.script) ∷ (codes "log", words.log) ∷ (codes "claims", words.claims) ∷ (codes "actor", words.actor)
     ∷ (codes "object", words.object) ∷ (codes "workers", words.workers) ∷ (codes "steps", words.steps) ∷ (codes "rights", words.rights)
-    ∷ (codes "children", words.children) ∷ (codes "format", words.format) ∷ [])
+    ∷ (codes "children", words.children) ∷ (codes "rules", words.rules) ∷ (codes "format", words.format) ∷ [])
     × Each (IsGiven found)
     ((codes "explain", words.explain) ∷ (codes "quiet", words.quiet) ∷ (codes "cert", words.cert) ∷ (codes "missing", words.missing)
-    ∷ (codes "surplus", words.surplus) ∷ (codes "split", words.split) ∷ (codes "all", words.all) ∷ (codes "policy-alone", words.policy_alone)
-    ∷ (codes "take", words.take) ∷ (codes "as-claims", words.as_claims) ∷ [])
+    ∷ (codes "surplus", words.surplus) ∷ (codes "split", words.split) ∷ (codes "all", words.all) ∷ (codes "take", words.take)
+    ∷ (codes "as-claims", words.as_claims) ∷ [])
 
 -- a line asks for what its command and the words found for that make
 pub record IsAskedIn (matches : ArgMatches) (line : CommandLine) : Type 0 where

@@ -163,10 +163,9 @@ A system description, as Microkit 1.x reads it: protection domains, virtual mach
 memory regions, maps and channels, in XML. What it doesn't show is told with `--explain`.
 docs/IMPORT.md says what each element becomes.";
 
-pub const VERSION: &str = "0.18.0";
+pub const VERSION: &str = "0.19.0";
 
-pub const EXPLAIN: &str =
-    "Says in sentences, on standard error, what is denied or faulty, and what to do";
+pub const EXPLAIN: &str = "Explains on standard error what is denied or faulty, and what to do";
 
 pub const QUIET: &str = "Leaves out notes on standard error";
 
@@ -207,7 +206,7 @@ pub const MISSING: &str =
     "Writes only the lines that POLICY lacks; the status is 1 if there are any";
 
 pub const SURPLUS: &str =
-    "Writes only the lines of POLICY that nothing requires; status as with --missing";
+    "Writes only the lines of POLICY that nothing needs; status as with --missing";
 
 pub const ALL: &str = "Writes the strongest claims that hold, on all labels, in place of CLAIMS";
 
@@ -215,8 +214,12 @@ pub const ACTOR: &str = "The label whose threads act, by its name in the table";
 
 pub const OBJECT: &str = "The label of the objects on which they act";
 
-pub const POLICY_ALONE: &str =
-    "Reads the policy alone, as if all labels made calls: this holds of no run";
+pub const POLICY_ALLOWS: &str =
+    "Asks what this policy allows if all labels make calls: this holds of no run";
+
+pub const RULES: &str = "Judges by P1 to P8 (`closed`), or by S1 to S8 (`sharp`)";
+
+pub const WRONG_RULES: &str = "'--rules <RULES>' takes 'closed' or 'sharp'";
 
 // An example of a small table.
 macro_rules! with_table {
@@ -270,10 +273,10 @@ end
 pub const BEGINNING: &str = "\
 confine decides, before a separated system boots, whether its capabilities keep to a policy.
 
-  confine close TABLE                 writes the smallest policy that accepts a table
-  confine check TABLE POLICY          accepts or denies, and prints who may change what
-  confine claims TABLE POLICY CLAIMS  reports whether claims on labels hold in every run
-  confine why TABLE POLICY A B        reports what label A may do to label B, and by which edges
+  confine close TABLE          writes the smallest policy that accepts a table
+  confine check TABLE POLICY   accepts or denies, and prints who may change what
+  confine claims TABLE CLAIMS  reports whether claims on labels hold in every run
+  confine why TABLE A B        reports what label A may do to label B, and by which edges
 
 `confine --help` lists all commands, and `confine COMMAND --help` explains one, with an example.
 docs/TUTORIAL.md is the place to begin.
@@ -513,7 +516,7 @@ edge a await b
 "
 );
 
-pub const EXAMPLE_CLAIMS: &str = with_policy!(
+pub const EXAMPLE_CLAIMS: &str = with_table!(
     "a thread `main` may signal a bell and poll it.
 Its owner claims that `b` never changes objects of `a`.",
     "\
@@ -523,16 +526,16 @@ confine-claims 2
 none b a
 end
 .
-confine claims table policy claims
+confine claims table claims
 
-The table is accepted, and the one claim holds, with status 0:
+The one claim holds, with status 0:
 
 {\"claims\":1,\"verdict\":\"hold\"}
 
 So no call of a thread of `b` ever changes an object of `a`, whatever else is called before. What
 may be claimed at all, `--all` tells:
 
-confine claims table policy --all
+confine claims table --all
 
 It prints the strongest claims that hold, with status 0. `b` has no thread, so `only` names all
 labels that may change what is labelled `b`:
@@ -544,7 +547,7 @@ end
 Now it is claimed that `a` changes nothing of `b`:
 
 sed -i '/none/i take a b' claims
-confine claims table policy claims --explain
+confine claims table claims --explain
 
 It prints the claims that don't hold and what authority there is, and ends with status 1:
 
@@ -553,7 +556,7 @@ It prints the claims that don't hold and what authority there is, and ends with 
 With `--explain` standard error says by which edges, where each is from, and which calls show it:
 
 claims:3: `take a b` doesn't hold: `a` may change objects of `b`, by `edge a notify b`. Change the
-claim, or remove an edge from the policy and what requires that edge from the table.
+claim, or give `a` fewer rights at table:8.
 
 `edge a notify b` comes from table:8: slot 0 of `space` lets `a` notify `b`
 
@@ -580,11 +583,11 @@ So a line of a script in which `main` signals on core 0 begins with `0 1 signal`
 "
 );
 
-pub const EXAMPLE_WHY: &str = with_policy!(
+pub const EXAMPLE_WHY: &str = with_table!(
     "a thread `main` may signal a bell and poll it.
 What may label `a` do to objects of `b`?",
     "\
-confine why table policy a b
+confine why table a b
 
 Threads of `a` may change objects of `b`, because they may notify. The command ends with status 0:
 
@@ -593,23 +596,23 @@ edge a notify b
 
 And the other way round:
 
-confine why table policy b a
+confine why table b a
 
 none
 
 No thread of `b` changes an object of `a` in any run: `b` has no thread. `take` means that threads
 of A can at most take something away: objects of B may vanish, or lose capabilities or links. If
 there are several reasons, `why` prints one with the fewest edges. It ends with status 0 whatever
-the answer is; to make a build fail, use `confine claims`. A system that `confine check` denies is
-denied here, with status 1 too.
+the answer is; to make a build fail, use `confine claims`. The answer is about the table, whatever a
+policy allows; what a policy allows, `--policy POLICY` asks.
 "
 );
 
-pub const EXAMPLE_SUMMARY: &str = with_policy!(
+pub const EXAMPLE_SUMMARY: &str = with_table!(
     "a thread `main` may signal a bell and poll it.
 Who may change what?",
     "\
-confine summary table policy | tail -n +3
+confine summary table | tail -n +3
 
 After a line that says what the letters mean it prints a matrix of the labels that have a thread,
 and then the other labels with those who use them. It ends with status 0:
@@ -624,15 +627,14 @@ Here one label has a thread, and `b` has none. In the row of a label stands what
 to objects of the label at the head of the column: C they call, A they answer, S they signal, F they
 may change them for another reason, t they may only take away; m is memory that one writes and the
 other has. A `.` says that they never change one, in any run: it is `none`, as `confine why` tells.
-A system that `confine check` denies is denied here, with status 1 too.
 "
 );
 
-pub const EXAMPLE_SHOW: &str = with_policy!(
+pub const EXAMPLE_SHOW: &str = with_table!(
     "a thread `main` may signal a bell and poll it.
 By which calls does `a` change objects of `b`?",
     "\
-confine show table policy a b
+confine show table a b
 
 It prints calls that the system makes from its boot state, none of which is refused. The last is of
 a thread of `a`, and changes an object of `b`. The command ends with status 0:
@@ -643,7 +645,7 @@ end
 
 It is a script for `confine run`. The other way round there is no such script:
 
-confine show table policy b a
+confine show table b a
 
 It prints so, and ends with status 1:
 
@@ -651,7 +653,7 @@ It prints so, and ends with status 1:
 
 `confine why` tells that bound. If it is `full` or `take`, and no script is found with so many calls
 tried, `show` prints `none found`, with status 1 too. That says nothing of other scripts. With
-`--take` an object that shrinks is enough. A system that `confine check` denies is denied here.
+`--take` an object that shrinks is enough.
 "
 );
 
@@ -673,8 +675,7 @@ cat >system <<'.'
 </system>
 .
 confine import system --rights least >table
-confine close table >policy
-confine summary table policy | tail -n +3
+confine summary table | tail -n +3
 
 Each command ends with status 0. On standard error `import` says that there is more to be read:
 
@@ -698,11 +699,11 @@ many answers rest on the rights, which no description shows. The rights that you
 its report. docs/IMPORT.md says more.
 ";
 
-pub const EXAMPLE_DRAW: &str = with_policy!(
+pub const EXAMPLE_DRAW: &str = with_table!(
     "a thread `main` may signal a bell and poll it.
 Which programs may change what?",
     "\
-confine draw table policy
+confine draw table
 
 It prints a graph of the labels that have a thread, and ends with status 0:
 
@@ -719,7 +720,7 @@ two boxes an arrow says what threads of the one may do to objects of the other, 
 both use. A dashed arrow is for threads that may only take away, a dotted one is about memory
 alone. With `--all` each label is a node, and an arrow has the first edge of the reason:
 
-confine draw table policy --all
+confine draw table --all
 
 Threads of `a` may change objects of `b`, since they may notify. It ends with status 0:
 
@@ -729,8 +730,7 @@ digraph authority {
   \"a\" -> \"b\" [label=\"a notify b\"]
 }
 
-Between labels with no arrow nothing is changed in any run. A system that `confine check` denies is
-denied here, with status 1 too. Graphviz makes a picture:
-`confine draw table policy | dot -Tsvg >authority.svg`.
+Between labels with no arrow nothing is changed in any run. Graphviz makes a picture:
+`confine draw table | dot -Tsvg >authority.svg`.
 "
 );

@@ -9,6 +9,7 @@ use clap::error::ErrorKind;
 use clap::{Arg, ArgAction, ArgMatches, Command, Error};
 use requests::{CommandLine, Format, Verb, Words};
 use std::alloc::{AllocError, Global};
+use std::fmt;
 
 /// Reads a command line, whose first word is the name of the program.
 ///
@@ -19,35 +20,117 @@ pub fn read_request<'a>(alloc: Global, words: &'a [String]) -> Result<CommandLin
     ensures { IfOk result (λ line. OnInTurn line IsWithinLimits) }
 {
     let mut command = command(alloc)?;
-    read_by(&mut command, words)
+    read_by(alloc, &mut command, words)
 }
 
 // Reads a command line as the program's command has it.
-fn read_by<'a>(command: &mut Command<'a>, words: &'a [String]) -> Result<CommandLine<'a>, Error>
+fn read_by<'a>(
+    alloc: Global,
+    command: &mut Command<'a>,
+    words: &'a [String],
+) -> Result<CommandLine<'a>, Error>
     ensures { IfOk result (λ line. OnInTurn line IsWithinLimits) }
 {
     let matches = command.try_get_matches_from_mut(words)?;
     let line = line_of(&matches);
-    let (kind, message) = misuse_of(&matches);
+    let misuse = misuse_of(alloc, &matches);
     drop(matches);
     match line {
         Some(line) => Ok(line),
-        None => Err(command.error(kind, message)?),
+        None => {
+            let (kind, message) = misuse?;
+            Err(command.error(kind, &message)?)
+        }
     }
 }
 
 // What is wrong with a command line that makes no request.
-fn misuse_of(matches: &ArgMatches<'_>) -> (ErrorKind, &'static str) {
+fn misuse_of(alloc: Global, matches: &ArgMatches<'_>) -> Result<(ErrorKind, String), AllocError> {
     let Some((name, found)) = matches.subcommand() else {
-        return (ErrorKind::MissingSubcommand, "a command is missing");
+        let message = String::from_str(alloc, "a command is missing")?;
+        return Ok((ErrorKind::MissingSubcommand, message));
     };
+    if let Some(unneeded) = Unneeded::of(name, found) {
+        let message = format!(in alloc; "{unneeded}")?;
+        return Ok((ErrorKind::TooManyValues, message));
+    }
     let message = match name {
         _ if !has_format(found) => help::WRONG_FORMAT,
+        _ if !has_rules(found) => help::WRONG_RULES,
         "show" => help::WRONG_STEPS,
         "import" => help::WRONG_RIGHTS,
         _ => help::WRONG_WORKERS,
     };
-    (ErrorKind::InvalidValue, message)
+    Ok((ErrorKind::InvalidValue, String::from_str(alloc, message)?))
+}
+
+// A policy in the place that it had where these commands still took one, and the words that remain.
+#[derive(Clone, Copy)]
+struct Unneeded<'a> {
+    policy: &'a str,
+    command: &'a str,
+    table: &'a str,
+    rest: [&'a str; 2],
+}
+
+impl<'a> Unneeded<'a> {
+    // The policy among the words of a command, if there is one word more than the command takes.
+    fn of(name: &'a str, found: &ArgMatches<'a>) -> Option<Unneeded<'a>> {
+        let table = found.get_str("table")?;
+        let last = found.get_str("unneeded");
+        let (policy, rest) = match (found.get_str("actor"), found.get_str("object"), last) {
+            (Some(policy), Some(actor), Some(object)) => (policy, [actor, object]),
+            (None, None, Some(last)) => match found.get_str("claims") {
+                Some(policy) => (policy, [last, ""]),
+                None => (last, ["", ""]),
+            },
+            _ => (claims_with_all(found)?, ["--all", ""]),
+        };
+        Some(Unneeded {
+            policy,
+            command: name,
+            table,
+            rest,
+        })
+    }
+}
+
+// The file of claims, where the strongest that hold are asked for.
+fn claims_with_all<'a>(found: &ArgMatches<'a>) -> Option<&'a str> {
+    if found.get_flag("all") {
+        found.get_str("claims")
+    } else {
+        None
+    }
+}
+
+impl fmt::Display for Unneeded<'_> {
+    fn fmt<W: fmt::Write>(&self, f: &mut fmt::Formatter<W>) -> fmt::Result {
+        let Unneeded {
+            policy,
+            command,
+            table,
+            rest: [first, second],
+        } = self;
+        write!(
+            f,
+            "'{policy}' isn't needed any more: 'confine {command} {table}"
+        )?;
+        for word in [first, second] {
+            if !word.is_empty() {
+                write!(f, " {word}")?;
+            }
+        }
+        f.write_str("'")
+    }
+}
+
+// Whether the word for the rules is one, if the command has such a word.
+fn has_rules(found: &ArgMatches<'_>) -> bool {
+    match found.get_str("rules") {
+        Some(word) => word == "closed" || word == "sharp",
+        None => true,
+    }
 }
 
 // Whether the word for the format is one.
@@ -64,6 +147,9 @@ fn line_of<'a>(matches: &ArgMatches<'a>) -> Option<CommandLine<'a>>
     ensures limits { IfSome result (λ line. OnInTurn line IsWithinLimits) }
 {
     let (name, found) = matches.subcommand()?;
+    if Unneeded::of(name, found).is_some() {
+        return None;
+    }
     words_of(Verb::from_name(name)?, found).line()
 }
 
@@ -87,6 +173,7 @@ fn words_of<'a>(verb: Verb, found: &ArgMatches<'a>) -> Words<'a>
         steps: found.get_str("steps"),
         rights: found.get_str("rights"),
         children: found.get_str("children"),
+        rules: found.get_str("rules"),
         format: found.get_str("format"),
         explain: found.get_flag("explain"),
         quiet: found.get_flag("quiet"),
@@ -95,7 +182,6 @@ fn words_of<'a>(verb: Verb, found: &ArgMatches<'a>) -> Words<'a>
         surplus: found.get_flag("surplus"),
         split: found.get_flag("split"),
         all: found.get_flag("all"),
-        policy_alone: found.get_flag("policy-alone"),
         take: found.get_flag("take"),
         as_claims: found.get_flag("as-claims"),
     }
@@ -164,23 +250,24 @@ fn import_command<'a>(alloc: Global) -> Result<Command<'a>, AllocError> {
 
 fn check_command<'a>(alloc: Global) -> Result<Command<'a>, AllocError> {
     let command = on_system(alloc, "check", help::ABOUT_CHECK, help::EXAMPLE_CHECK);
+    let command = taking(command, Ok(rules(alloc)));
     let command = taking(command, Ok(workers(alloc)));
     taking(command, Ok(flag(alloc, "cert", help::CERT)))
 }
 
 fn verify_command<'a>(alloc: Global) -> Result<Command<'a>, AllocError> {
-    on_system(alloc, "verify", help::ABOUT_VERIFY, help::EXAMPLE_VERIFY)?.arg(word(
-        alloc,
-        "certificate",
-        "CERT",
-        help::CERTIFICATE,
-    ))
+    let command = on_system(alloc, "verify", help::ABOUT_VERIFY, help::EXAMPLE_VERIFY);
+    let certificate = word(alloc, "certificate", "CERT", help::CERTIFICATE);
+    let command = taking(command, Ok(certificate));
+    taking(command, Ok(rules(alloc)))
 }
 
 fn run_command<'a>(alloc: Global) -> Result<Command<'a>, AllocError> {
     let command = on_system(alloc, "run", help::ABOUT_RUN, help::EXAMPLE_RUN);
     let command = taking(command, Ok(word(alloc, "script", "SCRIPT", help::SCRIPT)));
-    taking(command, Ok(flag(alloc, "split", help::SPLIT)))
+    let command = taking(command, Ok(rules(alloc)));
+    let split = flag(alloc, "split", help::SPLIT);
+    taking(command, split.conflicts_with("rules"))
 }
 
 fn replay_command<'a>(alloc: Global) -> Result<Command<'a>, AllocError> {
@@ -196,43 +283,48 @@ fn close_command<'a>(alloc: Global) -> Result<Command<'a>, AllocError> {
     let command = on_table(alloc, "close", help::ABOUT_CLOSE, help::EXAMPLE_CLOSE);
     let policy = word(alloc, "policy", "POLICY", help::POLICY_TO_CLOSE).required(false);
     let command = taking(command, Ok(policy));
+    let command = taking(command, Ok(rules(alloc)));
     let command = taking(command, Ok(flag(alloc, "missing", help::MISSING)));
     let surplus = flag(alloc, "surplus", help::SURPLUS);
     taking(command, surplus.conflicts_with("missing"))
 }
 
 fn why_command<'a>(alloc: Global) -> Result<Command<'a>, AllocError> {
-    let command = on_system(alloc, "why", help::ABOUT_WHY, help::EXAMPLE_WHY);
+    let command = on_table(alloc, "why", help::ABOUT_WHY, help::EXAMPLE_WHY);
     let command = taking(command, Ok(word(alloc, "actor", "A", help::ACTOR)));
     let command = taking(command, Ok(word(alloc, "object", "B", help::OBJECT)));
-    taking(command, Ok(flag(alloc, "policy-alone", help::POLICY_ALONE)))
+    let command = taking(command, Ok(one_word_more(alloc)));
+    taking(command, Ok(allowing(alloc)))
 }
 
 fn show_command<'a>(alloc: Global) -> Result<Command<'a>, AllocError> {
-    let command = on_system(alloc, "show", help::ABOUT_SHOW, help::EXAMPLE_SHOW);
+    let command = on_table(alloc, "show", help::ABOUT_SHOW, help::EXAMPLE_SHOW);
     let command = taking(command, Ok(word(alloc, "actor", "A", help::ACTOR)));
     let command = taking(command, Ok(word(alloc, "object", "B", help::OBJECT)));
+    let command = taking(command, Ok(one_word_more(alloc)));
     let command = taking(command, Ok(flag(alloc, "take", help::TAKE)));
     let steps = option(alloc, "steps", "N", help::STEPS);
     taking(command, Ok(steps.default_value("15000")))
 }
 
 fn summary_command<'a>(alloc: Global) -> Result<Command<'a>, AllocError> {
-    on_system(alloc, "summary", help::ABOUT_SUMMARY, help::EXAMPLE_SUMMARY)
+    let command = on_table(alloc, "summary", help::ABOUT_SUMMARY, help::EXAMPLE_SUMMARY);
+    taking(command, Ok(one_word_more(alloc)))
 }
 
 fn draw_command<'a>(alloc: Global) -> Result<Command<'a>, AllocError> {
-    let command = on_system(alloc, "draw", help::ABOUT_DRAW, help::EXAMPLE_DRAW);
+    let command = on_table(alloc, "draw", help::ABOUT_DRAW, help::EXAMPLE_DRAW);
+    let command = taking(command, Ok(one_word_more(alloc)));
     let command = taking(command, Ok(flag(alloc, "all", help::ALL_LABELS)));
-    taking(command, Ok(flag(alloc, "policy-alone", help::POLICY_ALONE)))
+    taking(command, Ok(allowing(alloc)))
 }
 
 fn claims_command<'a>(alloc: Global) -> Result<Command<'a>, AllocError> {
-    let command = on_system(alloc, "claims", help::ABOUT_CLAIMS, help::EXAMPLE_CLAIMS);
+    let command = on_table(alloc, "claims", help::ABOUT_CLAIMS, help::EXAMPLE_CLAIMS);
     let claims = word(alloc, "claims", "CLAIMS", help::CLAIMS).required(false);
     let command = taking(command, claims.required_unless_present("all"));
-    let all = flag(alloc, "all", help::ALL);
-    taking(command, all.conflicts_with("claims"))
+    let command = taking(command, Ok(one_word_more(alloc)));
+    taking(command, Ok(flag(alloc, "all", help::ALL)))
 }
 
 fn list_command<'a>(alloc: Global) -> Result<Command<'a>, AllocError> {
@@ -273,6 +365,23 @@ fn telling<'a>(
     let command = taking(command, Ok(flag(alloc, "quiet", help::QUIET)));
     let format = option(alloc, "format", "F", help::FORMAT);
     taking(command, Ok(format.default_value("json")))
+}
+
+// The option for the rules by which a policy is judged.
+fn rules<'a>(alloc: Global) -> Arg<'a> {
+    option(alloc, "rules", "RULES", help::RULES).default_value("closed")
+}
+
+// The option for a policy that is asked in place of the table.
+fn allowing<'a>(alloc: Global) -> Arg<'a> {
+    option(alloc, "policy", "POLICY", help::POLICY_ALLOWS)
+}
+
+// One word more than a command takes: it took a policy before, and a command line that has one is told so.
+fn one_word_more<'a>(alloc: Global) -> Arg<'a> {
+    word(alloc, "unneeded", "WORD", "")
+        .required(false)
+        .hide(true)
 }
 
 // The option for the number of workers.

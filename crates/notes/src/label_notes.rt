@@ -1,32 +1,30 @@
-//! The sentences on what each label of an accepted system may do to the others.
+//! The sentences on what each label of a table may do to the others.
 use base::{Label, Labels};
 use captext::label_name;
 use explain::LabelNames;
 use machine::ObjectKind;
-use policy::Policy;
+use reach::Reach;
 use std::alloc::{AllocError, Global};
 use table::Table;
-use verdict::actors;
 
-/// Returns lines on the labels of an accepted system that have a thread: whose objects each of them may change,
-/// and whose it may make smaller, as far as these have a thread too. `table_file` and `policy_file` are what the
-/// files are called.
+/// Returns lines on the labels of a table that have a thread: whose objects each of them may change by the reach of
+/// the table, and whose it may make smaller, as far as these have a thread too. `table_file` is what the table's file
+/// is called.
 ///
 /// # Errors
 ///
 /// [`AllocError`] where memory is refused.
-pub fn explain_reach(
+pub fn explain_changes(
     alloc: Global,
     table_file: &str,
-    policy_file: &str,
-    table: &Table,
-    policy: &Policy,
+    reach: &Reach<'_>,
 ) -> Result<String, AllocError> {
     let mut lines = String::new(alloc);
+    let table = reach.table();
     let programs = programs_of(table);
-    push_programs(&mut lines, table, policy, programs)?;
+    push_programs(&mut lines, reach, programs)?;
     let others = count(table.labels().difference(programs));
-    push_others(&mut lines, table_file, policy_file, others)?;
+    push_others(&mut lines, table_file, others)?;
     Ok(lines)
 }
 
@@ -53,33 +51,30 @@ fn count(labels: Labels) -> usize {
 /// Adds a line for each label that reaches others of these, and one for those that reach none.
 fn push_programs(
     lines: &mut String,
-    table: &Table,
-    policy: &Policy,
+    reach: &Reach<'_>,
     programs: Labels,
 ) -> Result<(), AllocError> {
-    let actors = actors(table, policy);
     let mut apart = Labels::none();
     for actor in programs.iter() {
-        if !push_reach(lines, table, policy, actors, programs, actor)? {
+        if !push_changes(lines, reach, programs, actor)? {
             apart = apart.union(Labels::only(actor));
         }
     }
-    push_apart(lines, table, programs, apart)
+    push_apart(lines, reach.table(), programs, apart)
 }
 
 /// Adds the line of a label that reaches others of these; gives whether it does.
-fn push_reach(
+fn push_changes(
     lines: &mut String,
-    table: &Table,
-    policy: &Policy,
-    actors: Labels,
+    reach: &Reach<'_>,
     programs: Labels,
     actor: Label,
 ) -> Result<bool, AllocError> {
+    let table = reach.table();
     let others = programs.difference(Labels::only(actor));
-    let changed = policy.change_labels(actors, actor).intersection(others);
-    let taken = policy
-        .shrink_labels(actors, actor)
+    let changed = reach.changed_by(actor).intersection(others);
+    let taken = reach
+        .shrunk_by(actor)
         .intersection(others)
         .difference(changed);
     let name = label_name(table, actor);
@@ -128,12 +123,7 @@ fn push_apart(
 }
 
 /// Adds that so many labels have no thread, if there are such.
-fn push_others(
-    lines: &mut String,
-    table_file: &str,
-    policy_file: &str,
-    others: usize,
-) -> Result<(), AllocError> {
+fn push_others(lines: &mut String, table_file: &str, others: usize) -> Result<(), AllocError> {
     let (have, them) = match others {
         0 => return Ok(()),
         1 => ("label has", "it"),
@@ -141,7 +131,6 @@ fn push_others(
     };
     writeln!(
         lines,
-        "{others} more {have} no thread. `confine summary {table_file} {policy_file}` prints who changes and reads \
-         {them}."
+        "{others} more {have} no thread. `confine summary {table_file}` prints who changes and reads {them}."
     )
 }

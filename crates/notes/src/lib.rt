@@ -6,5 +6,5 @@
 mod label_notes;
 mod table_notes;
 
-pub use label_notes::explain_reach;
+pub use label_notes::explain_changes;
 pub use table_notes::explain_notes;

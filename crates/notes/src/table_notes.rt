@@ -1,14 +1,13 @@
 //! Notes on an accepted table: what is no fault, and may not be meant.
-use base::{Kind, Label, Labels, ObjId, Refusal, Rights, SlotRef};
+use base::{Kind, Label, Labels, ObjId, Rights, SlotRef};
 use bitflags::Flags;
 use captext::{SlotName, label_name, object_name};
 use explain::{Start, line_of_label, line_of_object, line_of_slot};
 use machine::{Detail, Filled, Initial, Object, ObjectKind};
-use policy::Policy;
+use reach::Reach;
 use std::alloc::{AllocError, Global};
 use std::fmt;
 use table::Table;
-use verdict::actors;
 
 /// How many notes of a kind are told, and how many roots with fewer than 64 bits are looked at.
 const MOST: usize = 16;
@@ -47,21 +46,16 @@ enum Matter {
     Short(SlotRef, u64),
 }
 
-/// Returns the notes on an accepted table, which stands in this file, each with its line. Those of
+/// Returns the notes on a table with this reach, which stands in this file, each with its line. Those of
 /// one kind are at most 16.
 ///
 /// # Errors
 ///
-/// 40 where memory is refused.
-pub fn explain_notes(
-    alloc: Global,
-    file: &str,
-    table: &Table,
-    policy: &Policy,
-) -> Result<String, Refusal> {
+/// [`AllocError`] where memory is refused.
+pub fn explain_notes(alloc: Global, file: &str, reach: &Reach<'_>) -> Result<String, AllocError> {
     let mut notes = Vec::new(alloc);
-    add_notes(alloc, &mut notes, table, policy)?;
-    Ok(lines_of(alloc, file, table, &notes)?)
+    add_notes(alloc, &mut notes, reach)?;
+    lines_of(alloc, file, reach.table(), &notes)
 }
 
 /// A line for each note.
@@ -163,15 +157,11 @@ fn tell_short<W: fmt::Write>(
 }
 
 /// Adds the notes, and sorts them by their lines.
-fn add_notes(
-    alloc: Global,
-    notes: &mut Vec<Note>,
-    table: &Table,
-    policy: &Policy,
-) -> Result<(), AllocError> {
+fn add_notes(alloc: Global, notes: &mut Vec<Note>, reach: &Reach<'_>) -> Result<(), AllocError> {
+    let table = reach.table();
     add_labels(notes, table)?;
     add_objects(alloc, notes, table)?;
-    add_threads(notes, table, policy)?;
+    add_threads(notes, reach)?;
     add_receivers(alloc, notes, table)?;
     add_badges(alloc, notes, table)?;
     add_roots(notes, table)?;
@@ -270,14 +260,15 @@ fn is_for_use(kind: ObjectKind) -> bool {
 }
 
 /// Adds what threads lack.
-fn add_threads(notes: &mut Vec<Note>, table: &Table, policy: &Policy) -> Result<(), AllocError> {
-    let actors = actors(table, policy);
+fn add_threads(notes: &mut Vec<Note>, reach: &Reach<'_>) -> Result<(), AllocError> {
+    let table = reach.table();
+    let controlled = controlled(reach);
     let mut told = 0;
     for (id, initial) in table.objects().iter().enumerate() {
         if initial.object.kind() == ObjectKind::Tcb && told < MOST {
             let id = ObjId(id as u64);
             let before = notes.len();
-            add_thread(notes, table, policy, actors, id, initial.label)?;
+            add_thread(notes, table, id, controlled.has(initial.label))?;
             if notes.len() > before {
                 told += 1;
             }
@@ -286,14 +277,17 @@ fn add_threads(notes: &mut Vec<Note>, table: &Table, policy: &Policy) -> Result<
     Ok(())
 }
 
-/// Adds what a thread lacks.
+/// The labels of threads that a label whose threads make calls may control.
+fn controlled(reach: &Reach<'_>) -> Labels {
+    reach.policy().targets(reach.actors(), &[Kind::Control])
+}
+
+/// Adds what a thread lacks. A label whose threads make calls may control it, or none may.
 fn add_thread(
     notes: &mut Vec<Note>,
     table: &Table,
-    policy: &Policy,
-    actors: Labels,
     thread: ObjId,
-    label: Label,
+    is_controlled: bool,
 ) -> Result<(), AllocError> {
     let root = SlotRef {
         holder: thread,
@@ -303,15 +297,9 @@ fn add_thread(
         push_note(notes, table, Matter::Rootless(thread))?;
     }
     if table.bound_context(thread).is_none() {
-        let is_controlled = is_controlled(policy, actors, label);
         push_note(notes, table, Matter::Unbound(thread, is_controlled))?;
     }
     Ok(())
-}
-
-/// Whether a label whose threads make calls may control threads of this label.
-fn is_controlled(policy: &Policy, actors: Labels, label: Label) -> bool {
-    policy.targets(actors, &[Kind::Control]).has(label)
 }
 
 /// Adds the capabilities by which calls arrive where their holder has no capability for a reply object.

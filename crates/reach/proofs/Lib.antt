@@ -1,3 +1,4 @@
 pub mod Holding
 pub mod WhoActs
 pub mod LeastReach
+pub mod Extents

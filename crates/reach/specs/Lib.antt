@@ -1,3 +1,4 @@
 pub mod Acting
 pub mod Boot
 pub mod Reach
+pub mod Extents

@@ -33,3 +33,8 @@ pub record IsTableReach (reach : TableReach) : Type 0 where
   pub keepers : (a : ℕ) → (is_in reach.keepers a ≡ true) ↔ MayKeep reach.table (allows reach.policy) a
   pub idlers : (b : ℕ) → (is_in reach.idlers b ≡ true) ↔ MayIdle (allows reach.policy) b
   pub actors : (a : ℕ) → (is_in reach.actors a ≡ true) ↔ IsActor reach.table (allows reach.policy) a
+
+-- it is that of this table
+pub record IsReachOf (t : Layout) (reach : TableReach) : Type 0 where
+  pub of_table : reach.table ≡ t
+  pub is : IsTableReach reach

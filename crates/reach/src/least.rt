@@ -1,14 +1,15 @@
 //! The reach of a table.
 ghost use Rattle.std.specs.Prelude.{ℕ, ◌↔◌, ◌≡◌, IfErr, IfOk, false, true};
 ghost use Rattle.base.specs.{Labels.is_in, Refusals.out_of_memory};
-ghost use Rattle.policy.specs.{ActorReasons.IsWhyAmong, Change.MayChange, NarrowTake.MayShrink, Policy.allows, Sharp.MayIdle};
-ghost use Rattle.integrity.specs.{Apart.{NeverChanges, OnlyTakes}, Keeping.{HoldsNode, MayKeep}};
-ghost use Rattle.reach.specs.Acting.{IsActor};
+ghost use Rattle.policy.specs.{ActorReasons.IsWhyAmong, Policy.allows, Sharp.MayIdle};
+ghost use Rattle.integrity.specs.{Apart.{NeverChanges, OnlyTakes}, Keeping.{HoldsNode, MayKeep}, Safe.IsSafe};
+ghost use Rattle.reach.specs.{Acting.IsActor, Extents.{GoesTo, KeepsTo, MayChangeIn, MayShrinkIn, limits_of}};
 ghost use Rattle.reach.specs.Reach.{IsReach, IsTableReach};
 
+use crate::Extent;
 use crate::acting::actors;
 use crate::boot::node_holders;
-use crate::laws::runs_keep_labels_apart;
+use crate::laws::{runs_keep_labels_apart, runs_stay_in_reach};
 use base::{Label, Labels, Refusal};
 use labels::authority;
 use policy::{Policy, Why};
@@ -88,7 +89,9 @@ impl<'a> Reach<'a> {
     pub fn policy(&self) -> &Policy
         ensures policy { result.now ≡ self.now.policy }
         ensures reach { IsTableReach self.now }
+        ensures safe { IsSafe self.now.table (allows self.now.policy) }
     {
+        runs_stay_in_reach();
         &self.policy
     }
 
@@ -123,8 +126,7 @@ impl<'a> Reach<'a> {
     /// In no run does a step of such a thread change an object of a label that isn't among these, unless
     /// the object only shrinks.
     pub fn changed_by(&self, actor: Label) -> Labels
-        ensures changed { (l : ℕ) → (is_in result l ≡ true)
-            ↔ MayChange (allows self.now.policy) (is_in self.now.actors) actor l }
+        ensures changed { (l : ℕ) → (is_in result l ≡ true) ↔ MayChangeIn (limits_of self.now) actor l }
         ensures kept { (l : ℕ) → is_in result l ≡ false → OnlyTakes self.now.table actor l }
     {
         runs_keep_labels_apart();
@@ -136,14 +138,28 @@ impl<'a> Reach<'a> {
     /// In no run does a step of such a thread change an object of a label that isn't among these, unless
     /// the label is one of [`Reach::changed_by`].
     pub fn shrunk_by(&self, actor: Label) -> Labels
-        ensures shrunk { (l : ℕ) → (is_in result l ≡ true)
-            ↔ MayShrink (allows self.now.policy) (is_in self.now.actors) actor l }
-        ensures kept { (l : ℕ) → is_in result l ≡ false
-            → ¬ MayChange (allows self.now.policy) (is_in self.now.actors) actor l
+        ensures shrunk { (l : ℕ) → (is_in result l ≡ true) ↔ MayShrinkIn (limits_of self.now) actor l }
+        ensures kept { (l : ℕ) → is_in result l ≡ false → ¬ MayChangeIn (limits_of self.now) actor l
             → NeverChanges self.now.table actor l }
     {
         runs_keep_labels_apart();
         self.policy().shrink_labels(self.actors(), actor)
+    }
+
+    /// Returns how far the label `actor` goes with the label `object`.
+    ///
+    /// In every run no step of a thread of the one goes further.
+    pub fn extent(&self, actor: Label, object: Label) -> Extent
+        ensures extent { GoesTo (limits_of self.now) actor object result }
+        ensures kept { KeepsTo self.now.table actor object result }
+    {
+        if self.changed_by(actor).has(object) {
+            return Extent::Full;
+        }
+        if self.shrunk_by(actor).has(object) {
+            return Extent::Take;
+        }
+        Extent::Nothing
     }
 
     /// Returns what threads of the label `actor` may do to objects of the label `object`, and why.

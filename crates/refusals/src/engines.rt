@@ -5,9 +5,9 @@ use crate::bell::{CERTIFICATE, LOG, POLICY, SCRIPT, TABLE};
 use crate::memory::{Stopped, Wrong, are, holds, prepared, spend};
 use crate::retypes::{self, LOG_WITHOUT_MEMORY};
 use report::{
-    Basis, Children, End, Imported, Minting, OnAccept, OnClose, OnImport, Open, Picture, Search,
-    Silence, Sink, Source, Watched, check, check_claims, close, draw, import, list, replay, run,
-    run_split, show, start, summary, verify, why, write_claims,
+    Children, End, Imported, Minting, OnAccept, OnClose, OnImport, Open, Picture, Rules, Search,
+    Silence, Sink, Source, Watched, check, check_claims, close, draw, draw_allowed, import, list,
+    replay, run, run_split, show, start, summary, verify, why, why_allowed, write_claims,
 };
 use std::sync::Wait;
 use std::thread::Threads;
@@ -19,22 +19,28 @@ pub enum Engine {
     /// A run that is split among workers. All calls are one core's, so there is one log.
     Split,
     Check(OnAccept),
+    /// A check by the sharp rules.
+    Sharp,
     Verify,
     Replay,
-    /// Closing for a table alone.
-    Start,
+    /// Closing for a table alone, by these rules.
+    Start(Rules),
     /// What a policy lacks.
     Missing,
     /// Why label `a` has authority on itself.
     Why,
+    /// What the policy lets label `a` do to `b`.
+    Allowed,
     Claims,
     /// The strongest claims that hold.
     Strongest,
     Summary,
     /// A run in which a thread of label `a` changes an object of this one.
     Show(&'static str),
-    /// A drawing by the policy alone.
+    /// A drawing of what the policy allows.
     Draw(Picture),
+    /// A drawing of the table's labels.
+    DrawTable,
     List,
     /// What is imported of a description, with the least rights.
     Import(Imported),
@@ -55,7 +61,7 @@ pub struct EngineCall {
 }
 
 /// The calls of engines.
-pub const CALLS: [EngineCall; 31] = [
+pub const CALLS: [EngineCall; 35] = [
     EngineCall {
         name: "engine_log",
         engine: Engine::Run,
@@ -121,12 +127,30 @@ pub const CALLS: [EngineCall; 31] = [
     },
     EngineCall {
         name: "engine_close",
-        engine: Engine::Start,
+        engine: Engine::Start(Rules::Closed),
         table: TABLE,
         policy: "",
         third: "",
         status: 0,
         text: POLICY,
+    },
+    EngineCall {
+        name: "engine_close_sharp",
+        engine: Engine::Start(Rules::Sharp),
+        table: TABLE,
+        policy: "",
+        third: "",
+        status: 0,
+        text: SHARP_POLICY,
+    },
+    EngineCall {
+        name: "engine_check_sharp",
+        engine: Engine::Sharp,
+        table: TABLE,
+        policy: SHARP_POLICY,
+        third: "",
+        status: 0,
+        text: REPORT,
     },
     EngineCall {
         name: "engine_missing",
@@ -141,16 +165,25 @@ pub const CALLS: [EngineCall; 31] = [
         name: "engine_why",
         engine: Engine::Why,
         table: TABLE,
-        policy: POLICY,
+        policy: "",
         third: "",
         status: 0,
         text: "full\n",
     },
     EngineCall {
+        name: "engine_why_allowed",
+        engine: Engine::Allowed,
+        table: TWO_LABELS,
+        policy: ONE_EDGE,
+        third: "",
+        status: 0,
+        text: "full\nedge a notify b\n",
+    },
+    EngineCall {
         name: "engine_claims",
         engine: Engine::Claims,
         table: TWO_LABELS,
-        policy: EMPTY_POLICY,
+        policy: "",
         third: CLAIMS,
         status: 0,
         text: HOLD,
@@ -159,7 +192,7 @@ pub const CALLS: [EngineCall; 31] = [
         name: "engine_stated",
         engine: Engine::Claims,
         table: TWO_LABELS,
-        policy: EMPTY_POLICY,
+        policy: "",
         third: STATED,
         status: 0,
         text: ALL_HOLD,
@@ -168,7 +201,7 @@ pub const CALLS: [EngineCall; 31] = [
         name: "engine_strongest",
         engine: Engine::Strongest,
         table: TWO_LABELS,
-        policy: EMPTY_POLICY,
+        policy: "",
         third: "",
         status: 0,
         text: STRONGEST,
@@ -177,7 +210,7 @@ pub const CALLS: [EngineCall; 31] = [
         name: "engine_summary",
         engine: Engine::Summary,
         table: TABLE,
-        policy: POLICY,
+        policy: "",
         third: "",
         status: 0,
         text: MATRIX,
@@ -186,7 +219,7 @@ pub const CALLS: [EngineCall; 31] = [
         name: "engine_show",
         engine: Engine::Show("a"),
         table: TABLE,
-        policy: POLICY,
+        policy: "",
         third: "",
         status: 0,
         text: SHOWN,
@@ -199,6 +232,15 @@ pub const CALLS: [EngineCall; 31] = [
         third: "",
         status: 0,
         text: DRAWING,
+    },
+    EngineCall {
+        name: "engine_draw_table",
+        engine: Engine::DrawTable,
+        table: TWO_LABELS,
+        policy: "",
+        third: "",
+        status: 0,
+        text: NO_ARROW,
     },
     EngineCall {
         name: "engine_draw_programs",
@@ -276,7 +318,7 @@ pub const CALLS: [EngineCall; 31] = [
         name: "engine_breaches",
         engine: Engine::Claims,
         table: ONE_THREAD,
-        policy: TWO_EDGES,
+        policy: "",
         third: BROAD,
         status: 1,
         text: BREACHES,
@@ -285,7 +327,7 @@ pub const CALLS: [EngineCall; 31] = [
         name: "engine_unshown",
         engine: Engine::Show("b"),
         table: TWO_LABELS,
-        policy: EMPTY_POLICY,
+        policy: "",
         third: "",
         status: 1,
         text: UNSHOWN,
@@ -352,6 +394,17 @@ const EMPTY_POLICY: &str = "confine-policy 1\nend\n";
 
 const DENIAL: &str = "{\"place\":[\"c.0\",\"reset\",\"a\"],\"rule\":\"A1\",\"verdict\":\"deny\"}\n";
 
+/// The least policy for the system by the sharp rules: nobody keeps a capability for a CNode.
+const SHARP_POLICY: &str = "\
+confine-policy 1
+edge a reset a
+edge a notify a
+edge a await a
+edge a space a
+edge a runs a
+end
+";
+
 /// A certificate that lacks the first line of the right one.
 const NO_LINES: &str = "confine-cert 1\nend\n";
 
@@ -367,7 +420,7 @@ edge a derive a
 edge a runs a
 ";
 
-/// A table of two labels, which have no authority without an edge.
+/// A table of two labels, which have no authority.
 const TWO_LABELS: &str = "confine-table 1\nlabel a\nlabel b\nend\n";
 
 const CLAIMS: &str = "confine-claims 1\nnone a b\nnone b a\nend\n";
@@ -410,6 +463,8 @@ const ONE_OBJECT: &str = "confine-table 1\nlabel a\nlabel b\nnotification n b 0x
 /// A policy by which the one label may change the other.
 const ONE_EDGE: &str = "confine-policy 1\nedge a notify b\nend\n";
 
+const NO_ARROW: &str = "digraph authority {\n  \"a\"\n  \"b\"\n}\n";
+
 const DRAWING: &str =
     "digraph authority {\n  \"a\"\n  \"b\"\n  \"a\" -> \"b\" [label=\"a notify b\"]\n}\n";
 
@@ -417,19 +472,20 @@ const DRAWING: &str =
 const PROGRAMS: &str =
     "digraph authority {\n  node [shape=box]\n  edge [fontsize=10]\n  nodesep=0.1\n  ranksep=0.4\n  \"a\"\n}\n";
 
-/// A table of two labels, of which one has a thread that makes calls.
+/// A table of two labels, of which one has a thread that may signal what has the other.
 const ONE_THREAD: &str = "\
 confine-table 1
 label a
 label b
+cnode c a 0x1000 1
 tcb t a 0x2000 ready
+notification n b 0x3000
 context x a 0x4000 0 10 10
+cap c.0 n w 4
+cap t.root c 63 0x0
 bind t x
 end
 ";
-
-/// A policy by which this thread may change what has the other label.
-const TWO_EDGES: &str = "confine-policy 1\nedge a notify b\nedge a runs a\nend\n";
 
 /// Claims of which one holds. Of the others one names both labels, one doesn't, and one is on an edge.
 const BROAD: &str = "\
@@ -529,51 +585,37 @@ where
 {
     let alloc = rt.alloc();
     let silence = &mut Silence;
+    let rules = Rules::Closed;
     match engine {
-        Engine::Run => run(rt, alloc, table, policy, third, silence, out),
+        Engine::Run => run(rt, alloc, rules, table, policy, third, silence, out),
         Engine::Split => run_split(rt, alloc, table, policy, third, &Open, silence, out),
-        Engine::Check(on_accept) => {
-            check(rt, alloc, table, policy, on_accept, 1, &Open, silence, out)
-        }
-        Engine::Verify => verify(rt, alloc, table, policy, third, silence, out),
+        Engine::Check(on_accept) => check(
+            rt, alloc, rules, table, policy, on_accept, 1, &Open, silence, out,
+        ),
+        Engine::Sharp => check(
+            rt,
+            alloc,
+            Rules::Sharp,
+            table,
+            policy,
+            OnAccept::Report,
+            1,
+            &Open,
+            silence,
+            out,
+        ),
+        Engine::Verify => verify(rt, alloc, rules, table, policy, third, silence, out),
         Engine::Replay => replay(alloc, table, policy, third, silence, out),
-        Engine::Start => start(alloc, table, OnClose::Policy, silence, out),
-        Engine::Missing => close(alloc, table, policy, OnClose::Missing, silence, out),
-        Engine::Why => why(
-            rt,
-            alloc,
-            Basis::System,
-            table,
-            policy,
-            "a",
-            "a",
-            silence,
-            out,
-        ),
-        Engine::Claims => check_claims(rt, alloc, table, policy, third, silence, out),
-        Engine::Strongest => write_claims(rt, alloc, table, policy, silence, out),
-        Engine::Summary => summary(rt, alloc, table, policy, silence, out),
-        Engine::Show(object) => show(
-            rt,
-            alloc,
-            OF_A_CHANGE,
-            table,
-            policy,
-            "a",
-            object,
-            silence,
-            out,
-        ),
-        Engine::Draw(picture) => draw(
-            rt,
-            alloc,
-            Basis::Policy,
-            picture,
-            table,
-            policy,
-            silence,
-            out,
-        ),
+        Engine::Start(rules) => start(alloc, rules, table, OnClose::Policy, silence, out),
+        Engine::Missing => close(alloc, rules, table, policy, OnClose::Missing, silence, out),
+        Engine::Why => why(alloc, table, "a", "a", silence, out),
+        Engine::Allowed => why_allowed(alloc, table, policy, "a", "b", silence, out),
+        Engine::Claims => check_claims(alloc, table, third, silence, out),
+        Engine::Strongest => write_claims(alloc, table, silence, out),
+        Engine::Summary => summary(alloc, table, silence, out),
+        Engine::Show(object) => show(alloc, OF_A_CHANGE, table, "a", object, silence, out),
+        Engine::Draw(picture) => draw_allowed(alloc, table, policy, picture, silence, out),
+        Engine::DrawTable => draw(alloc, table, Picture::Labels, silence, out),
         Engine::List => list(alloc, table, silence, out),
         Engine::Import(imported) => import(alloc, with_least(imported), third, silence, out),
     }

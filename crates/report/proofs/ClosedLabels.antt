@@ -1,12 +1,15 @@
--- The least closed policy over labels of a table joins none but those.
+-- The least policy over labels of a table joins none but those, by each set of rules.
 use Rattle.std.{specs.{List.AllByRecursion, Prelude.nat_lt}, proofs.Common.{[], ℕ, ◌&&◌, ◌++◌, ◌<◌, ◌||◌, ◌∙◌, ◌∷◌, ◌≡◌, Bool, List, arith}}
 use Rattle.std.proofs.{Common.{false, inl, inr, length, refl, sym, true}, lemmas.Bool.{or_cases, Decides.nat_tests}}
 use Rattle.base.specs.declared.{edge.Edge.Edge, kind.Kind.{Kind, TheVariants.{Derive, Holds}}}
 use Rattle.machine.specs.Layout.{Layout}
-use Rattle.policy.specs.{Closed.{ComesToDerive, ComesToHold, IsClosed, caller, derived, granted, server}, Closing.IsLeastClosed}
-use Rattle.policy.{specs.{Domain.{EdgeTest, IsInDomain}, Policy.allows}, proofs.RowEdges.{of_parts, same_parts}}
+use Rattle.policy.specs.Closed.{ComesToDerive, ComesToHold, IsClosed, caller, derived, granted, server}
+use Rattle.policy.{specs.{Domain.{EdgeTest, IsInDomain}, Policy.allows}, proofs.{RowEdges.{of_parts, same_parts}, Sharpness.closed_sharply}}
+use Rattle.integrity.specs.Keeping.{MayKeep}
+use Rattle.verdict.specs.declared.rules.Rules.{Rules, Rules as rules}
 use Rattle.captext.specs.PolicyText.{IsEdgeOf}
 use Rattle.labels.proofs.EdgeLists.{allows-append}
+use Rattle.report.specs.Closings.{IsLeastBy, Obeys}
 
 -- the policy with every edge between labels below a number
 among : ℕ → EdgeTest
@@ -62,14 +65,19 @@ module _ (n : ℕ) where
         lent_runs = λ b s h. joins b _ s (joined b _ h.endpoint h.receives).0 (joined h.lender _ s h.runs).1;
       }
 
--- so a policy that is within each closed one with some edges joins labels that these join
+  -- and so it obeys each set of rules
+  all_obeyed : (set : Rules) (t : Layout) → Obeys set t (among n)
+  all_obeyed rules.Closed t = all_closed
+  all_obeyed rules.Sharp t = closed_sharply (among n) (MayKeep t (among n)) all_closed
+
+-- so a policy that is within each one that obeys and has some edges joins labels that these join
 pub least_within :
-    (n : ℕ) (edges policy : List Edge) → IsLeastClosed edges policy
+    (n : ℕ) (set : Rules) (t : Layout) (edges policy : List Edge) → IsLeastBy set t edges policy
     → ((from : ℕ) (kind : Kind) (to : ℕ) → allows edges from kind to ≡ true → (from < n) × (to < n))
     → (from : ℕ) (kind : Kind) (to : ℕ) → allows policy from kind to ≡ true → (from < n) × (to < n)
-least_within n edges policy least below from kind to e =
+least_within n set t edges policy least below from kind to e =
     joined n from kind to
-    (least.least (among n) (all_closed n)
+    (least.least (among n) (all_obeyed n set t)
     (λ f k t has. joins n f k t (below f k t has).0 (below f k t has).1)
     from kind to e)
 

@@ -1,28 +1,32 @@
--- The text of the least closed policy over a table.
+-- The text of the least policy over a table, by a set of rules.
 use Rattle.std.{specs.{List.AllByRecursion, Prelude.{Err, IfOk, Ok, Result}}, proofs.Common.{[], ℕ, ◌++◌, ◌<◌, ◌↔◌, ◌∙◌, ◌∷◌, ◌≡◌, List}}
 use Rattle.std.proofs.{Common.{ap, inl, inr, length, refl, subst, sym}, lemmas.Bool.or_cases}
 use Rattle.base.specs.declared.{edge.Edge.Edge, kind.Kind.Kind}
 use Rattle.machine.specs.{Authority.HasAuthority, Boot.IsBoot, Layout.Layout, Machine.Machine}
-use Rattle.policy.specs.{Closed.IsClosed, Closing.{IsLeastClosed, IsWithin}, Policy.{IsRising, allows}}
+use Rattle.policy.specs.{Closing.IsWithin, Policy.{IsRising, allows}}
 use Rattle.labels.proofs.EdgeLists.{allows-append, allows_after, allows_before}
 use Rattle.integrity.specs.Confined.{IsConfined}
-use Rattle.verdict.specs.Verdict.{IsAccepted}
+use Rattle.verdict.specs.{ByRules.IsAcceptedBy, declared.rules.Rules.{Rules, Rules as rules}}
 use Rattle.captext.specs.{Policies.read_policy_of, PolicyText.{IsEdgeOf, edge_lines, policy_text}}
 use Rattle.reptext.proofs.OneText.{same_answer}
 use Rattle.commands.specs.declared.{answer.Answer.Answer, choices.OnClose.OnClose as on_close}
-use Rattle.report.specs.Closings.{Closes, IsAuthorityOf, IsClosing, IsInEachPolicyFor, missing_edges, missing_status}
+use Rattle.report.specs.Closings.{Closes, IsAuthorityOf, IsClosing, IsInEachPolicyFor, IsLeastBy, Obeys, missing_edges, missing_status}
 use Rattle.report.proofs.{ClosedLabels.{either_within, least_within, listed_within, within_listed}, Missing.none_if_within}
 use Rattle.report.proofs.Missing.{within_if_none}
 
 -- which tables and policies are accepted
-abbrev pub AcceptedAsClosed : Layout → List Edge → Type 0
-AcceptedAsClosed t p = IsAccepted t (allows p) ↔ (IsClosed (allows p) × ((m : Machine) → IsBoot t m → IsConfined t (allows p) m))
+abbrev pub AcceptedAs : Rules → Layout → List Edge → Type 0
+AcceptedAs set t p = IsAcceptedBy set t (allows p) ↔ (Obeys set t (allows p) × ((m : Machine) → IsBoot t m → IsConfined t (allows p) m))
 
--- the least closed policy that has some edges and the authority of the boot state
-pub is_closing : (t : Layout) (edges authority policy : List Edge) → IsAuthorityOf t authority → IsRising policy
-    → IsLeastClosed (edges ++ authority) policy → AcceptedAsClosed t policy → IsClosing t edges policy
-is_closing t edges authority policy of_boot rising least accepted =
-    record { authority = authority; of_boot = of_boot; rising = rising; least = least; accepted = accepted.1 (least.closed, confines) }
+pub accepted_as : (set : Rules) (t : Layout) (p : List Edge) → AcceptedAs rules.Closed t p → AcceptedAs rules.Sharp t p → AcceptedAs set t p
+accepted_as rules.Closed t p closed sharp = closed
+accepted_as rules.Sharp t p closed sharp = sharp
+
+-- the least policy that has some edges and the authority of the boot state
+pub is_closing : (set : Rules) (t : Layout) (edges authority policy : List Edge) → IsAuthorityOf t authority → IsRising policy
+    → IsLeastBy set t (edges ++ authority) policy → AcceptedAs set t policy → IsClosing set t edges policy
+is_closing set t edges authority policy of_boot rising least accepted =
+    record { authority = authority; of_boot = of_boot; rising = rising; least = least; accepted = accepted.1 (least.obeys, confines) }
   where
     -- all authority of the boot state is in the policy
     confines : (m : Machine) → IsBoot t m → IsConfined t (allows policy) m
@@ -35,64 +39,64 @@ nothing_at [] e = refl
 nothing_at (edge ∷ missing) e = cc
 
 -- what is told, of a table with this boot state
-module _ (t : Layout) (boot : Machine) (booted : IsBoot t boot) where
+module _ (set : Rules) (t : Layout) (boot : Machine) (booted : IsBoot t boot) where
   -- its edges join labels of the table, if the given ones do
   joins_labels :
       (edges policy : List Edge)
       → ((from : ℕ) (kind : Kind) (to : ℕ) → HasAuthority t boot from kind to → (from < length t.labels) × (to < length t.labels))
-      → IsClosing t edges policy → AllByRecursion (IsEdgeOf t) edges → AllByRecursion (IsEdgeOf t) policy
+      → IsClosing set t edges policy → AllByRecursion (IsEdgeOf t) edges → AllByRecursion (IsEdgeOf t) policy
   joins_labels edges policy joins closing each =
       within_listed t policy
-      (least_within (length t.labels) (edges ++ closing.authority) policy closing.least
+      (least_within (length t.labels) set t (edges ++ closing.authority) policy closing.least
       (either_within (length t.labels) edges closing.authority (listed_within t edges each)
       (λ from kind to e. joins from kind to ((closing.of_boot boot from kind to booted).0 e))))
 
   pub policy_told :
       (edges policy : List Edge)
       → ((from : ℕ) (kind : Kind) (to : ℕ) → HasAuthority t boot from kind to → (from < length t.labels) × (to < length t.labels))
-      → IsClosing t edges policy
+      → IsClosing set t edges policy
       → (text : List ℕ) → text ≡ policy_text t policy → (AllByRecursion (IsEdgeOf t) policy → read_policy_of t text ≡ Ok policy)
-      → Closes on_close.Policy t edges text 0
+      → Closes set on_close.Policy t edges text 0
   policy_told edges policy joins closing text told read =
       (policy, closing, (told, (λ is. read (joins_labels edges policy joins closing is.1)), refl))
 
   -- the given edges are all there is, exactly if the table keeps to them
-  same_if_within : (edges policy : List Edge) → IsClosing t edges policy → IsWithin (allows policy) (allows edges) → allows policy ≡ allows edges
+  same_if_within : (edges policy : List Edge) → IsClosing set t edges policy → IsWithin (allows policy) (allows edges) → allows policy ≡ allows edges
   same_if_within edges policy closing within = λ i from kind to. same_answer _ _ (within from kind to)
       (λ e. closing.least.has from kind to (allows_before edges closing.authority from kind to e)) i
 
   pub nothing_missing :
-      (edges policy : List Edge) → IsClosing t edges policy → (status : ℕ) → status ≡ missing_status (missing_edges edges policy)
-      → AcceptedAsClosed t edges → (status ≡ 0) ↔ IsAccepted t (allows edges)
+      (edges policy : List Edge) → IsClosing set t edges policy → (status : ℕ) → status ≡ missing_status (missing_edges edges policy)
+      → AcceptedAs set t edges → (status ≡ 0) ↔ IsAcceptedBy set t (allows edges)
   nothing_missing edges policy closing status is accepted = (
-    (λ zero. subst (λ test. IsAccepted t test) (same_if_within edges policy closing (within_if_none (allows edges) policy (nothing_at _ (sym is ∙ zero)))) closing.accepted),
+    (λ zero. subst (λ test. IsAcceptedBy set t test) (same_if_within edges policy closing (within_if_none (allows edges) policy (nothing_at _ (sym is ∙ zero)))) closing.accepted),
     (λ kept. is ∙ ap missing_status (none_if_within (allows edges) policy (closing.least.least (allows edges) (accepted.0 kept).0 (given kept)))),
   ) where
-    given : IsAccepted t (allows edges) → IsWithin (allows (edges ++ closing.authority)) (allows edges)
+    given : IsAcceptedBy set t (allows edges) → IsWithin (allows (edges ++ closing.authority)) (allows edges)
     given kept from kind to e = elim (or_cases _ _ (sym (allows-append edges closing.authority from kind to) ∙ e)) [
       | inl here ↦ here
       | inr there ↦ (accepted.0 kept).1 boot booted from kind to ((closing.of_boot boot from kind to booted).0 there)
     ]
 
   pub missing_told :
-      {E : Type 0} (result : Result Answer E) (edges policy : List Edge) → IsClosing t edges policy
+      {E : Type 0} (result : Result Answer E) (edges policy : List Edge) → IsClosing set t edges policy
       → IfOk result (λ answer. answer.text.items ≡ edge_lines t (missing_edges edges policy))
       → IfOk result (λ answer. answer.status ≡ missing_status (missing_edges edges policy))
-      → AcceptedAsClosed t edges
-      → IfOk result (λ answer. Closes on_close.Missing t edges answer.text.items answer.status)
+      → AcceptedAs set t edges
+      → IfOk result (λ answer. Closes set on_close.Missing t edges answer.text.items answer.status)
   missing_told (Ok answer) edges policy closing text status accepted =
       (policy, closing, (text, status, nothing_missing edges policy closing answer.status status accepted))
   missing_told (Err error) edges policy closing text status accepted = tt
 
   -- the least policy for the table alone is within each to which the table keeps
-  least_in_each : (least : List Edge) → IsClosing t [] least → ((p : List Edge) → AcceptedAsClosed t p) → IsInEachPolicyFor t least
+  least_in_each : (least : List Edge) → IsClosing set t [] least → ((p : List Edge) → AcceptedAs set t p) → IsInEachPolicyFor set t least
   least_in_each least alone accepted policy kept =
       let parts = (accepted policy).0 kept in
       alone.least.least (allows policy) parts.0 (λ from kind to e. parts.1 boot booted from kind to ((alone.of_boot boot from kind to booted).0 e))
 
   nothing_surplus :
-      (edges least : List Edge) → IsClosing t [] least → (status : ℕ) → status ≡ missing_status (missing_edges least edges)
-      → ((p : List Edge) → AcceptedAsClosed t p) → (status ≡ 0) ↔ IsInEachPolicyFor t edges
+      (edges least : List Edge) → IsClosing set t [] least → (status : ℕ) → status ≡ missing_status (missing_edges least edges)
+      → ((p : List Edge) → AcceptedAs set t p) → (status ≡ 0) ↔ IsInEachPolicyFor set t edges
   nothing_surplus edges least alone status is accepted = (
     (λ zero policy kept from kind to e.
         least_in_each least alone accepted policy kept from kind to (within_if_none (allows least) edges (nothing_at _ (sym is ∙ zero)) from kind to e)),
@@ -100,11 +104,11 @@ module _ (t : Layout) (boot : Machine) (booted : IsBoot t boot) where
   )
 
   pub surplus_told :
-      {E : Type 0} (result : Result Answer E) (edges least : List Edge) → IsClosing t [] least
+      {E : Type 0} (result : Result Answer E) (edges least : List Edge) → IsClosing set t [] least
       → IfOk result (λ answer. answer.text.items ≡ edge_lines t (missing_edges least edges))
       → IfOk result (λ answer. answer.status ≡ missing_status (missing_edges least edges))
-      → ((p : List Edge) → AcceptedAsClosed t p)
-      → IfOk result (λ answer. Closes on_close.Surplus t edges answer.text.items answer.status)
+      → ((p : List Edge) → AcceptedAs set t p)
+      → IfOk result (λ answer. Closes set on_close.Surplus t edges answer.text.items answer.status)
   surplus_told (Ok answer) edges least alone text status accepted =
       (least, alone, (text, status, nothing_surplus edges least alone answer.status status accepted))
   surplus_told (Err error) edges least alone text status accepted = tt

@@ -2,12 +2,12 @@ mod Denied
 mod ClosedLabels
 mod Missing
 mod ClosedText
+mod LeastBySet
 mod OneAnswer
 mod OneReport
 mod OneClaimed
 mod OneLog
 mod OneClosing
-mod AskedOn
 mod OneAsked
 mod OneDrawing
 mod LabelNames

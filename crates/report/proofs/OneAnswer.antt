@@ -7,13 +7,20 @@ use Rattle.microkit.specs.Description.{Description}
 use Rattle.importing.specs.declared.pieces.{Children.{Children}, Minting.{Minting}}
 use Rattle.captext.specs.{Policies.read_policy_of, Tables.read_table_of}
 use Rattle.forms.specs.declared.file.File.{File, File as file, TheVariants.{Policy, Table}}
-use Rattle.commands.specs.{declared.load.{System.System, Three.Three}, Described.Described, Files.{Contents, and_then, described_of, whole}}
+use Rattle.commands.specs.{declared.load.{System.System, Three.Three, Two.Two}, Described.Described, Files.{Contents, and_then, described_of, whole}}
 use Rattle.report.specs.OneAnswer.{DescriptionHasOneAnswer, IsAnsweredOnce, SystemHasOneAnswer, TableHasOneAnswer, ThreeHaveOneAnswer}
+use Rattle.report.specs.OneAnswer.{TwoHaveOneAnswer}
 
 -- two answers to one value are one
 abbrev pub IsOne : (List ℕ → ℕ → Type 0) → Type 0
 IsOne judges =
     (text other : List ℕ) (status another : ℕ) → judges text status → judges other another → (text ≡ other) × (status ≡ another)
+
+abbrev pub JudgesTableOnce : (Layout → List ℕ → ℕ → Type 0) → Type 0
+JudgesTableOnce judges = (t : Layout) → IsOne (judges t)
+
+abbrev pub JudgesTwoOnce : {X : Type 0} → (Layout → X → List ℕ → ℕ → Type 0) → Type 0
+JudgesTwoOnce {X} judges = (t : Layout) (x : X) → IsOne (judges t x)
 
 abbrev pub JudgesSystemOnce : (Layout → List Edge → List ℕ → ℕ → Type 0) → Type 0
 JudgesSystemOnce judges = (t : Layout) (edges : List Edge) → IsOne (judges t edges)
@@ -42,6 +49,13 @@ of_system judges one table policy =
     let judged : System → List ℕ → ℕ → Type 0 = λ s. judges s.table s.policy in
     then_once judged Table (read_table_of table) _ (λ t.
     then_once judged Policy (read_policy_of t policy) (λ edges. whole (record { table = t; policy = edges })) (one t))
+
+pub of_two : {X : Type 0} (name : File) (read : Layout → List ℕ → Result X Fault) (judges : Layout → X → List ℕ → ℕ → Type 0)
+    → JudgesTwoOnce judges → TwoHaveOneAnswer name read judges
+of_two {X} name read judges one table second =
+    let judged : Two X → List ℕ → ℕ → Type 0 = λ s. judges s.table s.second in
+    then_once judged Table (read_table_of table) _ (λ t.
+    then_once judged name (read t second) (λ x. whole (record { table = t; second = x })) (one t))
 
 pub of_three : {X : Type 0} (name : File) (read : Layout → List ℕ → Result X Fault) (judges : Layout → List Edge → X → List ℕ → ℕ → Type 0)
     → JudgesOnce judges → ThreeHaveOneAnswer name read judges

@@ -10,9 +10,10 @@ use Rattle.table.proofs.BootState.{boot_one}
 use Rattle.evtext.specs.Log.{log_text}
 use Rattle.kernel.{specs.Legal.{Entry, IsLack, Leads, StopsAt}, proofs.LegalLemmas.{no_run, one_next, one_stop}}
 use Rattle.integrity.specs.Confined.{IsConfined}
-use Rattle.verdict.specs.{declared.denial.Denial.Denial, Rules.{Exceeds, Excess, excess_place}, Sources.of_machine, Verdict.excess_of}
+use Rattle.verdict.specs.declared.{denial.Denial.Denial, rules.Rules.Rules}
+use Rattle.verdict.specs.{Rules.{Exceeds, Excess, excess_place}, Sources.of_machine, Verdict.excess_of}
 use Rattle.verdict.specs.Verdict.{place_of, rule_name}
-use Rattle.verdict.proofs.{DenialPlaces.numbered, OneVerdict.{one_least, same_place}, Outsides.within_confined}
+use Rattle.verdict.proofs.{DenialPlaces.numbered, OneVerdict.{one_least, same_outside}, Outsides.within_confined}
 use Rattle.reptext.specs.{Places.place_names_by, Reports.{illegal_data, line_of, outside_data}}
 use Rattle.report.specs.{OneAnswer.{IsLogInMemory, RunsInMemory}, Replays.{IsFirstOutside, IsReplayedTo, Replays, illegal, outside, within}}
 use Rattle.report.proofs.{OneAnswer.JudgesOnce, OneReport.verdict_once}
@@ -52,8 +53,8 @@ log_once t events text other is also =
     (subst (λ (m : Machine). Run m events is.log.outcomes is.log.last) boot is.log.ran) also.log.ran is.unrefused also.unrefused in
     is.log.told ∙ ap (λ (os : List Outcome). log_text (zip events os)) outcomes ∙ sym also.log.told
 
-pub run_told_once : JudgesOnce RunsInMemory
-run_told_once t edges events = verdict_once t edges (IsLogInMemory t events) (log_once t events)
+pub run_told_once : (set : Rules) → JudgesOnce (RunsInMemory set)
+run_told_once set t edges events = verdict_once set t edges (IsLogInMemory t events) (log_once t events)
 
 -- a replay
 
@@ -77,8 +78,11 @@ module _ (t : Layout) (edges : List Edge) (entries : List Entry) where
         (subst (λ (p : List ℕ). ComesBefore (place_of other) p) (numbered d is.0 is.1) before));
   }
 
+  one_place : (m : Machine) (d e : Denial) → TellsOutside m d → TellsOutside m e → place_of d ≡ place_of e → d ≡ e
+  one_place m d e one other same = same_outside d e one.0 other.0 one.1 other.1 same
+
   outside_once : (m : Machine) (d e : Denial) → IsFirstOutside t edges m d → IsFirstOutside t edges m e → d ≡ e
-  outside_once m d e is also = one_least place_of (TellsOutside m) same_place d e (least_told m d is) (least_told m e also)
+  outside_once m d e is also = one_least place_of (TellsOutside m) (one_place m) d e (least_told m d is) (least_told m e also)
 
   one_last : (m n : Machine) → IsReplayedTo t entries m → IsReplayedTo t entries n → m ≡ n
   one_last m n one two =

@@ -1,13 +1,14 @@
 -- A verdict is told by one text with one status: that of a check, and that of a certificate.
-use Rattle.std.{specs.Prelude.slice_get, proofs.Common.{ℕ, ◌+◌, ◌∙◌, ◌≡◌, Err, List, Ok, Result, ap, inl, inr, sym}}
+use Rattle.std.{specs.Prelude.slice_get, proofs.Common.{ℕ, ◌+◌, ◌∙◌, ◌≡◌, List, ap, inl, inr, sym}}
 use Rattle.std.proofs.lemmas.Bool.{cases_order}
 use Rattle.base.specs.declared.edge.Edge.{Edge}
 use Rattle.machine.specs.Layout.{Layout}
 use Rattle.policy.specs.Policy.{allows}
-use Rattle.verdict.specs.{declared.denial.Denial.{Denial, Denial as denial}, System.System, Verdict.{IsAccepted, IsLeastBroken, rule_name}}
-use Rattle.verdict.proofs.OneVerdict.{one_verdict}
+use Rattle.verdict.specs.{ByRules.{IsAcceptedBy, IsLeastBrokenBy}, Verdict.rule_name}
+use Rattle.verdict.specs.declared.{denial.Denial.{Denial, Denial as denial}, rules.Rules.Rules}
+use Rattle.verdict.proofs.OneVerdict.{one_denial}
 use Rattle.certificate.specs.{declared.line.Line.Line, Right.right_certificate}
-use Rattle.checker.specs.{declared.verifying.NotAccepted.{NotAccepted as not_accepted}, Verified.{DiffersFirst, IsDenied, IsVerified}}
+use Rattle.checker.specs.Verified.{DiffersFirst, IsDeniedBy}
 use Rattle.reptext.{specs.{Places.place_names, Reports.{accept_data, denial_report, line_of}}, proofs.OneText.report_once}
 use Rattle.commands.specs.declared.choices.OnAccept.{OnAccept, OnAccept as on_accept}
 use Rattle.report.specs.Answers.{Answers, AnswersVerdict, Checks}
@@ -28,17 +29,13 @@ module _
   answers_once text other status another (denied d is says exit) (denied e also again out) =
       (says ∙ ap (λ (d : Denial). denial_report (rule_name d) (place_names t d)) (one d e is also) ∙ sym again, exit ∙ sym out)
 
-pub one_denial :
-    (t : Layout) (edges : List Edge) (d e : Denial) → IsLeastBroken t (allows edges) d → IsLeastBroken t (allows edges) e → d ≡ e
-one_denial t edges d e is also =
-    let same : ◌≡◌ {A = Result System Denial} (Err d) (Err e) = one_verdict t edges (Err d) (Err e) is also in cc
-
 pub verdict_once :
-    (t : Layout) (edges : List Edge) (Tells : List ℕ → Type 0) → ((text other : List ℕ) → Tells text → Tells other → text ≡ other)
-    → (text other : List ℕ) (status another : ℕ) → AnswersVerdict t edges Tells text status
-    → AnswersVerdict t edges Tells other another → (text ≡ other) × (status ≡ another)
-verdict_once t edges Tells told =
-    answers_once t (IsAccepted t (allows edges)) (IsLeastBroken t (allows edges)) Tells (one_denial t edges)
+    (set : Rules) (t : Layout) (edges : List Edge) (Tells : List ℕ → Type 0)
+    → ((text other : List ℕ) → Tells text → Tells other → text ≡ other)
+    → (text other : List ℕ) (status another : ℕ) → AnswersVerdict set t edges Tells text status
+    → AnswersVerdict set t edges Tells other another → (text ≡ other) × (status ≡ another)
+verdict_once set t edges Tells told =
+    answers_once t (IsAcceptedBy set t (allows edges)) (IsLeastBrokenBy set t (allows edges)) Tells (one_denial set t (allows edges))
     (λ d none least. none d least.has) told
 
 -- a check
@@ -49,8 +46,8 @@ check_told :
 check_told on_accept.Report t edges text other is also = report_once t edges text other is also
 check_told on_accept.Certificate t edges text other is also = is ∙ sym also
 
-pub check_once : (written : OnAccept) → JudgesSystemOnce (Checks written)
-check_once written t edges = verdict_once t edges (TellsCheck written t edges) (check_told written t edges)
+pub check_once : (set : Rules) (written : OnAccept) → JudgesSystemOnce (Checks set written)
+check_once set written t edges = verdict_once set t edges (TellsCheck written t edges) (check_told written t edges)
 
 -- a certificate
 
@@ -61,20 +58,20 @@ differ_once lines right m n one two = elim (cases_order one.before two.before) [
   | inr (inr above) ↦ absurd (two.differ (one.agree two.before above))
 ]
 
-module _ (t : Layout) (edges : List Edge) (lines : List Line) where
-  denied_once : (d e : Denial) → IsDenied t edges lines d → IsDenied t edges lines e → d ≡ e
+module _ (set : Rules) (t : Layout) (edges : List Edge) (lines : List Line) where
+  denied_once : (d e : Denial) → IsDeniedBy set t edges lines d → IsDeniedBy set t edges lines e → d ≡ e
   denied_once (denial.Certificate m) (denial.Certificate n) is also =
       ap denial.Certificate (differ_once lines (right_certificate t) m n is.1 also.1)
   denied_once (denial.Certificate m) e is also = absurd (is.0 e also.has)
   denied_once d (denial.Certificate n) is also = absurd (also.0 d is.has)
-  denied_once d e is also = one_denial t edges d e is also
+  denied_once d e is also = one_denial set t (allows edges) d e is also
 
-  never_denied : (d : Denial) → IsVerified t edges lines (Ok (record { table = t; policy = edges })) → IsDenied t edges lines d → ⊥
+  never_denied : (d : Denial) → IsAcceptedBy set t (allows edges) × (lines ≡ right_certificate t) → IsDeniedBy set t edges lines d → ⊥
   never_denied (denial.Certificate m) is broken = broken.1.differ (ap (λ (ls : List Line). slice_get ls broken.1.before) is.1)
-  never_denied d is broken = is.0.1 d broken.has
+  never_denied d is broken = is.0 d broken.has
 
-pub verify_once : JudgesOnce Verifies
-verify_once t edges lines =
-    answers_once t (IsVerified t edges lines (Ok (record { table = t; policy = edges })))
-    (λ d. IsVerified t edges lines (Err (not_accepted.Denied d))) (λ text. text ≡ line_of accept_data) (denied_once t edges lines)
-    (never_denied t edges lines) (λ text other is also. is ∙ sym also)
+pub verify_once : (set : Rules) → JudgesOnce (Verifies set)
+verify_once set t edges lines =
+    answers_once t (IsAcceptedBy set t (allows edges) × (lines ≡ right_certificate t)) (IsDeniedBy set t edges lines)
+    (λ text. text ≡ line_of accept_data) (denied_once set t edges lines) (never_denied set t edges lines)
+    (λ text other is also. is ∙ sym also)

@@ -7,8 +7,9 @@ use Rattle.microkit.specs.Description.{Description}
 use Rattle.importing.specs.declared.pieces.{Children.{Children}, Minting.{Minting}}
 use Rattle.kernel.specs.Legal.{IsLack}
 use Rattle.forms.specs.declared.file.File.{File}
-use Rattle.commands.specs.{declared.load.{System.System, Three.Three}, Commands.IsAnswer, Described.Described}
-use Rattle.commands.specs.Files.{Contents, described_contents, system_contents, table_contents, three_contents}
+use Rattle.commands.specs.{declared.load.{System.System, Three.Three, Two.Two}, Commands.IsAnswer, Described.Described}
+use Rattle.commands.specs.Files.{Contents, described_contents, system_contents, table_contents, three_contents, two_contents}
+use Rattle.verdict.specs.declared.rules.Rules.{Rules}
 use Rattle.report.specs.Answers.{AnswersVerdict, IsLogOfRun}
 
 -- two answers to what files hold have the same text and the same status
@@ -30,6 +31,11 @@ abbrev pub SystemHasOneAnswer : (Layout → List Edge → List ℕ → ℕ → T
 SystemHasOneAnswer judges =
     (table policy : List ℕ) → IsAnsweredOnce (λ (s : System). judges s.table s.policy) (system_contents (Some table) (Some policy))
 
+abbrev pub TwoHaveOneAnswer : {X : Type 0} → File → (Layout → List ℕ → Result X Fault) → (Layout → X → List ℕ → ℕ → Type 0) → Type 0
+TwoHaveOneAnswer {X} name read judges =
+    (table second : List ℕ)
+    → IsAnsweredOnce (λ (s : Two X). judges s.table s.second) (two_contents name read (Some table) (Some second))
+
 abbrev pub ThreeHaveOneAnswer : {X : Type 0} → File → (Layout → List ℕ → Result X Fault) → (Layout → List Edge → X → List ℕ → ℕ → Type 0) → Type 0
 ThreeHaveOneAnswer {X} name read judges =
     (table policy third : List ℕ)
@@ -40,6 +46,6 @@ pub record IsLogInMemory (t : Layout) (events : List Event) (text : List ℕ) : 
   pub log : IsLogOfRun t events text
   pub unrefused : All (λ entry. ¬ IsLack entry.0 entry.1) (zip events log.outcomes)
 
--- the answer to a script for a table and a policy, where no call of it was refused memory
-abbrev pub RunsInMemory : Layout → List Edge → List Event → List ℕ → ℕ → Type 0
-RunsInMemory t edges events = AnswersVerdict t edges (IsLogInMemory t events)
+-- the answer to a script for a table and a policy, by a set of rules, where no call of it was refused memory
+abbrev pub RunsInMemory : Rules → Layout → List Edge → List Event → List ℕ → ℕ → Type 0
+RunsInMemory set t edges events = AnswersVerdict set t edges (IsLogInMemory t events)

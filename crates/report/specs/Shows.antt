@@ -1,17 +1,13 @@
--- What the command `show` answers to a table, a policy and two labels (compare the integrity of 'seL4 Enforces Integrity', section 4;
+-- What the command `show` answers to a table and two labels (compare the integrity of 'seL4 Enforces Integrity', section 4;
 -- showing a run where that ends is confine's own).
 use Rattle.std.specs.Prelude.{ℕ, ◌≡◌, ◌≤◌, List, Some, if◌then◌else◌}
-use Rattle.base.specs.declared.edge.Edge.{Edge}
 use Rattle.machine.specs.{declared.call.Event.Event, Layout.Layout}
 use Rattle.table.specs.Names.{label_named}
-use Rattle.policy.specs.Policy.{allows}
-use Rattle.verdict.specs.{declared.{denial.Denial.Denial, extent.Extent.Extent}, Extents.{GoesTo, IsReachOf, KeepsTo, Reach}}
-use Rattle.verdict.specs.Verdict.{IsAccepted, IsLeastBroken, rule_name}
-use Rattle.verdict.specs.declared.extent.Extent.TheVariants as extent
+use Rattle.reach.specs.{declared.extent.Extent.{Extent, Extent as extent}, Extents.{GoesTo, KeepsTo, limits_of}, Reach.{IsReachOf, TableReach}}
 use Rattle.runs.specs.{declared.question.Question.Question, Shown.Answers}
 use Rattle.evtext.specs.Script.{script_text}
-use Rattle.reptext.specs.{Places.place_names, Reports.{denial_report, impossible_data, line_of, unfound_data}}
-use Rattle.commands.specs.{declared.{choices.Search.Search, end.End.End}, Commands.{Input, IsDoneOnSystem, Output}}
+use Rattle.reptext.specs.Reports.{impossible_data, line_of, unfound_data}
+use Rattle.commands.specs.{declared.{choices.Search.Search, end.End.End}, Commands.{Input, IsDoneOnTable, Output}}
 use Rattle.report.specs.Questions.{unlabelled}
 
 -- what is searched for: that a thread of the one label takes from an object of the other, or changes it in another way
@@ -33,29 +29,29 @@ pub data TellsFound (t : Layout) (question : Question) (bound : Extent) (most : 
       → TellsFound t question bound most text status
 
 -- where the one label goes so far with the other: a run that is searched for; or that there can't be one, with status 1, just where the
--- bounds exclude that the one does anything to the other
+-- reach excludes that the one does anything to the other
 abbrev pub TellsRun : Layout → Question → Extent → ℕ → List ℕ → ℕ → Type 0
 TellsRun t question extent.Full most text status = TellsFound t question extent.Full most text status
 TellsRun t question extent.Take most text status = TellsFound t question extent.Take most text status
 TellsRun t question extent.Nothing most text status = (text ≡ line_of impossible_data) × (status ≡ 1)
 
--- a text tells of a run by how far one label goes with another in an accepted system: no step of any run goes further
-pub record ShowsRun (sought : Search) (t : Layout) (edges : List Edge) (a l : ℕ) (text : List ℕ) (status : ℕ) : Type 0 where
-  pub reach : Reach
-  pub is_reach : IsReachOf t edges reach
+-- a text tells of a run by how far one label goes with another by the reach of a table: no step of any run goes further
+pub record ShowsRun (sought : Search) (t : Layout) (a l : ℕ) (text : List ℕ) (status : ℕ) : Type 0 where
+  pub reach : TableReach
+  pub is_reach : IsReachOf t reach
   pub bound : Extent
-  pub goes : GoesTo reach a l bound
+  pub goes : GoesTo (limits_of reach) a l bound
   pub kept : KeepsTo t a l bound
   pub told : TellsRun t (question_of sought a l) bound (most_calls sought bound) text status
 
--- the answer to a table and a policy that are to show a run: they are denied; or they are accepted, and it tells of a run of the labels of
--- these names
-pub data Shows (sought : Search) (actor object : List ℕ) (t : Layout) (edges : List Edge) (text : List ℕ) (status : ℕ) : Type 0 where
-  denied : (denial : Denial) → IsLeastBroken t (allows edges) denial → text ≡ denial_report (rule_name denial) (place_names t denial)
-      → status ≡ 1 → Shows sought actor object t edges text status
-  accepted : IsAccepted t (allows edges) → (a l : ℕ) → label_named t actor ≡ Some a → label_named t object ≡ Some l
-      → ShowsRun sought t edges a l text status → Shows sought actor object t edges text status
+-- the answer to a table that is to show a run of the labels of these names
+pub record Shows (sought : Search) (actor object : List ℕ) (t : Layout) (text : List ℕ) (status : ℕ) : Type 0 where
+  pub of_actor : ℕ
+  pub of_object : ℕ
+  pub actor_named : label_named t actor ≡ Some of_actor
+  pub object_named : label_named t object ≡ Some of_object
+  pub shows : ShowsRun sought t of_actor of_object text status
 
 -- a run was shown of two labels, or it was told why not
-abbrev pub IsShownTo : {T P O : Type 0} → Search → List ℕ → List ℕ → Input T → Input P → Output O → End → Type 0
-IsShownTo sought actor object = IsDoneOnSystem (λ t. unlabelled t actor object) (Shows sought actor object)
+abbrev pub IsShownTo : {T O : Type 0} → Search → List ℕ → List ℕ → Input T → Output O → End → Type 0
+IsShownTo sought actor object = IsDoneOnTable (λ t. unlabelled t actor object) (Shows sought actor object)

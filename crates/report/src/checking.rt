@@ -3,7 +3,7 @@ ghost use Rattle.std.specs.Prelude.{ℕ, ◌<◌, ◌≡◌, ◌≤◌, IfOk, fa
 ghost use Rattle.commands.specs.{Commands.{SystemIsJudged, input, no_label, output}, Ends.status_of};
 ghost use Rattle.report.specs.Answers as answers;
 
-use crate::{End, Gate, Listener, OnAccept, Sink, Source};
+use crate::{End, Gate, Listener, OnAccept, Rules, Sink, Source};
 use base::Refusal;
 use commands::{Answer, Stop, System, denied, load_system, tell};
 use policy::Policy;
@@ -11,15 +11,17 @@ use reptext::check_report;
 use std::alloc::Global;
 use std::thread::Threads;
 use table::Table;
-use verdict::judge;
+use verdict::judge_by;
 
-/// Checks a table against a policy by 1 to 16 workers, each of which arrives at the gate first.
+/// Checks a table against a policy, by a set of rules, with 1 to 16 workers, each of which arrives at the
+/// gate first.
 ///
 /// Writes the report or the certificate where they are accepted, with status 0; or the report of the
 /// denial, with status 1; or the report of the first fault, with status 2.
 pub fn check<R, G, T, P, L, O>(
     rt: &R,
     alloc: Global,
+    rules: Rules,
     table: &mut T,
     policy: &mut P,
     on_accept: OnAccept,
@@ -39,13 +41,13 @@ where
     requires policy { P.failed policy.old ≡ false }
     requires out { O.failed out.old ≡ false }
     requires workers { (1 ≤ workers) × (workers ≤ 16) }
-    ensures checked { answers.IsChecked on_accept (input T.remaining T.failed table.old table.new)
+    ensures checked { answers.IsChecked rules on_accept (input T.remaining T.failed table.old table.new)
         (input P.remaining P.failed policy.old policy.new)
         (output O.contents O.failed O.is_flushed out.old out.new) result }
     ensures arrived { status_of result ≡ 0 → (worker : ℕ) → worker < workers → G.HasArrived gate.now worker }
 {
     let system = load_system(alloc, table, policy, listener);
-    let answer = checked(rt, alloc, &system, on_accept, workers, gate);
+    let answer = checked(rt, alloc, rules, &system, on_accept, workers, gate);
     tell(alloc, &system, answer, listener, out)
 }
 
@@ -53,13 +55,14 @@ where
 fn checked<R: Threads + Sync, G: Gate + Sync>(
     rt: &R,
     alloc: Global,
+    rules: Rules,
     loaded: &Result<System, Stop>,
     on_accept: OnAccept,
     workers: usize,
     gate: &G,
 ) -> Result<Answer, Stop>
     requires workers { (1 ≤ workers) × (workers ≤ 16) }
-    ensures judged { SystemIsJudged no_label (answers.Checks on_accept) loaded.now result }
+    ensures judged { SystemIsJudged no_label (answers.Checks rules on_accept) loaded.now result }
     ensures arrived { IfOk result (λ answer. answer.status ≡ 0
         → (worker : ℕ) → worker < workers → G.HasArrived gate.now worker) }
 {
@@ -67,8 +70,8 @@ fn checked<R: Threads + Sync, G: Gate + Sync>(
         Ok(system) => system,
         Err(stop) => return Err(*stop),
     };
-    match judge(rt, alloc, table, policy, workers, gate)? {
-        Ok(_) => Ok(Answer::plain(accepted_text(alloc, table, policy, on_accept)?, 0)),
+    match judge_by(rt, alloc, table, policy, rules, workers, gate)? {
+        Ok(()) => Ok(Answer::plain(accepted_text(alloc, table, policy, on_accept)?, 0)),
         Err(denial) => Ok(denied(alloc, table, denial)?),
     }
 }

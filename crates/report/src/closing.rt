@@ -1,26 +1,34 @@
 //! The command `close`: the least policy to which a table keeps, and what a policy lacks of it.
-ghost use Rattle.std.specs.Prelude.{[], ◌≡◌, ◌≤◌, IfOk, false};
-ghost use Rattle.captext.specs.PolicyText.{edge_lines};
+ghost use Rattle.std.specs.Prelude.{[], ℕ, ◌++◌, ◌≡◌, ◌≤◌, IfOk, List, false};
+ghost use Rattle.base.specs.declared.edge.Edge.{Edge};
+ghost use Rattle.machine.specs.Layout.{Layout};
+ghost use Rattle.captext.specs.PolicyText.{edge_lines, policy_text};
+ghost use Rattle.reach.specs.Reach.{IsReach};
 ghost use Rattle.commands.specs.Commands.{IsJudged, SystemIsJudged, input, no_label, output};
 ghost use Rattle.report.specs.Closings as closings;
 
-use crate::{End, Listener, OnClose, Sink, Source};
+use crate::{End, Listener, OnClose, Rules, Sink, Source};
 use base::{Edge, Refusal};
 use captext::{write_edges, write_policy};
 use commands::{Answer, Stop, System, load_system, load_table, tell};
 use kernel::each_table_has_one_boot_state;
 use labels::{authority, boot_authority_joins_labels_of_its_table};
 use policy::Policy;
+use reach::node_holders;
+use sharp::close_sharply;
 use std::alloc::Global;
 use table::Table;
 use verdict::a_verdict_is_on_the_boot_state;
 
-/// Closes a policy over a table: finds the least policy that has the policy's edges and to which the
-/// table keeps; for [`OnClose::Surplus`] the least one to which it keeps, whatever the policy has.
+/// Closes a policy over a table, by a set of rules: finds the least policy that has the policy's edges and
+/// to which the table keeps; for [`OnClose::Surplus`] the least one to which it keeps, whatever the policy
+/// has.
 ///
-/// Writes what is asked for; or the report of the first fault, with status 2.
+/// By [`Rules::Closed`] it is a closed policy, and by [`Rules::Sharp`] a sharply closed one. Writes what is
+/// asked for; or the report of the first fault, with status 2.
 pub fn close<T, P, L, O>(
     alloc: Global,
+    rules: Rules,
     table: &mut T,
     policy: &mut P,
     on_close: OnClose,
@@ -35,32 +43,36 @@ where
     requires table { T.failed table.old ≡ false }
     requires policy { P.failed policy.old ≡ false }
     requires out { O.failed out.old ≡ false }
-    ensures { closings.IsClosedOver on_close (input T.remaining T.failed table.old table.new)
+    ensures { closings.IsClosedOver rules on_close (input T.remaining T.failed table.old table.new)
         (input P.remaining P.failed policy.old policy.new)
         (output O.contents O.failed O.is_flushed out.old out.new) result }
 {
     let system = load_system(alloc, table, policy, listener);
-    let answer = system_closed(alloc, &system, on_close);
+    let answer = system_closed(alloc, rules, &system, on_close);
     tell(alloc, &system, answer, listener, out)
 }
 
 /// What is asked for of the least policy over a policy that was loaded.
 fn system_closed(
     alloc: Global,
+    rules: Rules,
     loaded: &Result<System, Stop>,
     on_close: OnClose,
 ) -> Result<Answer, Stop>
-    ensures { SystemIsJudged no_label (closings.Closes on_close) loaded.now result }
+    ensures { SystemIsJudged no_label (closings.Closes rules on_close) loaded.now result }
 {
     match loaded {
-        Ok(System { table, policy }) => Ok(closed(alloc, table, policy, on_close)?),
+        Ok(System { table, policy }) => Ok(closed(alloc, rules, table, policy, on_close)?),
         Err(stop) => Err(*stop),
     }
 }
 
-/// Makes a policy for a table alone: closes one without an edge over it.
+/// Makes a policy for a table alone, by a set of rules: closes one without an edge over it.
+///
+/// By [`Rules::Sharp`] it is the reach of the table.
 pub fn start<T, L, O>(
     alloc: Global,
+    rules: Rules,
     table: &mut T,
     on_close: OnClose,
     listener: &mut L,
@@ -72,24 +84,25 @@ where
     O: Sink,
     requires table { T.failed table.old ≡ false }
     requires out { O.failed out.old ≡ false }
-    ensures { closings.IsStarted on_close (input T.remaining T.failed table.old table.new)
+    ensures { closings.IsStarted rules on_close (input T.remaining T.failed table.old table.new)
         (output O.contents O.failed O.is_flushed out.old out.new) result }
 {
     let table = load_table(alloc, table, listener);
-    let answer = table_closed(alloc, &table, on_close);
+    let answer = table_closed(alloc, rules, &table, on_close);
     tell(alloc, &table, answer, listener, out)
 }
 
 /// What is asked for of the least policy for a table that was loaded.
 fn table_closed(
     alloc: Global,
+    rules: Rules,
     loaded: &Result<Table, Stop>,
     on_close: OnClose,
 ) -> Result<Answer, Stop>
-    ensures { IsJudged no_label (λ t. closings.Closes on_close t []) loaded.now result }
+    ensures { IsJudged no_label (λ t. closings.Closes rules on_close t []) loaded.now result }
 {
     match loaded {
-        Ok(table) => Ok(closed(alloc, table, &Policy::new(alloc), on_close)?),
+        Ok(table) => Ok(closed(alloc, rules, table, &Policy::new(alloc), on_close)?),
         Err(stop) => Err(*stop),
     }
 }
@@ -97,73 +110,105 @@ fn table_closed(
 /// What is asked for of the least policy.
 fn closed(
     alloc: Global,
+    rules: Rules,
     table: &Table,
     policy: &Policy,
     on_close: OnClose,
 ) -> Result<Answer, Refusal>
     ensures right { IfOk result
-        (λ answer. closings.Closes on_close table.now policy.now answer.text.items answer.status) }
+        (λ answer. closings.Closes rules on_close table.now policy.now answer.text.items answer.status) }
     ensures exit { IfOk result (λ answer. answer.status ≤ 2) }
 {
     match on_close {
-        OnClose::Policy => whole_answer(alloc, table, policy),
-        OnClose::Missing => missing_answer(alloc, table, policy),
-        OnClose::Surplus => surplus_answer(alloc, table, policy),
+        OnClose::Policy => whole_answer(alloc, rules, table, policy),
+        OnClose::Missing => missing_answer(alloc, rules, table, policy),
+        OnClose::Surplus => surplus_answer(alloc, rules, table, policy),
     }
 }
 
-/// The least policy that has a policy's edges and to which the table keeps.
-fn least(alloc: Global, table: &Table, policy: &Policy) -> Result<Policy, Refusal>
-    ensures closing { IfOk result (λ closed. closings.IsClosing table.now policy.now closed) }
+/// The least policy by a set of rules that has a policy's edges and to which the table keeps.
+fn least(alloc: Global, rules: Rules, table: &Table, policy: &Policy) -> Result<Policy, Refusal>
+    ensures closing { IfOk result (λ closed. closings.IsClosing rules table.now policy.now closed) }
 {
     a_verdict_is_on_the_boot_state();
     let _ = table.objects();
     let edges = authority(alloc, table)?;
-    let closed = policy::close(alloc, policy, &edges)?;
+    let closed = least_by(alloc, rules, table, policy, &edges)?;
     closed.edges_rise();
     Ok(closed)
 }
 
+/// The least policy by a set of rules that has a policy's edges, and these.
+fn least_by(
+    alloc: Global,
+    rules: Rules,
+    table: &Table,
+    policy: &Policy,
+    edges: &[Edge],
+) -> Result<Policy, Refusal>
+    ensures { IfOk result (λ closed. closings.IsLeastBy rules table.now (policy.now ++ edges.now) closed) }
+{
+    match rules {
+        Rules::Closed => policy::close(alloc, policy, edges),
+        Rules::Sharp => close_sharply(alloc, policy, edges, node_holders(table)),
+    }
+}
+
 /// The text of the least policy.
-fn whole_answer(alloc: Global, table: &Table, policy: &Policy) -> Result<Answer, Refusal>
+fn whole_answer(
+    alloc: Global,
+    rules: Rules,
+    table: &Table,
+    policy: &Policy,
+) -> Result<Answer, Refusal>
     ensures right { IfOk result
-        (λ answer. closings.Closes OnClose.Policy table.now policy.now answer.text.items answer.status) }
+        (λ answer. closings.Closes rules OnClose.Policy table.now policy.now answer.text.items answer.status) }
     ensures exit { IfOk result (λ answer. answer.status ≤ 2) }
 {
     // Laws about tables and their boot states.
     each_table_has_one_boot_state();
     boot_authority_joins_labels_of_its_table();
     let _ = table.objects();
-    let closed = least(alloc, table, policy)?;
+    let closed = least(alloc, rules, table, policy)?;
     Ok(Answer::plain(write_policy(alloc, &closed, table)?, 0))
 }
 
 /// The lines of the edges that the policy lacks, and whether there are any.
-fn missing_answer(alloc: Global, table: &Table, policy: &Policy) -> Result<Answer, Refusal>
+fn missing_answer(
+    alloc: Global,
+    rules: Rules,
+    table: &Table,
+    policy: &Policy,
+) -> Result<Answer, Refusal>
     ensures right { IfOk result
-        (λ answer. closings.Closes OnClose.Missing table.now policy.now answer.text.items answer.status) }
+        (λ answer. closings.Closes rules OnClose.Missing table.now policy.now answer.text.items answer.status) }
     ensures exit { IfOk result (λ answer. answer.status ≤ 2) }
 {
     // Laws about tables, their boot states, and verdicts on these.
     a_verdict_is_on_the_boot_state();
     each_table_has_one_boot_state();
     let _ = table.objects();
-    let closed = least(alloc, table, policy)?;
+    let closed = least(alloc, rules, table, policy)?;
     lacked_answer(alloc, table, policy, &closed)
 }
 
 /// The lines of the edges that the policy has and the table and the rules don't ask for, and whether there
 /// are any.
-fn surplus_answer(alloc: Global, table: &Table, policy: &Policy) -> Result<Answer, Refusal>
+fn surplus_answer(
+    alloc: Global,
+    rules: Rules,
+    table: &Table,
+    policy: &Policy,
+) -> Result<Answer, Refusal>
     ensures right { IfOk result
-        (λ answer. closings.Closes OnClose.Surplus table.now policy.now answer.text.items answer.status) }
+        (λ answer. closings.Closes rules OnClose.Surplus table.now policy.now answer.text.items answer.status) }
     ensures exit { IfOk result (λ answer. answer.status ≤ 2) }
 {
     // Laws about tables, their boot states, and verdicts on these.
     a_verdict_is_on_the_boot_state();
     each_table_has_one_boot_state();
     let _ = table.objects();
-    let asked_for = least(alloc, table, &Policy::new(alloc))?;
+    let asked_for = least(alloc, rules, table, &Policy::new(alloc))?;
     lacked_answer(alloc, table, &asked_for, policy)
 }
 
@@ -193,3 +238,11 @@ fn missing_edges(alloc: Global, policy: &Policy, other: &Policy) -> Result<Vec<E
     missing.retain(|edge| !policy.has(*edge));
     Ok(missing)
 }
+
+/// A law: by S1 to S8 the policy that is made for a table alone is the reach of the table, and the text is
+/// that of the reach.
+pub fn the_sharp_policy_for_a_table_is_its_reach()
+    ensures { (t : Layout) (text : List ℕ) (status : ℕ)
+        → closings.Closes Rules.Sharp OnClose.Policy t [] text status
+        → (reach : List Edge) × IsReach t reach × (text ≡ policy_text t reach) }
+{}

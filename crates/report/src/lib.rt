@@ -17,13 +17,13 @@ mod splitting;
 mod summing;
 mod verifying;
 
-pub use asking::{draw, list, why};
+pub use asking::{draw, draw_allowed, list, why, why_allowed};
 pub use checking::check;
 pub use claiming::{check_claims, write_claims};
-pub use closing::{close, start};
+pub use closing::{close, start, the_sharp_policy_for_a_table_is_its_reach};
 pub use commands::{
-    Asked, Basis, Children, End, Fault, File, Finding, Heard, Imported, Listener, Minting,
-    OnAccept, OnClose, OnImport, Outcomes, Picture, Search, Silence,
+    Asked, Children, End, Fault, File, Finding, Heard, Imported, Listener, Minting, OnAccept,
+    OnClose, OnImport, Outcomes, Picture, Search, Silence,
 };
 pub use deal::{Gate, Open};
 pub use describing::import;
@@ -34,4 +34,5 @@ pub use running::run;
 pub use showing::show;
 pub use splitting::run_split;
 pub use summing::summary;
+pub use verdict::Rules;
 pub use verifying::verify;

@@ -3,7 +3,7 @@ ghost use Rattle.std.specs.Prelude.{◌≡◌, IfOk, None, false};
 ghost use Rattle.commands.specs.Commands.{ThreeIsJudged, input, output};
 ghost use Rattle.report.specs.Answers as answers;
 
-use crate::{End, Listener, Sink, Source};
+use crate::{End, Listener, Rules, Sink, Source};
 use base::Refusal;
 use commands::{Answer, Made, Script, Stop, Three, denied, load_three, tell};
 use deal::Open;
@@ -12,15 +12,16 @@ use kernel::boot;
 use std::alloc::Global;
 use std::thread::Threads;
 use table::Table;
-use verdict::judge;
+use verdict::judge_by;
 
-/// Checks a table against a policy, and runs a script where they are accepted.
+/// Checks a table against a policy, by a set of rules, and runs a script where they are accepted.
 ///
 /// Writes the log of the run, with status 0; or the report of the denial, with status 1; or the
 /// report of the first fault, with status 2.
 pub fn run<R, T, P, S, L, O>(
     rt: &R,
     alloc: Global,
+    rules: Rules,
     table: &mut T,
     policy: &mut P,
     script: &mut S,
@@ -38,12 +39,12 @@ where
     requires policy { P.failed policy.old ≡ false }
     requires script { S.failed script.old ≡ false }
     requires out { O.failed out.old ≡ false }
-    ensures { answers.IsRun (input T.remaining T.failed table.old table.new)
+    ensures { answers.IsRun rules (input T.remaining T.failed table.old table.new)
         (input P.remaining P.failed policy.old policy.new) (input S.remaining S.failed script.old script.new)
         (output O.contents O.failed O.is_flushed out.old out.new) result }
 {
     let three = load_three::<Script, T, P, S, L>(alloc, table, policy, script, listener);
-    let answer = ran(rt, alloc, &three);
+    let answer = ran(rt, alloc, rules, &three);
     tell(alloc, &three, answer, listener, out)
 }
 
@@ -51,9 +52,10 @@ where
 fn ran<R: Threads + Sync>(
     rt: &R,
     alloc: Global,
+    rules: Rules,
     loaded: &Result<Three<Script>, Stop>,
 ) -> Result<Answer, Stop>
-    ensures { ThreeIsJudged answers.Runs loaded.now result }
+    ensures { ThreeIsJudged (answers.Runs rules) loaded.now result }
 {
     let Three {
         table,
@@ -63,8 +65,8 @@ fn ran<R: Threads + Sync>(
         Ok(three) => three,
         Err(stop) => return Err(*stop),
     };
-    match judge(rt, alloc, table, policy, 1, &Open)? {
-        Ok(_) => Ok(run_answer(alloc, table, third)?),
+    match judge_by(rt, alloc, table, policy, rules, 1, &Open)? {
+        Ok(()) => Ok(run_answer(alloc, table, third)?),
         Err(denial) => Ok(denied(alloc, table, denial)?),
     }
 }

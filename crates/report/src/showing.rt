@@ -1,87 +1,75 @@
 //! The command `show`.
 ghost use Rattle.std.specs.Prelude.{◌≡◌, ◌≤◌, IfErr, IfOk, false};
 ghost use Rattle.base.specs.Refusals.{out_of_memory};
-ghost use Rattle.commands.specs.Commands.{IsJudgedSo, SystemIsJudged, input, output};
+ghost use Rattle.commands.specs.Commands.{IsJudged, IsJudgedSo, input, output};
 ghost use Rattle.report.specs.Questions.{unlabelled};
 ghost use Rattle.report.specs.Shows as shows;
 
 use crate::{Asked, End, Listener, Search, Sink, Source};
 use base::{Label, Refusal};
-use commands::{Answer, Stop, System, denied, load_system, tell};
-use deal::Open;
+use commands::{Answer, Stop, load_table, tell};
 use evtext::write_script;
-use policy::Policy;
+use reach::{Extent, Reach};
 use reptext::{impossible_report, unfound_report};
 use runs::Question;
 use search::find;
 use std::alloc::Global;
-use std::thread::Threads;
 use table::Table;
-use verdict::{Accepted, Extent, judge};
 
 /// Shows a run in which a thread of one label changes an object of another, or takes from it.
 ///
-/// Writes the script of the run, with status 0. Writes with status 1 that the bounds of the system exclude such
-/// a run, or that none was found, or the report of the denial; and with status 2 the report of the first fault.
-pub fn show<R, T, P, L, O>(
-    rt: &R,
+/// Writes the script of the run, with status 0. Writes with status 1 that the reach of the table excludes such
+/// a run, or that none was found; and with status 2 the report of the table's first fault.
+pub fn show<T, L, O>(
     alloc: Global,
     sought: Search,
     table: &mut T,
-    policy: &mut P,
     actor: &str,
     object: &str,
     listener: &mut L,
     out: &mut O,
 ) -> End
 where
-    R: Threads + Sync,
     T: Source,
-    P: Source,
     L: Listener,
     O: Sink,
     requires table { T.failed table.old ≡ false }
-    requires policy { P.failed policy.old ≡ false }
     requires out { O.failed out.old ≡ false }
     ensures { shows.IsShownTo sought actor.now object.now (input T.remaining T.failed table.old table.new)
-        (input P.remaining P.failed policy.old policy.new)
         (output O.contents O.failed O.is_flushed out.old out.new) result }
 {
-    let system = load_system(alloc, table, policy, listener);
-    let answer = show_judged(rt, alloc, sought, &system, actor, object);
-    tell(alloc, &system, answer, listener, out)
+    let table = load_table(alloc, table, listener);
+    let answer = show_judged(alloc, sought, &table, actor, object);
+    tell(alloc, &table, answer, listener, out)
 }
 
-/// The run that is sought of a system that was loaded, or why none is shown.
-fn show_judged<R: Threads + Sync>(
-    rt: &R,
+/// The run that is sought of a table that was loaded, or why none is shown.
+fn show_judged(
     alloc: Global,
     sought: Search,
-    loaded: &Result<System, Stop>,
+    loaded: &Result<Table, Stop>,
     actor: &str,
     object: &str,
 ) -> Result<Answer, Stop>
-    ensures { SystemIsJudged (λ t. unlabelled t actor.now object.now)
+    ensures { IsJudged (λ t. unlabelled t actor.now object.now)
         (shows.Shows sought actor.now object.now) loaded.now result }
 {
     match loaded {
-        Ok(System { table, policy }) => shown(rt, alloc, sought, table, policy, actor, object),
+        Ok(table) => shown(alloc, sought, table, actor, object),
         Err(stop) => Err(*stop),
     }
 }
 
 /// The run that is sought, or why none is shown; or the first of the two names that is no label of the table.
-fn shown<R: Threads + Sync>(
-    rt: &R,
+fn shown(
     alloc: Global,
     sought: Search,
     table: &Table,
-    policy: &Policy,
     actor: &str,
     object: &str,
 ) -> Result<Answer, Stop>
     ensures { IsJudgedSo (unlabelled table.now actor.now object.now)
-        (shows.Shows sought actor.now object.now table.now policy.now) result }
+        (shows.Shows sought actor.now object.now table.now) result }
 {
     let Some(actor) = table.label_named(actor) else {
         return Err(Stop::NoLabel(Asked::Actor));
@@ -89,27 +77,26 @@ fn shown<R: Threads + Sync>(
     let Some(object) = table.label_named(object) else {
         return Err(Stop::NoLabel(Asked::Object));
     };
-    match judge(rt, alloc, table, policy, 1, &Open)? {
-        Ok(accepted) => Ok(run_answer(alloc, sought, &accepted, actor, object)?),
-        Err(denial) => Ok(denied(alloc, table, denial)?),
-    }
+    let reach = Reach::of(alloc, table)?;
+    Ok(run_answer(alloc, sought, &reach, actor, object)?)
 }
 
-/// What is told of a run of an accepted system.
+/// What is told of a run by the reach of a table.
 fn run_answer(
     alloc: Global,
     sought: Search,
-    accepted: &Accepted<'_>,
+    reach: &Reach<'_>,
     actor: Label,
     object: Label,
 ) -> Result<Answer, Refusal>
     ensures right { IfOk result (λ answer.
-        shows.ShowsRun sought accepted.now.table accepted.now.policy actor object answer.text.items answer.status) }
+        shows.ShowsRun sought reach.now.table actor object answer.text.items answer.status) }
     ensures exit { IfOk result (λ answer. answer.status ≤ 2) }
     ensures memory { IfErr result (λ refusal. refusal ≡ out_of_memory) }
 {
-    let bounds = accepted.bounds();
-    let bound = bounds.extent(actor, object);
+    // That it is the reach of its table, a reach tells with its policy.
+    reach.policy();
+    let bound = reach.extent(actor, object);
     let question = Question {
         actor,
         object,
@@ -117,7 +104,7 @@ fn run_answer(
     };
     bounded_answer(
         alloc,
-        bounds.table(),
+        reach.table(),
         &question,
         bound,
         most_calls(sought, bound),

@@ -3,7 +3,7 @@ ghost use Rattle.std.specs.Prelude.{◌≡◌, false};
 ghost use Rattle.commands.specs.Commands.{ThreeIsJudged, input, output};
 ghost use Rattle.report.specs.Answers as answers;
 
-use crate::{End, Listener, Sink, Source};
+use crate::{End, Listener, Rules, Sink, Source};
 use certificate::Certificate;
 use checker::NotAccepted;
 use commands::{Answer, Stop, Three, denied, load_three, tell};
@@ -11,13 +11,14 @@ use reptext::accept_report;
 use std::alloc::Global;
 use std::thread::Threads;
 
-/// Verifies a certificate with a table and a policy.
+/// Verifies a certificate with a table and a policy, which a set of rules judges.
 ///
 /// Writes the report that they are accepted and the certificate is the table's, with status 0; or the
 /// report of the denial, with status 1; or the report of the first fault, with status 2.
 pub fn verify<R, T, P, S, L, O>(
     rt: &R,
     alloc: Global,
+    rules: Rules,
     table: &mut T,
     policy: &mut P,
     certificate: &mut S,
@@ -35,12 +36,12 @@ where
     requires policy { P.failed policy.old ≡ false }
     requires certificate { S.failed certificate.old ≡ false }
     requires out { O.failed out.old ≡ false }
-    ensures { answers.IsVerifiedWith (input T.remaining T.failed table.old table.new)
+    ensures { answers.IsVerifiedWith rules (input T.remaining T.failed table.old table.new)
         (input P.remaining P.failed policy.old policy.new) (input S.remaining S.failed certificate.old certificate.new)
         (output O.contents O.failed O.is_flushed out.old out.new) result }
 {
     let three = load_three::<Certificate, T, P, S, L>(alloc, table, policy, certificate, listener);
-    let answer = verified(rt, alloc, &three);
+    let answer = verified(rt, alloc, rules, &three);
     tell(alloc, &three, answer, listener, out)
 }
 
@@ -48,9 +49,10 @@ where
 fn verified<R: Threads + Sync>(
     rt: &R,
     alloc: Global,
+    rules: Rules,
     loaded: &Result<Three<Certificate>, Stop>,
 ) -> Result<Answer, Stop>
-    ensures { ThreeIsJudged answers.Verifies loaded.now result }
+    ensures { ThreeIsJudged (answers.Verifies rules) loaded.now result }
 {
     let Three {
         table,
@@ -60,8 +62,8 @@ fn verified<R: Threads + Sync>(
         Ok(three) => three,
         Err(stop) => return Err(*stop),
     };
-    match checker::verify(rt, alloc, table, policy, third) {
-        Ok(_) => Ok(Answer::plain(accept_report(alloc)?, 0)),
+    match checker::verify_by(rt, alloc, table, policy, rules, third) {
+        Ok(()) => Ok(Answer::plain(accept_report(alloc)?, 0)),
         Err(NotAccepted::Denied(denial)) => Ok(denied(alloc, table, denial)?),
         Err(NotAccepted::NoMemory) => Err(Stop::NoMemory),
     }

@@ -10,7 +10,7 @@ use Rattle.policy.specs.Change.{MayChangeContext.{configures, lends, returns as 
 use Rattle.policy.specs.{Change.WayToChange.{notifies, own, receives, replies, sends, shares}, NarrowTake.WayToShrink}
 use Rattle.policy.specs.NarrowTake.{TakesByControl.{drops, releases, removes, wakes}, WayToShrink.{controls, ends, frees, halts, stops}}
 use Rattle.policy.specs.{NarrowTake.WayToShrink.unbinds, Places.IsLeast, Reasons.reason_place}
-use Rattle.verdict.specs.Extents.{MayChangeIn, MayShrinkIn, Reach}
+use Rattle.reach.specs.Extents.{MayChangeIn, MayShrinkIn, Limits}
 use Rattle.reptext.specs.Drawing.{AddsArrows, Draws, IsArrow, arrow_line, pairs_with, IsArrow.{dashed, itself, nothing, solid}}
 use mathlib.Core.Bool.{false≢true}
 
@@ -44,9 +44,9 @@ pairs_more count n =
 is_there : (edge : Edge) (more edges : List Edge) → edge ∷ more ≡ edges → 0 < length edges
 is_there edge more edges is = let P : List Edge → Type 0 = λ xs. 0 < length xs in subst P is (omega arith)
 
-pub change_reason_there : (reach : Reach) (a l : ℕ) (edges : List Edge) → a ≢ l → IsChangeBy reach.test reach.acts a l edges → 0 < length edges
-change_reason_there reach a l edges apart (may, is) = by may.way is where
-  by : (way : WayToChange reach.test reach.acts a l) → change_edges way ≡ edges → 0 < length edges
+pub change_reason_there : (limits : Limits) (a l : ℕ) (edges : List Edge) → a ≢ l → IsChangeBy limits.test limits.acts a l edges → 0 < length edges
+change_reason_there limits a l edges apart (may, is) = by may.way is where
+  by : (way : WayToChange limits.test limits.acts a l) → change_edges way ≡ edges → 0 < length edges
   by (own one) is = absurd (apart (sym one))
   by (modifies kind is_changing there) is = is_there _ _ edges is
   by (shares (configures core used governed)) is = is_there _ _ edges is
@@ -60,9 +60,9 @@ change_reason_there reach a l edges apart (may, is) = by may.way is where
   by (grants endpoint receiver granted received waits controlled) is = is_there _ _ edges is
   by (replies answer) is = is_there _ _ edges is
 
-pub shrink_reason_there : (reach : Reach) (a l : ℕ) (edges : List Edge) → IsShrinkBy reach.test reach.acts a l edges → 0 < length edges
-shrink_reason_there reach a l edges (may, is) = by may.way is where
-  by : (way : WayToShrink reach.test reach.acts a l) → shrink_edges way ≡ edges → 0 < length edges
+pub shrink_reason_there : (limits : Limits) (a l : ℕ) (edges : List Edge) → IsShrinkBy limits.test limits.acts a l edges → 0 < length edges
+shrink_reason_there limits a l edges (may, is) = by may.way is where
+  by : (way : WayToShrink limits.test limits.acts a l) → shrink_edges way ≡ edges → 0 < length edges
   by (unbinds used) is = is_there _ _ edges is
   by (stops context used ran) is = is_there _ _ edges is
   by (halts halt) is = is_there _ _ edges is
@@ -95,10 +95,10 @@ label_there None is there = false≢true there
 
 -- what is drawn for one list of pairs after another is drawn for both
 
-module _ (reach : Reach) (t : Layout) where
-  draws_both : (one other : List (ℕ × ℕ)) (first second : List ℕ) → Draws reach t one first → Draws reach t other second
-      → Draws reach t (one ++ other) (first ++ second)
-  draws_both [] other first second empty drawn = subst (λ text. Draws reach t other (text ++ second)) (sym empty) drawn
+module _ (limits : Limits) (t : Layout) where
+  draws_both : (one other : List (ℕ × ℕ)) (first second : List ℕ) → Draws limits t one first → Draws limits t other second
+      → Draws limits t (one ++ other) (first ++ second)
+  draws_both [] other first second empty drawn = subst (λ text. Draws limits t other (text ++ second)) (sym empty) drawn
   draws_both (pair ∷ pairs) other first second (arrow, rest, is, drawn, parts) also = (
     arrow,
     rest ++ second,
@@ -107,59 +107,59 @@ module _ (reach : Reach) (t : Layout) where
     ap (λ text. text ++ second) parts ∙ append_assoc arrow rest second,
   )
 
-  adds_both : (one other : List (ℕ × ℕ)) (old mid new : List ℕ) → AddsArrows reach t one old mid → AddsArrows reach t other mid new
-      → AddsArrows reach t (one ++ other) old new
+  adds_both : (one other : List (ℕ × ℕ)) (old mid new : List ℕ) → AddsArrows limits t one old mid → AddsArrows limits t other mid new
+      → AddsArrows limits t (one ++ other) old new
   adds_both one other old mid new (first, drawn, is) (second, also, more) = (
     first ++ second,
     draws_both one other first second drawn also,
     more ∙ ap (λ text. text ++ second) is ∙ append_assoc old first second,
   )
 
-  adds_one : (a l : ℕ) (old new arrow : List ℕ) → IsArrow reach t a l arrow → new ≡ old ++ arrow
-      → AddsArrows reach t ((a, l) ∷ []) old new
+  adds_one : (a l : ℕ) (old new arrow : List ℕ) → IsArrow limits t a l arrow → new ≡ old ++ arrow
+      → AddsArrows limits t ((a, l) ∷ []) old new
   adds_one a l old new arrow is grown = (arrow, (arrow, [], is, refl, sym (append-nil arrow)), grown)
 
   -- no arrow from a label to itself, nor where it has no authority
 
-  pub adds_itself : (a l : ℕ) (old : List ℕ) → (a == l) ≡ true → AddsArrows reach t ((a, l) ∷ []) old old
+  pub adds_itself : (a l : ℕ) (old : List ℕ) → (a == l) ≡ true → AddsArrows limits t ((a, l) ∷ []) old old
   adds_itself a l old is = adds_one a l old old [] (itself (same a l is) refl) (sym (append-nil old))
 
-  pub adds_nothing : (a l : ℕ) (old : List ℕ) → (a == l) ≡ false → ¬ MayChangeIn reach a l → ¬ MayShrinkIn reach a l → AddsArrows reach t ((a, l) ∷ []) old old
+  pub adds_nothing : (a l : ℕ) (old : List ℕ) → (a == l) ≡ false → ¬ MayChangeIn limits a l → ¬ MayShrinkIn limits a l → AddsArrows limits t ((a, l) ∷ []) old old
   adds_nothing a l old is lacks takes = adds_one a l old old [] (nothing (differ a l is) lacks takes refl) (sym (append-nil old))
 
   -- an arrow with the first edge of the reason
 
-  pub adds_solid : (a l : ℕ) (edges : List Edge) (old new : List ℕ) → (a == l) ≡ false → IsLeast reason_place (IsChangeBy reach.test reach.acts a l) edges
+  pub adds_solid : (a l : ℕ) (edges : List Edge) (old new : List ℕ) → (a == l) ≡ false → IsLeast reason_place (IsChangeBy limits.test limits.acts a l) edges
       → ((edge : Edge) (more : List Edge) → edges ≡ edge ∷ more → new ≡ old ++ arrow_line t a l [] edge)
-      → AddsArrows reach t ((a, l) ∷ []) old new
+      → AddsArrows limits t ((a, l) ∷ []) old new
   adds_solid a l edges old new is least grown =
-      let head = headed edges (change_reason_there reach a l edges (differ a l is) least.has) in
+      let head = headed edges (change_reason_there limits a l edges (differ a l is) least.has) in
       let edge : Edge = head.0 in
       let more : List Edge = head.1 in
       adds_one a l old new (arrow_line t a l [] edge)
-      (solid (differ a l is) edge more (subst (IsLeast reason_place (IsChangeBy reach.test reach.acts a l)) head.2 least) refl) (grown edge more head.2)
+      (solid (differ a l is) edge more (subst (IsLeast reason_place (IsChangeBy limits.test limits.acts a l)) head.2 least) refl) (grown edge more head.2)
 
-  pub adds_dashed : (a l : ℕ) (edges : List Edge) (old new : List ℕ) → (a == l) ≡ false → ¬ MayChangeIn reach a l
-      → IsLeast reason_place (IsShrinkBy reach.test reach.acts a l) edges
+  pub adds_dashed : (a l : ℕ) (edges : List Edge) (old new : List ℕ) → (a == l) ≡ false → ¬ MayChangeIn limits a l
+      → IsLeast reason_place (IsShrinkBy limits.test limits.acts a l) edges
       → ((edge : Edge) (more : List Edge) → edges ≡ edge ∷ more → new ≡ old ++ arrow_line t a l (codes "style=dashed, ") edge)
-      → AddsArrows reach t ((a, l) ∷ []) old new
+      → AddsArrows limits t ((a, l) ∷ []) old new
   adds_dashed a l edges old new is lacks least grown =
-      let head = headed edges (shrink_reason_there reach a l edges least.has) in
+      let head = headed edges (shrink_reason_there limits a l edges least.has) in
       let edge : Edge = head.0 in
       let more : List Edge = head.1 in
       adds_one a l old new (arrow_line t a l (codes "style=dashed, ") edge)
-      (dashed (differ a l is) lacks edge more (subst (IsLeast reason_place (IsShrinkBy reach.test reach.acts a l)) head.2 least) refl) (grown edge more head.2)
+      (dashed (differ a l is) lacks edge more (subst (IsLeast reason_place (IsShrinkBy limits.test limits.acts a l)) head.2 least) refl) (grown edge more head.2)
 
   -- the next pair of a label
-  pub adds_pair : (a n : ℕ) (old mid new : List ℕ) → AddsArrows reach t (pairs_with n a) old mid → AddsArrows reach t ((a, n) ∷ []) mid new
-      → AddsArrows reach t (pairs_with (n + 1) a) old new
+  pub adds_pair : (a n : ℕ) (old mid new : List ℕ) → AddsArrows limits t (pairs_with n a) old mid → AddsArrows limits t ((a, n) ∷ []) mid new
+      → AddsArrows limits t (pairs_with (n + 1) a) old new
   adds_pair a n old mid new so_far one =
-      subst (λ pairs. AddsArrows reach t pairs old new) (sym (with_more a n)) (adds_both (pairs_with n a) ((a, n) ∷ []) old mid new so_far one)
+      subst (λ pairs. AddsArrows limits t pairs old new) (sym (with_more a n)) (adds_both (pairs_with n a) ((a, n) ∷ []) old mid new so_far one)
 
   -- the pairs of the next label
-  pub adds_label : (count n : ℕ) (old mid new : List ℕ) → AddsArrows reach t (flat_map (pairs_with count) (range_with_len 0 n)) old mid
-      → AddsArrows reach t (pairs_with count n) mid new
-      → AddsArrows reach t (flat_map (pairs_with count) (range_with_len 0 (n + 1))) old new
+  pub adds_label : (count n : ℕ) (old mid new : List ℕ) → AddsArrows limits t (flat_map (pairs_with count) (range_with_len 0 n)) old mid
+      → AddsArrows limits t (pairs_with count n) mid new
+      → AddsArrows limits t (flat_map (pairs_with count) (range_with_len 0 (n + 1))) old new
   adds_label count n old mid new so_far of_label =
-      subst (λ pairs. AddsArrows reach t pairs old new) (sym (pairs_more count n))
+      subst (λ pairs. AddsArrows limits t pairs old new) (sym (pairs_more count n))
       (adds_both (flat_map (pairs_with count) (range_with_len 0 n)) (pairs_with count n) old mid new so_far of_label)

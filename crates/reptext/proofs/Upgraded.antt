@@ -5,10 +5,11 @@ use Rattle.machine.specs.{declared.object.ObjectKind.ObjectKind, Authority.{labe
 use Rattle.machine.specs.Machine.{Machine}
 use Rattle.policy.specs.{declared.broken.Broken.Broken, Domain.EdgeTest, Places.IsLeast}
 use Rattle.policy.specs.declared.broken.Broken.TheVariants as broken
+use Rattle.sharp.specs.declared.broken.SharpBroken.{SharpBroken, SharpBroken as sharp}
 use Rattle.table.specs.Rules.{kind_at}
 use Rattle.verdict.specs.{declared.denial.Denial.{Denial, Denial as denial}, Rules.{Exceeds, Excess, excess_place}, Sources.{Sources, of_machine}}
 use Rattle.verdict.specs.Verdict.{IsOutside}
-use Rattle.reptext.specs.{Places.{broken_names, place_names, place_names_by}, Reports.IsCheckReport}
+use Rattle.reptext.specs.{Places.{broken_names, place_names, place_names_by, sharp_names}, Reports.IsCheckReport}
 
 pub reported : (t : Layout) (edges : List Edge) (text : List ℕ) → IsCheckReport (upgraded t) edges text → IsCheckReport t edges text
 reported t edges text h = record { cut = h.cut; full = h.full; cuts = h.cuts; fulls = h.fulls; told = h.told }
@@ -26,10 +27,21 @@ same_broken t (broken.ContextLacks subject context) = refl
 same_broken t (broken.ReplyLacks reply thread) = refl
 same_broken t (broken.LentLacks borrower context) = refl
 
+same_sharp : (t : Layout) (b : SharpBroken) → sharp_names (upgraded t) b ≡ sharp_names t b
+same_sharp t (sharp.SubjectLacks subject other kind target) = refl
+same_sharp t (sharp.ControlLacks subject kind object) = refl
+same_sharp t (sharp.GrantLacks giver taker kind target) = refl
+same_sharp t (sharp.DomainLacks parent child) = refl
+same_sharp t (sharp.DeriveLacks parent child) = refl
+same_sharp t (sharp.ContextLacks subject context) = refl
+same_sharp t (sharp.ReplyLacks reply thread) = refl
+same_sharp t (sharp.LentLacks borrower context) = refl
+
 -- by whichever kinds the objects are of
 pub same_names :
     (kinds : ObjId → Option ObjectKind) (t : Layout) (d : Denial) → place_names_by kinds (upgraded t) d ≡ place_names_by kinds t d
 same_names kinds t (denial.Policy broken) = same_broken t broken
+same_names kinds t (denial.Sharp broken) = same_sharp t broken
 same_names kinds t (denial.Capability slot kind label) = refl
 same_names kinds t (denial.Root slot label) = refl
 same_names kinds t (denial.Pair child parent) = refl

@@ -5,7 +5,7 @@ use Rattle.std.specs.{List.{flat_map, range_with_len}, Prelude.{[], ℕ, ◌++�
 use Rattle.base.specs.{declared.edge.Edge.Edge, Kinds.kind_name}
 use Rattle.machine.specs.Layout.{Layout}
 use Rattle.policy.specs.{ActorReasons.{IsChangeBy, IsShrinkBy}, Places.IsLeast, Reasons.reason_place}
-use Rattle.verdict.specs.Extents.{MayChangeIn, MayShrinkIn, Reach}
+use Rattle.reach.specs.Extents.{MayChangeIn, MayShrinkIn, Limits}
 use Rattle.captext.specs.PolicyText.{label_name}
 
 -- the line of a label
@@ -19,27 +19,27 @@ arrow_line t a l style edge =
     ++ (label_name t edge.from ++ (codes " " ++ (kind_name edge.kind ++ (codes " " ++ (label_name t edge.to ++ codes "\"]\n")))))))))))
 
 -- what is drawn from one label to another: an arrow, with the first edge of the reason for it
-pub data IsArrow (reach : Reach) (t : Layout) (a l : ℕ) (text : List ℕ) : Type 0 where
+pub data IsArrow (limits : Limits) (t : Layout) (a l : ℕ) (text : List ℕ) : Type 0 where
   -- from a label to itself none
-  itself : a ≡ l → text ≡ [] → IsArrow reach t a l text
+  itself : a ≡ l → text ≡ [] → IsArrow limits t a l text
   -- a solid one where the one may change the other's objects
-  solid : a ≢ l → (edge : Edge) (more : List Edge) → IsLeast reason_place (IsChangeBy reach.test reach.acts a l) (edge ∷ more)
-      → text ≡ arrow_line t a l [] edge → IsArrow reach t a l text
+  solid : a ≢ l → (edge : Edge) (more : List Edge) → IsLeast reason_place (IsChangeBy limits.test limits.acts a l) (edge ∷ more)
+      → text ≡ arrow_line t a l [] edge → IsArrow limits t a l text
   -- a dashed one where it may only make them smaller
-  dashed : a ≢ l → ¬ MayChangeIn reach a l → (edge : Edge) (more : List Edge) → IsLeast reason_place (IsShrinkBy reach.test reach.acts a l) (edge ∷ more)
-      → text ≡ arrow_line t a l (codes "style=dashed, ") edge → IsArrow reach t a l text
+  dashed : a ≢ l → ¬ MayChangeIn limits a l → (edge : Edge) (more : List Edge) → IsLeast reason_place (IsShrinkBy limits.test limits.acts a l) (edge ∷ more)
+      → text ≡ arrow_line t a l (codes "style=dashed, ") edge → IsArrow limits t a l text
   -- none where it may do neither
-  nothing : a ≢ l → ¬ MayChangeIn reach a l → ¬ MayShrinkIn reach a l → text ≡ [] → IsArrow reach t a l text
+  nothing : a ≢ l → ¬ MayChangeIn limits a l → ¬ MayShrinkIn limits a l → text ≡ [] → IsArrow limits t a l text
 
 -- what is drawn for pairs of labels, one after another
-abbrev pub Draws : Reach → Layout → List (ℕ × ℕ) → List ℕ → Type 0
-Draws reach t [] text = text ≡ []
-Draws reach t (pair ∷ pairs) text =
-    (arrow : List ℕ) × (rest : List ℕ) × IsArrow reach t pair.0 pair.1 arrow × Draws reach t pairs rest × (text ≡ arrow ++ rest)
+abbrev pub Draws : Limits → Layout → List (ℕ × ℕ) → List ℕ → Type 0
+Draws limits t [] text = text ≡ []
+Draws limits t (pair ∷ pairs) text =
+    (arrow : List ℕ) × (rest : List ℕ) × IsArrow limits t pair.0 pair.1 arrow × Draws limits t pairs rest × (text ≡ arrow ++ rest)
 
 -- to a text what is drawn for pairs of labels was added
-abbrev pub AddsArrows : Reach → Layout → List (ℕ × ℕ) → List ℕ → List ℕ → Type 0
-AddsArrows reach t pairs old new = (arrows : List ℕ) × Draws reach t pairs arrows × (new ≡ old ++ arrows)
+abbrev pub AddsArrows : Limits → Layout → List (ℕ × ℕ) → List ℕ → List ℕ → Type 0
+AddsArrows limits t pairs old new = (arrows : List ℕ) × Draws limits t pairs arrows × (new ≡ old ++ arrows)
 
 -- the pairs of a label with each of so many
 abbrev pub pairs_with : ℕ → ℕ → List (ℕ × ℕ)
@@ -50,7 +50,7 @@ abbrev pub pairs_of : ℕ → List (ℕ × ℕ)
 pairs_of count = flat_map (pairs_with count) (range_with_len 0 count)
 
 -- the whole drawing
-pub record IsDrawing (t : Layout) (reach : Reach) (text : List ℕ) : Type 0 where
+pub record IsDrawing (t : Layout) (limits : Limits) (text : List ℕ) : Type 0 where
   pub arrows : List ℕ
-  pub drawn : Draws reach t (pairs_of (length t.labels)) arrows
+  pub drawn : Draws limits t (pairs_of (length t.labels)) arrows
   pub is : text ≡ codes "digraph authority {\n" ++ (flat_map label_line t.labels ++ (arrows ++ codes "}\n"))

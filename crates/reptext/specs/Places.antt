@@ -4,6 +4,8 @@ use Rattle.base.specs.{declared.{ids.{ObjId.ObjId, SlotRef.SlotRef}, kind.Kind.{
 use Rattle.machine.specs.{declared.object.ObjectKind.ObjectKind, Layout.Layout}
 use Rattle.policy.specs.declared.broken.Broken.{Broken}
 use Rattle.policy.specs.declared.broken.Broken.TheVariants as broken
+use Rattle.sharp.specs.declared.broken.SharpBroken.{SharpBroken}
+use Rattle.sharp.specs.declared.broken.SharpBroken.TheVariants as sharp
 use Rattle.table.specs.Rules.{kind_at}
 use Rattle.captext.specs.{PolicyText.label_name, Spelling.slot_word, TableText.place_in}
 use Rattle.verdict.specs.declared.denial.Denial.{Denial}
@@ -32,9 +34,21 @@ broken_names t (broken.ContextLacks subject context) = edge_names t subject Runs
 broken_names t (broken.ReplyLacks reply thread) = edge_names t reply Holds thread
 broken_names t (broken.LentLacks borrower context) = edge_names t borrower Runs context
 
+-- the same of a sharp rule: what the rule of closed policies of its number names
+abbrev pub sharp_names : Layout → SharpBroken → List (List ℕ)
+sharp_names t (sharp.SubjectLacks subject other kind target) = label_name t subject ∷ edge_names t other kind target
+sharp_names t (sharp.ControlLacks subject kind object) = edge_names t subject kind object
+sharp_names t (sharp.GrantLacks giver taker kind target) = label_name t giver ∷ edge_names t taker kind target
+sharp_names t (sharp.DomainLacks parent child) = edge_names t parent Derive child
+sharp_names t (sharp.DeriveLacks parent child) = edge_names t parent Derive child
+sharp_names t (sharp.ContextLacks subject context) = edge_names t subject Runs context
+sharp_names t (sharp.ReplyLacks reply thread) = edge_names t reply Holds thread
+sharp_names t (sharp.LentLacks borrower context) = edge_names t borrower Runs context
+
 -- the place that a denial names, where objects are of these kinds
 abbrev pub place_names_by : (ObjId → Option ObjectKind) → Layout → Denial → List (List ℕ)
 place_names_by kinds t (denial.Policy broken) = broken_names t broken
+place_names_by kinds t (denial.Sharp broken) = sharp_names t broken
 place_names_by kinds t (denial.Capability slot kind label) = slot_name t (kinds slot.holder) slot ∷ kind_name kind ∷ label_name t label ∷ []
 place_names_by kinds t (denial.Root slot label) = slot_name t (kinds slot.holder) slot ∷ codes "space" ∷ label_name t label ∷ []
 place_names_by kinds t (denial.Pair child parent) = slot_name t (kinds parent.holder) parent ∷ slot_name t (kinds child.holder) child ∷ []

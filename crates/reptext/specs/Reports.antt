@@ -6,8 +6,8 @@ use Rattle.base.specs.declared.edge.Edge.{Edge}
 use Rattle.machine.specs.Layout.{Layout}
 use Rattle.policy.specs.{Cut.IsCut, Full.IsFull, Policy.allows}
 use Rattle.captext.specs.PolicyText.{label_name}
-use Rattle.verdict.specs.declared.extent.Extent.{Extent}
-use Rattle.verdict.specs.declared.extent.Extent.TheVariants as extent
+use Rattle.reach.specs.declared.extent.Extent.{Extent}
+use Rattle.reach.specs.declared.extent.Extent.TheVariants as extent
 use Rattle.forms.specs.{Files.file_word, declared.file.File.{File}}
 use Rattle.reptext.specs.Relations.{Decides}
 

@@ -2,7 +2,7 @@
 ghost use Rattle.std.specs.List.{flat_map};
 ghost use Rattle.std.specs.Prelude.{[], ◌++◌, ◌<◌, ◌∷◌, ◌≡◌, IfErr, IfOk, List, OnErr, OnOk, length, string_bytes};
 ghost use Rattle.base.specs.{declared.edge.Edge.Edge as EdgeOf, Refusals.out_of_memory};
-ghost use Rattle.verdict.specs.Extents.{reach_by};
+ghost use Rattle.reach.specs.Extents.{limits_by};
 ghost use Rattle.reptext.specs.Drawing.{AddsArrows, IsDrawing, arrow_line, label_line, pairs_of, pairs_with};
 
 use base::{Edge, Label, Labels, Refusal};
@@ -27,7 +27,7 @@ pub fn write_drawing(
     policy: &Policy,
     actors: Labels,
 ) -> Result<Vec<u8>, Refusal>
-    ensures text { IfOk result (λ text. IsDrawing table.now (reach_by policy.now actors) text.items) }
+    ensures text { IfOk result (λ text. IsDrawing table.now (limits_by policy.now actors) text.items) }
     ensures memory { IfErr result (λ refusal. refusal ≡ out_of_memory) }
 {
     let mut text = String::from_str(alloc, "digraph authority {\n")?;
@@ -60,7 +60,7 @@ fn write_arrows(
     policy: &Policy,
     actors: Labels,
 ) -> Result<(), Refusal>
-    ensures drawn { OnOk result (AddsArrows (reach_by policy.now actors) table.now (pairs_of (length table.now.labels))
+    ensures drawn { OnOk result (AddsArrows (limits_by policy.now actors) table.now (pairs_of (length table.now.labels))
         (string_bytes text.old) (string_bytes text.new)) }
     ensures memory { IfErr result (λ refusal. refusal ≡ out_of_memory) }
 {
@@ -82,7 +82,7 @@ fn write_arrows_from(
     actors: Labels,
     actor: Label,
 ) -> Result<(), Refusal>
-    ensures drawn { OnOk result (AddsArrows (reach_by policy.now actors) table.now
+    ensures drawn { OnOk result (AddsArrows (limits_by policy.now actors) table.now
         (pairs_with (length table.now.labels) actor)
         (string_bytes text.old) (string_bytes text.new)) }
     ensures memory { IfErr result (λ refusal. refusal ≡ out_of_memory) }
@@ -106,7 +106,7 @@ fn write_arrow_of(
     actor: Label,
     object: Label,
 ) -> Result<(), Refusal>
-    ensures drawn { OnOk result (AddsArrows (reach_by policy.now actors) table.now ((actor, object) ∷ [])
+    ensures drawn { OnOk result (AddsArrows (limits_by policy.now actors) table.now ((actor, object) ∷ [])
         (string_bytes text.old) (string_bytes text.new)) }
     ensures memory { IfErr result (λ refusal. refusal ≡ out_of_memory) }
 {

@@ -10,6 +10,7 @@ use base::{Kind, Label, ObjId, SlotRef};
 use machine::ObjectKind;
 use objects::State;
 use policy::Broken;
+use sharp::SharpBroken;
 use std::alloc::{AllocError, Global};
 use table::Table;
 use verdict::Denial;
@@ -60,6 +61,7 @@ pub fn place_names<K: KindsOfObjects>(
 {
     match denial {
         Denial::Policy(broken) => broken_names(alloc, table, broken),
+        Denial::Sharp(broken) => sharp_names(alloc, table, broken),
         Denial::Capability { slot, kind, label } => {
             let holder = kinds.object_kind(slot.holder);
             slot_names(alloc, table, holder, *slot, *kind, *label)
@@ -177,12 +179,7 @@ fn broken_names(alloc: Global, table: &Table, broken: &Broken) -> Result<Vec<Str
             taker: second,
             kind,
             target,
-        } => vec![in alloc;
-            label_name(alloc, table, first)?,
-            label_name(alloc, table, second)?,
-            String::from_str(alloc, kind.name())?,
-            label_name(alloc, table, target)?,
-        ]?,
+        } => names_of_two(alloc, table, first, second, kind, target)?,
         Broken::ControlLacks {
             subject,
             kind,
@@ -203,6 +200,71 @@ fn broken_names(alloc: Global, table: &Table, broken: &Broken) -> Result<Vec<Str
             edge_names(alloc, table, reply, Kind::Holds, thread)?
         }
     };
+    Ok(names)
+}
+
+fn sharp_names(
+    alloc: Global,
+    table: &Table,
+    broken: &SharpBroken,
+) -> Result<Vec<String>, AllocError>
+    ensures { IfOk result (λ names.
+        map string_bytes names.items ≡ places.sharp_names table.now broken.now) }
+{
+    let names = match *broken {
+        SharpBroken::SubjectLacks {
+            subject: first,
+            other: second,
+            kind,
+            target,
+        }
+        | SharpBroken::GrantLacks {
+            giver: first,
+            taker: second,
+            kind,
+            target,
+        } => names_of_two(alloc, table, first, second, kind, target)?,
+        SharpBroken::ControlLacks {
+            subject,
+            kind,
+            object,
+        } => edge_names(alloc, table, subject, kind, object)?,
+        SharpBroken::DomainLacks { parent, child } | SharpBroken::DeriveLacks { parent, child } => {
+            edge_names(alloc, table, parent, Kind::Derive, child)?
+        }
+        SharpBroken::ContextLacks {
+            subject: runner,
+            context,
+        }
+        | SharpBroken::LentLacks {
+            borrower: runner,
+            context,
+        } => edge_names(alloc, table, runner, Kind::Runs, context)?,
+        SharpBroken::ReplyLacks { reply, thread } => {
+            edge_names(alloc, table, reply, Kind::Holds, thread)?
+        }
+    };
+    Ok(names)
+}
+
+// The names of two labels of which one has an edge that the other lacks.
+fn names_of_two(
+    alloc: Global,
+    table: &Table,
+    first: Label,
+    second: Label,
+    kind: Kind,
+    target: Label,
+) -> Result<Vec<String>, AllocError>
+    ensures { IfOk result (λ names. map string_bytes names.items
+        ≡ policy_text.label_name table.now first ∷ places.edge_names table.now second kind target) }
+{
+    let names = vec![in alloc;
+        label_name(alloc, table, first)?,
+        label_name(alloc, table, second)?,
+        String::from_str(alloc, kind.name())?,
+        label_name(alloc, table, target)?,
+    ]?;
     Ok(names)
 }
 

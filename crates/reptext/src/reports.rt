@@ -9,10 +9,11 @@ use crate::File;
 use crate::places::place_names;
 use crate::relations::{Relation, relation_value};
 use policy::Policy;
+use reach::Extent;
 use serde_json::{Value, json};
 use std::alloc::{AllocError, Global};
 use table::Table;
-use verdict::{Denial, Extent};
+use verdict::Denial;
 
 /// Returns the report of a text that isn't one of its format: the fault's number, the file, and the
 /// line that has it.

@@ -3,9 +3,10 @@ use Rattle.std.specs.{Borrow.Bor, Prelude.{ℕ, ◌&&◌, List, None, Option, So
 use Rattle.std.specs.{Prelude.option_and_then, Str.bytes_eq}
 use Rattle.words.specs.Number.{dec_of}
 use Rattle.importing.specs.declared.pieces.{Children.{Children, Children as children}, Minting.{Minting, Minting as minting}}
-use Rattle.commands.specs.declared.choices.{Basis.{Basis, Basis as basis}, Imported.{Imported, Imported as imported}, OnAccept.OnAccept}
+use Rattle.commands.specs.declared.choices.{Imported.{Imported, Imported as imported}, OnAccept.OnAccept}
 use Rattle.commands.specs.declared.choices.{OnAccept.OnAccept as on_accept, OnClose.{OnClose, OnClose as on_close}, OnImport.OnImport}
 use Rattle.commands.specs.declared.choices.{Picture.{Picture, Picture as picture}, Search.Search}
+use Rattle.verdict.specs.declared.rules.Rules.{Rules, Rules as rules}
 use Rattle.requests.specs.declared.request.{CommandLine.{CommandLine, TheVariants.{InTurn, Split}}, Format.{Format, Format as format}}
 use Rattle.requests.specs.declared.request.{OfSystem.{OfSystem, OfSystem as of_system}, OfTable.{OfTable, OfTable as on_table}}
 use Rattle.requests.specs.declared.request.{Manner.Manner, OfThree.{OfThree, OfThree as of_three}, Request.{Request, Request as request}}
@@ -44,9 +45,16 @@ on_accept_of words = if words.cert then on_accept.Certificate else on_accept.Rep
 abbrev pub on_close_of : Words → OnClose
 on_close_of words = if words.missing then on_close.Missing else if words.surplus then on_close.Surplus else on_close.Policy
 
--- what an answer on labels rests on
-abbrev pub basis_of : Words → Basis
-basis_of words = if words.policy_alone then basis.Policy else basis.System
+-- the rules of a name
+abbrev pub rules_of : List ℕ → Option Rules
+rules_of word =
+    if bytes_eq word (codes "closed") then Some rules.Closed else if bytes_eq word (codes "sharp") then Some rules.Sharp else None
+
+-- by which rules a policy is judged
+abbrev pub set_of : Words → Option Rules
+set_of words = do
+  word ← words.rules
+  rules_of word.now
 
 -- which labels `draw` draws
 abbrev pub picture_of : Words → Picture
@@ -112,6 +120,22 @@ of_all words asked file = do
   third ← file
   in_turn words (request.OfThree asked table policy third)
 
+-- a policy is closed, if there is one; else one is made for the table
+abbrev pub closing_of : Words → Rules → Option CommandLine
+closing_of words set =
+    if is_some words.policy then of_two words (of_system.Close set (on_close_of words))
+    else of_table words (on_table.Start set (on_close_of words))
+
+-- what threads of a label may do, by a policy, if there is one; else in runs of the table
+abbrev pub why_of : Words → Name → Name → Option CommandLine
+why_of words actor object =
+    if is_some words.policy then of_two words (of_system.Why actor object) else of_table words (on_table.Why actor object)
+
+-- a drawing, by a policy, if there is one; else of the table
+abbrev pub drawing_of : Words → Option CommandLine
+drawing_of words =
+    if is_some words.policy then of_two words (of_system.Draw (picture_of words)) else of_table words (on_table.Draw (picture_of words))
+
 -- a run by workers
 abbrev pub split_of : Words → Option CommandLine
 split_of words = do
@@ -121,6 +145,19 @@ split_of words = do
   manner ← manner_of words
   Some (Split (record { table = table; policy = policy; script = script; manner = manner }))
 
+-- a run of a script in turn
+abbrev pub running_of : Words → Option CommandLine
+running_of words = do
+  set ← set_of words
+  of_all words (of_three.Run set) words.script
+
+-- whether claims hold of a table
+abbrev pub claims_of : Words → Option CommandLine
+claims_of words = do
+  table ← words.table
+  claims ← words.claims
+  in_turn words (request.OfClaims table claims)
+
 -- what each command asks for with these words; nothing, if it lacks one
 abbrev pub asked_by : Verb → Words → Option CommandLine
 asked_by verb.Import words = do
@@ -128,27 +165,30 @@ asked_by verb.Import words = do
   description ← words.description
   in_turn words (request.OfDescription asked description)
 asked_by verb.Check words = do
+  set ← set_of words
   word ← words.workers
   workers ← number_to 16 word.now
-  of_two words (of_system.Check workers (on_accept_of words))
-asked_by verb.Verify words = of_all words of_three.Verify words.certificate
-asked_by verb.Run words = if words.split then split_of words else of_all words of_three.Run words.script
+  of_two words (of_system.Check set workers (on_accept_of words))
+asked_by verb.Verify words = do
+  set ← set_of words
+  of_all words (of_three.Verify set) words.certificate
+asked_by verb.Run words = if words.split then split_of words else running_of words
 asked_by verb.Replay words = of_all words of_three.Replay words.log
-asked_by verb.Close words =
-    if is_some words.policy then of_two words (of_system.Close (on_close_of words))
-    else of_table words (on_table.Start (on_close_of words))
+asked_by verb.Close words = do
+  set ← set_of words
+  closing_of words set
 asked_by verb.Why words = do
   actor ← words.actor
   object ← words.object
-  of_two words (of_system.Why (basis_of words) actor object)
+  why_of words actor object
 asked_by verb.Show words = do
   search ← search_of words
   actor ← words.actor
   object ← words.object
-  of_two words (of_system.Show search actor object)
-asked_by verb.Draw words = of_two words (of_system.Draw (basis_of words) (picture_of words))
-asked_by verb.Summary words = of_two words of_system.Summary
-asked_by verb.Claims words = if words.all then of_two words of_system.Strongest else of_all words of_three.Claims words.claims
+  of_table words (on_table.Show search actor object)
+asked_by verb.Draw words = drawing_of words
+asked_by verb.Summary words = of_table words on_table.Summary
+asked_by verb.Claims words = if words.all then of_table words on_table.Strongest else claims_of words
 asked_by verb.List words = of_table words on_table.List
 
 abbrev pub command_line_of : Words → Option CommandLine

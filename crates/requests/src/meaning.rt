@@ -1,14 +1,15 @@
 //! Which request the words of a command line make.
 ghost use Rattle.std.specs.Prelude.{◌≡◌, ◌≢◌, ◌≤◌, IfNone, IfSome};
 ghost use Rattle.requests.specs.Requests.{HasFewWorkers, IsWithinLimits, OnInTurn};
-ghost use Rattle.requests.specs.Meaning.{basis_of, children_of, command_line_of, format_of, imported_of, in_turn};
+ghost use Rattle.requests.specs.Meaning.{children_of, closing_of, command_line_of, drawing_of, format_of, imported_of, in_turn};
 ghost use Rattle.requests.specs.Meaning.{manner_of, minting_of, number_to, of_all, of_table, of_two, on_accept_of};
-ghost use Rattle.requests.specs.Meaning.{on_close_of, on_import_of, picture_of, search_of, split_of, verb_name};
+ghost use Rattle.requests.specs.Meaning.{on_close_of, on_import_of, picture_of, rules_of, search_of, set_of, split_of, verb_name};
+ghost use Rattle.requests.specs.Meaning.{why_of};
 
 use crate::request::{
     CommandLine, Format, Invocation, Manner, OfSystem, OfTable, OfThree, Request, SplitRun,
 };
-use commands::{Basis, Children, Imported, Minting, OnAccept, OnClose, OnImport, Picture, Search};
+use commands::{Children, Imported, Minting, OnAccept, OnClose, OnImport, Picture, Rules, Search};
 use words::decimal_of;
 
 /// A command of the program.
@@ -69,6 +70,7 @@ pub struct Words<'a> {
     pub steps: Option<&'a str>,
     pub rights: Option<&'a str>,
     pub children: Option<&'a str>,
+    pub rules: Option<&'a str>,
     pub format: Option<&'a str>,
     pub explain: bool,
     pub quiet: bool,
@@ -77,7 +79,6 @@ pub struct Words<'a> {
     pub surplus: bool,
     pub split: bool,
     pub all: bool,
-    pub policy_alone: bool,
     pub take: bool,
     pub as_claims: bool,
 }
@@ -94,36 +95,35 @@ impl<'a> Words<'a> {
                 self.on_import()?,
                 self.description?,
             )),
-            Verb::Check => self.of_two(OfSystem::Check {
-                workers: number_to(16, self.workers?)? as usize,
-                on_accept: self.on_accept(),
-            }),
-            Verb::Verify => self.of_all(OfThree::Verify, self.certificate),
+            Verb::Check => {
+                let rules = self.rules()?;
+                let workers = number_to(16, self.workers?)? as usize;
+                let on_accept = self.on_accept();
+                self.of_two(OfSystem::Check {
+                    rules,
+                    workers,
+                    on_accept,
+                })
+            }
+            Verb::Verify => self.of_all(OfThree::Verify(self.rules()?), self.certificate),
             Verb::Run if self.split => self.split_run(),
-            Verb::Run => self.of_all(OfThree::Run, self.script),
+            Verb::Run => self.of_all(OfThree::Run(self.rules()?), self.script),
             Verb::Replay => self.of_all(OfThree::Replay, self.log),
-            Verb::Close => match self.policy {
-                Some(_) => self.of_two(OfSystem::Close(self.on_close())),
-                None => self.of_table(OfTable::Start(self.on_close())),
-            },
-            Verb::Why => self.of_two(OfSystem::Why {
-                basis: self.basis(),
-                actor: self.actor?,
-                object: self.object?,
-            }),
+            Verb::Close => self.close(self.rules()?),
+            Verb::Why => self.why(self.actor?, self.object?),
             Verb::Show => {
                 let search = self.search()?;
                 let (actor, object) = (self.actor?, self.object?);
-                self.of_two(OfSystem::Show {
+                self.of_table(OfTable::Show {
                     search,
                     actor,
                     object,
                 })
             }
-            Verb::Draw => self.of_two(OfSystem::Draw(self.basis(), self.picture())),
-            Verb::Summary => self.of_two(OfSystem::Summary),
-            Verb::Claims if self.all => self.of_two(OfSystem::Strongest),
-            Verb::Claims => self.of_all(OfThree::Claims, self.claims),
+            Verb::Draw => self.draw(),
+            Verb::Summary => self.of_table(OfTable::Summary),
+            Verb::Claims if self.all => self.of_table(OfTable::Strongest),
+            Verb::Claims => self.in_turn(Request::OfClaims(self.table?, self.claims?)),
             Verb::List => self.of_table(OfTable::List),
         }
     }
@@ -150,9 +150,42 @@ impl<'a> Words<'a> {
         })
     }
 
+    // What a policy is closed over, if there is one; else a policy for the table.
+    fn close(self, rules: Rules) -> Option<CommandLine<'a>>
+        ensures meaning { result ≡ closing_of self.entry rules }
+        ensures limits { IfSome result (λ line. OnInTurn line IsWithinLimits) }
+    {
+        match self.policy {
+            Some(_) => self.of_two(OfSystem::Close(rules, self.on_close())),
+            None => self.of_table(OfTable::Start(rules, self.on_close())),
+        }
+    }
+
+    // What threads of a label may do, in runs of the table or by a policy.
+    fn why(self, actor: &'a str, object: &'a str) -> Option<CommandLine<'a>>
+        ensures meaning { result ≡ why_of self.entry actor.entry object.entry }
+        ensures limits { IfSome result (λ line. OnInTurn line IsWithinLimits) }
+    {
+        match self.policy {
+            Some(_) => self.of_two(OfSystem::Why { actor, object }),
+            None => self.of_table(OfTable::Why { actor, object }),
+        }
+    }
+
+    // The drawing of a table or of a policy.
+    fn draw(self) -> Option<CommandLine<'a>>
+        ensures meaning { result ≡ drawing_of self.entry }
+        ensures limits { IfSome result (λ line. OnInTurn line IsWithinLimits) }
+    {
+        match self.policy {
+            Some(_) => self.of_two(OfSystem::Draw(self.picture())),
+            None => self.of_table(OfTable::Draw(self.picture())),
+        }
+    }
+
     // A command of a table alone.
-    fn of_table(self, asked: OfTable) -> Option<CommandLine<'a>>
-        ensures meaning { result ≡ of_table self.entry asked }
+    fn of_table(self, asked: OfTable<'a>) -> Option<CommandLine<'a>>
+        ensures meaning { result ≡ of_table self.entry asked.entry }
         ensures limits { IfSome result (λ line. OnInTurn line IsWithinLimits) }
     {
         self.in_turn(Request::OfTable(asked, self.table?))
@@ -198,15 +231,11 @@ impl<'a> Words<'a> {
         }
     }
 
-    // What an answer on labels rests on.
-    fn basis(self) -> Basis
-        ensures { result ≡ basis_of self.entry }
+    // By which rules a policy is judged.
+    fn rules(self) -> Option<Rules>
+        ensures { result ≡ set_of self.entry }
     {
-        if self.policy_alone {
-            Basis::Policy
-        } else {
-            Basis::System
-        }
+        rules(self.rules?)
     }
 
     // What `close` writes.
@@ -278,6 +307,19 @@ impl Format {
         } else {
             None
         }
+    }
+}
+
+// The rules of this name.
+fn rules(word: &str) -> Option<Rules>
+    ensures { result ≡ rules_of word.now }
+{
+    if word == "closed" {
+        Some(Rules::Closed)
+    } else if word == "sharp" {
+        Some(Rules::Sharp)
+    } else {
+        None
     }
 }
 

@@ -2,7 +2,7 @@
 ghost use Rattle.std.specs.Prelude.{◌≡◌, option_copied};
 ghost use Rattle.requests.specs.Requests.{file_name_of, file_of, label_of, names_of};
 
-use commands::{Asked, Basis, File, OnAccept, OnClose, OnImport, Picture, Search};
+use commands::{Asked, File, OnAccept, OnClose, OnImport, Picture, Rules, Search};
 
 /// A command line that was read.
 #[derive(Clone, Copy)]
@@ -28,7 +28,12 @@ impl<'a> SplitRun<'a> {
         ensures { result.request ≡ names_of self.entry }
     {
         Invocation {
-            request: Request::OfThree(OfThree::Run, self.table, self.policy, self.script),
+            request: Request::OfThree(
+                OfThree::Run(Rules::Closed),
+                self.table,
+                self.policy,
+                self.script,
+            ),
             manner: self.manner,
         }
     }
@@ -66,35 +71,24 @@ pub enum Request<'a, N> {
     /// Imports a description.
     OfDescription(OnImport, N),
     /// A command of a table alone.
-    OfTable(OfTable, N),
+    OfTable(OfTable<'a>, N),
     /// A command of a table and a policy.
     OfSystem(OfSystem<'a>, N, N),
+    /// Reports whether claims hold of a table.
+    OfClaims(N, N),
     /// A command of a table, a policy and a third file.
     OfThree(OfThree, N, N, N),
 }
 
 /// A command of a table alone.
 #[derive(Clone, Copy)]
-pub enum OfTable {
-    /// Writes the least policy for the table, or how another differs from it.
-    Start(OnClose),
+pub enum OfTable<'a> {
+    /// Writes the least policy for the table by these rules, or how another differs from it.
+    Start(Rules, OnClose),
     /// Lists the objects.
     List,
-}
-
-/// A command of a table and a policy.
-#[derive(Clone, Copy)]
-pub enum OfSystem<'a> {
-    /// Checks the table against the policy, by 1 to 16 workers.
-    Check {
-        workers: usize,
-        on_accept: OnAccept,
-    },
-    /// Closes the policy over the table.
-    Close(OnClose),
     /// Reports what threads of the label `actor` may do to objects of the label `object`, and why.
     Why {
-        basis: Basis,
         actor: &'a str,
         object: &'a str,
     },
@@ -105,24 +99,43 @@ pub enum OfSystem<'a> {
         object: &'a str,
     },
     /// Draws who may change or take from whom.
-    Draw(Basis, Picture),
+    Draw(Picture),
     /// Summarises who may change whom, and who uses which memory.
     Summary,
     /// Writes the strongest claims that hold.
     Strongest,
 }
 
+/// A command of a table and a policy.
+#[derive(Clone, Copy)]
+pub enum OfSystem<'a> {
+    /// Checks the table against the policy by these rules, by 1 to 16 workers.
+    Check {
+        rules: Rules,
+        workers: usize,
+        on_accept: OnAccept,
+    },
+    /// Closes the policy over the table by these rules.
+    Close(Rules, OnClose),
+    /// Reports what the policy lets threads of the label `actor` do to objects of the label `object`, and
+    /// why. This says nothing about runs.
+    Why {
+        actor: &'a str,
+        object: &'a str,
+    },
+    /// Draws whom the policy lets change or take from whom.
+    Draw(Picture),
+}
+
 /// A command of a table, a policy and a third file.
 #[derive(Clone, Copy)]
 pub enum OfThree {
-    /// Checks the table against the policy, and a certificate against both.
-    Verify,
-    /// Checks the table against the policy, and runs a script if the table is accepted.
-    Run,
+    /// Checks the table against the policy by these rules, and a certificate against both.
+    Verify(Rules),
+    /// Checks the table against the policy by these rules, and runs a script if the table is accepted.
+    Run(Rules),
     /// Reports whether a log is a run from the table, and whether it ends within the policy.
     Replay,
-    /// Reports whether claims hold.
-    Claims,
 }
 
 impl<'a, N> Request<'a, N> {
@@ -135,11 +148,13 @@ impl<'a, N> Request<'a, N> {
             (
                 Request::OfTable(_, table)
                 | Request::OfSystem(_, table, _)
+                | Request::OfClaims(table, _)
                 | Request::OfThree(_, table, _, _),
                 File::Table,
             ) => Some(table),
             (Request::OfSystem(_, _, policy) | Request::OfThree(_, _, policy, _), File::Policy) =>
                 Some(policy),
+            (Request::OfClaims(_, claims), File::Claims) => Some(claims),
             (Request::OfThree(_, _, _, third), _) => Some(third),
             _ => None,
         }
@@ -152,15 +167,13 @@ impl<'a, N> Request<'a, N> {
         match (asked, self) {
             (
                 Asked::Actor,
-                Request::OfSystem(OfSystem::Why { actor, .. } | OfSystem::Show { actor, .. }, _, _),
+                Request::OfTable(OfTable::Why { actor, .. } | OfTable::Show { actor, .. }, _)
+                | Request::OfSystem(OfSystem::Why { actor, .. }, _, _),
             ) => actor,
             (
                 Asked::Object,
-                Request::OfSystem(
-                    OfSystem::Why { object, .. } | OfSystem::Show { object, .. },
-                    _,
-                    _,
-                ),
+                Request::OfTable(OfTable::Why { object, .. } | OfTable::Show { object, .. }, _)
+                | Request::OfSystem(OfSystem::Why { object, .. }, _, _),
             ) => object,
             _ => "",
         }

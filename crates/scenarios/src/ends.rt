@@ -211,7 +211,7 @@ const NO_CLAIMS: &str = "confine: cannot read claims";
 const NO_DESCRIPTION: &str = "confine: cannot read description";
 
 /// The files that each command reads, with what is told where one can't be read.
-const MESSAGES: [(Command, File, &str); 37] = [
+const MESSAGES: [(Command, File, &str); 30] = [
     (Command::Check(OnAccept::Report), File::Table, NO_TABLE),
     (Command::Check(OnAccept::Report), File::Policy, NO_POLICY),
     (Command::Check(OnAccept::Certificate), File::Table, NO_TABLE),
@@ -235,22 +235,15 @@ const MESSAGES: [(Command, File, &str); 37] = [
     (Command::Close, File::Table, NO_TABLE),
     (Command::Close, File::Policy, NO_POLICY),
     (Command::Why, File::Table, NO_TABLE),
-    (Command::Why, File::Policy, NO_POLICY),
     (Command::Summary, File::Table, NO_TABLE),
-    (Command::Summary, File::Policy, NO_POLICY),
     (Command::Show, File::Table, NO_TABLE),
-    (Command::Show, File::Policy, NO_POLICY),
     (Command::Draw(Picture::Programs), File::Table, NO_TABLE),
-    (Command::Draw(Picture::Programs), File::Policy, NO_POLICY),
     (Command::Draw(Picture::Labels), File::Table, NO_TABLE),
-    (Command::Draw(Picture::Labels), File::Policy, NO_POLICY),
     (Command::List, File::Table, NO_TABLE),
     (Command::Claims, File::Table, NO_TABLE),
-    (Command::Claims, File::Policy, NO_POLICY),
     (Command::Claims, File::Claims, NO_CLAIMS),
     (Command::Stated, File::Claims, NO_CLAIMS),
     (Command::Strongest, File::Table, NO_TABLE),
-    (Command::Strongest, File::Policy, NO_POLICY),
     (
         Command::Import(Imported::Table),
         File::Description,
@@ -367,21 +360,17 @@ fn labels_for(command: Command) -> Files<'static> {
 }
 
 /// Files of each kind of answer of the commands that say who may change whom.
-fn answers_on_changes() -> [Answered; 9] {
-    let to_sum_up = files_for(Command::Summary);
-    let to_show = files_for(Command::Show);
+fn answers_on_changes() -> [Answered; 7] {
     let to_draw = files_for(Command::Draw(Picture::Labels));
     let to_fold = labels_for(Command::Draw(Picture::Programs));
     [
         (files_for(Command::Why), 0, REASON),
         (labels_for(Command::Summary), 0, NO_THREADS),
-        (to_sum_up.with(File::Policy, empty_policy()), 1, DENIAL),
-        (to_show, 0, SHOWN),
+        (files_for(Command::Show), 0, SHOWN),
         (labels_for(Command::Show), 1, UNSHOWN),
-        (to_show.with(File::Policy, empty_policy()), 1, DENIAL),
         (to_fold, 0, NO_PROGRAMS),
         (to_draw, 0, DRAWING),
-        (to_draw.with(File::Policy, faulty()), 2, FAULTY_POLICY),
+        (to_draw.with(File::Table, faulty()), 2, FAULTY_TABLE),
     ]
 }
 
@@ -414,19 +403,16 @@ fn answers_of_others() -> [Answered; 6] {
 }
 
 /// Files of each kind of answer of `claims`.
-fn answers_of_claims() -> [Answered; 8] {
+fn answers_of_claims() -> [Answered; 6] {
     let files = files_for(Command::Claims);
     let stated = files_for(Command::Stated);
-    let strongest = files_for(Command::Strongest);
     [
         (files, 0, HOLD),
         (files.with(File::Claims, Given::text(BROAD)), 1, BROKEN),
-        (files.with(File::Policy, empty_policy()), 1, DENIAL),
         (files.with(File::Claims, faulty()), 2, FAULTY_CLAIMS),
         (stated, 0, HOLD),
         (stated.with(File::Claims, Given::text(BROADER)), 1, BREACHES),
-        (strongest, 0, STRONGEST),
-        (strongest.with(File::Policy, empty_policy()), 1, DENIAL),
+        (files_for(Command::Strongest), 0, STRONGEST),
     ]
 }
 
@@ -486,7 +472,9 @@ fn read_up_to(file: File) -> [bool; 3] {
     match file {
         File::Table => [true, false, false],
         File::Policy => [true, true, false],
-        File::Certificate | File::Script | File::Log | File::Claims => [true, true, true],
+        File::Certificate | File::Script | File::Log => [true, true, true],
+        // They come after the table alone.
+        File::Claims => [true, false, true],
         // It is read alone.
         File::Description => [false, false, true],
     }

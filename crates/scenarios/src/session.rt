@@ -3,7 +3,7 @@ ghost use Rattle.std.specs.Prelude.{◌≡◌, false};
 
 use crate::failing::{Given, Page};
 use report::{
-    Basis, Children, End, File, Imported, Minting, OnAccept, OnClose, OnImport, Open, Picture,
+    Children, End, File, Imported, Minting, OnAccept, OnClose, OnImport, Open, Picture, Rules,
     Search, Silence, Sink, Source, Watched, check, check_claims, close, draw, import, list, replay,
     run, run_split, show, summary, verify, why, write_claims,
 };
@@ -132,6 +132,7 @@ where
         Command::Check(on_accept) => check(
             rt,
             rt.alloc(),
+            Rules::Closed,
             table,
             policy,
             on_accept,
@@ -140,7 +141,16 @@ where
             &mut Silence,
             out,
         ),
-        Command::Verify => verify(rt, rt.alloc(), table, policy, third, &mut Silence, out),
+        Command::Verify => verify(
+            rt,
+            rt.alloc(),
+            Rules::Closed,
+            table,
+            policy,
+            third,
+            &mut Silence,
+            out,
+        ),
         Command::Split => run_split(
             rt,
             rt.alloc(),
@@ -151,54 +161,35 @@ where
             &mut Silence,
             out,
         ),
-        Command::Run => run(rt, rt.alloc(), table, policy, third, &mut Silence, out),
+        Command::Run => run(
+            rt,
+            rt.alloc(),
+            Rules::Closed,
+            table,
+            policy,
+            third,
+            &mut Silence,
+            out,
+        ),
         Command::Replay => replay(rt.alloc(), table, policy, third, &mut Silence, out),
         Command::Close => close(
             rt.alloc(),
+            Rules::Closed,
             table,
             policy,
             OnClose::Policy,
             &mut Silence,
             out,
         ),
-        Command::Why => why(
-            rt,
-            rt.alloc(),
-            Basis::System,
-            table,
-            policy,
-            "a",
-            "b",
-            &mut Silence,
-            out,
-        ),
-        Command::Summary => summary(rt, rt.alloc(), table, policy, &mut Silence, out),
-        Command::Show => show(
-            rt,
-            rt.alloc(),
-            OF_A_CHANGE,
-            table,
-            policy,
-            "a",
-            "b",
-            &mut Silence,
-            out,
-        ),
-        Command::Draw(picture) => draw(
-            rt,
-            rt.alloc(),
-            Basis::System,
-            picture,
-            table,
-            policy,
-            &mut Silence,
-            out,
-        ),
+        Command::Why => why(rt.alloc(), table, "a", "b", &mut Silence, out),
+        Command::Summary => summary(rt.alloc(), table, &mut Silence, out),
+        Command::Show => show(rt.alloc(), OF_A_CHANGE, table, "a", "b", &mut Silence, out),
+        Command::Draw(picture) => draw(rt.alloc(), table, picture, &mut Silence, out),
         Command::List => list(rt.alloc(), table, &mut Silence, out),
         Command::Claims | Command::Stated => {
-            check_claims(rt, rt.alloc(), table, policy, third, &mut Silence, out)
+            check_claims(rt.alloc(), table, third, &mut Silence, out)
         }
-        Command::Strongest => write_claims(rt, rt.alloc(), table, policy, &mut Silence, out),
+        Command::Strongest => write_claims(rt.alloc(), table, &mut Silence, out),
         Command::Import(imported) => import(
             rt.alloc(),
             with_least(imported),

@@ -9,7 +9,7 @@ use crate::engines::serve;
 use crate::explaining::Explainer;
 use crate::opening::{Opened, open_all, open_by};
 use crate::short::Shortener;
-use report::{End, Gate, Open, Watched, run_split};
+use report::{End, Gate, Open, Rules, Watched, run_split};
 use requests::{Invocation, OfThree, Request, SplitRun};
 use std::io::{self, Read, Write};
 use std::sync::Wait;
@@ -117,7 +117,7 @@ where
         out,
     );
     let status = tell(rt, end);
-    let files = Request::OfThree(OfThree::Run, table, policy, script);
+    let files = Request::OfThree(OfThree::Run(Rules::Closed), table, policy, script);
     explainer.hear_end(end, &files);
     (status, files)
 }
@@ -158,7 +158,7 @@ where
     );
     let end = shortener.write(end, &kept.into_inner(), out);
     let status = tell(rt, end);
-    let files = Request::OfThree(OfThree::Run, table, policy, script);
+    let files = Request::OfThree(OfThree::Run(Rules::Closed), table, policy, script);
     shortener.hear_end(end, &files);
     (status, files)
 }

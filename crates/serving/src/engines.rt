@@ -7,8 +7,8 @@ ghost use Rattle.serving.specs.Opening.{AreSound, Serves, ServesSystem, ServesTa
 
 use crate::opening::Opened;
 use report::{
-    End, Gate, Listener, Sink, Source, Watched, check, check_claims, close, draw, import, list,
-    replay, run, show, start, summary, verify, why, write_claims,
+    End, Gate, Listener, Sink, Source, Watched, check, check_claims, close, draw, draw_allowed,
+    import, list, replay, run, show, start, summary, verify, why, why_allowed, write_claims,
 };
 use requests::{OfSystem, OfTable, OfThree, Request};
 use std::alloc::Global;
@@ -49,6 +49,10 @@ where
             let end = serve_system(rt, asked, &mut table, &mut policy, gate, listener, out);
             (end, Request::OfSystem(asked, table, policy))
         }
+        Request::OfClaims(mut table, mut claims) => {
+            let end = check_claims(rt.alloc(), &mut table, &mut claims, listener, out);
+            (end, Request::OfClaims(table, claims))
+        }
         Request::OfThree(asked, mut table, mut policy, mut third) => {
             let end = serve_three(
                 rt,
@@ -67,20 +71,29 @@ where
 /// Does what is asked of a table alone.
 fn serve_table<T: Source, L: Listener, O: Sink>(
     alloc: Global,
-    asked: OfTable,
+    asked: OfTable<'_>,
     table: &mut T,
     listener: &mut L,
     out: &mut O,
 ) -> End
     requires table { T.failed table.old ≡ false }
     requires out { O.failed out.old ≡ false }
-    ensures served { ServesTable asked (input T.remaining T.failed table.old table.new)
+    ensures served { ServesTable asked.entry (input T.remaining T.failed table.old table.new)
         (output O.contents O.failed O.is_flushed out.old out.new) result }
     ensures exit { status_of result ≤ 2 }
 {
     match asked {
-        OfTable::Start(on_close) => start(alloc, table, on_close, listener, out),
+        OfTable::Start(rules, on_close) => start(alloc, rules, table, on_close, listener, out),
         OfTable::List => list(alloc, table, listener, out),
+        OfTable::Why { actor, object } => why(alloc, table, actor, object, listener, out),
+        OfTable::Show {
+            search,
+            actor,
+            object,
+        } => show(alloc, search, table, actor, object, listener, out),
+        OfTable::Draw(picture) => draw(alloc, table, picture, listener, out),
+        OfTable::Summary => summary(alloc, table, listener, out),
+        OfTable::Strongest => write_claims(alloc, table, listener, out),
     }
 }
 
@@ -113,29 +126,20 @@ where
 {
     let alloc = rt.alloc();
     match asked {
-        OfSystem::Check { workers, on_accept } => check(
-            rt, alloc, table, policy, on_accept, workers, gate, listener, out,
+        OfSystem::Check {
+            rules,
+            workers,
+            on_accept,
+        } => check(
+            rt, alloc, rules, table, policy, on_accept, workers, gate, listener, out,
         ),
-        OfSystem::Close(on_close) => close(alloc, table, policy, on_close, listener, out),
-        OfSystem::Why {
-            basis,
-            actor,
-            object,
-        } => why(
-            rt, alloc, basis, table, policy, actor, object, listener, out,
-        ),
-        OfSystem::Show {
-            search,
-            actor,
-            object,
-        } => show(
-            rt, alloc, search, table, policy, actor, object, listener, out,
-        ),
-        OfSystem::Draw(basis, picture) => {
-            draw(rt, alloc, basis, picture, table, policy, listener, out)
+        OfSystem::Close(rules, on_close) => {
+            close(alloc, rules, table, policy, on_close, listener, out)
         }
-        OfSystem::Summary => summary(rt, alloc, table, policy, listener, out),
-        OfSystem::Strongest => write_claims(rt, alloc, table, policy, listener, out),
+        OfSystem::Why { actor, object } => {
+            why_allowed(alloc, table, policy, actor, object, listener, out)
+        }
+        OfSystem::Draw(picture) => draw_allowed(alloc, table, policy, picture, listener, out),
     }
 }
 
@@ -167,9 +171,8 @@ where
 {
     let alloc = rt.alloc();
     match asked {
-        OfThree::Verify => verify(rt, alloc, table, policy, third, listener, out),
-        OfThree::Run => run(rt, alloc, table, policy, third, listener, out),
+        OfThree::Verify(rules) => verify(rt, alloc, rules, table, policy, third, listener, out),
+        OfThree::Run(rules) => run(rt, alloc, rules, table, policy, third, listener, out),
         OfThree::Replay => replay(alloc, table, policy, third, listener, out),
-        OfThree::Claims => check_claims(rt, alloc, table, policy, third, listener, out),
     }
 }

@@ -9,14 +9,16 @@ use captext::object_name;
 use causes::{Caller, explain_illegal, explain_refusal};
 use explain::{
     Names, explain_closing, explain_denial, explain_outside, explain_unlabelled, explain_why,
+    explain_why_allowed,
 };
 use machine::{Event, Outcome};
 use microkit::Description;
-use notes::{explain_notes, explain_reach};
+use notes::{explain_changes, explain_notes};
 use policy::Policy;
+use reach::Reach;
 use remarks::{explain_notes as explain_left_out, notes_of};
 use report::{
-    Asked, Basis, End, Fault, File, Finding, Heard, Listener, OnClose, Outcomes, answer_at,
+    Asked, End, Fault, File, Finding, Heard, Listener, OnClose, Outcomes, Rules, answer_at,
 };
 use requests::{Invocation, OfSystem, OfTable, OfThree, Request};
 use slips::explain_fault;
@@ -29,9 +31,9 @@ use std::thread::Threads;
 use table::Table;
 use verdict::Denial;
 
-/// What an answer by a policy alone is worth.
+/// What an answer on a policy is worth.
 const BY_POLICY_ALONE: &str =
-    "confine: this is by the policy alone: each label counts as one whose threads make calls, \
+    "confine: this is what the policy allows: each label counts as one whose threads make calls, \
 so the answer says nothing about runs";
 
 /// Tells a person on standard error what a command finds, if that was asked for. That standard error can't
@@ -67,18 +69,11 @@ impl<'a, R: AllocGlobal + Eprint> Explainer<'a, R> {
         }
     }
 
-    /// Tells what an answer by a policy alone is worth, if that was asked for, whether or not anything is to be
-    /// explained.
+    /// Tells what an answer on a policy is worth, if that was asked for, whether or not anything is to be explained.
     fn warn(&self) {
-        if let Request::OfSystem(
-            OfSystem::Why {
-                basis: Basis::Policy,
-                ..
-            }
-            | OfSystem::Draw(Basis::Policy, _),
-            _,
-            _,
-        ) = self.invocation.request
+        if let Request::OfSystem(OfSystem::Why { .. } | OfSystem::Draw(_), _, _) = self
+            .invocation
+            .request
         {
             let _ = self.rt.eprintln(BY_POLICY_ALONE);
         }
@@ -119,10 +114,10 @@ impl<'a, R: AllocGlobal + Eprint> Explainer<'a, R> {
     }
 
     /// Tells what is found wrong.
-    fn tell_finding(&self, leave: &(impl Threads + Sync), heard: &Heard<'_>, finding: &Finding) {
+    fn tell_finding(&self, heard: &Heard<'_>, finding: &Finding) {
         match finding {
             Finding::BrokenLines(broken) => {
-                self.tell_lines(self.breaches_told(leave, heard, broken));
+                self.tell_lines(self.breaches_told(heard, broken));
             }
             _ => self.tell(self.sentence_on(heard, finding)),
         }
@@ -135,11 +130,11 @@ impl<'a, R: AllocGlobal + Eprint> Explainer<'a, R> {
     /// each claim that doesn't hold.
     pub fn sentence_on(&self, heard: &Heard<'_>, finding: &Finding) -> Result<String, Refusal> {
         let (alloc, table) = (self.rt.alloc(), heard.table);
-        match (finding, heard.policy, self.judged(heard)) {
-            (Finding::Denied(denial), Some(policy), _) => {
-                explain_denial(alloc, &self.names(), table, policy, denial)
+        match (finding, heard.policy) {
+            (Finding::Denied(denial), Some(policy)) => {
+                explain_denial(alloc, &self.names(), table, policy, self.rules(), denial)
             }
-            (Finding::Outside(denial), _, _) => {
+            (Finding::Outside(denial), _) => {
                 let log = self.invocation.request.name_of(File::Log);
                 let entries = match heard.outcomes {
                     Some(Outcomes::OfLog(log)) => log.len(),
@@ -147,40 +142,60 @@ impl<'a, R: AllocGlobal + Eprint> Explainer<'a, R> {
                 };
                 Ok(explain_outside(alloc, log, entries, table, denial)?)
             }
-            (Finding::Illegal(entry), _, _) => Ok(self.illegal_told(heard, *entry)?),
-            (Finding::Broken(broken), Some(policy), _) => {
-                explain_broken(alloc, table, policy, broken)
+            (Finding::Illegal(entry), _) => Ok(self.illegal_told(heard, *entry)?),
+            (Finding::Broken(broken), _) => {
+                let reach = Reach::of(alloc, table)?;
+                explain_broken(alloc, self.table_name(), &reach, broken)
             }
-            (Finding::BrokenLines(broken), _, Some(judged)) => {
-                breach_lines(alloc, &judged, broken)
-            }
-            // Who finds one of the others has read a policy, and claims.
+            (Finding::BrokenLines(broken), _) => self.broken_told(heard, broken),
+            // Who denies has read a policy.
             _ => Ok(String::new(alloc)),
         }
     }
 
-    /// Returns why claims of version 2 don't hold.
-    fn breaches_told(
-        &self,
-        leave: &(impl Threads + Sync),
-        heard: &Heard<'_>,
-        broken: &[Broken],
-    ) -> Result<String, Refusal> {
-        match self.judged(heard) {
-            Some(judged) => explain_breaches(leave, self.rt.alloc(), &judged, broken),
-            None => Ok(String::new(self.rt.alloc())),
+    /// Returns a line for each claim of version 2 that doesn't hold.
+    fn broken_told(&self, heard: &Heard<'_>, broken: &[Broken]) -> Result<String, Refusal> {
+        let alloc = self.rt.alloc();
+        let reach = Reach::of(alloc, heard.table)?;
+        match self.judged(&reach, heard) {
+            Some(judged) => breach_lines(alloc, &judged, broken),
+            None => Ok(String::new(alloc)),
         }
     }
 
-    /// The system on which claims of version 2 were judged, if they were.
-    fn judged(&self, heard: &Heard<'a>) -> Option<Judged<'a>> {
+    /// Returns why claims of version 2 don't hold.
+    fn breaches_told(&self, heard: &Heard<'_>, broken: &[Broken]) -> Result<String, Refusal> {
+        let alloc = self.rt.alloc();
+        let reach = Reach::of(alloc, heard.table)?;
+        match self.judged(&reach, heard) {
+            Some(judged) => explain_breaches(alloc, &judged, broken),
+            None => Ok(String::new(alloc)),
+        }
+    }
+
+    /// The table with this reach on which claims of version 2 were judged, if they were.
+    fn judged<'b>(&'b self, reach: &'b Reach<'b>, heard: &Heard<'b>) -> Option<Judged<'b>> {
         Some(Judged {
-            names: self.names(),
-            table: heard.table,
-            policy: heard.policy?,
+            file: self.table_name(),
+            reach,
             claims: self.invocation.request.name_of(File::Claims),
             lines: heard.claims?,
         })
+    }
+
+    /// The name of the file of the table.
+    fn table_name(&self) -> &str {
+        self.invocation.request.name_of(File::Table)
+    }
+
+    /// The rules by which the policy is judged.
+    fn rules(&self) -> Rules {
+        match self.invocation.request {
+            Request::OfSystem(OfSystem::Check { rules, .. } | OfSystem::Close(rules, _), _, _) =>
+                rules,
+            Request::OfThree(OfThree::Verify(rules) | OfThree::Run(rules), _, _, _) => rules,
+            _ => Rules::Closed,
+        }
     }
 
     /// Returns the sentence on a fault of a file's text, without a line feed.
@@ -199,12 +214,13 @@ impl<'a, R: AllocGlobal + Eprint> Explainer<'a, R> {
         }
     }
 
-    /// Tells a run that leaves the policy, if `check` denies it by a rule of closed policies.
+    /// Tells a run that leaves the policy, if `check` denies it by a rule on policies.
     fn tell_escape(&self, table: &Table, policy: &Policy, denial: &Denial) {
-        if let (Denial::Policy(_), Request::OfSystem(OfSystem::Check { .. }, _, _)) = (
-            denial,
-            self.invocation.request,
-        ) {
+        if let (
+            Denial::Policy(_) | Denial::Sharp(_),
+            Request::OfSystem(OfSystem::Check { .. }, _, _),
+        ) = (denial, self.invocation.request)
+        {
             self.tell_lines(explain_escape(self.rt.alloc(), table, policy));
         }
     }
@@ -271,63 +287,119 @@ impl<'a, R: AllocGlobal + Eprint> Explainer<'a, R> {
         }
     }
 
-    /// Tells memory that claims which hold don't speak of.
-    fn tell_shared_memory(&self, heard: &Heard<'_>) {
-        if self.invocation.manner.is_quiet {
-            return;
+    /// Returns notes on memory that claims which hold don't speak of.
+    fn shared_memory_told(&self, heard: &Heard<'_>) -> Result<String, Refusal> {
+        let alloc = self.rt.alloc();
+        let reach = Reach::of(alloc, heard.table)?;
+        match self.judged(&reach, heard) {
+            Some(judged) => Ok(explain_shared_memory(alloc, &judged)?),
+            None => Ok(String::new(alloc)),
         }
-        if let Some(judged) = self.judged(heard) {
-            self.tell_lines(explain_shared_memory(self.rt.alloc(), &judged));
+    }
+
+    /// Tells more of a table that isn't wrong.
+    fn tell_of_table(
+        &self,
+        leave: &(impl Threads + Sync),
+        asked: OfTable<'_>,
+        file: &str,
+        heard: &Heard<'_>,
+    ) {
+        let (alloc, table) = (self.rt.alloc(), heard.table);
+        match asked {
+            OfTable::Start(rules, OnClose::Policy | OnClose::Missing) => {
+                let policy = Policy::new(alloc);
+                self.tell_closing(leave, rules, file, table, &policy);
+                drop(policy);
+            }
+            OfTable::Why { actor, object } => {
+                self.tell_lines(self.why_told(file, table, actor, object));
+            }
+            OfTable::Show { .. } => {
+                if let Some(script) = heard.script {
+                    self.tell_lines(explain_run(alloc, table, script));
+                }
+            }
+            _ => {}
+        }
+    }
+
+    /// Tells by which rules edges are added to a policy.
+    fn tell_closing(
+        &self,
+        leave: &(impl Threads + Sync),
+        rules: Rules,
+        file: &str,
+        table: &Table,
+        policy: &Policy,
+    ) {
+        let alloc = self.rt.alloc();
+        self.tell_lines(explain_closing(leave, alloc, rules, file, table, policy));
+    }
+
+    /// Returns where the edges of a reason come from, by the reach of the table.
+    fn why_told(
+        &self,
+        file: &str,
+        table: &Table,
+        actor: &str,
+        object: &str,
+    ) -> Result<String, Refusal> {
+        let alloc = self.rt.alloc();
+        let reach = Reach::of(alloc, table)?;
+        explain_why(alloc, file, &reach, actor, object)
+    }
+
+    /// Tells what may not be meant in the table of an accepted system, and whom each label may change.
+    fn tell_accepted(&self, file: &str, table: &Table) {
+        let alloc = self.rt.alloc();
+        if let Ok(reach) = Reach::of(alloc, table) {
+            if !self.invocation.manner.is_quiet {
+                self.tell_lines(explain_notes(alloc, file, &reach));
+            }
+            self.tell_lines(explain_changes(alloc, file, &reach));
+        }
+    }
+
+    /// Tells more of a table and a policy that aren't wrong.
+    fn tell_of_system(
+        &self,
+        leave: &(impl Threads + Sync),
+        asked: OfSystem<'_>,
+        file: &str,
+        table: &Table,
+        policy: &Policy,
+    ) {
+        let alloc = self.rt.alloc();
+        match asked {
+            OfSystem::Close(rules, OnClose::Policy | OnClose::Missing) => {
+                self.tell_closing(leave, rules, file, table, policy);
+            }
+            OfSystem::Check { .. } => self.tell_accepted(file, table),
+            OfSystem::Why { actor, object } => {
+                self.tell_lines(explain_why_allowed(
+                    leave, alloc, file, table, policy, actor, object,
+                ));
+            }
+            _ => {}
         }
     }
 
     /// Tells more of what isn't wrong.
     fn tell_more(&self, leave: &(impl Threads + Sync), heard: &Heard<'_>) {
-        let (alloc, table) = (self.rt.alloc(), heard.table);
         match (self.invocation.request, heard.policy, heard.outcomes) {
-            (Request::OfTable(OfTable::Start(OnClose::Policy | OnClose::Missing), file), _, _) => {
-                let policy = Policy::new(alloc);
-                self.tell_lines(explain_closing(leave, alloc, file, table, &policy));
-                drop(policy);
+            (Request::OfTable(asked, file), _, _) => self.tell_of_table(leave, asked, file, heard),
+            (Request::OfSystem(asked, file, _), Some(policy), _) => {
+                self.tell_of_system(leave, asked, file, heard.table, policy);
             }
-            (
-                Request::OfSystem(OfSystem::Close(OnClose::Policy | OnClose::Missing), file, _),
-                Some(policy),
-                _,
-            ) => self.tell_lines(explain_closing(leave, alloc, file, table, policy)),
-            (Request::OfSystem(OfSystem::Check { .. }, file, policy_file), Some(policy), _) => {
+            (Request::OfThree(OfThree::Run(_), _, _, script), _, Some(outcomes)) => {
+                self.tell_refusals(heard.table, script, outcomes);
+            }
+            (Request::OfClaims(..), _, _) => {
                 if !self.invocation.manner.is_quiet {
-                    self.tell_lines(explain_notes(alloc, file, table, policy));
-                }
-                self.tell_lines(explain_reach(alloc, file, policy_file, table, policy));
-            }
-            (
-                Request::OfSystem(
-                    OfSystem::Why {
-                        basis,
-                        actor,
-                        object,
-                    },
-                    file,
-                    _,
-                ),
-                Some(policy),
-                _,
-            ) => {
-                let alone = basis == Basis::Policy;
-                self.tell_lines(explain_why(
-                    leave, alloc, file, table, policy, alone, actor, object,
-                ));
-            }
-            (Request::OfSystem(OfSystem::Show { .. }, _, _), _, _) => {
-                if let Some(script) = heard.script {
-                    self.tell_lines(explain_run(alloc, table, script));
+                    self.tell_lines(self.shared_memory_told(heard));
                 }
             }
-            (Request::OfThree(OfThree::Run, _, _, script), _, Some(outcomes)) => {
-                self.tell_refusals(table, script, outcomes);
-            }
-            (Request::OfThree(OfThree::Claims, ..), _, _) => self.tell_shared_memory(heard),
             _ => {}
         }
     }
@@ -348,7 +420,7 @@ impl<R: AllocGlobal + Eprint + Threads + Sync> Listener for Explainer<'_, R> {
         if self.invocation.manner.explains {
             let leave = Leave::<R> { of: PhantomData };
             match heard.finding {
-                Some(finding) => self.tell_finding(&leave, heard, finding),
+                Some(finding) => self.tell_finding(heard, finding),
                 None => self.tell_more(&leave, heard),
             }
         }

@@ -60,6 +60,9 @@ pub(crate) fn open_all<'a, F, O: Fn(&str) -> io::Result<F>>(
             let (table, policy) = (open_by(opener, table), open_by(opener, policy));
             Request::OfSystem(asked, table, policy)
         }
+        Request::OfClaims(table, claims) => {
+            Request::OfClaims(open_by(opener, table), open_by(opener, claims))
+        }
         Request::OfThree(asked, table, policy, third) => {
             let (table, policy) = (open_by(opener, table), open_by(opener, policy));
             Request::OfThree(asked, table, policy, open_by(opener, third))

@@ -104,13 +104,13 @@ impl<'a, R: AllocGlobal + Eprint> Shortener<'a, R> {
                 table,
                 _,
             ) => Some(format!(in alloc; "{table}: accepted\n")),
-            Request::OfThree(OfThree::Verify, _, _, certificate) => {
+            Request::OfThree(OfThree::Verify(_), _, _, certificate) => {
                 Some(format!(in alloc; "{certificate}: accepted\n"))
             }
             Request::OfThree(OfThree::Replay, _, _, log) => {
                 Some(format!(in alloc; "{log}: legal, and ends within the policy\n"))
             }
-            Request::OfThree(OfThree::Claims, _, _, claims) => {
+            Request::OfClaims(_, claims) => {
                 Some(holding_line(alloc, claims, claim_count(heard)))
             }
             _ => None,

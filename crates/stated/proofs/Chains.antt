@@ -1,7 +1,7 @@
 -- The search for the labels to which a chain leads, label by label; and sets that no chain enters.
 use Rattle.std.proofs.Common.{ℕ, ◌&&◌, ◌<◌, ◌==◌, ◌||◌, ◌↔◌, ◌∙◌, ◌≡◌, ◌≤◌, Bool, ap, arith, cond, false, inl, inr, not, refl, subst, suc}
 use Rattle.std.proofs.{Common.{sym, true, zero}, lemmas.Bool.{cases_order, eq-eqb, eqb-true, false≢true, or_cases, or_left, or_right}}
-use Rattle.verdict.specs.Extents.{Reach}
+use Rattle.reach.specs.Extents.{Limits}
 use Rattle.stated.specs.Holding.{AreApart, Leads, MayAffect, Leads.{goes_on, starts}}
 
 -- how many of the labels below a number aren't done
@@ -45,25 +45,25 @@ module _ (old new : ℕ → Bool) (grows : (l : ℕ) → old l ≡ true → new 
   ]
 
 -- labels that a chain leads to, with the rows of those that are done
-pub record AreReached (reach : Reach) (from : ℕ) (done reached : ℕ → Bool) : Type 0 where
+pub record AreReached (limits : Limits) (from : ℕ) (done reached : ℕ → Bool) : Type 0 where
   pub begins : reached from ≡ true
-  pub led : (l : ℕ) → reached l ≡ true → Leads reach from l
-  pub closed : (a l : ℕ) → done a ≡ true → MayAffect reach a l → reached l ≡ true
+  pub led : (l : ℕ) → reached l ≡ true → Leads limits from l
+  pub closed : (a l : ℕ) → done a ≡ true → MayAffect limits a l → reached l ≡ true
 
-module _ (reach : Reach) (from : ℕ) where
-  pub first_reached : (none one : ℕ → Bool) → ((l : ℕ) → none l ≡ false) → ((l : ℕ) → one l ≡ (l == from)) → AreReached reach from none one
+module _ (limits : Limits) (from : ℕ) where
+  pub first_reached : (none one : ℕ → Bool) → ((l : ℕ) → none l ≡ false) → ((l : ℕ) → one l ≡ (l == from)) → AreReached limits from none one
   first_reached none one lacks only = record {
     begins = only from ∙ eq-eqb from from refl;
     led = λ l is. at l (eqb-true l from (sym (only l) ∙ is));
     closed = λ a l done affects. absurd (false≢true (sym (lacks a) ∙ done));
   } where
-    at : (l : ℕ) → l ≡ from → Leads reach from l
-    at l same = let P : ℕ → Type 0 = λ n. Leads reach from n in subst P (sym same) starts
+    at : (l : ℕ) → l ≡ from → Leads limits from l
+    at l same = let P : ℕ → Type 0 = λ n. Leads limits from n in subst P (sym same) starts
 
-  module _ (done reached : ℕ → Bool) (are : AreReached reach from done reached) where
+  module _ (done reached : ℕ → Bool) (are : AreReached limits from done reached) where
     pub more_reached : (a : ℕ) (row more grown : ℕ → Bool) → reached a ≡ true
-        → ((l : ℕ) → (row l ≡ true → MayAffect reach a l) × (MayAffect reach a l → row l ≡ true))
-        → ((l : ℕ) → more l ≡ (done l || (l == a))) → ((l : ℕ) → grown l ≡ (reached l || row l)) → AreReached reach from more grown
+        → ((l : ℕ) → (row l ≡ true → MayAffect limits a l) × (MayAffect limits a l → row l ≡ true))
+        → ((l : ℕ) → more l ≡ (done l || (l == a))) → ((l : ℕ) → grown l ≡ (reached l || row l)) → AreReached limits from more grown
     more_reached a row more grown has row_is more_is grown_is = record {
       begins = grown_is from ∙ or_left (reached from) (row from) are.begins;
       led = λ l is. elim (or_cases (reached l) (row l) (sym (grown_is l) ∙ is)) [
@@ -74,28 +74,28 @@ module _ (reach : Reach) (from : ℕ) where
         | inl before ↦ or_left (reached l) (row l) (are.closed b l before affects)
         | inr now ↦
             let same = eqb-true b a now in
-            let P : ℕ → Type 0 = λ n. MayAffect reach n l in
+            let P : ℕ → Type 0 = λ n. MayAffect limits n l in
             or_right (reached l) (row l) ((row_is l).1 (subst P same affects))
       ];
     }
 
     -- where all are done, no other is led to
-    pub all_reached : ((a : ℕ) → (reached a && not (done a)) ≡ false) → (l : ℕ) → (reached l ≡ true) ↔ Leads reach from l
+    pub all_reached : ((a : ℕ) → (reached a && not (done a)) ≡ false) → (l : ℕ) → (reached l ≡ true) ↔ Leads limits from l
     all_reached all l = (are.led l, to) where
       is_done : (b c : Bool) → (b && not c) ≡ false → b ≡ true → c ≡ true
       is_done true true none is = refl
       is_done true false none is = sym none
       is_done false c none is = absurd (false≢true is)
 
-      to : {l : ℕ} → Leads reach from l → reached l ≡ true
+      to : {l : ℕ} → Leads limits from l → reached l ≡ true
       to starts = are.begins
       to (goes_on {a} {l} before affects) = are.closed a l (is_done (reached a) (done a) (all a) (to before)) affects
 
 -- the labels that no chain leads to are apart from its start
 
-pub apart_from_unreached : (reach : Reach) (from to : ℕ) (reached : ℕ → Bool)
-    → ((l : ℕ) → (reached l ≡ true) ↔ Leads reach from l) → reached to ≡ false → AreApart reach from to
-apart_from_unreached reach from to reached is lacks = record {
+pub apart_from_unreached : (limits : Limits) (from to : ℕ) (reached : ℕ → Bool)
+    → ((l : ℕ) → (reached l ≡ true) ↔ Leads limits from l) → reached to ≡ false → AreApart limits from to
+apart_from_unreached limits from to reached is lacks = record {
   inside = λ l. not (reached l);
   has = ap not lacks;
   lacks = ap not ((is from).1 starts);
@@ -109,13 +109,13 @@ apart_from_unreached reach from to reached is lacks = record {
   was_true false is = sym is
 
 -- and into such a set no chain leads
-pub no_chain : (reach : Reach) (from to : ℕ) → AreApart reach from to → ¬ Leads reach from to
-no_chain reach from to apart leads = false≢true (sym (stays_out leads) ∙ apart.has) where
+pub no_chain : (limits : Limits) (from to : ℕ) → AreApart limits from to → ¬ Leads limits from to
+no_chain limits from to apart leads = false≢true (sym (stays_out leads) ∙ apart.has) where
   out : (l : ℕ) (b : Bool) → apart.inside l ≡ b → (b ≡ true → ⊥) → apart.inside l ≡ false
   out l true is never = absurd (never refl)
   out l false is never = is
 
-  stays_out : {l : ℕ} → Leads reach from l → apart.inside l ≡ false
+  stays_out : {l : ℕ} → Leads limits from l → apart.inside l ≡ false
   stays_out starts = apart.lacks
   stays_out (goes_on {a} {l} before affects) =
       out l (apart.inside l) refl (λ has. apart.closed a l (stays_out before) has affects)

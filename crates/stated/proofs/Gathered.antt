@@ -3,13 +3,13 @@ use Rattle.std.{specs.List.Contains, proofs.Common.{[], ℕ, ◌++◌, ◌+◌, 
 use Rattle.std.proofs.{Common.{inr, length, subst, sym, take}, lemmas.List.{length-take-le, take_more, Elements.Contains-append_cases}}
 use Rattle.std.proofs.lemmas.List.Elements.{Contains-push_cases}
 use Rattle.machine.specs.Layout.{Layout}
-use Rattle.verdict.specs.Extents.{Reach}
+use Rattle.reach.specs.Extents.{Limits}
 use Rattle.stated.specs.{declared.{claim.Stated.Stated, deciding.Broken.Broken}, Holding.{AreBroken, Holds, AreBroken.{broke, ended, held}}}
 use Rattle.stated.specs.Holding.AreBroken.{silent}
 
-module _ (t : Layout) (reach : Reach) where
+module _ (t : Layout) (limits : Limits) where
   abbrev From : ℕ → List (Option Stated) → List Broken → Type 0
-  From = AreBroken t reach
+  From = AreBroken t limits
 
   moved : (line here : ℕ) (entries : List (Option Stated)) (all : List Broken) → line ≡ here → From line entries all → From here entries all
   moved line here entries all same = let P : ℕ → Type 0 = λ n. From n entries all in subst P same
@@ -36,14 +36,14 @@ module _ (t : Layout) (reach : Reach) where
   ]
 
   pub all_hold : {line : ℕ} {entries : List (Option Stated)} {all : List Broken} → From line entries all → all ≡ [] → (claim : Stated)
-      → Contains entries (Some claim) → Holds t reach claim
+      → Contains entries (Some claim) → Holds t limits claim
   all_hold ended none claim has = absurd (omega (arith, has.1))
   all_hold (silent {line} {entries} {all} rest) none claim has = elim (in_first_or_rest None entries (Some claim) has) [
     | inl same ↦ cc
     | inr later ↦ all_hold rest none claim later
   ]
   all_hold (held {line} {claim = first} {entries} {all} holds rest) none claim has = elim (in_first_or_rest (Some first) entries (Some claim) has) [
-    | inl same ↦ let is : first ≡ claim = cc in subst (Holds t reach) is holds
+    | inl same ↦ let is : first ≡ claim = cc in subst (Holds t limits) is holds
     | inr later ↦ all_hold rest none claim later
   ]
   all_hold (broke breaks rest) none claim has = cc

@@ -1,23 +1,25 @@
 -- What claims that hold keep in every run; and that a claim that fails doesn't hold.
 use Rattle.std.{specs.Prelude.IfNone, proofs.{Common.{ℕ, ◌∙◌, ◌≡◌, List, None, Option, Some, inl, inr, subst, sym}, lemmas.Bool.false≢true}}
 use Rattle.machine.specs.Layout.{Layout}
-use Rattle.verdict.{specs.Extents.{ActingSystem, IsActingSystem, Reach, reach_of}, proofs.Extents.{apart, takes}}
+use Rattle.policy.specs.Policy.{allows}
+use Rattle.integrity.specs.Safe.{IsSafe}
+use Rattle.reach.{specs.{Extents.{Limits, limits_of}, Reach.{IsTableReach, TableReach}}, proofs.Extents.{apart, takes}}
 use Rattle.claims.specs.{declared.claim.Most.{Most, Most as most}, Holding.{HasAtMost, KeepsAtMost}}
 use Rattle.stated.specs.declared.{claim.{Stated.{Stated, Stated as stated}, Who.Who}, deciding.Failure.{Failure, Failure as failure}}
 use Rattle.stated.{specs.Holding.{Fails, FailsOnPair, Holds, HoldsOnPairs, IsKept}, proofs.Chains.no_chain}
 
-module _ (acting : ActingSystem) (is : IsActingSystem acting) where
+module _ (reach : TableReach) (is : IsTableReach reach) (safe : IsSafe reach.table (allows reach.policy)) where
   abbrev t : Layout
-  t = acting.system.table
+  t = reach.table
 
-  abbrev reach : Reach
-  reach = reach_of acting
+  abbrev limits : Limits
+  limits = limits_of reach
 
-  most_kept : (a l : ℕ) (m : Most) → HasAtMost reach a l m → KeepsAtMost t a l m
-  most_kept a l most.Nothing has = apart t acting.system.policy reach is.reach is.accepted.safe.narrow a l has.0 has.1
-  most_kept a l most.Take has = takes t acting.system.policy reach is.reach is.accepted.safe.narrow a l has
+  most_kept : (a l : ℕ) (m : Most) → HasAtMost limits a l m → KeepsAtMost t a l m
+  most_kept a l most.Nothing has = apart reach is safe.narrow a l has.0 has.1
+  most_kept a l most.Take has = takes reach is safe.narrow a l has
 
-  pub claim_kept : (claim : Stated) → Holds t reach claim → IsKept t claim
+  pub claim_kept : (claim : Stated) → Holds t limits claim → IsKept t claim
   claim_kept (stated.AtMost limit actor object) holds = λ a l bounded. most_kept a l limit (holds a l bounded)
   claim_kept (stated.Only object actors) holds = λ a l bounded. most_kept a l most.Nothing (holds a l bounded)
   claim_kept (stated.Apart from to) holds = record {
@@ -29,31 +31,31 @@ module _ (acting : ActingSystem) (is : IsActingSystem acting) where
         ((λ change. holds.closed a l outside inside (inl change)), (λ shrink. holds.closed a l outside inside (inr shrink)));
   }
   claim_kept (stated.Without actor kind object) holds =
-      λ m reached has. false≢true (sym holds ∙ is.accepted.safe.confined m reached actor kind object has)
+      λ m reached has. false≢true (sym holds ∙ safe.confined m reached actor kind object has)
 
-module _ (t : Layout) (reach : Reach) where
-  pair_breaks : (claim : Stated) (told : Failure) → FailsOnPair t reach claim told → HoldsOnPairs t reach claim → ⊥
+module _ (t : Layout) (limits : Limits) where
+  pair_breaks : (claim : Stated) (told : Failure) → FailsOnPair t limits claim told → HoldsOnPairs t limits claim → ⊥
   pair_breaks claim (failure.Pair breach) fails holds = fails.breaks (holds breach.actor breach.object fails.bounded)
   pair_breaks claim failure.Chain fails holds = fails
   pair_breaks claim failure.Edge fails holds = fails
 
-  pub fails_breaks : (claim : Stated) (told : Failure) → Fails t reach claim told → ¬ Holds t reach claim
+  pub fails_breaks : (claim : Stated) (told : Failure) → Fails t limits claim told → ¬ Holds t limits claim
   fails_breaks (stated.AtMost limit actor object) told fails holds = pair_breaks (stated.AtMost limit actor object) told fails holds
   fails_breaks (stated.Only object actors) told fails holds = pair_breaks (stated.Only object actors) told fails holds
-  fails_breaks (stated.Apart from to) told fails holds = no_chain reach from to holds fails.1
+  fails_breaks (stated.Apart from to) told fails holds = no_chain limits from to holds fails.1
   fails_breaks (stated.Without actor kind object) told fails holds = false≢true (sym holds ∙ fails.1)
 
   -- of a claim on pairs
 
   pub ends_hold : (claim : Stated) (limit : Most) (actor object : Who) → claim ≡ stated.AtMost limit actor object
-      → HoldsOnPairs t reach claim → Holds t reach claim
+      → HoldsOnPairs t limits claim → Holds t limits claim
   ends_hold claim limit actor object is holds =
-      subst (λ c. Holds t reach c) (sym is) (subst (λ c. HoldsOnPairs t reach c) is holds)
+      subst (λ c. Holds t limits c) (sym is) (subst (λ c. HoldsOnPairs t limits c) is holds)
 
   pub only_holds : (claim : Stated) (object : ℕ) (actors : List ℕ) → claim ≡ stated.Only object actors
-      → HoldsOnPairs t reach claim → Holds t reach claim
+      → HoldsOnPairs t limits claim → Holds t limits claim
   only_holds claim object actors is holds =
-      subst (λ c. Holds t reach c) (sym is) (subst (λ c. HoldsOnPairs t reach c) is holds)
+      subst (λ c. Holds t limits c) (sym is) (subst (λ c. HoldsOnPairs t limits c) is holds)
 
 pub if_none : {X : Type 0} (o : Option X) (P Q : Type 0) → (P → Q) → IfNone o P → IfNone o Q
 if_none None P Q follows is = follows is

@@ -2,7 +2,7 @@
 use Rattle.std.proofs.Common.{[], ℕ, ◌+◌, ◌∙◌, ◌∷◌, ◌≡◌, ◌⊎◌, List, None, Option, Some, ap, inl, inr, refl, subst, sym}
 use Rattle.std.proofs.lemmas.Bool.{cases_order}
 use Rattle.machine.specs.Layout.{Layout}
-use Rattle.verdict.specs.Extents.{GoesTo, Reach}
+use Rattle.reach.specs.Extents.{GoesTo, Limits}
 use Rattle.claims.{specs.Holding.ComesBefore, proofs.OneList.extents_once}
 use Rattle.stated.specs.declared.{breaches.Breach.Breach, claim.Stated.{Stated, Stated as stated}, deciding.Broken.Broken}
 use Rattle.stated.specs.{declared.deciding.Failure.{Failure, Failure as failure}, Holding.{AreBroken, Fails, FailsOnPair, IsBroken}}
@@ -20,39 +20,39 @@ pairs a l b m = elim (cases_order a b) [
   | inr (inr after) ↦ inr (inl (inl after))
 ]
 
-module _ (t : Layout) (reach : Reach) where
-  breach_once : (claim : Stated) (one other : Breach) → IsFirstBreach t reach claim one → IsFirstBreach t reach claim other → one ≡ other
+module _ (t : Layout) (limits : Limits) where
+  breach_once : (claim : Stated) (one other : Breach) → IsFirstBreach t limits claim one → IsFirstBreach t limits claim other → one ≡ other
   breach_once claim one other is also = elim (pairs one.actor one.object other.actor other.object) [
     | inl before ↦ absurd (is.breaks (also.first one.actor one.object is.bounded before))
     | inr (inl after) ↦ absurd (also.breaks (is.first other.actor other.object also.bounded after))
     | inr (inr same) ↦
         let extent : one.extent ≡ other.extent =
-        extents_once reach other.actor other.object one.extent other.extent
-        (subst (λ a. GoesTo reach a other.object one.extent) same.0 (subst (λ l. GoesTo reach one.actor l one.extent) same.1 is.goes_to)) also.goes_to in
+        extents_once limits other.actor other.object one.extent other.extent
+        (subst (λ a. GoesTo limits a other.object one.extent) same.0 (subst (λ l. GoesTo limits one.actor l one.extent) same.1 is.goes_to)) also.goes_to in
         (λ i. record { actor = same.0 i; object = same.1 i; extent = extent i })
   ]
 
-  on_pair_once : (claim : Stated) (one other : Failure) → FailsOnPair t reach claim one → FailsOnPair t reach claim other → one ≡ other
+  on_pair_once : (claim : Stated) (one other : Failure) → FailsOnPair t limits claim one → FailsOnPair t limits claim other → one ≡ other
   on_pair_once claim (failure.Pair one) (failure.Pair other) is also = ap failure.Pair (breach_once claim one other is also)
   on_pair_once claim failure.Chain other is also = absurd is
   on_pair_once claim failure.Edge other is also = absurd is
   on_pair_once claim (failure.Pair one) failure.Chain is also = absurd also
   on_pair_once claim (failure.Pair one) failure.Edge is also = absurd also
 
-  fails_once : (claim : Stated) (one other : Failure) → Fails t reach claim one → Fails t reach claim other → one ≡ other
+  fails_once : (claim : Stated) (one other : Failure) → Fails t limits claim one → Fails t limits claim other → one ≡ other
   fails_once (stated.AtMost most actor object) one other is also = on_pair_once (stated.AtMost most actor object) one other is also
   fails_once (stated.Only object actors) one other is also = on_pair_once (stated.Only object actors) one other is also
   fails_once (stated.Apart from to) one other is also = is.0 ∙ sym also.0
   fails_once (stated.Without actor kind object) one other is also = is.0 ∙ sym also.0
 
-  one_broken : (line : ℕ) (claim : Stated) (one other : Broken) → IsBroken t reach line claim one → IsBroken t reach line claim other → one ≡ other
+  one_broken : (line : ℕ) (claim : Stated) (one other : Broken) → IsBroken t limits line claim one → IsBroken t limits line claim other → one ≡ other
   one_broken line claim one other is also =
       let lines : one.line ≡ other.line = is.line_is ∙ sym also.line_is in
       let failures : one.failure ≡ other.failure = fails_once claim one.failure other.failure is.fails also.fails in
       (λ i. record { line = lines i; failure = failures i })
 
   pub broken_once : (line : ℕ) (entries : List (Option Stated)) (all others : List Broken)
-      → AreBroken t reach line entries all → AreBroken t reach line entries others → all ≡ others
+      → AreBroken t limits line entries all → AreBroken t limits line entries others → all ≡ others
   broken_once line [] [] [] ended ended = refl
   broken_once line [] [] (other ∷ others) is also = elim also [ ]
   broken_once line [] (one ∷ all) others is also = elim is [ ]

@@ -7,7 +7,7 @@ use Rattle.std.proofs.lemmas.List.Elements.{Contains-append_cases, Contains-appe
 use Rattle.std.proofs.lemmas.Option.{get_or_from_slice_get, slice_get-get_or}
 use Rattle.base.specs.Labels.{is_in}
 use Rattle.machine.specs.Layout.{Layout}
-use Rattle.verdict.specs.{declared.extent.Extent.{Extent, Extent as extent}, Extents.{GoesTo, MayChangeIn, MayShrinkIn, Reach}}
+use Rattle.reach.specs.{declared.extent.Extent.{Extent, Extent as extent}, Extents.{GoesTo, MayChangeIn, MayShrinkIn, Limits}}
 use Rattle.claims.{specs.{declared.claim.Most.Most as most, Holding.HasAtMost}, proofs.OneList.extents_once}
 use Rattle.summary.specs.Labelled.{labels_of, others_of, programs_of}
 use Rattle.stated.specs.{declared.{claim.Stated.Stated, rows.{Row.Row, Rows.Rows}}, Holding.{AreBroken, Holds, AreBroken.{ended, held}}}
@@ -17,21 +17,21 @@ use Rattle.stated.specs.Strongest.{users_of}
 
 -- rows
 
-module _ (reach : Reach) (a l : ℕ) where
-  extent_goes : (changed shrunk : Bool) → (changed ≡ true) ↔ MayChangeIn reach a l → (shrunk ≡ true) ↔ MayShrinkIn reach a l
-      → GoesTo reach a l (if changed then extent.Full else (if shrunk then extent.Take else extent.Nothing))
+module _ (limits : Limits) (a l : ℕ) where
+  extent_goes : (changed shrunk : Bool) → (changed ≡ true) ↔ MayChangeIn limits a l → (shrunk ≡ true) ↔ MayShrinkIn limits a l
+      → GoesTo limits a l (if changed then extent.Full else (if shrunk then extent.Take else extent.Nothing))
   extent_goes true shrunk changes shrinks = changes.0 refl
   extent_goes false true changes shrinks = (λ change. false≢true (changes.1 change), shrinks.0 refl)
   extent_goes false false changes shrinks = (λ change. false≢true (changes.1 change), λ shrink. false≢true (shrinks.1 shrink))
 
-pub row_goes : (reach : Reach) (a : ℕ) (row : Row) → IsRow reach a row → (l : ℕ) → GoesTo reach a l (row_extent row l)
-row_goes reach a row is l = extent_goes reach a l (is_in row.changed l) (is_in row.shrunk l) (is.changed l) (is.shrunk l)
+pub row_goes : (limits : Limits) (a : ℕ) (row : Row) → IsRow limits a row → (l : ℕ) → GoesTo limits a l (row_extent row l)
+row_goes limits a row is l = extent_goes limits a l (is_in row.changed l) (is_in row.shrunk l) (is.changed l) (is.shrunk l)
 
-pub rows_go : (t : Layout) (reach : Reach) (rows : Rows) → AreRows reach rows → length t.labels ≤ length rows.rows.items
-    → AreExtents t reach (extents_of rows)
-rows_go t reach rows are few a l within =
+pub rows_go : (t : Layout) (limits : Limits) (rows : Rows) → AreRows limits rows → length t.labels ≤ length rows.rows.items
+    → AreExtents t limits (extents_of rows)
+rows_go t limits rows are few a l within =
     let there = slice_get-get_or rows.rows.items a no_row (omega (arith, within, few)) in
-    row_goes reach a (get_or rows.rows.items a no_row) (are a (get_or rows.rows.items a no_row) there) l
+    row_goes limits a (get_or rows.rows.items a no_row) (are a (get_or rows.rows.items a no_row) there) l
 
 pub row_at : (rows : Rows) (a : ℕ) (row : Row) → slice_get rows.rows.items a ≡ Some row → row_extent row ≡ extents_of rows a
 row_at rows a row at = ap row_extent (sym (get_or_from_slice_get rows.rows.items a row no_row at))
@@ -114,33 +114,33 @@ in_range first (suc count) a low high = elim (cases_order first a) [
   | inr (inr above) ↦ absurd (omega (arith, low, above))
 ]
 
-module _ (t : Layout) (reach : Reach) where
-  pair_holds : (a l : ℕ) (e : Extent) → (a < length t.labels → GoesTo reach a l e) → AllByRecursion (Holds t reach) (pair_claims a l e)
+module _ (t : Layout) (limits : Limits) where
+  pair_holds : (a l : ℕ) (e : Extent) → (a < length t.labels → GoesTo limits a l e) → AllByRecursion (Holds t limits) (pair_claims a l e)
   pair_holds a l extent.Full goes = tt
   pair_holds a l extent.Take goes = (
     λ x y bounded.
         let here = goes (subst (λ n. n < length t.labels) bounded.1 bounded.0.0) in
-        subst (λ n. HasAtMost reach n y most.Take) (sym bounded.1) (subst (λ n. HasAtMost reach a n most.Take) (sym bounded.2) here.0),
+        subst (λ n. HasAtMost limits n y most.Take) (sym bounded.1) (subst (λ n. HasAtMost limits a n most.Take) (sym bounded.2) here.0),
     tt,
   )
   pair_holds a l extent.Nothing goes = (
     λ x y bounded.
         let here = goes (subst (λ n. n < length t.labels) bounded.1 bounded.0.0) in
-        subst (λ n. HasAtMost reach n y most.Nothing) (sym bounded.1) (subst (λ n. HasAtMost reach a n most.Nothing) (sym bounded.2) here),
+        subst (λ n. HasAtMost limits n y most.Nothing) (sym bounded.1) (subst (λ n. HasAtMost limits a n most.Nothing) (sym bounded.2) here),
     tt,
   )
 
-  none_else : (l : ℕ) (users : List ℕ) → ((a : ℕ) → a < length t.labels → a ≢ l → ¬ Contains users a → HasAtMost reach a l most.Nothing)
-      → Holds t reach (only_these l users)
+  none_else : (l : ℕ) (users : List ℕ) → ((a : ℕ) → a < length t.labels → a ≢ l → ¬ Contains users a → HasAtMost limits a l most.Nothing)
+      → Holds t limits (only_these l users)
   none_else l [] keeps = λ x y bounded.
-      subst (λ n. HasAtMost reach x n most.Nothing) (sym bounded.2)
+      subst (λ n. HasAtMost limits x n most.Nothing) (sym bounded.2)
       (keeps x bounded.0.0 (λ same. bounded.0.2 (same ∙ sym bounded.2)) (λ has. absurd (omega (arith, has.1))))
   none_else l (first ∷ users) keeps = λ x y bounded.
-      subst (λ n. HasAtMost reach x n most.Nothing) (sym bounded.1)
+      subst (λ n. HasAtMost limits x n most.Nothing) (sym bounded.1)
       (keeps x bounded.0.0 (λ same. bounded.0.2 (same ∙ sym bounded.1)) bounded.2)
 
-  module _ (extents : Extents) (are : AreExtents t reach extents) where
-    unused : (l a : ℕ) → a < length t.labels → a ≢ l → ¬ Contains (users_of extents (labels_of t) l) a → HasAtMost reach a l most.Nothing
+  module _ (extents : Extents) (are : AreExtents t limits extents) where
+    unused : (l a : ℕ) → a < length t.labels → a ≢ l → ¬ Contains (users_of extents (labels_of t) l) a → HasAtMost limits a l most.Nothing
     unused l a within differ lacks = by (extents a l) refl where
       among : affects (extents a l) ≡ true → ⊥
       among is =
@@ -148,34 +148,34 @@ module _ (t : Layout) (reach : Reach) where
           (and_from (not (a == l)) (affects (extents a l)) (ap not (ne_eqb a l differ)) is)
           (in_range 0 (length t.labels) a (omega arith) (omega (arith, within))))
 
-      by : (e : Extent) → extents a l ≡ e → HasAtMost reach a l most.Nothing
+      by : (e : Extent) → extents a l ≡ e → HasAtMost limits a l most.Nothing
       by extent.Full is = absurd (among (ap affects is))
       by extent.Take is = absurd (among (ap affects is))
-      by extent.Nothing is = subst (GoesTo reach a l) is (are a l within)
+      by extent.Nothing is = subst (GoesTo limits a l) is (are a l within)
 
-    among_hold : AllByRecursion (Holds t reach) (claims_among extents (programs_of t))
+    among_hold : AllByRecursion (Holds t limits) (claims_among extents (programs_of t))
     among_hold =
-        each_flat (Holds t reach) (claims_of extents (programs_of t))
-        (λ a. each_flat (Holds t reach) (claims_on (extents a) a)
-        (λ l. each_if (Holds t reach) (a == l) (pair_claims a l (extents a l)) (pair_holds a l (extents a l) (are a l))) (programs_of t))
+        each_flat (Holds t limits) (claims_of extents (programs_of t))
+        (λ a. each_flat (Holds t limits) (claims_on (extents a) a)
+        (λ l. each_if (Holds t limits) (a == l) (pair_claims a l (extents a l)) (pair_holds a l (extents a l) (are a l))) (programs_of t))
         (programs_of t)
 
-    for_hold : AllByRecursion (Holds t reach) (claims_for extents (labels_of t) (others_of t))
+    for_hold : AllByRecursion (Holds t limits) (claims_for extents (labels_of t) (others_of t))
     for_hold =
-        each_map (Holds t reach) (claim_to extents (labels_of t))
+        each_map (Holds t limits) (claim_to extents (labels_of t))
         (λ l. none_else l (users_of extents (labels_of t) l) (unused l)) (others_of t)
 
-    all_hold : AllByRecursion (Holds t reach) (strongest_by t extents)
+    all_hold : AllByRecursion (Holds t limits) (strongest_by t extents)
     all_hold =
-        each_append (Holds t reach) (claims_among extents (programs_of t)) (claims_for extents (labels_of t) (others_of t)) among_hold for_hold
+        each_append (Holds t limits) (claims_among extents (programs_of t)) (claims_for extents (labels_of t) (others_of t)) among_hold for_hold
 
-  none_broken : (line : ℕ) (claims : List Stated) → AllByRecursion (Holds t reach) claims → AreBroken t reach line (map Some claims) []
+  none_broken : (line : ℕ) (claims : List Stated) → AllByRecursion (Holds t limits) claims → AreBroken t limits line (map Some claims) []
   none_broken line [] all = ended
   none_broken line (claim ∷ claims) all = held all.0 (none_broken (line + 1) claims all.1)
 
-  pub strongest_hold : (line : ℕ) (lines : List (Option Stated)) → AreStrongest t reach lines → AreBroken t reach line lines []
+  pub strongest_hold : (line : ℕ) (lines : List (Option Stated)) → AreStrongest t limits lines → AreBroken t limits line lines []
   strongest_hold line lines is =
-      subst (λ ls. AreBroken t reach line ls []) (sym is.is)
+      subst (λ ls. AreBroken t limits line ls []) (sym is.is)
       (none_broken line (strongest_by t is.extents) (all_hold is.extents is.are))
 
 -- there is one list
@@ -196,9 +196,9 @@ each_follows : (P Q : ℕ → Type 0) → ((x : ℕ) → P x → Q x) → (xs : 
 each_follows P Q follows [] all = tt
 each_follows P Q follows (x ∷ xs) all = (follows x all.0, each_follows P Q follows xs all.1)
 
-module _ (t : Layout) (reach : Reach) (one other : Extents) (is : AreExtents t reach one) (also : AreExtents t reach other) where
+module _ (t : Layout) (limits : Limits) (one other : Extents) (is : AreExtents t limits one) (also : AreExtents t limits other) where
   same_of : (a : ℕ) → a < length t.labels → one a ≡ other a
-  same_of a within = (λ i l. extents_once reach a l (one a l) (other a l) (is a l within) (also a l within) i)
+  same_of a within = (λ i l. extents_once limits a l (one a l) (other a l) (is a l within) (also a l within) i)
 
   labels_within : AllByRecursion (λ a. a < length t.labels) (labels_of t)
   labels_within = range_within 0 (length t.labels) (length t.labels) (omega arith)
@@ -219,7 +219,7 @@ module _ (t : Layout) (reach : Reach) (one other : Extents) (is : AreExtents t r
   same_strongest : strongest_by t one ≡ strongest_by t other
   same_strongest = (λ i. same_among i ++ map (λ l. only_these l (same_users l i)) (others_of t))
 
-pub strongest_once : (t : Layout) (reach : Reach) (one other : List (Option Stated)) → AreStrongest t reach one → AreStrongest t reach other
+pub strongest_once : (t : Layout) (limits : Limits) (one other : List (Option Stated)) → AreStrongest t limits one → AreStrongest t limits other
     → one ≡ other
-strongest_once t reach one other is also =
-    is.is ∙ ap (map Some) (same_strongest t reach is.extents also.extents is.are also.are) ∙ sym also.is
+strongest_once t limits one other is also =
+    is.is ∙ ap (map Some) (same_strongest t limits is.extents also.extents is.are also.are) ∙ sym also.is

@@ -2,23 +2,23 @@
 use Rattle.std.specs.Prelude.{ℕ, ◌<◌, ◌≡◌, ◌≢◌, true}
 use Rattle.base.specs.{declared.labels.Labels.Labels, Labels.is_in}
 use Rattle.machine.specs.Layout.{Layout}
-use Rattle.verdict.specs.Extents.{GoesTo, Reach}
+use Rattle.reach.specs.Extents.{GoesTo, Limits}
 use Rattle.claims.specs.{declared.claim.Most.Most, Holding.HasAtMost}
 use Rattle.stated.specs.{declared.{breaches.Breach.Breach, claim.Stated.Stated}, Holding.{Bounds, most_of}}
 
 -- these are the labels on which a label has more authority than this
-abbrev pub AreExcess : Reach → ℕ → Most → Labels → Type 0
-AreExcess reach a most labels =
-    (l : ℕ) → (is_in labels l ≡ true → ¬ HasAtMost reach a l most) × (is_in labels l ≢ true → HasAtMost reach a l most)
+abbrev pub AreExcess : Limits → ℕ → Most → Labels → Type 0
+AreExcess limits a most labels =
+    (l : ℕ) → (is_in labels l ≡ true → ¬ HasAtMost limits a l most) × (is_in labels l ≢ true → HasAtMost limits a l most)
 
 -- the first breach of a claim by this label
-pub record IsFirstBreachBy (t : Layout) (reach : Reach) (claim : Stated) (a : ℕ) (breach : Breach) : Type 0 where
+pub record IsFirstBreachBy (t : Layout) (limits : Limits) (claim : Stated) (a : ℕ) (breach : Breach) : Type 0 where
   pub by : breach.actor ≡ a
   pub bounded : Bounds t claim a breach.object
-  pub breaks : ¬ HasAtMost reach a breach.object (most_of claim)
-  pub goes_to : GoesTo reach a breach.object breach.extent
-  pub first : (l : ℕ) → Bounds t claim a l → l < breach.object → HasAtMost reach a l (most_of claim)
+  pub breaks : ¬ HasAtMost limits a breach.object (most_of claim)
+  pub goes_to : GoesTo limits a breach.object breach.extent
+  pub first : (l : ℕ) → Bounds t claim a l → l < breach.object → HasAtMost limits a l (most_of claim)
 
 -- the claim has none by this label
-abbrev pub HoldsOf : Layout → Reach → Stated → ℕ → Type 0
-HoldsOf t reach claim a = (l : ℕ) → Bounds t claim a l → HasAtMost reach a l (most_of claim)
+abbrev pub HoldsOf : Layout → Limits → Stated → ℕ → Type 0
+HoldsOf t limits claim a = (l : ℕ) → Bounds t claim a l → HasAtMost limits a l (most_of claim)

@@ -4,7 +4,7 @@ use Rattle.std.specs.{List.Contains, Prelude.{[], ℕ, ◌+◌, ◌<◌, ◌∷�
 use Rattle.base.specs.declared.kind.Kind.{Kind}
 use Rattle.machine.specs.{Authority.HasAuthority, Layout.Layout, Machine.Machine}
 use Rattle.integrity.specs.{Apart.NeverChanges, Safe.IsReached}
-use Rattle.verdict.specs.Extents.{GoesTo, MayChangeIn, MayShrinkIn, Reach}
+use Rattle.reach.specs.Extents.{GoesTo, MayChangeIn, MayShrinkIn, Limits}
 use Rattle.claims.specs.{declared.claim.Most.{Most, Most as most}, Holding.{ComesBefore, HasAtMost, KeepsAtMost}}
 use Rattle.stated.specs.declared.{breaches.Breach.Breach, claim.{Stated.{Stated, Stated as stated}, Who.{Who, Who as who}}}
 use Rattle.stated.specs.declared.deciding.{Broken.Broken, Failure.{Failure, Failure as failure}}
@@ -35,30 +35,30 @@ most_of _ = most.Nothing
 -- when it holds
 
 -- threads of a label may change objects of another, or make them smaller
-abbrev pub MayAffect : Reach → ℕ → ℕ → Type 0
-MayAffect reach a l = MayChangeIn reach a l ⊎ MayShrinkIn reach a l
+abbrev pub MayAffect : Limits → ℕ → ℕ → Type 0
+MayAffect limits a l = MayChangeIn limits a l ⊎ MayShrinkIn limits a l
 
 -- a chain of labels, each of which may so affect the next
-pub data Leads (reach : Reach) (from : ℕ) : ℕ → Type 0 where
-  starts : Leads reach from from
-  goes_on : {a l : ℕ} → Leads reach from a → MayAffect reach a l → Leads reach from l
+pub data Leads (limits : Limits) (from : ℕ) : ℕ → Type 0 where
+  starts : Leads limits from from
+  goes_on : {a l : ℕ} → Leads limits from a → MayAffect limits a l → Leads limits from l
 
 -- a set of labels that has the second and not the first: no label outside it may affect one in it
-pub record AreApart (reach : Reach) (from to : ℕ) : Type 0 where
+pub record AreApart (limits : Limits) (from to : ℕ) : Type 0 where
   pub inside : ℕ → Bool
   pub has : inside to ≡ true
   pub lacks : inside from ≡ false
-  pub closed : (a l : ℕ) → inside a ≡ false → inside l ≡ true → ¬ MayAffect reach a l
+  pub closed : (a l : ℕ) → inside a ≡ false → inside l ≡ true → ¬ MayAffect limits a l
 
 -- no label has more authority on another than the claim leaves it
-abbrev pub HoldsOnPairs : Layout → Reach → Stated → Type 0
-HoldsOnPairs t reach claim = (a l : ℕ) → Bounds t claim a l → HasAtMost reach a l (most_of claim)
+abbrev pub HoldsOnPairs : Layout → Limits → Stated → Type 0
+HoldsOnPairs t limits claim = (a l : ℕ) → Bounds t claim a l → HasAtMost limits a l (most_of claim)
 
-abbrev pub Holds : Layout → Reach → Stated → Type 0
-Holds t reach (stated.AtMost limit actor object) = HoldsOnPairs t reach (stated.AtMost limit actor object)
-Holds t reach (stated.Only object actors) = HoldsOnPairs t reach (stated.Only object actors)
-Holds t reach (stated.Apart from to) = AreApart reach from to
-Holds t reach (stated.Without actor kind object) = reach.test actor kind object ≡ false
+abbrev pub Holds : Layout → Limits → Stated → Type 0
+Holds t limits (stated.AtMost limit actor object) = HoldsOnPairs t limits (stated.AtMost limit actor object)
+Holds t limits (stated.Only object actors) = HoldsOnPairs t limits (stated.Only object actors)
+Holds t limits (stated.Apart from to) = AreApart limits from to
+Holds t limits (stated.Without actor kind object) = limits.test actor kind object ≡ false
 
 -- what is kept in every run
 
@@ -86,38 +86,38 @@ IsKept t (stated.Without actor kind object) = NeverHas t actor kind object
 -- where it doesn't hold
 
 -- the first pair of labels, by label and then label, that has more authority than a claim leaves; and how far that goes
-pub record IsFirstBreach (t : Layout) (reach : Reach) (claim : Stated) (breach : Breach) : Type 0 where
+pub record IsFirstBreach (t : Layout) (limits : Limits) (claim : Stated) (breach : Breach) : Type 0 where
   pub bounded : Bounds t claim breach.actor breach.object
-  pub breaks : ¬ HasAtMost reach breach.actor breach.object (most_of claim)
-  pub goes_to : GoesTo reach breach.actor breach.object breach.extent
-  pub first : (a l : ℕ) → Bounds t claim a l → ComesBefore a l breach.actor breach.object → HasAtMost reach a l (most_of claim)
+  pub breaks : ¬ HasAtMost limits breach.actor breach.object (most_of claim)
+  pub goes_to : GoesTo limits breach.actor breach.object breach.extent
+  pub first : (a l : ℕ) → Bounds t claim a l → ComesBefore a l breach.actor breach.object → HasAtMost limits a l (most_of claim)
 
 -- what is told of a claim that doesn't hold: its first breach, if it bounds pairs; else that there is a chain, or the edge
 
-abbrev pub FailsOnPair : Layout → Reach → Stated → Failure → Type 0
-FailsOnPair t reach claim (failure.Pair breach) = IsFirstBreach t reach claim breach
-FailsOnPair t reach claim failure.Chain = ⊥
-FailsOnPair t reach claim failure.Edge = ⊥
+abbrev pub FailsOnPair : Layout → Limits → Stated → Failure → Type 0
+FailsOnPair t limits claim (failure.Pair breach) = IsFirstBreach t limits claim breach
+FailsOnPair t limits claim failure.Chain = ⊥
+FailsOnPair t limits claim failure.Edge = ⊥
 
-abbrev pub Fails : Layout → Reach → Stated → Failure → Type 0
-Fails t reach (stated.AtMost limit actor object) told = FailsOnPair t reach (stated.AtMost limit actor object) told
-Fails t reach (stated.Only object actors) told = FailsOnPair t reach (stated.Only object actors) told
-Fails t reach (stated.Apart from to) told = (told ≡ failure.Chain) × Leads reach from to
-Fails t reach (stated.Without actor kind object) told = (told ≡ failure.Edge) × (reach.test actor kind object ≡ true)
+abbrev pub Fails : Layout → Limits → Stated → Failure → Type 0
+Fails t limits (stated.AtMost limit actor object) told = FailsOnPair t limits (stated.AtMost limit actor object) told
+Fails t limits (stated.Only object actors) told = FailsOnPair t limits (stated.Only object actors) told
+Fails t limits (stated.Apart from to) told = (told ≡ failure.Chain) × Leads limits from to
+Fails t limits (stated.Without actor kind object) told = (told ≡ failure.Edge) × (limits.test actor kind object ≡ true)
 
 -- the claim of a line doesn't hold
-pub record IsBroken (t : Layout) (reach : Reach) (line : ℕ) (claim : Stated) (broken : Broken) : Type 0 where
+pub record IsBroken (t : Layout) (limits : Limits) (line : ℕ) (claim : Stated) (broken : Broken) : Type 0 where
   pub line_is : broken.line ≡ line
-  pub breaks : ¬ Holds t reach claim
-  pub fails : Fails t reach claim broken.failure
+  pub breaks : ¬ Holds t limits claim
+  pub fails : Fails t limits claim broken.failure
 
 -- of lines from this number on, these are all whose claims don't hold, in their order
-pub data AreBroken (t : Layout) (reach : Reach) : ℕ → List (Option Stated) → List Broken → Type 0 where
-  ended : {line : ℕ} → AreBroken t reach line [] []
+pub data AreBroken (t : Layout) (limits : Limits) : ℕ → List (Option Stated) → List Broken → Type 0 where
+  ended : {line : ℕ} → AreBroken t limits line [] []
   silent : {line : ℕ} {entries : List (Option Stated)} {all : List Broken}
-      → AreBroken t reach (line + 1) entries all → AreBroken t reach line (None ∷ entries) all
+      → AreBroken t limits (line + 1) entries all → AreBroken t limits line (None ∷ entries) all
   held : {line : ℕ} {claim : Stated} {entries : List (Option Stated)} {all : List Broken}
-      → Holds t reach claim → AreBroken t reach (line + 1) entries all → AreBroken t reach line (Some claim ∷ entries) all
+      → Holds t limits claim → AreBroken t limits (line + 1) entries all → AreBroken t limits line (Some claim ∷ entries) all
   broke : {line : ℕ} {claim : Stated} {broken : Broken} {entries : List (Option Stated)} {all : List Broken}
-      → IsBroken t reach line claim broken → AreBroken t reach (line + 1) entries all
-      → AreBroken t reach line (Some claim ∷ entries) (broken ∷ all)
+      → IsBroken t limits line claim broken → AreBroken t limits (line + 1) entries all
+      → AreBroken t limits line (Some claim ∷ entries) (broken ∷ all)

@@ -1,17 +1,17 @@
 -- The rows of a system: how far each label goes with each label (confine's own).
 use Rattle.std.specs.Prelude.{ℕ, ◌↔◌, ◌≡◌, Some, get_or, if◌then◌else◌, slice_get, true}
 use Rattle.base.specs.Labels.{is_in, no_labels}
-use Rattle.verdict.specs.{declared.extent.Extent.{Extent, Extent as extent}, Extents.{MayChangeIn, MayShrinkIn, Reach}}
+use Rattle.reach.specs.{declared.extent.Extent.{Extent, Extent as extent}, Extents.{MayChangeIn, MayShrinkIn, Limits}}
 use Rattle.stated.specs.{declared.rows.{Row.Row, Rows.Rows}, Strongest.Extents}
 
 -- these are the labels whose objects threads of a label may change, and those whose objects they may make smaller
-pub record IsRow (reach : Reach) (a : ℕ) (row : Row) : Type 0 where
-  pub changed : (l : ℕ) → (is_in row.changed l ≡ true) ↔ MayChangeIn reach a l
-  pub shrunk : (l : ℕ) → (is_in row.shrunk l ≡ true) ↔ MayShrinkIn reach a l
+pub record IsRow (limits : Limits) (a : ℕ) (row : Row) : Type 0 where
+  pub changed : (l : ℕ) → (is_in row.changed l ≡ true) ↔ MayChangeIn limits a l
+  pub shrunk : (l : ℕ) → (is_in row.shrunk l ≡ true) ↔ MayShrinkIn limits a l
 
 -- each label has its row at its number
-abbrev pub AreRows : Reach → Rows → Type 0
-AreRows reach rows = (a : ℕ) (row : Row) → slice_get rows.rows.items a ≡ Some row → IsRow reach a row
+abbrev pub AreRows : Limits → Rows → Type 0
+AreRows limits rows = (a : ℕ) (row : Row) → slice_get rows.rows.items a ≡ Some row → IsRow limits a row
 
 -- how far a row goes with a label
 abbrev pub row_extent : Row → ℕ → Extent

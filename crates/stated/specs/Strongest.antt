@@ -3,7 +3,7 @@
 use Rattle.std.specs.{List.{filter, flat_map}, Prelude.{[], ℕ, ◌&&◌, ◌++◌, ◌<◌, ◌==◌, ◌∷◌, ◌≡◌, Bool, List, Option, Some, false, if◌then◌else◌, map, not}}
 use Rattle.std.specs.Prelude.{length, true}
 use Rattle.machine.specs.Layout.{Layout}
-use Rattle.verdict.specs.{declared.extent.Extent.{Extent, Extent as extent}, Extents.{GoesTo, Reach}}
+use Rattle.reach.specs.{declared.extent.Extent.{Extent, Extent as extent}, Extents.{GoesTo, Limits}}
 use Rattle.claims.specs.declared.claim.Most.{Most as most}
 use Rattle.summary.specs.Labelled.{labels_of, others_of, programs_of}
 use Rattle.stated.specs.declared.claim.{Stated.{Stated, Stated as stated}, Who.{Who as who}}
@@ -13,8 +13,8 @@ abbrev pub Extents : Type 0
 Extents = ℕ → ℕ → Extent
 
 -- the labels of a table go so far
-abbrev pub AreExtents : Layout → Reach → Extents → Type 0
-AreExtents t reach extents = (a l : ℕ) → a < length t.labels → GoesTo reach a l (extents a l)
+abbrev pub AreExtents : Layout → Limits → Extents → Type 0
+AreExtents t limits extents = (a l : ℕ) → a < length t.labels → GoesTo limits a l (extents a l)
 
 -- labels with a thread
 
@@ -71,7 +71,7 @@ abbrev pub strongest_by : Layout → Extents → List Stated
 strongest_by t extents = claims_among extents (programs_of t) ++ claims_for extents (labels_of t) (others_of t)
 
 -- lines that say the strongest claims, one each
-pub record AreStrongest (t : Layout) (reach : Reach) (lines : List (Option Stated)) : Type 0 where
+pub record AreStrongest (t : Layout) (limits : Limits) (lines : List (Option Stated)) : Type 0 where
   pub extents : Extents
-  pub are : AreExtents t reach extents
+  pub are : AreExtents t limits extents
   pub is : lines ≡ map Some (strongest_by t extents)

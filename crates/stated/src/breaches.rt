@@ -3,7 +3,7 @@ ghost use Rattle.std.specs.{List.{Contains, list_any}, Prelude.{ℕ, ◌==◌, �
 ghost use Rattle.base.specs.Labels.{is_in};
 ghost use Rattle.machine.specs.Layout.{Layout};
 ghost use Rattle.table.specs.Names.{AreLabelsOf};
-ghost use Rattle.verdict.specs.Extents.{Reach};
+ghost use Rattle.reach.specs.Extents.{Limits};
 ghost use Rattle.stated.specs.{Breaches.{AreExcess, HoldsOf, IsFirstBreachBy}, Holding.Bounds};
 ghost use Rattle.stated.specs.{Holding.{HoldsOnPairs, IsFirstBreach, IsNamed, most_of}, Rows.{AreRows, IsRow}};
 
@@ -11,7 +11,7 @@ use crate::claim::{LabelList, Stated, Who};
 use crate::rows::{Row, Rows};
 use base::{Label, Labels};
 use claims::Most;
-use verdict::Extent;
+use reach::Extent;
 
 /// Two labels of which the one has more authority on the other than a claim leaves it.
 #[derive(Clone, Copy, PartialEq, Eq, Debug)]
@@ -91,7 +91,7 @@ fn objects_of(claim: &Stated, labels: Labels, actor: Label) -> Labels
 
 /// The labels on which a label has more authority than this.
 fn excess(most: Most, row: Row) -> Labels
-    ensures { (reach : Reach) (a : ℕ) → IsRow reach a row → AreExcess reach a most result }
+    ensures { (limits : Limits) (a : ℕ) → IsRow limits a row → AreExcess limits a most result }
 {
     match most {
         Most::Nothing => row.affected(),
@@ -111,10 +111,10 @@ fn most_of(claim: &Stated) -> Most
 
 /// Returns the first pair of labels that has more authority than a claim leaves, if there is one.
 pub(crate) fn first_breach(rows: &Rows, labels: Labels, claim: &Stated) -> Option<Breach>
-    ensures some { IfSome result (λ breach. (t : Layout) (reach : Reach) → AreLabelsOf t labels → AreRows reach rows.now
-        → IsFirstBreach t reach claim.now breach) }
-    ensures none { IfNone result ((t : Layout) (reach : Reach) → AreLabelsOf t labels → AreRows reach rows.now
-        → HoldsOnPairs t reach claim.now) }
+    ensures some { IfSome result (λ breach. (t : Layout) (limits : Limits) → AreLabelsOf t labels → AreRows limits rows.now
+        → IsFirstBreach t limits claim.now breach) }
+    ensures none { IfNone result ((t : Layout) (limits : Limits) → AreLabelsOf t labels → AreRows limits rows.now
+        → HoldsOnPairs t limits claim.now) }
 {
     for number in 0..Label::COUNT {
         if let Some(actor) = Label::new(number) {
@@ -128,10 +128,10 @@ pub(crate) fn first_breach(rows: &Rows, labels: Labels, claim: &Stated) -> Optio
 
 /// The first object of a pair with this label, if one has more.
 fn first_breach_by(row: Row, labels: Labels, claim: &Stated, actor: Label) -> Option<Breach>
-    ensures some { IfSome result (λ breach. (t : Layout) (reach : Reach) → AreLabelsOf t labels → IsRow reach actor row
-        → IsFirstBreachBy t reach claim.now actor breach) }
-    ensures none { IfNone result ((t : Layout) (reach : Reach) → AreLabelsOf t labels → IsRow reach actor row
-        → HoldsOf t reach claim.now actor) }
+    ensures some { IfSome result (λ breach. (t : Layout) (limits : Limits) → AreLabelsOf t labels → IsRow limits actor row
+        → IsFirstBreachBy t limits claim.now actor breach) }
+    ensures none { IfNone result ((t : Layout) (limits : Limits) → AreLabelsOf t labels → IsRow limits actor row
+        → HoldsOf t limits claim.now actor) }
 {
     let objects = objects_of(claim, labels, actor);
     let object = objects.intersection(excess(most_of(claim), row)).first()?;

@@ -1,7 +1,7 @@
-//! The strongest claims that hold of a system.
+//! The strongest claims that hold of a table.
 ghost use Rattle.std.specs.{List.{Contains, flat_map}, Prelude.{[], ◌++◌, ◌≡◌, IfErr, IfOk, OnOk, Some, map}};
 ghost use Rattle.base.specs.Refusals.{out_of_memory};
-ghost use Rattle.verdict.specs.Extents.{reach_of};
+ghost use Rattle.reach.specs.Extents.{limits_of};
 ghost use Rattle.summary.specs.Labelled.{labels_of};
 ghost use Rattle.stated.specs.{declared.claim.Stated.Stated as StatedOf, Holding.{AreBroken, IsKept}, Rows.extents_of};
 ghost use Rattle.stated.specs.{Rows.row_extent, Strongest.{AreStrongest, affects, claims_among, claims_for, claims_on}};
@@ -13,12 +13,12 @@ use crate::lines::StatedLines;
 use crate::rows::{Row, Rows};
 use base::{Label, Refusal};
 use claims::Most;
+use reach::{Extent, Reach};
 use std::alloc::{AllocError, Global};
 use summary::{others, programs};
 use table::Table;
-use verdict::{Bounds, Extent};
 
-/// Returns the strongest claims that hold of an accepted system, one a line.
+/// Returns the strongest claims that hold of a table with this reach, one a line.
 ///
 /// For labels that have a thread these are `none` and `take`, on each pair of them on which less than full
 /// authority is left. For each label without a thread it is one `only` with all other labels that may change
@@ -29,31 +29,27 @@ use verdict::{Bounds, Extent};
 /// # Errors
 ///
 /// 40 where memory is refused.
-pub fn strongest(alloc: Global, bounds: &Bounds<'_>) -> Result<StatedLines, Refusal>
-    ensures strongest { IfOk result (AreStrongest bounds.now.system.table (reach_of bounds.now)) }
+pub fn strongest(alloc: Global, reach: &Reach<'_>) -> Result<StatedLines, Refusal>
+    ensures strongest { IfOk result (AreStrongest reach.now.table (limits_of reach.now)) }
     ensures hold { IfOk result (λ lines.
-        AreBroken bounds.now.system.table (reach_of bounds.now) StatedLines.FIRST lines []) }
+        AreBroken reach.now.table (limits_of reach.now) StatedLines.FIRST lines []) }
     ensures kept { IfOk result (λ lines.
-        (claim : StatedOf) → Contains lines (Some claim) → IsKept bounds.now.system.table claim) }
+        (claim : StatedOf) → Contains lines (Some claim) → IsKept reach.now.table claim) }
     ensures memory { IfErr result (λ refusal. refusal ≡ out_of_memory) }
 {
-    // That its system is accepted, it tells with its actors.
-    let _ = bounds.actors();
-    let lines = strongest_by(alloc, bounds.table(), bounds)?;
+    // That every run keeps to it, a reach tells with its policy.
+    reach.policy();
+    let lines = strongest_by(alloc, reach.table(), reach)?;
     Ok(lines)
 }
 
-/// The strongest claims that hold by the bounds, on the labels of a table.
-fn strongest_by(
-    alloc: Global,
-    table: &Table,
-    bounds: &Bounds<'_>,
-) -> Result<StatedLines, AllocError>
-    ensures { IfOk result (AreStrongest table.now (reach_of bounds.now)) }
+/// The strongest claims that hold by the reach, on the labels of a table.
+fn strongest_by(alloc: Global, table: &Table, reach: &Reach<'_>) -> Result<StatedLines, AllocError>
+    ensures { IfOk result (AreStrongest table.now (limits_of reach.now)) }
 {
     // That its labels are few is a rule of the table's own, which it tells with its objects.
     let _ = table.objects();
-    let rows = Rows::of(alloc, bounds)?;
+    let rows = Rows::of(alloc, reach)?;
     let programs = programs(alloc, table)?;
     let others = others(alloc, table)?;
     let mut lines = StatedLines::new(alloc);

@@ -1,7 +1,7 @@
 //! Which labels a chain of changes leads to.
 ghost use Rattle.std.specs.Prelude.{ℕ, ◌↔◌, ◌≡◌, true};
 ghost use Rattle.base.specs.Labels.{is_in};
-ghost use Rattle.verdict.specs.Extents.{Reach};
+ghost use Rattle.reach.specs.Extents.{Limits};
 ghost use Rattle.stated.specs.{Holding.Leads, Rows.AreRows};
 
 use crate::rows::Rows;
@@ -9,7 +9,7 @@ use base::{Label, Labels};
 
 /// Returns the labels to which a chain of changes leads from this one, and the label itself.
 pub(crate) fn reached(rows: &Rows, from: Label) -> Labels
-    ensures { (reach : Reach) → AreRows reach rows.now → (l : ℕ) → (is_in result l ≡ true) ↔ Leads reach from l }
+    ensures { (limits : Limits) → AreRows limits rows.now → (l : ℕ) → (is_in result l ≡ true) ↔ Leads limits from l }
 {
     // The labels of `done` have their rows in `reached`.
     let mut done = Labels::none();

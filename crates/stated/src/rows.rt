@@ -2,11 +2,11 @@
 ghost use Rattle.std.specs.Prelude.{ℕ, ◌||◌, ◌≡◌, IfOk, Some, slice_get, vec_len};
 ghost use Rattle.base.specs.declared.label.TheConstants.Label as Label;
 ghost use Rattle.base.specs.Labels.{is_in};
-ghost use Rattle.verdict.specs.Extents.{GoesTo, Reach, reach_of};
+ghost use Rattle.reach.specs.Extents.{GoesTo, Limits, limits_of};
 
 use base::{Label, Labels};
+use reach::{Extent, Reach};
 use std::alloc::{AllocError, Global};
-use verdict::{Bounds, Extent};
 
 /// How far a label goes with each label.
 #[derive(Clone, Copy)]
@@ -19,12 +19,12 @@ impl Row {
     ghost use Rattle.stated.specs.Rows.{IsRow, row_extent};
 
     /// Returns how far a label goes in a system.
-    fn of(bounds: &Bounds<'_>, actor: Label) -> Row
-        ensures { IsRow (reach_of bounds.now) actor result }
+    fn of(reach: &Reach<'_>, actor: Label) -> Row
+        ensures { IsRow (limits_of reach.now) actor result }
     {
         Row {
-            changed: bounds.changed_by(actor),
-            shrunk: bounds.shrunk_by(actor),
+            changed: reach.changed_by(actor),
+            shrunk: reach.shrunk_by(actor),
         }
     }
 
@@ -38,7 +38,7 @@ impl Row {
     /// Returns how far it goes with this label.
     pub fn on(self, object: Label) -> Extent
         ensures extent { result ≡ row_extent self object }
-        ensures goes_to { (reach : Reach) (a : ℕ) → IsRow reach a self → GoesTo reach a object result }
+        ensures goes_to { (limits : Limits) (a : ℕ) → IsRow limits a self → GoesTo limits a object result }
     {
         if self.changed.has(object) {
             return Extent::Full;
@@ -65,13 +65,13 @@ impl Rows {
     /// # Errors
     ///
     /// [`AllocError`] where memory is refused.
-    pub fn of(alloc: Global, bounds: &Bounds<'_>) -> Result<Rows, AllocError>
-        ensures { IfOk result (AreRows (reach_of bounds.now)) }
+    pub fn of(alloc: Global, reach: &Reach<'_>) -> Result<Rows, AllocError>
+        ensures { IfOk result (AreRows (limits_of reach.now)) }
     {
         let mut rows = Vec::with_capacity(alloc, usize::from(Label::COUNT))?;
         for number in 0..Label::COUNT {
             if let Some(actor) = Label::new(number) {
-                rows.push(Row::of(bounds, actor))?;
+                rows.push(Row::of(reach, actor))?;
             }
         }
         Ok(Rows { rows })

@@ -4,7 +4,7 @@ use Rattle.std.specs.Prelude.{ℕ, ◌≡◌}
 use Rattle.base.specs.declared.kind.Kind.{Kind, TheVariants.{Call, Notify, Receive, Reply, Send}}
 use Rattle.policy.specs.{Change.{ActorTest, MayChangeContext, WayToChange}, Domain.EdgeTest}
 use Rattle.policy.specs.Change.{binds, configures, grants, lends, links, modifies, notifies, own, receives, replies, returns, sends, shares}
-use Rattle.verdict.specs.Extents.{MayChangeIn, Reach}
+use Rattle.reach.specs.Extents.{MayChangeIn, Limits}
 
 -- by a call or a send, by an answer or by taking a call, by a signal, or by something else
 pub data Letter : Type 0 where
@@ -43,5 +43,5 @@ way_letter (grants endpoint receiver granted received waits controlled) = by_oth
 way_letter (replies answer) = by_answer
 
 -- in some way with the letter threads of one label may change objects of another
-abbrev pub HasLetter : Letter → Reach → ℕ → ℕ → Type 0
-HasLetter letter reach a l = (may : MayChangeIn reach a l) × (way_letter may.way ≡ letter)
+abbrev pub HasLetter : Letter → Limits → ℕ → ℕ → Type 0
+HasLetter letter limits a l = (may : MayChangeIn limits a l) × (way_letter may.way ≡ letter)

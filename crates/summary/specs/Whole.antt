@@ -1,7 +1,7 @@
--- The whole summary of an accepted system (confine's own).
+-- The whole summary of the reach of a table (confine's own).
 use Rattle.std.specs.Prelude.{[], ℕ, ◌++◌, ◌∷◌, ◌≡◌, List, codes}
 use Rattle.machine.specs.Layout.{Layout}
-use Rattle.verdict.specs.Extents.{ActingSystem}
+use Rattle.reach.specs.Reach.{TableReach}
 use Rattle.summary.specs.{Labelled.others_of, Matrix.{matrix_text, page_of}, Regions.regions_text, Rows.AreRows}
 use Rattle.summary.specs.declared.{rows.Row.Row, writing.TheConstants.HEAD}
 
@@ -17,7 +17,7 @@ summary_text t (row ∷ rows) =
     HEAD.now ++ (matrix_text t (page_of t (row ∷ rows)) (row ∷ rows) ++ others_text t (row ∷ rows) (others_of t))
 
 -- a text is the summary of a system
-pub record IsSummary (acting : ActingSystem) (text : List ℕ) : Type 0 where
+pub record IsSummary (reach : TableReach) (text : List ℕ) : Type 0 where
   pub rows : List Row
-  pub are : AreRows acting rows
-  pub is : text ≡ summary_text acting.system.table rows
+  pub are : AreRows reach rows
+  pub is : text ≡ summary_text reach.table rows

@@ -2,7 +2,7 @@
 ghost use Rattle.std.specs.Prelude.{ℕ, ◌≡◌, IfOk};
 ghost use Rattle.base.specs.Labels.{is_in};
 ghost use Rattle.policy.specs.{Policy.allows};
-ghost use Rattle.verdict.specs.Extents.{reach_by};
+ghost use Rattle.reach.specs.Extents.{limits_by};
 ghost use Rattle.summary.specs.{Rows.{AreRowsOf, IsRowOf}, Sharing.{IsShared, reads_of}};
 
 use crate::edges::row;
@@ -48,7 +48,7 @@ pub fn rows_of(
     policy: &Policy,
     actors: Labels,
 ) -> Result<Vec<Row>, AllocError>
-    ensures { IfOk result (λ rows. AreRowsOf table.now (reach_by policy.now actors) rows.items) }
+    ensures { IfOk result (λ rows. AreRowsOf table.now (limits_by policy.now actors) rows.items) }
 {
     let ways = Ways::new(alloc, policy, actors)?;
     let sharers = sharers(alloc, table, policy)?;
@@ -85,7 +85,7 @@ fn row_of(
     requires shared { IsShared table.now (allows policy.now) sharers.now }
     ensures label { result.label ≡ label }
     ensures number { result.number ≡ number }
-    ensures row { IsRowOf table.now (reach_by policy.now actors) result }
+    ensures row { IsRowOf table.now (limits_by policy.now actors) result }
 {
     Row {
         number,

@@ -3,7 +3,7 @@ ghost use Rattle.std.specs.Prelude.{ℕ, ◌↔◌, ◌≡◌, ◌⊎◌, IfOk, 
 ghost use Rattle.base.specs.declared.kind.Kind.TheVariants as authority;
 ghost use Rattle.base.specs.Labels.{is_in};
 ghost use Rattle.policy.specs.{Change.MayHoldCaller, Policy.allows};
-ghost use Rattle.verdict.specs.Extents.{reach_by};
+ghost use Rattle.reach.specs.Extents.{limits_by};
 ghost use Rattle.summary.specs.Letters.{HasLetter, by_answer, by_call, by_other, by_signal};
 ghost use Rattle.summary.specs.Ways.{IsBeside, IsCallers, IsHeldBy};
 
@@ -69,7 +69,7 @@ impl<'a> Ways<'a> {
     /// Returns the labels that the label may change by a call or a send.
     pub(crate) fn calls(&self, actor: Label) -> Labels
         ensures { (l : ℕ) → (is_in result l ≡ true)
-            ↔ HasLetter by_call (reach_by self.now.edges self.now.actors) actor l }
+            ↔ HasLetter by_call (limits_by self.now.edges self.now.actors) actor l }
     {
         if !self.actors.has(actor) {
             return Labels::none();
@@ -87,7 +87,7 @@ impl<'a> Ways<'a> {
     /// Returns the labels that the label may change by an answer, or by taking a call or a message.
     pub(crate) fn answers(&self, actor: Label) -> Labels
         ensures { (l : ℕ) → (is_in result l ≡ true)
-            ↔ HasLetter by_answer (reach_by self.now.edges self.now.actors) actor l }
+            ↔ HasLetter by_answer (limits_by self.now.edges self.now.actors) actor l }
     {
         if !self.actors.has(actor) {
             return Labels::none();
@@ -106,7 +106,7 @@ impl<'a> Ways<'a> {
     /// Returns the labels that the label may change by a signal.
     pub(crate) fn signals(&self, actor: Label) -> Labels
         ensures { (l : ℕ) → (is_in result l ≡ true)
-            ↔ HasLetter by_signal (reach_by self.now.edges self.now.actors) actor l }
+            ↔ HasLetter by_signal (limits_by self.now.edges self.now.actors) actor l }
     {
         if !self.actors.has(actor) {
             return Labels::none();
@@ -119,7 +119,7 @@ impl<'a> Ways<'a> {
     /// Returns the labels that the label may change in another way.
     pub(crate) fn others(&self, actor: Label) -> Labels
         ensures { (l : ℕ) → (is_in result l ≡ true)
-            ↔ HasLetter by_other (reach_by self.now.edges self.now.actors) actor l }
+            ↔ HasLetter by_other (limits_by self.now.edges self.now.actors) actor l }
     {
         if !self.actors.has(actor) {
             return Labels::none();

@@ -9,9 +9,9 @@ use crate::matrix::write_matrix;
 use crate::regions::write_regions;
 use crate::rows::{Row, rows_of};
 use base::Refusal;
+use reach::Reach;
 use std::alloc::{AllocError, Global};
 use table::Table;
-use verdict::Bounds;
 
 /// What the summary begins with.
 const HEAD: &str = "\
@@ -19,18 +19,18 @@ who may change whom, in any run: C calls, A answers, S signals, F for another re
 . never; m: memory that one writes and the other has
 ";
 
-/// Returns the summary of an accepted system: a matrix of who may change whom in any run, and the labels
+/// Returns the summary of a table with this reach: a matrix of who may change whom in any run, and the labels
 /// without a thread with those who change and read them.
 ///
 /// # Errors
 ///
 /// 40 where memory is refused.
-pub fn summary(alloc: Global, bounds: &Bounds<'_>) -> Result<Vec<u8>, Refusal>
-    ensures text { IfOk result (λ text. IsSummary bounds.now text.items) }
+pub fn summary(alloc: Global, reach: &Reach<'_>) -> Result<Vec<u8>, Refusal>
+    ensures text { IfOk result (λ text. IsSummary reach.now text.items) }
     ensures memory { IfErr result (λ refusal. refusal ≡ out_of_memory) }
 {
-    let table = bounds.table();
-    let rows = rows_of(alloc, table, bounds.policy(), bounds.actors())?;
+    let table = reach.table();
+    let rows = rows_of(alloc, table, reach.policy(), reach.actors())?;
     Ok(summary_of(alloc, table, &rows)?.into_bytes())
 }
 

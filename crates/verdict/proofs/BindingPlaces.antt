@@ -23,7 +23,7 @@ pub declared_bound :
 declared_bound t thread context (inl bound) = bound
 declared_bound t thread context (inr lent) = absurd (none-some context lent)
 
-begins_later : (place : List ℕ) → get_or place 0 0 < a1 → Begins (a4 ∷ []) place → ⊥
+pub begins_later : (place : List ℕ) → get_or place 0 0 < a1 → Begins (a4 ∷ []) place → ⊥
 begins_later [] below begins = begins
 begins_later (x ∷ xs) below begins = omega (arith, below, begins.0)
 
@@ -36,6 +36,7 @@ bindings t allowed lawful = record { covers = covers; rises = rises } where
       let b = bound_at t thread context (declared_bound t thread context h.1.there) in
       (b.at, b.element, b.here, (refl, (ap (λ x. x.0) b.key_is, tt)))
   covers (denial.Policy broken) h = absurd (begins_later (broken_place broken) (first_rules broken) h.0)
+  covers (denial.Sharp broken) h = absurd h.1
   covers _ h = absurd (omega (arith, h.0.0))
 
   rises :

@@ -7,10 +7,11 @@ use Rattle.machine.specs.{Boot.bound, Layout.{Layout, bound_context, initial_of}
 use Rattle.machine.specs.declared.object.ObjectKind.TheVariants as kind
 use Rattle.table.{specs.Rules.{IsBindingOf, IsBlank, IsLawful, kind_at}, proofs.AtBoot.{boot_kind, boot_label, initial_lawful, rest_lends}}
 use Rattle.table.proofs.{AtBoot.rest_links, Lookups.bound_at}
-use Rattle.policy.{specs.{Closed.IsClosed, Domain.EdgeTest}, proofs.Unbroken.{closed_if, unbroken}}
+use Rattle.policy.{specs.{Closed.IsClosed, Domain.EdgeTest, Places.IsNone}, proofs.Unbroken.{closed_if, unbroken}}
 use Rattle.integrity.specs.Confined.{IsConfined}
 use Rattle.verdict.specs.{declared.denial.Denial.Denial, Rules.{Exceeds, Excess}, Sources.{Sources, holds_in, keeps_in, lent_context_in}}
-use Rattle.verdict.specs.{Sources.{of_machine, of_table, own_context_in}, Verdict.{Breaks, IsAccepted, IsLeastBroken, IsOutside, excess_of}}
+use Rattle.verdict.specs.{Sources.{of_machine, of_table, own_context_in}, Verdict.{Breaks, IsAccepted, IsExceeded, IsLeastBroken}}
+use Rattle.verdict.specs.Verdict.{IsOutside, excess_of}
 use Rattle.verdict.proofs.{DenialPlaces.{denial_at, exceeded_at, exceeded_there, numbered}, Outsides.{confined_within, within_confined}}
 use Rattle.verdict.proofs.RuleOrder.{policy_first}
 use Rattle.verdict.specs.declared.denial.Denial.TheVariants as denial
@@ -91,6 +92,7 @@ module _ (t : Layout) (allowed : EdgeTest) where
   -- a rule is broken at a place where the table declares authority outside there
   broken_there : (d : Denial) (place : Excess) → excess_of d ≡ Some place → Breaks t allowed d ↔ Exceeds (of_table t) allowed place
   broken_there (denial.Policy _) place is = absurd (none-some place is)
+  broken_there (denial.Sharp _) place is = absurd (none-some place is)
   broken_there d place is = exceeded_there (of_table t) allowed d place is
 
   -- where it is the first that is broken, the policy is closed
@@ -134,6 +136,15 @@ module _ (t : Layout) (m : Machine) (lawful : IsLawful t) (boot : IsBoot t m) wh
     λ out. (broken_there t allowed d place is).1 ((exceeds_same allowed place).1 out),
   )
 
+  -- and so the policy is exceeded as its denial says, whichever rules it has to obey itself
+  exceeded_outside :
+      (allowed : EdgeTest) (d : Denial) (place : Excess) → excess_of d ≡ Some place
+      → IsExceeded (of_table t) allowed d ↔ Exceeds (of_machine t m) allowed place
+  exceeded_outside allowed d place is = (
+    λ exceeded. (exceeds_same allowed place).0 ((exceeded_there (of_table t) allowed d place is).0 exceeded),
+    λ out. (exceeded_there (of_table t) allowed d place is).1 ((exceeds_same allowed place).1 out),
+  )
+
   -- and each such place has its denial
   pub outside_declared :
       (allowed : EdgeTest) (place : Excess) → Exceeds (of_machine t m) allowed place
@@ -141,11 +152,17 @@ module _ (t : Layout) (m : Machine) (lawful : IsLawful t) (boot : IsBoot t m) wh
   outside_declared allowed place out =
       let d = denial_at place in (d.0, d.1, (broken_outside allowed d.0 place d.1).1 out)
 
-  -- so the boot state of an accepted table is confined
-  pub boot_confined : (allowed : EdgeTest) → IsAccepted t allowed → IsConfined t allowed m
-  boot_confined allowed accepted =
+  -- so the boot state is confined exactly where the policy is exceeded nowhere
+
+  pub boot_confined : (allowed : EdgeTest) → IsNone (IsExceeded (of_table t) allowed) → IsConfined t allowed m
+  boot_confined allowed none =
       confined_within t allowed m
-      (λ place out. let broken = outside_declared allowed place out in accepted broken.0 broken.2)
+      (λ place out. let denied = denial_at place in none denied.0 ((exceeded_outside allowed denied.0 place denied.1).1 out))
+
+  pub confined_unexceeded : (allowed : EdgeTest) → IsConfined t allowed m → IsNone (IsExceeded (of_table t) allowed)
+  confined_unexceeded allowed confined d exceeded =
+      let at = exceeded_at (of_table t) allowed d exceeded in
+      within_confined t allowed m confined at.0 ((exceeded_outside allowed d at.0 at.1).0 exceeded)
 
   -- and where it is, and the policy is closed, no rule is broken
   pub confined_accepted : (allowed : EdgeTest) → IsClosed allowed → IsConfined t allowed m → IsAccepted t allowed

@@ -8,6 +8,7 @@ use Rattle.verdict.specs.Rules.{Exceeds, Excess, binding, capability, excess_pla
 -- by the same numbers
 pub numbered : (d : Denial) (place : Excess) → excess_of d ≡ Some place → place_of d ≡ excess_place place
 numbered (denial.Policy _) place is = absurd (none-some place is)
+numbered (denial.Sharp _) place is = absurd (none-some place is)
 numbered (denial.Certificate _) place is = absurd (none-some place is)
 numbered d place is = ap (λ e. option_map_or excess_place e []) is
 
@@ -18,6 +19,14 @@ denial_at (pair child parent) = (denial.Pair child parent, refl)
 denial_at (binding thread context) = (denial.Binding thread context, refl)
 denial_at (holding reply thread) = (denial.Holding reply thread, refl)
 denial_at (recorded thread k l) = (denial.Recorded thread k l, refl)
+
+-- a denial of a place is this one
+pub denial_is : (d : Denial) (place : Excess) → excess_of d ≡ Some place → d ≡ (denial_at place).0
+unfolding denial_at
+denial_is (denial.Policy _) place is = absurd (none-some place is)
+denial_is (denial.Sharp _) place is = absurd (none-some place is)
+denial_is (denial.Certificate _) place is = absurd (none-some place is)
+denial_is d place is = ap (λ e. option_map_or (λ p. (denial_at p).0) e d) is
 
 -- the policy is exceeded as a denial says where it is at the place
 module _ (s : Sources) (allowed : EdgeTest) (d : Denial) where

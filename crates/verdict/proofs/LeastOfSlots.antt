@@ -16,7 +16,7 @@ use Rattle.verdict.proofs.SlotPlaces.{BreaksAt, IsAt, slot_least}
 use Rattle.verdict.specs.declared.denial.Denial.TheVariants as denial
 
 -- a denial of a slot has the number of its rule first
-rule_is : (d : Denial) → rule_number (Some d) < a4 → get_or (place_of d) 0 0 ≡ rule_number (Some d)
+pub rule_is : (d : Denial) → rule_number (Some d) < a4 → get_or (place_of d) 0 0 ≡ rule_number (Some d)
 rule_is (denial.Capability _ _ _) slots = refl
 rule_is (denial.Root _ _) slots = refl
 rule_is (denial.Pair _ _) slots = refl

@@ -1,13 +1,15 @@
 pub mod RuleOrder
 pub mod LeastByRule
-pub mod OneVerdict
 pub mod DenialPlaces
+pub mod RuleSets
+pub mod OneVerdict
 pub mod SlotPlaces
 pub mod BindingPlaces
 pub mod LeastOfSlots
 pub mod OutsidePlaces
 pub mod OutsideObjects
-pub mod Extents
 pub mod Outsides
+pub mod MoreKeepers
+pub mod FirstOfSet
 pub mod BootPlaces
 pub mod OthersRefused

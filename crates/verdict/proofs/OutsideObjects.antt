@@ -30,6 +30,7 @@ module _ (t : Layout) (allowed : EdgeTest) (m : Machine) where
 
   stands : (d : Denial) → LiesOutside t allowed m d → Stands d
   stands (denial.Policy b) out = absurd out
+  stands (denial.Sharp b) out = absurd out
   stands (denial.Capability slot k l) out = record { rest = slot.index ∷ kind_number k ∷ l ∷ []; is = refl; most = omega arith }
   stands (denial.Root slot l) out = record { rest = slot.index ∷ l ∷ []; is = refl; most = omega arith }
   stands (denial.Pair child p) out = record { rest = child.index ∷ p.holder.0 ∷ p.index ∷ []; is = refl; most = omega arith }

@@ -59,6 +59,7 @@ module _ (t : Layout) (allowed : EdgeTest) (m : Machine) where
       subst (λ (h : ObjId). Out (Excess.capability (slot_at h slot.index) k l) → Q (denial.Capability (slot_at h slot.index) k l))
       (same_id id slot.holder h.0.1.0) (f slot.index k l h.0.1.1) h.1
   by_a1 id rest Q f (denial.Policy b) h = absurd h.1
+  by_a1 id rest Q f (denial.Sharp b) h = absurd h.1
   by_a1 id rest Q f _ h = absurd (omega (arith, h.0.0))
 
   pub by_a2 :
@@ -69,6 +70,7 @@ module _ (t : Layout) (allowed : EdgeTest) (m : Machine) where
       subst (λ (h : ObjId). Out (Excess.root (slot_at h slot.index) l) → Q (denial.Root (slot_at h slot.index) l))
       (same_id id slot.holder h.0.1.0) (f slot.index l) h.1
   by_a2 id Q f (denial.Policy b) h = absurd h.1
+  by_a2 id Q f (denial.Sharp b) h = absurd h.1
   by_a2 id Q f _ h = absurd (omega (arith, h.0.0))
 
   pub by_a3 :
@@ -80,6 +82,7 @@ module _ (t : Layout) (allowed : EdgeTest) (m : Machine) where
       subst (λ (h : ObjId). Out (Excess.pair (slot_at h child.index) p) → Q (denial.Pair (slot_at h child.index) p))
       (same_id id child.holder h.0.1.0) (f child.index p h.0.1.1) h.1
   by_a3 id rest Q f (denial.Policy b) h = absurd h.1
+  by_a3 id rest Q f (denial.Sharp b) h = absurd h.1
   by_a3 id rest Q f _ h = absurd (omega (arith, h.0.0))
 
   pub by_a4 :
@@ -88,6 +91,7 @@ module _ (t : Layout) (allowed : EdgeTest) (m : Machine) where
   by_a4 id Q f (denial.Binding thread context) h =
       subst (λ (h : ObjId). Out (Excess.binding h context) → Q (denial.Binding h context)) (same_id id thread h.0.1.0) (f context) h.1
   by_a4 id Q f (denial.Policy b) h = absurd h.1
+  by_a4 id Q f (denial.Sharp b) h = absurd h.1
   by_a4 id Q f _ h = absurd (omega (arith, h.0.0))
 
   pub by_a5 :
@@ -96,6 +100,7 @@ module _ (t : Layout) (allowed : EdgeTest) (m : Machine) where
   by_a5 id Q f (denial.Holding reply thread) h =
       subst (λ (h : ObjId). Out (Excess.holding h thread) → Q (denial.Holding h thread)) (same_id id reply h.0.1.0) (f thread) h.1
   by_a5 id Q f (denial.Policy b) h = absurd h.1
+  by_a5 id Q f (denial.Sharp b) h = absurd h.1
   by_a5 id Q f _ h = absurd (omega (arith, h.0.0))
 
   pub by_a6 :
@@ -105,6 +110,7 @@ module _ (t : Layout) (allowed : EdgeTest) (m : Machine) where
   by_a6 id rest Q f (denial.Recorded thread k l) h =
       subst (λ (h : ObjId). Out (Excess.recorded h k l) → Q (denial.Recorded h k l)) (same_id id thread h.0.1.0) (f k l h.0.1.1) h.1
   by_a6 id rest Q f (denial.Policy b) h = absurd h.1
+  by_a6 id rest Q f (denial.Sharp b) h = absurd h.1
   by_a6 id rest Q f _ h = absurd (omega (arith, h.0.0))
 
   -- the policy lacks the edge of a kind from a label to that of an object

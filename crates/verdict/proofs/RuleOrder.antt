@@ -1,7 +1,8 @@
--- The rules of closed policies come before those of the authority that a table or a machine holds.
+-- The rules of closed policies, and those of sharply closed ones, come before those of the authority that a table or a machine holds.
 use Rattle.std.{specs.{declared.cmp.Ordering.TheVariants.{Greater, Less}, Ordering.ordering_reverse}, proofs.Common.{[], ℕ, ◌<◌, ◌∙◌, ◌∷◌}}
 use Rattle.std.proofs.{Common.{◌≡◌, ◌≤◌, List, ap, arith, get_or, lit<, lit≤, refl, sym}, lemmas.Cmp.nat_list_cmp_total}
 use Rattle.policy.specs.{declared.broken.Broken.{Broken, Broken as broken}, Broken.broken_place, Places.ComesBefore}
+use Rattle.sharp.specs.{declared.broken.SharpBroken.{SharpBroken, SharpBroken as sharp}, Broken.sharp_place}
 use Rattle.verdict.specs.Rules.{Excess, a1, binding, capability, excess_place, holding, pair, recorded, root}
 
 -- a place of a smaller rule comes first
@@ -28,7 +29,17 @@ first_rules (broken.ContextLacks _ _) = lit< tt
 first_rules (broken.ReplyLacks _ _) = lit< tt
 first_rules (broken.LentLacks _ _) = lit< tt
 
-last_rules : (place : Excess) → a1 ≤ get_or (excess_place place) 0 0
+pub first_sharp_rules : (b : SharpBroken) → get_or (sharp_place b) 0 0 < a1
+first_sharp_rules (sharp.SubjectLacks _ _ _ _) = lit< tt
+first_sharp_rules (sharp.ControlLacks _ _ _) = lit< tt
+first_sharp_rules (sharp.GrantLacks _ _ _ _) = lit< tt
+first_sharp_rules (sharp.DomainLacks _ _) = lit< tt
+first_sharp_rules (sharp.DeriveLacks _ _) = lit< tt
+first_sharp_rules (sharp.ContextLacks _ _) = lit< tt
+first_sharp_rules (sharp.ReplyLacks _ _) = lit< tt
+first_sharp_rules (sharp.LentLacks _ _) = lit< tt
+
+pub last_rules : (place : Excess) → a1 ≤ get_or (excess_place place) 0 0
 last_rules (capability _ _ _) = lit≤ tt
 last_rules (root _ _) = lit≤ tt
 last_rules (pair _ _) = lit≤ tt

@@ -2,7 +2,7 @@ pub mod Sources
 pub mod Rules
 pub mod Verdict
 pub mod System
+pub mod ByRules
 pub mod Slots
 pub mod Outside
-pub mod Extents
 pub mod Acting

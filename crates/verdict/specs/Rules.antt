@@ -9,7 +9,7 @@ use Rattle.machine.specs.declared.object.ObjectKind.TheVariants as object
 use Rattle.policy.specs.{Broken.edge_of, Domain.EdgeTest}
 use Rattle.verdict.specs.Sources.{Sources}
 
--- the numbers of the rules: P1 to P8, which are the policy's own, are 1 to 8; A1 to A6 follow, and then C1
+-- the numbers of the rules: P1 to P8, or S1 to S8, which are the policy's own, are 1 to 8; A1 to A6 follow, and then C1
 
 abbrev pub a1 : ℕ
 a1 = 9

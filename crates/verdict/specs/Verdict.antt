@@ -4,6 +4,7 @@ use Rattle.std.specs.{Option.{option_and_then, option_map_or}, Prelude.{[], ℕ,
 use Rattle.base.specs.declared.edge.Edge.{Edge}
 use Rattle.machine.specs.{Layout.Layout, Machine.Machine}
 use Rattle.policy.specs.{Broken.{IsBrokenAt, broken_place, broken_rule, edge_asked_at}, Domain.EdgeTest, Places.{IsLeast, IsNone, IsUnder}}
+use Rattle.sharp.specs.Broken.{sharp_edge_at, sharp_place, sharp_rule}
 use Rattle.verdict.specs.{declared.denial.Denial.Denial, Rules.{Exceeds, Excess, a1, a2, a3, a4, a5, a6, binding, c1, capability}}
 use Rattle.verdict.specs.declared.denial.Denial.TheVariants as denial
 use Rattle.verdict.specs.{Rules.{edge_needed_at, excess_place, holding, pair, recorded, root}, Sources.{Sources, of_machine, of_table}}
@@ -11,6 +12,7 @@ use Rattle.verdict.specs.{Rules.{edge_needed_at, excess_place, holding, pair, re
 -- where a denial by A1 to A6 says that authority lies outside
 abbrev pub excess_of : Denial → Option Excess
 excess_of (denial.Policy broken) = None
+excess_of (denial.Sharp broken) = None
 excess_of (denial.Capability slot kind label) = Some (capability slot kind label)
 excess_of (denial.Root slot label) = Some (root slot label)
 excess_of (denial.Pair child parent) = Some (pair child parent)
@@ -23,7 +25,8 @@ excess_of (denial.Certificate line) = None
 abbrev pub IsExceeded : Sources → EdgeTest → Denial → Type 0
 IsExceeded s allowed d = MatchOption (excess_of d) ⊥ (Exceeds s allowed)
 
--- the table or the policy breaks a rule at a place. C1 is a rule of certificates, and of no table or policy
+-- the table or the policy breaks one of the rules P1 to P8 and A1 to A6 at a place. S1 to S8 are another set, and C1 is a rule of
+-- certificates
 abbrev pub Breaks : Layout → EdgeTest → Denial → Type 0
 Breaks t allowed (denial.Policy broken) = IsBrokenAt allowed broken
 Breaks t allowed d = IsExceeded (of_table t) allowed d
@@ -31,6 +34,7 @@ Breaks t allowed d = IsExceeded (of_table t) allowed d
 -- a denial as numbers: its rule, and then the labels, kinds, objects and slots that it names
 abbrev pub place_of : Denial → List ℕ
 place_of (denial.Policy broken) = broken_place broken
+place_of (denial.Sharp broken) = sharp_place broken
 place_of (denial.Certificate line) = c1 ∷ line ∷ []
 place_of d = option_map_or excess_place (excess_of d) []
 
@@ -47,10 +51,12 @@ rule_number _ = c1
 -- the edge that a denial asks a policy for, if one edge would mend it: none by P1, and none for a certificate
 abbrev pub edge_asked : Layout → Denial → Option Edge
 edge_asked t (denial.Policy broken) = edge_asked_at broken
+edge_asked t (denial.Sharp broken) = Some (sharp_edge_at broken)
 edge_asked t d = option_and_then (edge_needed_at (of_table t)) (excess_of d)
 
 abbrev pub rule_name : Denial → List ℕ
 rule_name (denial.Policy broken) = broken_rule broken
+rule_name (denial.Sharp broken) = sharp_rule broken
 rule_name (denial.Capability _ _ _) = codes "A1"
 rule_name (denial.Root _ _) = codes "A2"
 rule_name (denial.Pair _ _) = codes "A3"

@@ -1,17 +1,22 @@
 //! The check of a capability table and a policy, with what it promises of those that it accepts.
-ghost use Rattle.std.specs.Prelude.{ℕ, ◌<◌, ◌≡◌, ◌≤◌, IfErr, IfOk};
+ghost use Rattle.std.specs.Prelude.{ℕ, ◌<◌, ◌≡◌, ◌≤◌, IfErr, IfNone, IfOk};
 ghost use Rattle.base.specs.Refusals.{out_of_memory};
-ghost use Rattle.policy.specs.Policy.{allows};
+ghost use Rattle.policy.specs.{Places.FindsLeast, Policy.allows};
 ghost use Rattle.integrity.specs.Safe.{GuardsBudgets, KeepsIntegrity, KeepsNarrowBounds, LabelsObjects, RefusesOthers};
-ghost use Rattle.integrity.specs.Safe.{StaysConfined};
-ghost use Rattle.verdict.specs.System.{IsVerdict};
+ghost use Rattle.integrity.specs.{Keeping.MayKeep, Safe.{IsSafe, StaysConfined}};
+ghost use Rattle.sharp.specs.Broken.{IsSharplyBrokenAt, sharp_place};
+ghost use Rattle.verdict.specs.ByRules.{BreaksBy, BreaksOwn, IsAcceptedBy, IsVerdictBy};
+ghost use Rattle.verdict.specs.{System.IsVerdict, Verdict.place_of};
 
 use crate::bindings::first_binding;
+use crate::safe::sharply_accepted_systems_are_safe;
 use crate::slots::first_at_slots;
-use crate::{Accepted, Denial};
+use crate::{Accepted, Denial, Rules};
 use base::Refusal;
 use deal::Gate;
 use policy::{Policy, first_broken};
+use reach::node_holders;
+use sharp::{SharpBroken, keepers};
 use std::alloc::Global;
 use std::thread::Threads;
 use table::Table;
@@ -56,14 +61,103 @@ pub fn judge<'a, R: Threads + Sync, G: Gate + Sync>(
         (λ answer. IfOk answer (λ accepted. (worker : ℕ) → worker < workers → G.HasArrived gate.now worker)) }
     ensures memory { IfErr result (λ refusal. refusal ≡ out_of_memory) }
 {
-    if let Some(broken) = first_broken(rt, policy) {
-        return Ok(Err(Denial::Policy(broken)));
+    match first_denial(rt, alloc, table, policy, Rules::Closed, workers, gate)? {
+        Some(denial) => Ok(Err(denial)),
+        None => Ok(Ok(Accepted::of(table, policy))),
+    }
+}
+
+/// Returns the verdict on a capability table and a policy, by a set of rules and A1 to A4, as [`judge`] does
+/// by P1 to P8.
+///
+/// Where they are accepted, every run from the table's boot state is safe: after every list of kernel calls
+/// holds what [`judge`] says.
+///
+/// # Errors
+///
+/// 40 where memory is refused.
+pub fn judge_by<R: Threads + Sync, G: Gate + Sync>(
+    rt: &R,
+    alloc: Global,
+    table: &Table,
+    policy: &Policy,
+    rules: Rules,
+    workers: usize,
+    gate: &G,
+) -> Result<Result<(), Denial>, Refusal>
+    requires workers { (1 ≤ workers) × (workers ≤ 16) }
+    ensures verdict { IfOk result (IsVerdictBy rules table.now policy.now) }
+    ensures safe { IfOk result (λ answer. IfOk answer (λ accepted. IsSafe table.now (allows policy.now))) }
+    ensures arrived { IfOk result
+        (λ answer. IfOk answer (λ accepted. (worker : ℕ) → worker < workers → G.HasArrived gate.now worker)) }
+    ensures memory { IfErr result (λ refusal. refusal ≡ out_of_memory) }
+{
+    match first_denial(rt, alloc, table, policy, rules, workers, gate)? {
+        Some(denial) => Ok(Err(denial)),
+        None => {
+            are_safe_by(table, policy, rules);
+            Ok(Ok(()))
+        }
+    }
+}
+
+// The headline for this table and this policy, by whichever rules they are accepted.
+fn are_safe_by(table: &Table, policy: &Policy, rules: Rules)
+    requires { IsAcceptedBy rules table.now (allows policy.now) }
+    ensures { IsSafe table.now (allows policy.now) }
+{
+    table.caps();
+    sharply_accepted_systems_are_safe();
+}
+
+// The first place where the table or the policy breaks a rule of the set, or one of A1 to A4: first of all
+// where the policy itself does, then at the slots, and then at the bindings.
+fn first_denial<R: Threads + Sync, G: Gate + Sync>(
+    rt: &R,
+    alloc: Global,
+    table: &Table,
+    policy: &Policy,
+    rules: Rules,
+    workers: usize,
+    gate: &G,
+) -> Result<Option<Denial>, Refusal>
+    requires workers { (1 ≤ workers) × (workers ≤ 16) }
+    ensures least { IfOk result (FindsLeast place_of (BreaksBy rules table.now (allows policy.now))) }
+    ensures arrived { IfOk result
+        (λ found. IfNone found ((worker : ℕ) → worker < workers → G.HasArrived gate.now worker)) }
+    ensures memory { IfErr result (λ refusal. refusal ≡ out_of_memory) }
+{
+    if let Some(denial) = first_rule(rt, table, policy, rules) {
+        return Ok(Some(denial));
     }
     if let Some(denial) = first_at_slots(rt, alloc, table, policy, workers, gate)? {
-        return Ok(Err(denial));
+        return Ok(Some(denial));
     }
-    if let Some(denial) = first_binding(table, policy) {
-        return Ok(Err(denial));
+    Ok(first_binding(table, policy))
+}
+
+// The first place where the policy itself breaks a rule of the set.
+fn first_rule<R: Threads + Sync>(
+    rt: &R,
+    table: &Table,
+    policy: &Policy,
+    rules: Rules,
+) -> Option<Denial>
+    ensures { FindsLeast place_of (BreaksOwn rules table.now (allows policy.now)) result }
+{
+    match rules {
+        Rules::Closed => first_broken(rt, policy).map(Denial::Policy),
+        Rules::Sharp => first_sharply_broken(table, policy).map(Denial::Sharp),
     }
-    Ok(Ok(Accepted::of(table, policy)))
+}
+
+// The first place where it breaks a sharp rule. The keepers are the labels that may keep capabilities for
+// CNodes.
+fn first_sharply_broken(table: &Table, policy: &Policy) -> Option<SharpBroken>
+    ensures { FindsLeast sharp_place
+        (IsSharplyBrokenAt (allows policy.now) (MayKeep table.now (allows policy.now))) result }
+{
+    let held = node_holders(table);
+    let keeping = keepers(policy, held);
+    sharp::first_broken(policy, keeping)
 }

@@ -4,6 +4,7 @@ ghost use Rattle.verdict.specs.Verdict.{rule_number};
 
 use base::{Kind, Label, ObjId, SlotRef};
 use policy::Broken;
+use sharp::SharpBroken;
 
 /// The reason why a system is denied: the rule that is broken, and where.
 ///
@@ -12,6 +13,8 @@ use policy::Broken;
 pub enum Denial {
     /// P1 to P8: the policy isn't closed.
     Policy(Broken),
+    /// S1 to S8: it isn't sharply closed.
+    Sharp(SharpBroken),
     /// A1: the capability in a CNode's slot gives a kind of authority over an object of this label
     /// that the policy doesn't have.
     Capability {
@@ -66,6 +69,7 @@ impl Denial {
     {
         match self {
             Denial::Policy(broken) => broken.rule(),
+            Denial::Sharp(broken) => broken.rule(),
             Denial::Capability { .. } => "A1",
             Denial::Root { .. } => "A2",
             Denial::Pair { .. } => "A3",
@@ -77,7 +81,8 @@ impl Denial {
     }
 }
 
-// The numbers of the rules of authority, as places have them. P1 to P8 have the numbers 1 to 8.
+// The numbers of the rules of authority, as places have them. P1 to P8 have the numbers 1 to 8, and so do
+// S1 to S8.
 const A1: u64 = 9;
 
 const A2: u64 = 10;

@@ -4,8 +4,10 @@ ghost use Rattle.base.specs.declared.edge.Edge.{Edge};
 ghost use Rattle.machine.specs.{Boot.IsBoot, Layout.Layout, Machine.Machine};
 ghost use Rattle.policy.specs.{Closed.IsClosed, Domain.EdgeTest, Policy.allows};
 ghost use Rattle.table.specs.Rules.{IsLawful};
-ghost use Rattle.integrity.specs.Confined.{IsConfined};
-ghost use Rattle.verdict.specs.{declared.denial.Denial.Denial, Rules.{Exceeds, Excess}, Sources.of_machine};
+ghost use Rattle.integrity.specs.{Confined.IsConfined, Keeping.IsSharp};
+ghost use Rattle.verdict.specs.ByRules.{IsAcceptedBy, IsVerdictBy};
+ghost use Rattle.verdict.specs.declared.{denial.Denial.Denial, rules.Rules.{Rules, Rules as rules}};
+ghost use Rattle.verdict.specs.{Rules.{Exceeds, Excess}, Sources.of_machine};
 ghost use Rattle.verdict.specs.System.{IsVerdict, System};
 ghost use Rattle.verdict.specs.Verdict.{Breaks, IsAccepted, IsLeastBroken, IsOutside, excess_of};
 
@@ -20,7 +22,9 @@ pub fn confined_states_have_nothing_outside()
 /// A rule is broken at a place exactly where the boot state's authority lies outside the policy there,
 /// and each place where it does has its denial. That denial is the verdict exactly if the policy is
 /// closed and the place is the first. A table and a policy are accepted exactly if the policy is closed
-/// and the boot state is confined.
+/// and the boot state is confined. By the sharp rules they are accepted exactly if the policy is sharply
+/// closed, where the labels that may keep capabilities for CNodes are the keepers, and the boot state is
+/// confined.
 pub fn a_verdict_is_on_the_boot_state()
     ensures place { (t : Layout) (allowed : EdgeTest) (boot : Machine) (denial : Denial) (place : Excess)
         → IsLawful t
@@ -41,14 +45,30 @@ pub fn a_verdict_is_on_the_boot_state()
         → IsLawful t
         → IsAccepted t (allows edges)
         ↔ (IsClosed (allows edges) × ((boot : Machine) → IsBoot t boot → IsConfined t (allows edges) boot)) }
+    ensures sharply { (t : Layout) (edges : List Edge)
+        → IsLawful t
+        → IsAcceptedBy rules.Sharp t (allows edges)
+        ↔ (IsSharp t (allows edges) × ((boot : Machine) → IsBoot t boot → IsConfined t (allows edges) boot)) }
 {}
 
-/// A law: a table and a policy have one verdict.
+/// A law: a table and a policy that are accepted by the rules of closed policies are accepted by the sharp
+/// rules.
+pub fn accepted_systems_are_sharply_accepted()
+    ensures { (t : Layout) (allowed : EdgeTest)
+        → IsAcceptedBy rules.Closed t allowed
+        → IsAcceptedBy rules.Sharp t allowed }
+{}
+
+/// A law: a table and a policy have one verdict by each set of rules.
 ///
 /// They aren't both accepted and denied, nor denied with two places.
 pub fn a_system_has_one_verdict()
     ensures one { (t : Layout) (edges : List Edge) (verdict other : Result System Denial)
         → IsVerdict t edges verdict
         → IsVerdict t edges other
+        → verdict ≡ other }
+    ensures by_rules { (set : Rules) (t : Layout) (edges : List Edge) (verdict other : Result (Unit {0}) Denial)
+        → IsVerdictBy set t edges verdict
+        → IsVerdictBy set t edges other
         → verdict ≡ other }
 {}

@@ -6,23 +6,24 @@
 mod accepted;
 mod acting;
 mod bindings;
-mod bounds;
 mod check;
 mod denial;
 mod excess;
-mod extent;
 mod laws;
+mod rules;
 mod safe;
 mod slots;
 
 pub use accepted::Accepted;
-pub use bounds::Bounds;
-pub use check::judge;
+pub use check::{judge, judge_by};
 pub use denial::Denial;
 pub use excess::outside;
-pub use extent::Extent;
 pub use laws::{
-    a_system_has_one_verdict, a_verdict_is_on_the_boot_state, confined_states_have_nothing_outside,
+    a_system_has_one_verdict, a_verdict_is_on_the_boot_state,
+    accepted_systems_are_sharply_accepted, confined_states_have_nothing_outside,
 };
-pub use reach::actors;
-pub use safe::{accepted_systems_are_safe, accepted_systems_keep_labels_apart};
+pub use rules::Rules;
+pub use safe::{
+    accepted_systems_are_safe, accepted_systems_keep_labels_apart,
+    sharply_accepted_systems_are_safe,
+};

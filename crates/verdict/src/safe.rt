@@ -5,9 +5,12 @@ ghost use Rattle.machine.specs.Layout.{Layout};
 ghost use Rattle.policy.specs.{Change.{ActorTest, MayChange}, NarrowTake.MayShrink, Policy.allows};
 ghost use Rattle.table.specs.Rules.{IsLawful};
 ghost use Rattle.integrity.specs.{Acting.HoldsOfActors, Apart.{NeverChanges, OnlyTakes}, Safe.IsSafe};
-ghost use Rattle.verdict.specs.Verdict.{IsAccepted};
+ghost use Rattle.verdict.specs.{ByRules.IsAcceptedBy, Verdict.IsAccepted};
+ghost use Rattle.verdict.specs.declared.rules.Rules.TheVariants as rules;
 
-use integrity::{bounded_systems_keep_labels_apart, confined_systems_are_safe};
+use integrity::{
+    bounded_systems_keep_labels_apart, confined_systems_are_safe, sharply_confined_systems_are_safe,
+};
 
 /// A law, the headline: every run of a capability table and a policy that are accepted is safe.
 ///
@@ -24,6 +27,19 @@ pub fn accepted_systems_are_safe()
         → IsSafe t (allows edges) }
 {
     confined_systems_are_safe();
+}
+
+/// A law, the headline over the sharp rules: every run of a capability table and a policy that are accepted
+/// by these is safe.
+///
+/// After every list of kernel calls holds what [`accepted_systems_are_safe`] says.
+pub fn sharply_accepted_systems_are_safe()
+    ensures { (t : Layout) (edges : List Edge)
+        → IsLawful t
+        → IsAcceptedBy rules.Sharp t (allows edges)
+        → IsSafe t (allows edges) }
+{
+    sharply_confined_systems_are_safe();
 }
 
 /// A law: in runs of an accepted system threads change only objects of labels that they may change or shrink.

@@ -1,13 +1,13 @@
 -- The claim at which the search ends is the first that doesn't hold, and each before it does.
 use Rattle.std.proofs.{Common.{◌<◌, ◌∙◌, ◌≡◌, ap, arith, false, get_or, inl, inr, length, refl, subst, sym, true}, lemmas.Bool.cases_lt}
 use Rattle.std.proofs.lemmas.{List.get_or_default, Option.{get_or_from_slice_get, slice_get_read}}
-use Rattle.verdict.specs.Extents.{GoesTo, reach_of}
+use Rattle.reach.specs.Extents.{GoesTo, limits_of}
 use Rattle.claims.{specs.Holding.{Holds, is_within}, proofs.HoldingLaws.{outside_breaks, within_holds}}
 use Rattle.claims.proofs.holding.first_broken_by.Goals as goal
 
 pub returns-then-not-is_within-clause-broken : goal.returns-then-not-is_within-clause-broken
 returns-then-not-is_within-clause-broken c =
-    let test = reach_of c.args.bounds.now in
+    let test = limits_of c.args.reach.now in
     let claims = c.args.claims.now in
     let claim = c.index-claims-index.result in
     let goes = subst (λ a. GoesTo test a claim.object c.on-extent.result) c.again-extents.ensures.actor
@@ -24,7 +24,7 @@ returns-then-not-is_within-clause-broken c =
 
 pub loop-index-preserved : goal.loop-index-preserved
 loop-index-preserved c =
-    let test = reach_of c.args.bounds.now in
+    let test = limits_of c.args.reach.now in
     let claims = c.args.claims.now in
     let claim = c.index-claims-index.result in
     let at = c.loop-index.index in

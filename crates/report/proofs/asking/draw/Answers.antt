@@ -2,7 +2,5 @@ use Rattle.commands.proofs.Carried.{carried_out}
 use Rattle.report.proofs.asking.draw.Goals as goal
 
 pub returns : goal.returns
-returns g c = record {
-  done = carried_out c.load_system-system.result c.load_system-system.ensures.loaded c.load_system-system.ensures.unread c.load_system-system.ensures.labels c.drawn-answer.ensures c.tell.ensures.told;
-  policy_waits = c.load_system-system.ensures.policy_waits;
-}
+returns g c =
+    carried_out c.load_table-table.result c.load_table-table.ensures.loaded c.load_table-table.ensures.unread c.load_table-table.ensures.labels c.drawn-answer.ensures c.tell.ensures.told

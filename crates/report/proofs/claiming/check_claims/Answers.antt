@@ -3,7 +3,6 @@ use Rattle.report.proofs.claiming.check_claims.Goals as goal
 
 pub returns : goal.returns
 returns g c = record {
-  done = carried_out c.load_three-three.result c.load_three-three.ensures.loaded c.load_three-three.ensures.unread c.load_three-three.ensures.labels c.claims_judged-answer.ensures c.tell.ensures.told;
-  policy_waits = c.load_three-three.ensures.policy_waits;
-  third_waits = c.load_three-three.ensures.third_waits;
+  done = carried_out c.load_two-two.result c.load_two-two.ensures.loaded c.load_two-two.ensures.unread c.load_two-two.ensures.labels c.claims_judged-answer.ensures c.tell.ensures.told;
+  second_waits = c.load_two-two.ensures.second_waits;
 }

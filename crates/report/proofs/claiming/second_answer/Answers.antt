@@ -1,10 +1,8 @@
--- Of the bounds that are those of the system.
+-- Of a reach that is that of its table.
 use Rattle.std.proofs.Common.{[], ℕ, ◌==◌, ◌∙◌, ◌∷◌, ◌≡◌, List, Option, ap, arith, false, length, refl, subst, suc, true}
 use Rattle.std.proofs.lemmas.Bool.Decides.{nat_tests}
-use Rattle.base.specs.declared.edge.Edge.{Edge}
 use Rattle.machine.specs.Layout.{Layout}
-use Rattle.policy.specs.Policy.{allows}
-use Rattle.verdict.specs.{Extents.{IsReachOf, Reach, reach_of}, System.System, Verdict.IsAccepted}
+use Rattle.reach.specs.{Extents.limits_of, Reach.{IsReachOf, IsTableReach, TableReach}}
 use Rattle.stated.specs.{declared.{claim.Stated.Stated, deciding.Broken.Broken}, Holding.{AreBroken, Holds, IsKept}}
 use Rattle.stated.specs.declared.lines.TheConstants.StatedLines as StatedLines
 use Rattle.reptext.specs.{Breaches.breaches_data, Reports.{hold_data, line_of}}
@@ -12,13 +10,13 @@ use Rattle.report.proofs.claiming.second_answer.Goals as goal
 use Rattle.report.specs.Claimed as claimed
 
 -- some claims are broken
-some : (t : Layout) (edges : List Edge) (lines : List (Option Stated)) → IsAccepted t (allows edges) → (reach : Reach) → IsReachOf t edges reach
-    → (all : List Broken) → AreBroken t reach StatedLines.FIRST lines all → (all ≡ [] → ⊥)
-    → ((claim : Stated) → Holds t reach claim → IsKept t claim)
-    → (text : List ℕ) → text ≡ line_of (breaches_data t lines all) → (status : ℕ) → status ≡ 1 → claimed.JudgesStated t edges lines text status
-some t edges lines accepted reach is_reach [] are has kept text told status exit = absurd (has refl)
-some t edges lines accepted reach is_reach (first ∷ more) are has kept text told status exit =
-    claimed.some_broken accepted reach is_reach first more are kept told exit
+some : (t : Layout) (lines : List (Option Stated)) (reach : TableReach) → IsReachOf t reach → (all : List Broken)
+    → AreBroken t (limits_of reach) StatedLines.FIRST lines all → (all ≡ [] → ⊥)
+    → ((claim : Stated) → Holds t (limits_of reach) claim → IsKept t claim)
+    → (text : List ℕ) → text ≡ line_of (breaches_data t lines all) → (status : ℕ) → status ≡ 1 → claimed.JudgesStated t lines text status
+some t lines reach is_reach [] are has kept text told status exit = absurd (has refl)
+some t lines reach is_reach (first ∷ more) are has kept text told status exit =
+    claimed.some_broken reach is_reach first more are kept told exit
 
 not_zero : (n : ℕ) → (suc n == 0) ≡ true → ⊥
 not_zero n is = grind (arith, nat_tests)
@@ -32,10 +30,12 @@ some_of : {X : Type 0} (xs : List X) → (length xs == 0) ≡ false → xs ≡ [
 some_of [] is none = absurd (cc)
 some_of (x ∷ xs) is none = absurd (cc)
 
+own : (reach : TableReach) → IsTableReach reach → IsReachOf reach.table reach
+own reach is = record { of_table = refl; is = is }
+
 pub returns-then-is_empty-clause-right : goal.returns-then-is_empty-clause-right
 returns-then-is_empty-clause-right c =
-    let acting = c.bounds-bounds.result in
-    let is = c.bounds-bounds.ensures.acting in
+    let reach = c.args.reach.now in
     let count = c.in_ok-broken.broken.ok in
     let answer = c.is_empty.ensures in
     let test = c.if-is_empty.true in
@@ -43,15 +43,13 @@ returns-then-is_empty-clause-right c =
     let none = none_of c.in_ok-broken.broken.items empty in
     let told = c.in_ok-hold_report.ensures ∙ ap (λ n. line_of (hold_data n)) c.claim_count.ensures in
     rw (c.plain.ensures.0, c.plain.ensures.1)
-    (subst (λ (s : System). claimed.JudgesStated s.table s.policy c.args.lines.now c.in_ok-hold_report.field-0.items 0) c.bounds-bounds.ensures.system
-    (claimed.all_hold is.accepted.verdict (reach_of acting) is.reach
-    (subst (AreBroken acting.system.table (reach_of acting) StatedLines.FIRST c.args.lines.now) none c.in_ok-broken.ensures.broken)
-    (c.in_ok-broken.ensures.all_kept none) told refl))
+    (claimed.all_hold reach (own reach c.policy.ensures.reach)
+    (subst (AreBroken reach.table (limits_of reach) StatedLines.FIRST c.args.lines.now) none c.in_ok-broken.ensures.broken)
+    (c.in_ok-broken.ensures.all_kept none) told refl)
 
 pub returns-clause-right : goal.returns-clause-right
 returns-clause-right c =
-    let acting = c.bounds-bounds.result in
-    let is = c.bounds-bounds.ensures.acting in
+    let reach = c.args.reach.now in
     let lines = c.args.lines.now in
     let count = c.in_ok-broken.broken.ok in
     let answer = c.is_empty.ensures in
@@ -59,9 +57,8 @@ returns-clause-right c =
     let filled : (length c.in_ok-broken.broken.items == 0) ≡ false = cc in
     let told =
     c.in_ok-text.ensures ∙ ap (λ t. line_of (breaches_data t lines c.deref.result.now)) c.table.ensures
-    ∙ ap (λ broken. line_of (breaches_data acting.system.table lines broken)) c.deref.ensures.value in
+    ∙ ap (λ broken. line_of (breaches_data reach.table lines broken)) c.deref.ensures.value in
     rw (c.found.ensures.0, c.found.ensures.1)
-    (subst (λ (s : System). claimed.JudgesStated s.table s.policy lines c.in_ok-text.text.items 1) c.bounds-bounds.ensures.system
-    (some acting.system.table acting.system.policy lines is.accepted.verdict (reach_of acting) is.reach c.in_ok-broken.broken.items
+    (some reach.table lines reach (own reach c.policy.ensures.reach) c.in_ok-broken.broken.items
     c.in_ok-broken.ensures.broken (some_of c.in_ok-broken.broken.items filled) c.in_ok-broken.ensures.kept
-    c.in_ok-text.text.items told 1 refl))
+    c.in_ok-text.text.items told 1 refl)

@@ -1,6 +1,6 @@
--- The strongest claims are those of the system, whose labels have their names in the table.
-use Rattle.std.{specs.{declared.alloc.Global.Global, Prelude.Vec}, proofs.Common.{ℕ, ◌≡◌, Err, IfOk, Ok, Result, subst}}
-use Rattle.verdict.specs.{Extents.reach_of, System.System}
+-- The strongest claims are those of the reach, whose labels have their names in the table.
+use Rattle.std.{specs.{declared.alloc.Global.Global, Prelude.Vec}, proofs.Common.{ℕ, ◌≡◌, Err, IfOk, Ok, Result, refl, subst, sym}}
+use Rattle.machine.specs.Layout.{Layout}
 use Rattle.stated.specs.Text.{lines_text}
 use Rattle.report.specs.Claimed.{TellsStrongest}
 use Rattle.report.proofs.claiming.strongest_text.Goals as goal
@@ -12,25 +12,23 @@ follows (Err e) P Q gives one = tt
 
 pub returns : goal.returns
 returns c =
-    let t = c.args.accepted.now.table in
+    let t = c.args.table.now in
     let lines = c.in_ok-lines.lines in
-    let acting = c.bounds-bounds.result in
-    let is = c.bounds-bounds.ensures.acting in
-    let system = c.bounds-bounds.ensures.system in
+    let reach = c.in_ok-reach.reach in
+    let table = c.in_ok-reach.ensures.table in
     record {
       text = follows c.write.result (λ (text : Vec ℕ Global). text.items ≡ lines_text t lines)
-          (λ (text : Vec ℕ Global). TellsStrongest t c.args.accepted.now.policy text.items)
+          (λ (text : Vec ℕ Global). TellsStrongest t text.items)
           (λ text told.
-          subst (λ (s : System). text.items ≡ lines_text s.table lines → TellsStrongest s.table s.policy text.items) system
-          (λ told. record {
-            reach = reach_of acting;
-            is_reach = is.reach;
+          subst (λ (l : Layout). TellsStrongest l text.items) table
+          (record {
+            reach = reach;
+            is_reach = record { of_table = refl; is = c.in_ok-reach.ensures.reach };
             lines = lines;
             strongest = c.in_ok-lines.ensures.strongest;
             none_broken = c.in_ok-lines.ensures.hold;
             kept = c.in_ok-lines.ensures.kept;
-            told = told;
-          })
-          told)
-          (subst (λ l. IfOk c.write.result (λ (text : Vec ℕ Global). text.items ≡ lines_text l lines)) c.table.ensures.table c.write.ensures.text);
+            told = subst (λ (l : Layout). text.items ≡ lines_text l lines) (sym table) told;
+          }))
+          c.write.ensures.text;
     }

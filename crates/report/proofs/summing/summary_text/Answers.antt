@@ -1,4 +1,4 @@
--- The summary is that of the bounds of the system.
+-- The summary is that of the reach of the table.
 use Rattle.std.proofs.lemmas.Result.{IfOk-weaker}
 use Rattle.report.proofs.summing.summary_text.Goals as goal
 
@@ -6,9 +6,8 @@ pub returns-clause-text : goal.returns-clause-text
 returns-clause-text c =
     IfOk-weaker c.summary.result _ _
     (λ text sums. record {
-      acting = c.bounds-bounds.result;
-      of_system = c.bounds-bounds.ensures.system;
-      is_acting = c.bounds-bounds.ensures.acting;
+      reach = c.in_ok-reach.reach;
+      is_reach = record { of_table = c.in_ok-reach.ensures.table; is = c.in_ok-reach.ensures.reach };
       sums = sums;
     })
     c.summary.ensures.text

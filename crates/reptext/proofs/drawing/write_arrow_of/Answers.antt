@@ -2,67 +2,67 @@
 use Rattle.std.proofs.Common.{◌<◌, ◌∙◌, List, length, string_bytes, subst, sym}
 use Rattle.base.specs.declared.edge.Edge.{Edge}
 use Rattle.policy.specs.{ActorReasons.{IsChangeBy, IsShrinkBy, IsWhyAmong}, Places.IsLeast, Reasons.reason_place}
-use Rattle.verdict.specs.Extents.{reach_by}
+use Rattle.reach.specs.Extents.{limits_by}
 use Rattle.reptext.proofs.Arrows.{adds_dashed, adds_itself, adds_nothing, adds_solid, differ, change_reason_there, shrink_reason_there}
 use Rattle.reptext.proofs.drawing.write_arrow_of.Goals as goal
 use mathlib.Core.Bool.{false≢true}
 
 pub returns-then-eq-clause-drawn : goal.returns-then-eq-clause-drawn
 returns-then-eq-clause-drawn c =
-    adds_itself (reach_by c.args.policy.now c.args.actors) c.args.table.now c.args.actor c.args.object (string_bytes c.args.text.now)
+    adds_itself (limits_by c.args.policy.now c.args.actors) c.args.table.now c.args.actor c.args.object (string_bytes c.args.text.now)
     (sym c.eq.ensures ∙ c.if-eq.true)
 
 pub returns-then-not-may_shrink-clause-drawn : goal.returns-then-not-may_shrink-clause-drawn
 returns-then-not-may_shrink-clause-drawn c =
-    adds_nothing (reach_by c.args.policy.now c.args.actors) c.args.table.now c.args.actor c.args.object (string_bytes c.args.text.now)
+    adds_nothing (limits_by c.args.policy.now c.args.actors) c.args.table.now c.args.actor c.args.object (string_bytes c.args.text.now)
     (sym c.eq.ensures ∙ c.if-eq.false)
     (λ may. false≢true (sym c.if-not-changes.true ∙ c.may_change-changes.ensures.1 may))
     (λ may. false≢true (sym c.if-not-may_shrink.true ∙ c.may_shrink.ensures.1 may))
 
 pub write_arrow-requires : goal.write_arrow-requires
 write_arrow-requires c =
-    let reach = reach_by c.args.policy.now c.args.actors in
+    let limits = limits_by c.args.policy.now c.args.actors in
     let a = c.args.actor in
     let l = c.args.object in
-    let why = subst (IsWhyAmong reach.test reach.acts a l) c.in-Full.is c.in_ok-edges.ensures.why in
-    let there = change_reason_there reach a l c.in-Full.edges.items (differ a l (sym c.eq.ensures ∙ c.if-eq.false)) why.has in
+    let why = subst (IsWhyAmong limits.test limits.acts a l) c.in-Full.is c.in_ok-edges.ensures.why in
+    let there = change_reason_there limits a l c.in-Full.edges.items (differ a l (sym c.eq.ensures ∙ c.if-eq.false)) why.has in
     subst (λ (edges : List Edge). 0 < length edges) (sym c.deref.ensures.value) there
 
 pub write_arrow-requires-in-Take : goal.write_arrow-requires-in-Take
 write_arrow-requires-in-Take c =
-    let reach = reach_by c.args.policy.now c.args.actors in
+    let limits = limits_by c.args.policy.now c.args.actors in
     let a = c.args.actor in
     let l = c.args.object in
-    let why = subst (IsWhyAmong reach.test reach.acts a l) c.in-Take.is c.in_ok-edges.ensures.why in
-    let there = shrink_reason_there reach a l c.in-Take.edges.items why.1.has in
+    let why = subst (IsWhyAmong limits.test limits.acts a l) c.in-Take.is c.in_ok-edges.ensures.why in
+    let there = shrink_reason_there limits a l c.in-Take.edges.items why.1.has in
     subst (λ (edges : List Edge). 0 < length edges) (sym c.deref-in-Take.ensures.value) there
 
 pub returns-in_ok-write_arrow-in-Full-clause-drawn : goal.returns-in_ok-write_arrow-in-Full-clause-drawn
 returns-in_ok-write_arrow-in-Full-clause-drawn c =
-    let reach = reach_by c.args.policy.now c.args.actors in
+    let limits = limits_by c.args.policy.now c.args.actors in
     let a = c.args.actor in
     let l = c.args.object in
-    let why = subst (IsWhyAmong reach.test reach.acts a l) c.in-Full.is c.in_ok-edges.ensures.why in
-    adds_solid reach c.args.table.now a l c.deref.result.now (string_bytes c.args.text.now) (string_bytes c.write_arrow.new.text)
+    let why = subst (IsWhyAmong limits.test limits.acts a l) c.in-Full.is c.in_ok-edges.ensures.why in
+    adds_solid limits c.args.table.now a l c.deref.result.now (string_bytes c.args.text.now) (string_bytes c.write_arrow.new.text)
     (sym c.eq.ensures ∙ c.if-eq.false)
-    (subst (IsLeast reason_place (IsChangeBy reach.test reach.acts a l)) (sym c.deref.ensures.value) why)
+    (subst (IsLeast reason_place (IsChangeBy limits.test limits.acts a l)) (sym c.deref.ensures.value) why)
     c.in_ok-write_arrow-in-Full.ensures
 
 pub returns-in_ok-write_arrow-in-Take-clause-drawn : goal.returns-in_ok-write_arrow-in-Take-clause-drawn
 returns-in_ok-write_arrow-in-Take-clause-drawn c =
-    let reach = reach_by c.args.policy.now c.args.actors in
+    let limits = limits_by c.args.policy.now c.args.actors in
     let a = c.args.actor in
     let l = c.args.object in
-    let why = subst (IsWhyAmong reach.test reach.acts a l) c.in-Take.is c.in_ok-edges.ensures.why in
-    adds_dashed reach c.args.table.now a l c.deref-in-Take.result.now (string_bytes c.args.text.now)
+    let why = subst (IsWhyAmong limits.test limits.acts a l) c.in-Take.is c.in_ok-edges.ensures.why in
+    adds_dashed limits c.args.table.now a l c.deref-in-Take.result.now (string_bytes c.args.text.now)
     (string_bytes c.write_arrow-in-Take.new.text) (sym c.eq.ensures ∙ c.if-eq.false) why.0
-    (subst (IsLeast reason_place (IsShrinkBy reach.test reach.acts a l)) (sym c.deref-in-Take.ensures.value) why.1)
+    (subst (IsLeast reason_place (IsShrinkBy limits.test limits.acts a l)) (sym c.deref-in-Take.ensures.value) why.1)
     c.in_ok-write_arrow-in-Take.ensures
 
 pub returns-in-Nothing-clause-drawn : goal.returns-in-Nothing-clause-drawn
 returns-in-Nothing-clause-drawn c =
-    let reach = reach_by c.args.policy.now c.args.actors in
+    let limits = limits_by c.args.policy.now c.args.actors in
     let a = c.args.actor in
     let l = c.args.object in
-    let why = subst (IsWhyAmong reach.test reach.acts a l) c.in-Nothing.is c.in_ok-edges.ensures.why in
-    adds_nothing reach c.args.table.now a l (string_bytes c.args.text.now) (sym c.eq.ensures ∙ c.if-eq.false) why.0 why.1
+    let why = subst (IsWhyAmong limits.test limits.acts a l) c.in-Nothing.is c.in_ok-edges.ensures.why in
+    adds_nothing limits c.args.table.now a l (string_bytes c.args.text.now) (sym c.eq.ensures ∙ c.if-eq.false) why.0 why.1

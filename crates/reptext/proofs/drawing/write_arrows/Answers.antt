@@ -1,13 +1,13 @@
 -- The arrows from the next label come after those before.
 use Rattle.std.proofs.Common.{arith, length, string_bytes, subst, sym}
-use Rattle.verdict.specs.Extents.{reach_by}
+use Rattle.reach.specs.Extents.{limits_by}
 use Rattle.reptext.{specs.Drawing.{AddsArrows, pairs_with}, proofs.Arrows.{adds_label, label_is, label_there}}
 use Rattle.reptext.proofs.drawing.write_arrows.Goals.{in-Some+in_ok-write_arrows_from, in_default}
 use Rattle.reptext.proofs.drawing.write_arrows.Goals as goal
 
 pub loop-number-preserved : goal.loop-number-preserved
 loop-number-preserved c =
-    let test = reach_by c.args.policy.now c.args.actors in
+    let test = limits_by c.args.policy.now c.args.actors in
     let t = c.args.table.now in
     let count = length t.labels in
     let n = c.loop-number.number in

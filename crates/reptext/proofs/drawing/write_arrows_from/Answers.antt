@@ -1,5 +1,5 @@
 use Rattle.std.proofs.Common.{[], ◌∷◌, arith, string_bytes, subst, sym}
-use Rattle.verdict.specs.Extents.{reach_by}
+use Rattle.reach.specs.Extents.{limits_by}
 use Rattle.reptext.{specs.Drawing.AddsArrows, proofs.Arrows.{adds_pair, label_is, label_there}}
 use Rattle.reptext.proofs.drawing.write_arrows_from.Goals.{in-Some+in_ok-write_arrow_of, in_default}
 use Rattle.reptext.proofs.drawing.write_arrows_from.Goals as goal
@@ -7,7 +7,7 @@ use Rattle.reptext.proofs.drawing.write_arrows_from.Goals as goal
 -- the arrow to the next label comes after those before
 pub loop-number-preserved : goal.loop-number-preserved
 loop-number-preserved c =
-    let test = reach_by c.args.policy.now c.args.actors in
+    let test = limits_by c.args.policy.now c.args.actors in
     let t = c.args.table.now in
     let a = c.args.actor in
     let n = c.loop-number.number in

@@ -1,9 +1,9 @@
 use Rattle.std.proofs.Common.{string_bytes}
-use Rattle.verdict.specs.Extents.{reach_by}
+use Rattle.reach.specs.Extents.{limits_by}
 use Rattle.reptext.specs.Drawing.{AddsArrows, pairs_with}
 use Rattle.reptext.proofs.drawing.write_arrows_from.Given as goal
 
 -- the arrows to the labels so far are written
 abbrev pub invariant-loop-number : goal.invariant-loop-number
 invariant-loop-number l =
-    AddsArrows (reach_by l.policy l.fn.actors) l.table (pairs_with l.number l.fn.actor) (string_bytes l.fn.text) (string_bytes l.text)
+    AddsArrows (limits_by l.policy l.fn.actors) l.table (pairs_with l.number l.fn.actor) (string_bytes l.fn.text) (string_bytes l.text)

@@ -2,7 +2,7 @@
 use Rattle.std.{specs.Global.Vec, proofs.Common.{ℕ, ◌∙◌, ◌≡◌, ◌⊎◌, ap, inl, inr, subst, sym}}
 use Rattle.devices.specs.{declared.watched.Watched.Watched, Watched.device_of}
 use Rattle.commands.specs.{declared.end.End.End, Ends.status_of}
-use Rattle.requests.specs.declared.request.Request.{Request, TheVariants.{OfDescription, OfSystem, OfTable, OfThree}}
+use Rattle.requests.specs.declared.request.Request.{Request, TheVariants.{OfClaims, OfDescription, OfSystem, OfTable, OfThree}}
 use Rattle.requests.specs.Requests.{HaveArrived, OnEach, SystemHasArrived}
 use Rattle.serving.proofs.answering.answer_short.Goals as goal
 
@@ -20,7 +20,9 @@ has_arrived R arrived (OfTable asked t) files each have = tt
 has_arrived R arrived (OfSystem asked t p) (OfSystem also u q) each have = subst (SystemHasArrived arrived) (sym each.0) have
 has_arrived R arrived (OfSystem asked t p) (OfDescription also d) each have = absurd each
 has_arrived R arrived (OfSystem asked t p) (OfTable also u) each have = absurd each
+has_arrived R arrived (OfSystem asked t p) (OfClaims u d) each have = absurd each
 has_arrived R arrived (OfSystem asked t p) (OfThree also u q x) each have = absurd each
+has_arrived R arrived (OfClaims t d) files each have = tt
 has_arrived R arrived (OfThree asked t p x) files each have = tt
 
 pub returns-clause-served : goal.returns-clause-served

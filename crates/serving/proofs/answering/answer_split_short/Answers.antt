@@ -1,11 +1,12 @@
 use Rattle.std.{specs.Global.Vec, proofs.Common.{ℕ, ◌∙◌, ap, inl, inr, refl}}
 use Rattle.devices.specs.{declared.watched.Watched.Watched, Watched.device_of}
 use Rattle.requests.specs.declared.request.{OfThree.TheVariants.Run, Request.TheVariants.OfThree}
+use Rattle.verdict.specs.declared.rules.Rules.TheVariants.{Closed}
 use Rattle.serving.proofs.answering.answer_split_short.Goals as goal
 
 pub returns-clause-served : goal.returns-clause-served
 returns-clause-served g c = record {
-  files = OfThree Run c.open_by-table.result c.open_by-policy.result c.open_by-script.result;
+  files = OfThree (Run Closed) c.open_by-table.result c.open_by-policy.result c.open_by-script.result;
   end = c.run_split-end.result;
   before = c.new-kept.result;
   after = c.run_split-end.new.out;

@@ -8,6 +8,3 @@ returns-in-Run-clause-served g c = rw c.in-Run.is c.run.ensures
 
 pub returns-in-Replay-clause-served : goal.returns-in-Replay-clause-served
 returns-in-Replay-clause-served g c = rw c.in-Replay.is c.replay.ensures
-
-pub returns-in-Claims-clause-served : goal.returns-in-Claims-clause-served
-returns-in-Claims-clause-served g c = rw c.in-Claims.is c.check_claims.ensures

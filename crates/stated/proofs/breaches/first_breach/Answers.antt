@@ -5,27 +5,27 @@ use Rattle.stated.proofs.breaches.first_breach.Goals.{in-Some+in_default-first_b
 use Rattle.stated.proofs.breaches.first_breach.Goals as goal
 
 pub returns-in-Some-first_breach_by-clause-some : goal.returns-in-Some-first_breach_by-clause-some
-returns-in-Some-first_breach_by-clause-some c = λ t reach are rows.
+returns-in-Some-first_breach_by-clause-some c = λ t limits are rows.
     let claim = c.args.claim.now in
-    let before = c.loop-number.invariant t reach are rows in
-    first_of_all t reach claim c.in-Some.actor c.in-Some-first_breach_by.breach
-    (subst (λ n. HoldsBelow t reach claim n) (sym c.in-Some.ensures.value) before)
-    (c.in-Some-first_breach_by.ensures.some t reach are (rows c.in-Some.actor c.row.result c.row.ensures))
+    let before = c.loop-number.invariant t limits are rows in
+    first_of_all t limits claim c.in-Some.actor c.in-Some-first_breach_by.breach
+    (subst (λ n. HoldsBelow t limits claim n) (sym c.in-Some.ensures.value) before)
+    (c.in-Some-first_breach_by.ensures.some t limits are (rows c.in-Some.actor c.row.result c.row.ensures))
 
 pub loop-number-preserved : goal.loop-number-preserved
-loop-number-preserved c t reach are rows a below =
+loop-number-preserved c t limits are rows a below =
     elim c.match-new.branch [
       | in-Some+in_default-first_breach_by w ↦ elim (cases_order a c.loop-number.number) [
         | inl same ↦
-            subst (λ n. HoldsOf t reach c.args.claim.now n) (w.in-Some.ensures.value ∙ sym same)
-            (w.in_default-first_breach_by.ensures.none t reach are (rows w.in-Some.actor w.row.result w.row.ensures))
-        | inr (inl before) ↦ c.loop-number.invariant t reach are rows a before
+            subst (λ n. HoldsOf t limits c.args.claim.now n) (w.in-Some.ensures.value ∙ sym same)
+            (w.in_default-first_breach_by.ensures.none t limits are (rows w.in-Some.actor w.row.result w.row.ensures))
+        | inr (inl before) ↦ c.loop-number.invariant t limits are rows a before
         | inr (inr after) ↦ absurd (omega (arith, below, after))
       ]
       | in_default w ↦ absurd (false≢true (w.in_default.ensures.valid.1 (omega arith)))
     ]
 
 pub returns-clause-none : goal.returns-clause-none
-returns-clause-none c = λ t reach are rows a l bounded.
+returns-clause-none c = λ t limits are rows a l bounded.
     let within = bounded_within t c.args.claim.now a l bounded in
-    c.loop-number.invariant t reach are rows a (omega (arith, within, are.few)) l bounded
+    c.loop-number.invariant t limits are rows a (omega (arith, within, are.few)) l bounded

@@ -1,7 +1,7 @@
 -- Line by line.
 use Rattle.std.proofs.{Common.{[], ◌++◌, ◌+◌, ◌∙◌, ◌∷◌, ◌≡◌, ap, arith, get_or, refl, subst, sym, take}, lemmas.Grind.common_steps}
 use Rattle.std.proofs.lemmas.List.{append-nil}
-use Rattle.verdict.specs.Extents.{reach_of}
+use Rattle.reach.specs.Extents.{limits_of}
 use Rattle.stated.specs.{declared.deciding.Broken.Broken, Holding.{AreBroken, AreBroken.{broke, ended, held, silent}}}
 use Rattle.stated.proofs.{Gathered.one_line, Kept.fails_breaks, deciding.broken_by.Goals.in-Some+in-Some-failure_of+in_ok-push}
 use Rattle.stated.proofs.deciding.broken_by.Goals.{in-Some+in_default-failure_of, in_default}
@@ -10,13 +10,13 @@ use Rattle.stated.specs.declared.lines.TheConstants.StatedLines as StatedLines
 
 pub loop-index-init : goal.loop-index-init
 loop-index-init c =
-    subst (λ xs. AreBroken c.args.bounds.now.system.table (reach_of c.args.bounds.now) StatedLines.FIRST (take 0 c.args.lines.now) xs)
+    subst (λ xs. AreBroken c.args.reach.now.table (limits_of c.args.reach.now) StatedLines.FIRST (take 0 c.args.lines.now) xs)
     (sym c.new-broken.ensures.items) ended
 
 pub loop-index-preserved : goal.loop-index-preserved
 loop-index-preserved c =
-    let t = c.args.bounds.now.system.table in
-    let reach = reach_of c.args.bounds.now in
+    let t = c.args.reach.now.table in
+    let limits = limits_of c.args.reach.now in
     let lines = c.args.lines.now in
     let i = c.loop-index.index in
     let entry = c.index-lines-index.result in
@@ -26,27 +26,27 @@ loop-index-preserved c =
           let it : Broken = record { line = StatedLines.FIRST + i; failure = w.in-Some-failure_of.failure } in
           let grown : c.match-entry.broken.items ≡ all ++ it ∷ [] = grind (arith, common_steps) in
           let is = sym c.index-lines-index.is ∙ w.in-Some.is in
-          let here : AreBroken t reach (StatedLines.FIRST + i) (get_or lines i entry ∷ []) (it ∷ []) =
-          subst (λ e. AreBroken t reach (StatedLines.FIRST + i) (e ∷ []) (it ∷ [])) (sym is)
+          let here : AreBroken t limits (StatedLines.FIRST + i) (get_or lines i entry ∷ []) (it ∷ []) =
+          subst (λ e. AreBroken t limits (StatedLines.FIRST + i) (e ∷ []) (it ∷ [])) (sym is)
           (broke (record {
             line_is = refl;
-            breaks = fails_breaks t reach _ _ w.in-Some-failure_of.ensures.some;
+            breaks = fails_breaks t limits _ _ w.in-Some-failure_of.ensures.some;
             fails = w.in-Some-failure_of.ensures.some;
           }) ended) in
-          subst (λ xs. AreBroken t reach StatedLines.FIRST (take (i + 1) lines) xs) (sym grown)
-          (one_line t reach StatedLines.FIRST i lines entry all (it ∷ []) (omega arith) c.loop-index.invariant here)
+          subst (λ xs. AreBroken t limits StatedLines.FIRST (take (i + 1) lines) xs) (sym grown)
+          (one_line t limits StatedLines.FIRST i lines entry all (it ∷ []) (omega arith) c.loop-index.invariant here)
       | in-Some+in_default-failure_of w ↦
           let is = sym c.index-lines-index.is ∙ w.in-Some.is in
-          let here : AreBroken t reach (StatedLines.FIRST + i) (get_or lines i entry ∷ []) [] =
-          subst (λ e. AreBroken t reach (StatedLines.FIRST + i) (e ∷ []) []) (sym is) (held w.in_default-failure_of.ensures.none ended) in
-          subst (λ xs. AreBroken t reach StatedLines.FIRST (take (i + 1) lines) xs)
+          let here : AreBroken t limits (StatedLines.FIRST + i) (get_or lines i entry ∷ []) [] =
+          subst (λ e. AreBroken t limits (StatedLines.FIRST + i) (e ∷ []) []) (sym is) (held w.in_default-failure_of.ensures.none ended) in
+          subst (λ xs. AreBroken t limits StatedLines.FIRST (take (i + 1) lines) xs)
           (append-nil all ∙ sym (ap (λ b. b.items) w.broken-is))
-          (one_line t reach StatedLines.FIRST i lines entry all [] (omega arith) c.loop-index.invariant here)
+          (one_line t limits StatedLines.FIRST i lines entry all [] (omega arith) c.loop-index.invariant here)
       | in_default w ↦
           let is = sym c.index-lines-index.is ∙ w.in_default.is in
-          let here : AreBroken t reach (StatedLines.FIRST + i) (get_or lines i entry ∷ []) [] =
-          subst (λ e. AreBroken t reach (StatedLines.FIRST + i) (e ∷ []) []) (sym is) (silent ended) in
-          subst (λ xs. AreBroken t reach StatedLines.FIRST (take (i + 1) lines) xs)
+          let here : AreBroken t limits (StatedLines.FIRST + i) (get_or lines i entry ∷ []) [] =
+          subst (λ e. AreBroken t limits (StatedLines.FIRST + i) (e ∷ []) []) (sym is) (silent ended) in
+          subst (λ xs. AreBroken t limits StatedLines.FIRST (take (i + 1) lines) xs)
           (append-nil all ∙ sym (ap (λ b. b.items) w.broken-is))
-          (one_line t reach StatedLines.FIRST i lines entry all [] (omega arith) c.loop-index.invariant here)
+          (one_line t limits StatedLines.FIRST i lines entry all [] (omega arith) c.loop-index.invariant here)
     ]

@@ -6,8 +6,8 @@ use Rattle.stated.{specs.Holding.MayAffect, proofs.{Chains.{all_reached, fewer_l
 use Rattle.stated.proofs.reaching.reached.Goals as goal
 
 pub loop-actor-init : goal.loop-actor-init
-loop-actor-init c = λ reach rows.
-    first_reached reach c.args.from (is_in c.none-done.result) (is_in c.only-reached.result) c.none-done.ensures c.only-reached.ensures
+loop-actor-init c = λ limits rows.
+    first_reached limits c.args.from (is_in c.none-done.result) (is_in c.only-reached.result) c.none-done.ensures c.only-reached.ensures
 
 was_false : (b : Bool) → not b ≡ true → b ≡ false
 was_false true is = sym is
@@ -25,19 +25,19 @@ loop-actor-smaller c =
     256 (subst (λ n. n < 256) c.number.ensures.value c.number.ensures.below)
 
 pub loop-actor-preserved : goal.loop-actor-preserved
-loop-actor-preserved c = λ reach rows.
+loop-actor-preserved c = λ limits rows.
     let done = c.loop-actor.done in
     let actor = c.in-Some.actor in
     let row = rows actor c.row.result c.row.ensures in
     let parts =
     and_parts (is_in c.loop-actor.reached actor) (not (is_in done actor)) (sym (c.difference.ensures actor) ∙ c.in-Some.ensures.some.0) in
-    more_reached reach c.args.from (is_in done) (is_in c.loop-actor.reached) (c.loop-actor.invariant reach rows) actor
+    more_reached limits c.args.from (is_in done) (is_in c.loop-actor.reached) (c.loop-actor.invariant limits rows) actor
     (is_in c.affected.result) (is_in c.union-done.result) (is_in c.union-reached.result) parts.0
-    (λ l. subst (λ b. (b ≡ true → MayAffect reach actor l) × (MayAffect reach actor l → b ≡ true)) (sym (c.affected.ensures l))
-    (affects reach actor l (is_in c.row.result.changed l) (is_in c.row.result.shrunk l) (row.changed l) (row.shrunk l)))
+    (λ l. subst (λ b. (b ≡ true → MayAffect limits actor l) × (MayAffect limits actor l → b ≡ true)) (sym (c.affected.ensures l))
+    (affects limits actor l (is_in c.row.result.changed l) (is_in c.row.result.shrunk l) (row.changed l) (row.shrunk l)))
     (λ l. c.union-done.ensures l ∙ ap (λ b. is_in done l || b) (c.only.ensures l)) c.union-reached.ensures
 
 pub returns : goal.returns
-returns c = λ reach rows.
-    all_reached reach c.args.from (is_in c.loop-actor.done) (is_in c.loop-actor.reached) (c.loop-actor.invariant reach rows)
+returns c = λ limits rows.
+    all_reached limits c.args.from (is_in c.loop-actor.done) (is_in c.loop-actor.reached) (c.loop-actor.invariant limits rows)
     (λ a. sym (c.difference.ensures a) ∙ c.in_default.ensures.none a)

@@ -1,7 +1,7 @@
 -- What is said of the ways is of the policy and the labels that they were made of.
 use Rattle.std.proofs.Common.{ℕ, ◌↔◌, ◌≡◌, subst, true}
 use Rattle.base.specs.Labels.{is_in}
-use Rattle.verdict.specs.Extents.{reach_by}
+use Rattle.reach.specs.Extents.{limits_by}
 use Rattle.summary.specs.{Letters.{HasLetter, by_answer, by_call, by_other, by_signal}, Ways.WaysOf}
 use Rattle.summary.proofs.rows.row_of.Goals as goal
 
@@ -10,10 +10,10 @@ returns-clause-row c =
     let ways = c.requires.ways in
     let label = c.args.label in
     record {
-      calls = subst (λ (w : WaysOf). (l : ℕ) → (is_in c.calls.result l ≡ true) ↔ HasLetter by_call (reach_by w.edges w.actors) label l) ways c.calls.ensures;
-      answers = subst (λ (w : WaysOf). (l : ℕ) → (is_in c.answers.result l ≡ true) ↔ HasLetter by_answer (reach_by w.edges w.actors) label l) ways c.answers.ensures;
-      signals = subst (λ (w : WaysOf). (l : ℕ) → (is_in c.signals.result l ≡ true) ↔ HasLetter by_signal (reach_by w.edges w.actors) label l) ways c.signals.ensures;
-      others = subst (λ (w : WaysOf). (l : ℕ) → (is_in c.others.result l ≡ true) ↔ HasLetter by_other (reach_by w.edges w.actors) label l) ways c.others.ensures;
+      calls = subst (λ (w : WaysOf). (l : ℕ) → (is_in c.calls.result l ≡ true) ↔ HasLetter by_call (limits_by w.edges w.actors) label l) ways c.calls.ensures;
+      answers = subst (λ (w : WaysOf). (l : ℕ) → (is_in c.answers.result l ≡ true) ↔ HasLetter by_answer (limits_by w.edges w.actors) label l) ways c.answers.ensures;
+      signals = subst (λ (w : WaysOf). (l : ℕ) → (is_in c.signals.result l ≡ true) ↔ HasLetter by_signal (limits_by w.edges w.actors) label l) ways c.signals.ensures;
+      others = subst (λ (w : WaysOf). (l : ℕ) → (is_in c.others.result l ≡ true) ↔ HasLetter by_other (limits_by w.edges w.actors) label l) ways c.others.ensures;
       changes = c.change_labels.ensures;
       shrinks = c.shrink_labels.ensures;
       shares = c.shared_by.ensures;

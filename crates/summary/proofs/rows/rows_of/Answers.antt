@@ -1,6 +1,6 @@
 -- row by row
 use Rattle.std.proofs.Common.{arith}
-use Rattle.verdict.specs.Extents.{reach_by}
+use Rattle.reach.specs.Extents.{limits_by}
 use Rattle.summary.{specs.Rows.IsRowOf, proofs.Pieces.{each_more, labels_more, numbers_more}}
 use Rattle.summary.proofs.rows.rows_of.Goals as goal
 
@@ -14,5 +14,5 @@ loop-index-preserved c =
     let grown = c.in_ok-push.ensures.items in (
       labels_more rows longer row c.deref-label-items.result.now i c.label-item.result (omega arith) so_far.0 grown c.row_of.ensures.label c.label-item.is,
       numbers_more rows longer row i so_far.1 grown c.row_of.ensures.number,
-      each_more (IsRowOf c.args.table.now (reach_by c.args.policy.now c.args.actors)) rows longer row so_far.2 grown c.row_of.ensures.row,
+      each_more (IsRowOf c.args.table.now (limits_by c.args.policy.now c.args.actors)) rows longer row so_far.2 grown c.row_of.ensures.row,
     )

@@ -1,5 +1,5 @@
 use Rattle.std.{specs.{List.range_with_len, Prelude.All}, proofs.Common.{◌≡◌, map, take}}
-use Rattle.verdict.specs.Extents.{reach_by}
+use Rattle.reach.specs.Extents.{limits_by}
 use Rattle.summary.specs.Rows.{IsRowOf}
 use Rattle.summary.proofs.rows.rows_of.Given as goal
 
@@ -8,4 +8,4 @@ abbrev pub invariant-loop-index : goal.invariant-loop-index
 invariant-loop-index l =
     (map (λ row. row.label) l.rows.items ≡ take l.index l.label-items)
     × (map (λ row. row.number) l.rows.items ≡ range_with_len 1 l.index)
-    × All (IsRowOf l.table (reach_by l.policy l.fn.actors)) l.rows.items
+    × All (IsRowOf l.table (limits_by l.policy l.fn.actors)) l.rows.items

@@ -1,9 +1,10 @@
 -- A table declares what its boot state has; and it has a boot state.
-use Rattle.policy.{specs.Policy.allows, proofs.Unbroken.closed_if}
+use Rattle.policy.specs.Policy.{allows}
 use Rattle.table.proofs.BootState.{boot_state, boot_state_is}
-use Rattle.verdict.specs.declared.denial.Denial.TheVariants as denial
-use Rattle.verdict.proofs.BootPlaces.{boot_confined, broken_outside, confined_accepted, first_closed, first_outside, least_broken}
-use Rattle.verdict.proofs.BootPlaces.{outside_declared}
+use Rattle.verdict.specs.declared.rules.Rules.TheVariants as rules
+use Rattle.verdict.proofs.BootPlaces.{boot_confined, broken_outside, confined_accepted, confined_unexceeded, first_closed, first_outside}
+use Rattle.verdict.proofs.{BootPlaces.{least_broken, outside_declared}, RuleSets.{accepted_closed, accepted_sharp, none_exceeded}}
+use Rattle.verdict.proofs.RuleSets.{sharply_accepted}
 use Rattle.verdict.proofs.laws.a_verdict_is_on_the_boot_state.Goals as goal
 
 pub returns-clause-place : goal.returns-clause-place
@@ -22,11 +23,23 @@ returns-clause-first c = λ t allowed boot denial place lawful booted is. (
 pub returns-clause-accepted : goal.returns-clause-accepted
 returns-clause-accepted c = λ t edges lawful. (
   λ accepted. (
-    closed_if (allows edges) (λ broken. accepted (denial.Policy broken)),
-    λ boot booted. boot_confined t boot lawful booted (allows edges) accepted,
+    accepted_closed t (allows edges) accepted,
+    λ boot booted. boot_confined t boot lawful booted (allows edges) (none_exceeded rules.Closed t (allows edges) accepted),
   ),
   λ both.
       let boot = boot_state t in
       let booted = boot_state_is t in
       confined_accepted t boot lawful booted (allows edges) both.0 (both.1 boot booted),
+)
+
+pub returns-clause-sharply : goal.returns-clause-sharply
+returns-clause-sharply c = λ t edges lawful. (
+  λ accepted. (
+    accepted_sharp t (allows edges) accepted,
+    λ boot booted. boot_confined t boot lawful booted (allows edges) (none_exceeded rules.Sharp t (allows edges) accepted),
+  ),
+  λ both.
+      let boot = boot_state t in
+      let booted = boot_state_is t in
+      sharply_accepted t (allows edges) both.0 (confined_unexceeded t boot lawful booted (allows edges) (both.1 boot booted)),
 )

@@ -1,10 +1,10 @@
 -- The labels so far have their rows.
 use Rattle.std.proofs.Common.{ℕ, ◌≡◌, Some, slice_get, vec_len}
-use Rattle.verdict.specs.Extents.{reach_of}
+use Rattle.reach.specs.Extents.{limits_of}
 use Rattle.stated.specs.{declared.rows.Row.Row, Rows.IsRow}
 use Rattle.stated.proofs.rows.Rows.of.Given as goal
 
 abbrev pub invariant-loop-number : goal.invariant-loop-number
 invariant-loop-number l =
     (vec_len l.rows ≡ l.number)
-    × ((a : ℕ) (row : Row) → slice_get l.rows.items a ≡ Some row → IsRow (reach_of l.bounds) a row)
+    × ((a : ℕ) (row : Row) → slice_get l.rows.items a ≡ Some row → IsRow (limits_of l.reach) a row)

@@ -1,7 +1,7 @@
 use Rattle.std.proofs.Common.{ℕ, ◌↔◌, ◌∙◌, ◌≡◌, subst, sym, true}
 use Rattle.base.specs.{declared.kind.Kind.TheVariants.{Await, Control, Grant, Receive, Write}, Labels.is_in}
 use Rattle.policy.{specs.Policy.allows, proofs.Gathering.{either, row_tells, target_tells, told_as, waiting_tells}}
-use Rattle.verdict.specs.Extents.{reach_by}
+use Rattle.reach.specs.Extents.{limits_by}
 use Rattle.summary.{specs.{Letters.{HasLetter, by_other}, Ways.WaysOf}, proofs.{LetterSets.{other_from, other_to}, Waiting.of_kind}}
 use Rattle.summary.proofs.ways.Ways.others.Goals as goal
 use mathlib.Core.Bool.{false≢true}
@@ -9,7 +9,7 @@ use mathlib.Core.Bool.{false≢true}
 -- one whose threads make no calls changes nothing
 pub returns-then-not-has : goal.returns-then-not-has
 returns-then-not-has c l =
-    subst (λ (w : WaysOf). (is_in c.none.result l ≡ true) ↔ HasLetter by_other (reach_by w.edges w.actors) c.args.actor l) c.self.view_is (
+    subst (λ (w : WaysOf). (is_in c.none.result l ≡ true) ↔ HasLetter by_other (limits_by w.edges w.actors) c.args.actor l) c.self.view_is (
       λ is. absurd (false≢true (sym (c.none.ensures l) ∙ is)),
       λ has. absurd (false≢true (sym (sym c.has.ensures ∙ c.if-not-has.true) ∙ has.0.actor)),
     )
@@ -32,7 +32,7 @@ returns c l =
     let granted = target_tells test Control _ c.waiting-takers.result takers l (is_in c.targets-granted.result l) (c.targets-granted.ensures l) in
     let lent = told_as (is_in c.row_among-lent.result l) (c.row_among-lent.ensures l)
     (λ w. (w.0, (c.self.invariant.lenders actor).0 w.1)) (λ h. (h.0, (c.self.invariant.lenders actor).1 h.1)) in
-    subst (λ (w : WaysOf). (is_in c.union.result l ≡ true) ↔ HasLetter by_other (reach_by w.edges w.actors) actor l) c.self.view_is
+    subst (λ (w : WaysOf). (is_in c.union.result l ≡ true) ↔ HasLetter by_other (limits_by w.edges w.actors) actor l) c.self.view_is
     (told_as (is_in c.union.result l)
     (either (is_in c.union.result l) (is_in c.union-moved.result l) (is_in c.targets-granted.result l) (either (is_in c.union-moved.result l) (is_in c.union-used.result l) (is_in c.row_among-lent.result l) (either (is_in c.union-used.result l) (is_in c.union-own.result l) (is_in c.contexts.result l) (either (is_in c.union-own.result l) (is_in c.union-taken.result l) (is_in c.row-write.result l) (either (is_in c.union-taken.result l) (is_in c.row-control.result l) (is_in c.row-poll.result l) (control l) (poll l) (c.union-taken.ensures l)) (write l) (c.union-own.ensures l)) (c.contexts.ensures l) (c.union-used.ensures l)) lent (c.union-moved.ensures l)) granted (c.union.ensures l))
     (λ w. let way = other_to test acts actor l w in (record { actor = is_actor; way = way.0 }, way.1))

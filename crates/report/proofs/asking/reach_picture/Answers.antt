@@ -1,0 +1,13 @@
+-- The picture is of the reach of the table.
+use Rattle.std.proofs.lemmas.Result.{IfOk-weaker}
+use Rattle.report.proofs.asking.reach_picture.Goals as goal
+
+pub returns-clause-text : goal.returns-clause-text
+returns-clause-text c =
+    IfOk-weaker c.picture_text.result _ _
+    (λ text drawn. record {
+      reach = c.in_ok-reach.reach;
+      is_reach = record { of_table = c.in_ok-reach.ensures.table; is = c.in_ok-reach.ensures.reach };
+      so = rw (c.policy.ensures.policy, c.actors.ensures.actors) at drawn;
+    })
+    c.picture_text.ensures.text

@@ -1,4 +1,0 @@
-use Rattle.verdict.proofs.bounds.Bounds.changed_by.Goals as goal
-
-pub returns : goal.returns
-returns c = rw (c.policy.ensures, c.actors.ensures.actors) at c.change_labels.ensures

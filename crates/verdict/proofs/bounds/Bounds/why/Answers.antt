@@ -1,4 +1,0 @@
-use Rattle.verdict.proofs.bounds.Bounds.why.Goals as goal
-
-pub returns-clause-why : goal.returns-clause-why
-returns-clause-why c = rw (c.policy.ensures, c.actors.ensures.actors) at c.why_among.ensures.why

@@ -1,0 +1,10 @@
+-- What is accepted by either set of rules is accepted by the sharp ones.
+use Rattle.policy.specs.Policy.{allows}
+use Rattle.verdict.proofs.RuleSets.{accepted_by}
+use Rattle.verdict.proofs.check.are_safe_by.Goals as goal
+
+pub returns : goal.returns
+returns c =
+    let t = c.args.table.now in
+    let edges = c.args.policy.now in
+    c.sharply_accepted_systems_are_safe.ensures t edges c.caps.ensures.lawful (accepted_by c.args.rules t (allows edges) c.requires)

@@ -1,0 +1,11 @@
+//! Sets of rules by which a policy is judged.
+
+/// The rules by which a policy is judged, beside A1 to A4.
+#[derive(Clone, Copy, PartialEq, Eq, Debug)]
+pub enum Rules {
+    /// P1 to P8: the policy has to be closed ('seL4 Enforces Integrity', section 3).
+    Closed,
+    /// S1 to S8: it has to be sharply closed, where the labels that may keep capabilities for CNodes are
+    /// known of the table. Each closed policy is.
+    Sharp,
+}
