@@ -147,8 +147,8 @@ def measure_closings(program, folder, base):
     return good
 
 
-# Nobody makes calls in a table without objects, so that nothing of a label could change.
-ALONE = "--policy-alone"
+# Nobody makes calls in a table without objects, so that nothing of a label could change: the policy is asked.
+ALLOWED = "--policy"
 
 
 @dataclass
@@ -184,9 +184,9 @@ def write_many_labels(top):
     asked = {
         "check, all edges": Question(["check", table, path["every"]], 0, inputs.every_edge_report(text, labels)),
         "close, a chain": Question(["close", table, path["chain"]], 0, chained, MANY_CLOSE_MS),
-        "why, all edges": Question(["why", table, path["every"], last, between, ALONE], 0, full, MANY_WHY_MS),
-        "why, no authority": Question(["why", table, path["none"], last, labels[0], ALONE], 0, "none\n", MANY_WHY_MS),
-        "why, all ways to take": Question(["why", table, path["take"], last, taken, ALONE], 0, take, MANY_WHY_MS),
+        "why, all edges": Question(["why", table, last, between, ALLOWED, path["every"]], 0, full, MANY_WHY_MS),
+        "why, no authority": Question(["why", table, last, labels[0], ALLOWED, path["none"]], 0, "none\n", MANY_WHY_MS),
+        "why, all ways to take": Question(["why", table, last, taken, ALLOWED, path["take"]], 0, take, MANY_WHY_MS),
     }
     return table, write_text(os.path.join(top, "script"), FAULTY_SCRIPT), asked
 
@@ -201,7 +201,7 @@ def measure_many_labels(program, folder, base):
     good = True
     for what, one in asked.items():
         good &= answers([program, *one.words], one.status, one.text.encode("ascii"), out)
-        files = one.words[1:3]
+        files = [word for word in one.words if os.path.isfile(word)]
         calls = [[program, *one.words], [program, "run", *files, script], ["wc", *files]]
         (run, _), (read, _), (wc, _) = run_in_turn(calls, base.cpu, SECONDS)
         beside, by_wc = (run.cpu - read.cpu) * 1e3, run.cpu / max(wc.cpu, 1e-9)

@@ -21,7 +21,9 @@ STORED |= {("four_threads", "log"): "confine/stdout", ("nine_kinds", "table"): "
 ASKED = {word: [word] for word in ["run", "replay", "check", "verify", "close", "list", "summary"]}
 ASKED |= {"cert": ["check", "--cert"], "missing": ["close", "--missing"], "surplus": ["close", "--surplus"]}
 ASKED |= {"claim": ["claims"], "strongest": ["claims", "--all"]}
-ASKED |= {"draw": ["draw", "--all"], "draw --policy-alone": ["draw", "--policy-alone", "--all"], "fold": ["draw"], "fold --policy-alone": ["draw", "--policy-alone"]}
+ASKED |= {"draw": ["draw", "--all"], "draw --policy": ["draw", "--policy", "--all"]}
+ASKED |= {"fold": ["draw"], "fold --policy": ["draw", "--policy"]}
+ASKED |= {f"{word} sharp": [*ASKED[word], "--rules", "sharp"] for word in ["run", "check", "cert", "verify", "close", "missing", "surplus"]}
 ASKED |= {"import": ["import", "--rights", "least"]}
 
 # What each summary begins with.
@@ -385,7 +387,9 @@ class Session:
         """Does what a line says that isn't indented."""
         word, _, rest = line.partition(" ")
         if word in ASKED:
-            yield self.asked_of(number, line, ASKED[word], self.files, rest, "table", 1)
+            more, _, answer = rest.partition(" ")
+            asked, answer = (f"{word} {more}", answer) if f"{word} {more}" in ASKED else (word, rest)
+            yield self.asked_of(number, line, ASKED[asked], self.files, answer, "table", 1)
         elif word == "system":
             self.files, self.asked = system_of(rest), ["run"]
             keep_log(self.asker, rest)
@@ -507,8 +511,8 @@ def command_of(words):
     """The command that words ask for."""
     if words in ASKED:
         return ASKED[words]
-    if told := re.fullmatch(r"why (--policy-alone )?(\S+) (\S.*)", words):
-        return ["why", *(["--policy-alone"] if told[1] else []), told[2], told[3]]
+    if told := re.fullmatch(r"why (--policy )?(\S+) (\S.*)", words):
+        return ["why", *(["--policy"] if told[1] else []), told[2], told[3]]
     if told := re.fullmatch(r"show (\S+) (\S+)((?: --take)?(?: --steps [0-9]+)?)", words):
         return ["show", told[1], told[2], *told[3].split()]
     if told := re.fullmatch(r"import (least|all)((?: --children (?:control|directed))?(?: --claims)?)", words):

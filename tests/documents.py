@@ -8,16 +8,16 @@
 - one that begins with `confine-cert 1` is what `check --cert` prints of them, and the certificate from here on;
 - one that begins with `{"` is the report on them, with the change that `<!-- change: .. -->` tells, or several of these;
 - one that begins with `full`, `take` or `none` is what `why` prints of the labels that `<!-- why: A B -->` tells, and one that
-  begins with `edge` what `close --missing` does, with that change; where the change ends with `closed`, it is asked by the policy that
-  `close` then prints;
+  begins with `edge` what `close --missing` does, with that change;
 - one that begins with `<?xml` is the file description from here on; one that begins with a header after `<!-- import: RIGHTS .. -->` is what
   `import` prints of it, with `--rights RIGHTS` and the options that follow, and that file from here on;
 - one that begins with `who may change whom` is what `summary` prints of the files, and one that begins with `{"bound"` what `show` does, of
   the labels that `<!-- show: A B -->` tells;
-- one that begins with `confine-policy 1` after `<!-- close: of the table -->` is what `close` prints of the table alone, and one that
-  begins with `confine-claims 2` after `<!-- claims: all -->` what `claims --all` prints of the files;
+- one that begins with `confine-policy 1` after `<!-- close: of the table -->` is what `close` prints of the table alone, with the options that
+  follow these words, and one that begins with `confine-claims 2` after `<!-- claims: all -->` what `claims --all` prints of the files;
 - a row of a table whose last cell is a report, or 'accepted', is the answer to these files with the
-  changes that the cells before it tell, as `X` becomes `Y`;
+  changes that the cells before it tell, as `X` becomes `Y`; if the cell before the last is such an answer too, it is the one with
+  `--rules sharp`;
 - one whose last cell is a line of a file and `note`, as `table:8: note`, is a line that `check --explain` says of them on standard error,
   or the beginning of one, if it ends with ` ..`;
 - a block after `<!-- short: STATUS WORDS -->` is what the command of these words prints with `--format short` of the files, with the change that
@@ -44,6 +44,8 @@ KINDS = [*FILES, "claims"]  # of which an example may lack the last
 TEXTS = [*KINDS, "description"]
 DENIED = re.compile(r"\w+:\d+: denied by ")
 NOTED = re.compile(r"\w+:\d+: note: ")
+REPORT = re.compile(r"accepted$|`\{\".*\}`$")
+SHARPLY = ["--rules", "sharp"]
 NOT_WELL = '"verdict":"(deny|illegal|broken)"|"state":"outside"|"bound"'
 MARKS = str.maketrans({"␣": " ", "␍": "\r"})
 
@@ -121,7 +123,7 @@ def changed(files, told, answer):
         files = with_line_replaced(files, old, [old, new])
     for old in re.findall(r"without `([^`]*)`", told):
         files = with_line_replaced(files, old, [])
-    return files | {"closed": True} if told.endswith("closed") else files
+    return files
 
 
 def parts_of(text):
@@ -155,7 +157,7 @@ def in_one_line(text, between=""):
 
 def examples_of(path):
     """Where each example stands, its files, and the answer that it shows."""
-    files, change, asked, imports, short, alone, closes, strongest = {}, "", [], "", [], False, False, False
+    files, change, asked, imports, short, alone, closes, strongest = {}, "", [], "", [], False, None, False
     for number, form, text in parts_of(path.read_text()):
         where = f"{path.relative_to(TOP)}:{number}"
         kind = (re.match(r" *(?:1  )?confine-(\w+) [12]\n", text) or ["", ""])[1]
@@ -176,7 +178,7 @@ def examples_of(path):
         elif form == "log":
             alone = True
         elif form == "close":
-            closes = True
+            closes = text.removeprefix("of the table").split()
         elif form == "claims":
             strongest = True
         elif form == "block" and short:
@@ -205,9 +207,9 @@ def examples_of(path):
             alone = False
         elif form == "block" and kind in KINDS:
             files = files | {kind: text}
-            if closes or strongest:
-                yield where, files, text
-            closes = strongest = False
+            if closes is not None or strongest:
+                yield where, files | {"asked": closes or []}, text
+            closes, strongest = None, False
         elif form == "block" and re.match('{"|full\n|take\n|none\n|edge ', text):
             text = in_one_line(text) if text.startswith("{") else text
             yield where, changed(files, change, text) | {"asked": asked}, text
@@ -216,10 +218,13 @@ def examples_of(path):
             yield where, changed(files, change, text), in_one_line(text, " ")
             change = ""
         elif form == "row":
-            *told, answer = [cell.strip() for cell in text.strip("|").split("|")]
+            *told, answer = [cell.strip() for cell in text.strip("|").split("|") if cell.strip()] or [""]
             if NOTED.match(answer):
                 yield where, changed(files, " ".join(told), answer), answer + "\n"
-            elif answer == "accepted" or re.match(r'`\{".*\}`$', answer):
+            elif REPORT.match(answer):
+                if told and REPORT.match(told[-1]):
+                    sharp = told.pop()
+                    yield where, changed(files, " ".join(told), sharp) | {"asked": SHARPLY}, sharp.strip("`") + "\n"
                 yield where, changed(files, " ".join(told), answer), answer.strip("`") + "\n"
 
 
@@ -248,21 +253,21 @@ def commands_of(answer, asked):
     if '"file":"description"' in answer:
         return [["import", "description", "--rights", "least"]]
     if answer.startswith("who may change whom"):
-        return [["summary", "table", "policy"]]
+        return [["summary", "table"]]
     if answer.startswith('{"bound"'):
-        return [["show", "table", "policy", *asked]]
+        return [["show", "table", *asked]]
     if re.match("full\n|take\n|none\n", answer):
-        return [["why", "table", "policy", *asked]]
+        return [["why", "table", *asked]]
     if DENIED.match(answer) or NOTED.match(answer):
         return [["check", "table", "policy", "--explain"]]
     if answer.startswith("edge "):
         return [["close", "table", "policy", "--missing"]]
     if answer.startswith("confine-claims 2"):
-        return [["claims", "table", "policy", "--all"]]
+        return [["claims", "table", "--all"]]
     if re.match('{"(claims|authority|broken)"', answer) or '"file":"claims"' in answer:
-        return [["claims", "table", "policy", "claims"]]
+        return [["claims", "table", "claims"]]
     if answer.startswith("confine-policy 1"):
-        return [["close", "table"]]
+        return [["close", "table", *asked]]
     if answer.startswith("confine-cert 1"):
         return [["check", "table", "policy", "--cert"]]
     if re.match('{"entr', answer) or '"file":"log"' in answer:
@@ -271,8 +276,9 @@ def commands_of(answer, asked):
         return [["check", "table", "policy"]]
     if answer == '{"verdict":"accept"}\n' or '"C1"' in answer or '"file":"certificate"' in answer:
         return [["verify", "table", "policy", "certificate"]]
-    run = ["run", "table", "policy", "script"]
-    return [run] if "confine-log" in answer or "accepted" in answer or '"file":"script"' in answer else [run, ["check", *run[1:3]]]
+    options = asked if asked == SHARPLY else []
+    run, check = ["run", "table", "policy", "script", *options], ["check", "table", "policy", *options]
+    return [run] if "confine-log" in answer or "accepted" in answer or '"file":"script"' in answer else [run, check]
 
 
 def write(files, folder):

@@ -17,19 +17,35 @@ from texts import KINDS, Fault
 
 FILES = {
     "check": ["table", "policy"], "verify": ["table", "policy", "certificate"], "run": ["table", "policy", "script"],
-    "replay": ["table", "policy", "log"], "close": ["table", "policy"], "why": ["table", "policy"],
-    "claims": ["table", "policy", "claims"], "list": ["table"], "draw": ["table", "policy"],
-    "summary": ["table", "policy"], "show": ["table", "policy"], "import": ["description"],
+    "replay": ["table", "policy", "log"], "close": ["table", "policy"], "why": ["table"], "claims": ["table", "claims"],
+    "list": ["table"], "draw": ["table"], "summary": ["table"], "show": ["table"], "import": ["description"],
 }
 
 
-# What a call by the policy alone says on standard error.
-ALONE = "confine: this is by the policy alone: each label counts as one whose threads make calls, so the answer says nothing about runs\n"
+# What is said on standard error where `--policy` asks of a policy.
+ALLOWED = "confine: this is what the policy allows: each label counts as one whose threads make calls, "
+ALLOWED += "so the answer says nothing about runs\n"
 
 
 def files_of(command, options=()):
     """The files of a command, in their order."""
-    return FILES["claims"][:2] if command == "claims" and "--all" in options else FILES[command]
+    if command == "claims" and "--all" in options:
+        return ["table"]
+    return [*FILES[command], *(["policy"] if "--policy" in options else [])]
+
+
+def line_of(command, paths, options=()):
+    """The words by which a command is called of files at these paths, in the order of `files_of`. A policy stands behind its option."""
+    if "--policy" not in options:
+        return [command, *paths, *options]
+    *paths, policy = paths
+    at = options.index("--policy") + 1
+    return [command, *paths, *options[:at], policy, *options[at:]]
+
+
+def rules_of(options):
+    """By which rules a policy is judged."""
+    return options[options.index("--rules") + 1] if "--rules" in options else "closed"
 
 
 # Authority.
@@ -112,9 +128,25 @@ def reach(table):
     return SimpleNamespace(edges=edges, keepers=sharp.keepers(table, edges), idlers=sharp.idlers(edges), acts=actors(table, edges))
 
 
-def denial(table, policy):
+def limits(table, policy=None):
+    """The edges by which it is told how far labels go with each other, and the labels that act: those of the reach of a table; or those of
+    a policy, where each label acts."""
+    if policy is not None:
+        return policy, frozenset(range(len(table.labels)))
+    reached = reach(table)
+    return reached.edges, reached.acts
+
+
+def first_broken(table, policy, rules):
+    """Rule and place of the first of P1 to P8, or of S1 to S8, that a policy breaks, or None."""
+    if rules == "sharp":
+        return sharp.sharply_broken(policy, sharp.keepers(table, policy))
+    return policies.first_broken(policy, len(table.labels))
+
+
+def denial(table, policy, rules="closed"):
     """Rule and place, or None where the table is accepted."""
-    broken = policies.first_broken(policy, len(table.labels))
+    broken = first_broken(table, policy, rules)
     if broken:
         rule, place = broken
         return rule, policies.rule_names(rule, place, table)
@@ -149,14 +181,14 @@ def report(**keys):
     return json.dumps(keys, separators=(",", ":"), sort_keys=True) + "\n"
 
 
-def judged(table, policy, then):
-    broken = denial(table, policy)
+def judged(table, policy, rules, then):
+    broken = denial(table, policy, rules)
     if broken:
         return 1, report(rule=broken[0], place=broken[1], verdict="deny")
     return then()
 
 
-def check(table, policy, certified=False):
+def check(table, policy, rules, certified=False):
     def accepted():
         if certified:
             return 0, texts.text_of("confine-cert 1", certificate(table))
@@ -165,10 +197,10 @@ def check(table, policy, certified=False):
         cut = {names[a]: [names[l] for l in sorted(policies.cut(policy, a))] for a in range(count)}
         return 0, report(caps=len(table.caps), full=full, cut=cut, verdict="accept")
 
-    return judged(table, policy, accepted)
+    return judged(table, policy, rules, accepted)
 
 
-def verify(table, policy, lines):
+def verify(table, policy, lines, rules):
     def accepted():
         right = certificate(table)
         for number in range(max(len(right), len(lines))):
@@ -176,15 +208,15 @@ def verify(table, policy, lines):
                 return 1, report(rule="C1", place=[str(number + 1)], verdict="deny")
         return 0, report(verdict="accept")
 
-    return judged(table, policy, accepted)
+    return judged(table, policy, rules, accepted)
 
 
-def run(table, policy, events):
+def run(table, policy, events, rules):
     def accepted():
         state = kernel.boot(table)
         return 0, texts.text_of("confine-log 1", [f"{event.text} = {kernel.step(state, event)}" for event in events])
 
-    return judged(table, policy, accepted)
+    return judged(table, policy, rules, accepted)
 
 
 def replay(table, policy, entries):
@@ -211,29 +243,21 @@ def could_be_done(table, entries):
     return kernel.step(state, entries[-1][0]).startswith("done")
 
 
-def close(table, policy, missing=False, surplus=False):
+def close(table, policy, rules, missing=False, surplus=False):
     named = policy or set()
     asked = {edge for _, _, _, edge in authority(table, kernel.boot(table))}
-    edges = policies.close(asked if surplus else named | asked, len(table.labels))
+    kept = asked if surplus else named | asked
+    edges = sharp.sharp_closure(kept, sharp.holders(table)) if rules == "sharp" else policies.close(kept, len(table.labels))
     if missing or surplus:
         lines = [texts.edge_line(edge, table) + "\n" for edge in sorted(named - edges if surplus else edges - named)]
         return int(bool(lines)), "".join(lines)
     return 0, texts.text_of("confine-policy 1", [texts.edge_line(edge, table) for edge in sorted(edges)])
 
 
-def bounded(table, policy, alone, then):
-    """What is said of how far labels go with each other: in an accepted system, or of the policy alone, where each label acts."""
-    if alone:
-        return then(frozenset(range(len(table.labels))))
-    return judged(table, policy, lambda: then(actors(table, policy)))
-
-
-def why(table, policy, a, b, alone=False):
-    def told(acts):
-        how, edges = policies.why(policy, acts, table.labels.index(a), table.labels.index(b))
-        return 0, "".join(f"{line}\n" for line in [how, *(texts.edge_line(edge, table) for edge in edges)])
-
-    return bounded(table, policy, alone, told)
+def why(table, policy, a, b):
+    edges, acts = limits(table, policy)
+    how, reason = policies.why(edges, acts, table.labels.index(a), table.labels.index(b))
+    return 0, "".join(f"{line}\n" for line in [how, *(texts.edge_line(edge, table) for edge in reason)])
 
 
 class Stated(list):
@@ -244,40 +268,33 @@ def read_claims(text, table):
     return Stated(statements.read(text, table)) if statements.is_second(text) else texts.read_claims(text, table)
 
 
-def claims(table, policy, claimed=None):
+def claims(table, claimed=None):
     """Whether these claims hold; where there are none, the strongest that do."""
-
-    def told(acts):
-        extents = {(a, b): how for a, b, how in policies.extents(policy, acts, len(table.labels))}
-        if claimed is None:
-            return 0, texts.text_of(statements.HEADER, statements.strongest(table, policy, acts))
-        if isinstance(claimed, Stated):
-            broken = list(statements.broken(claimed, table, policy, acts))
-            if broken:
-                return 1, report(broken=broken, verdict="broken")
-            return 0, report(claims=len(claimed), verdict="hold")
-        for number, (most, a, b) in enumerate(claimed, 1):
-            if extents[a, b] not in ("none", most):
-                return 1, report(authority=extents[a, b], claim=number, verdict="broken")
+    edges, acts = limits(table)
+    if claimed is None:
+        return 0, texts.text_of(statements.HEADER, statements.strongest(table, edges, acts))
+    if isinstance(claimed, Stated):
+        broken = list(statements.broken(claimed, table, edges, acts))
+        if broken:
+            return 1, report(broken=broken, verdict="broken")
         return 0, report(claims=len(claimed), verdict="hold")
+    extents = {(a, b): how for a, b, how in policies.extents(edges, acts, len(table.labels))}
+    for number, (most, a, b) in enumerate(claimed, 1):
+        if extents[a, b] not in ("none", most):
+            return 1, report(authority=extents[a, b], claim=number, verdict="broken")
+    return 0, report(claims=len(claimed), verdict="hold")
 
-    return bounded(table, policy, False, told)
+
+def summary(table):
+    return 0, summaries.summary(table, *limits(table))
 
 
-def summary(table, policy):
-    return judged(table, policy, lambda: (0, summaries.summary(table, policy, actors(table, policy))))
-
-
-def shown(table, policy, a, b, takes=False):
+def shown(table, a, b, takes=False):
     """What `show` answers where it makes no calls; None where it has to try some."""
-
-    def told():
-        how = policies.why(policy, actors(table, policy), table.labels.index(a), table.labels.index(b))[0]
-        if how == "none":
-            return 1, report(bound="none", run="impossible")
-        return (1, report(bound="take", run="none found", steps=0)) if how == "take" and not takes else None
-
-    return judged(table, policy, told)
+    how = policies.why(*limits(table), table.labels.index(a), table.labels.index(b))[0]
+    if how == "none":
+        return 1, report(bound="none", run="impossible")
+    return (1, report(bound="take", run="none found", steps=0)) if how == "take" and not takes else None
 
 
 def is_shown(table, events, a, b, takes=False):
@@ -294,19 +311,17 @@ def is_shown(table, events, a, b, takes=False):
     return any(states.shrinks(before, state, number) == takes for number in changed)
 
 
-def drawn(table, policy, alone=False, every=False):
-    def told(acts):
-        if not every:
-            return 0, summaries.drawing(table, policy, acts)
-        lines = [f'"{name}"' for name in table.labels]
-        for a, l, how in policies.extents(policy, acts, len(table.labels)):
-            if how != "none":
-                first = texts.edge_line(policies.why(policy, acts, a, l)[1][0], table).removeprefix("edge ")
-                style = "style=dashed, " if how == "take" else ""
-                lines.append(f'"{table.labels[a]}" -> "{table.labels[l]}" [{style}label="{first}"]')
-        return 0, "".join(["digraph authority {\n", *(f"  {line}\n" for line in lines), "}\n"])
-
-    return bounded(table, policy, alone, told)
+def drawn(table, policy=None, every=False):
+    edges, acts = limits(table, policy)
+    if not every:
+        return 0, summaries.drawing(table, edges, acts)
+    lines = [f'"{name}"' for name in table.labels]
+    for a, l, how in policies.extents(edges, acts, len(table.labels)):
+        if how != "none":
+            first = texts.edge_line(policies.why(edges, acts, a, l)[1][0], table).removeprefix("edge ")
+            style = "style=dashed, " if how == "take" else ""
+            lines.append(f'"{table.labels[a]}" -> "{table.labels[l]}" [{style}label="{first}"]')
+    return 0, "".join(["digraph authority {\n", *(f"  {line}\n" for line in lines), "}\n"])
 
 
 def listed(table):
@@ -327,8 +342,8 @@ def read(file, text, table, options=()):
 
 def answer(command, given, options=()):
     """Status, standard output and standard error of a command. `given` has the bytes of its files, or None where one can't be read;
-    `options` are those of the command, each value behind its option; the last two of `why` are its labels, and the first two of `show`.
-    It answers None where `show` has to try calls."""
+    `options` are those of the command, each value behind its option, but that of `--policy`, which is a file; the last two of `why` are its
+    labels, and the first two of `show`. It answers None where `show` has to try calls."""
     values = []
     for file, text in zip(files_of(command, options), given):
         if text is None:
@@ -337,22 +352,25 @@ def answer(command, given, options=()):
             values.append(read(file, text, values[0] if values else None, options))
         except Fault as fault:
             return 2, report(fault=fault.number, file=file, line=fault.line), ""
-    alone = "--policy-alone" in options
+    table, second = values[0], values[1] if len(values) > 1 else None
+    alone, rules = ALLOWED * ("--policy" in options), rules_of(options)
     labels = {"why": options[-2:], "show": options[:2]}.get(command, [])
     for operand, label in zip("AB", labels):
-        if label not in values[0].labels:
+        if label not in table.labels:
             return 2, "", f"confine: {operand} is no label of the table\n"
     if command == "why":
-        return *why(*values, *labels, alone), ALONE * alone
+        return *why(table, second, *labels), alone
     if command == "show":
-        told = shown(*values, *labels, "--take" in options)
+        told = shown(table, *labels, "--take" in options)
         return told and (*told, "")
     if command == "draw":
-        return *drawn(*values, alone, "--all" in options), ALONE * alone
+        return *drawn(table, second, "--all" in options), alone
     if command == "import":
-        return 0, values[0], ""
+        return 0, table, ""
     if command == "close":
-        return *close(values[0], values[1] if len(values) > 1 else None, "--missing" in options, "--surplus" in options), ""
+        return *close(table, second, rules, "--missing" in options, "--surplus" in options), ""
     if command == "check":
-        return *check(*values, "--cert" in options), ""
-    return *{"verify": verify, "run": run, "replay": replay, "claims": claims, "list": listed, "summary": summary}[command](*values), ""
+        return *check(*values, rules, "--cert" in options), ""
+    if command in ("verify", "run"):
+        return *{"verify": verify, "run": run}[command](*values, rules), ""
+    return *{"replay": replay, "claims": claims, "list": listed, "summary": summary}[command](*values), ""

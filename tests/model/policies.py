@@ -78,7 +78,7 @@ def close(policy, count):
 
 
 def rule_names(rule, place, table):
-    """A place of P1 to P8 in names: the entry of the kind is the third of four, and the second of three."""
+    """A place of P1 to P8, or of S1 to S8, in names: the entry of the kind is the third of four, and the second of three."""
     kind = 2 if len(place) == 4 else 1
     return [KINDS[entry] if at == kind else table.labels[entry] for at, entry in enumerate(place)]
 

@@ -1,5 +1,5 @@
-"""The sharp rules S1 to S8, keepers, idlers and the least sharply closed policy, as docs/RULES.md and docs/POLICY.md have them. No command
-judges by them. Policies are as in policies.py. `holders` are the labels whose CNodes hold a capability for a CNode at boot."""
+"""The sharp rules S1 to S8, keepers, idlers and the least sharply closed policy, as docs/RULES.md and docs/POLICY.md have them. Policies
+are as in policies.py. `holders` are the labels whose CNodes hold a capability for a CNode at boot."""
 from policies import CALL, CONTEXT, CONTROL, DERIVE, GRANT, HOLDS, PLAIN, RECEIVE, REPLY, RUNS, SCHEDCONTROL, SPACE
 
 

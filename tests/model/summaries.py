@@ -1,4 +1,4 @@
-"""The summary of an accepted system: a matrix of who may change whom, and the labels without a thread, with those who use them; and the
+"""The summary of a table: a matrix of who may change whom, and the labels without a thread, with those who use them; and the
 same as a drawing, of boxes and arrows."""
 import policies
 from policies import AWAIT, READ, RECEIVE, WRITE

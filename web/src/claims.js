@@ -26,10 +26,10 @@ function countOf(holding, broken) {
   return `${hold}, ${broken === 1 ? "1 is broken" : `${broken} are broken`}.`;
 }
 
-// Says above the summary which claims of version 2 hold of an accepted system, and marks them, whatever was asked.
-async function tellClaims(turn, given, judged) {
-  const isAsked = judged?.verdict === "accept" && isSecond(given.claims);
-  const answer = isAsked ? await program.answer(["claims", "table", "policy", "claims"], given).catch(failed) : null;
+// Says above the summary which claims of version 2 hold of a table without a fault, and marks them, whatever was asked.
+async function tellClaims(turn, given, isFaulty) {
+  const isAsked = !isFaulty && isSecond(given.claims);
+  const answer = isAsked ? await program.answer(["claims", "table", "claims"], given).catch(failed) : null;
   if (turn !== asked) return;
   const report = answer && reportOf(decoded(answer.output));
   find("kept-claims").hidden = !report;
@@ -48,7 +48,7 @@ async function tellClaims(turn, given, judged) {
 async function brokenAtOnce(given, report) {
   const claimed = claimLines(given.claims);
   if (report.verdict === "hold") return { claimed, broken: [] };
-  const told = await program.answer(["claims", "table", "policy", "claims", "--explain"], given);
+  const told = await program.answer(["claims", "table", "claims", "--explain"], given);
   if (!told) return null;
   const sentences = decoded(told.error).split("\n");
   const reason = (line) => reasonOf(sentences.find((sentence) => sentence.startsWith(`claims:${line}: `)) ?? "");
@@ -65,7 +65,7 @@ async function brokenInTurn(turn, given) {
   let told = 0; // how many claims are marked
   do {
     const below = [lines[0], ...lines.slice(1 + told)].join("\n");
-    const answer = await program.answer(["claims", "table", "policy", "claims", "--explain"], { ...given, claims: below });
+    const answer = await program.answer(["claims", "table", "claims", "--explain"], { ...given, claims: below });
     report = answer && reportOf(decoded(answer.output));
     told += report?.claim ?? report?.claims ?? 0;
     if (report?.claim) broken.push({ line: told + 1, reason: reasonOf(decoded(answer.error)) });
@@ -91,7 +91,7 @@ function showClaims(given, lines, count, broken) {
   find("claimed").hidden = false;
 }
 
-// Begins the claims with those that a command writes, and marks them. A denial or a fault is shown in their place.
+// Begins the claims with those that a command writes, and marks them. A fault is shown in their place.
 async function takeClaims(command) {
   const answer = await ask(command);
   if (answer?.status !== 0) return;

@@ -20,8 +20,8 @@ function choose(option, way) {
   find(`${option}-${Object.keys(READINGS[option].ways).includes(way) ? way : Object.keys(READINGS[option].ways)[0]}`).checked = true;
 }
 
-// Takes the table that was imported, with the least policy for it, and asks for their summary. Gives the last answer; `lines` get the words
-// of what was asked, with the text that each became.
+// Takes the table that was imported, with the least policy for it, and asks for the table's summary. Gives the last answer; `lines` get the
+// words of what was asked, with the text that each became.
 async function followImport(turn, answer, lines) {
   const table = decoded(answer.output);
   lines[0] = [...lines[0], ">table"];

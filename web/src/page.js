@@ -2,7 +2,7 @@
 
 // The page: what is chosen, asked and shown.
 
-const SYSTEM = ["table", "policy"];
+const TABLE = ["table"], SYSTEM = ["table", "policy"];
 
 // The commands, a button for each, in groups: the texts that it reads, an option, what is asked, which text its answer may become, and what
 // else is to be seen with it. The texts beside description, table and policy are those that are named here.
@@ -13,19 +13,19 @@ const GROUPS = [
     { name: "close", reads: SYSTEM, asks: "the least policy for this table", gives: "policy" },
     { name: "close", option: "--missing", reads: SYSTEM, asks: "which edges does the policy lack?" },
     { name: "close", option: "--surplus", reads: SYSTEM, asks: "which edges does nothing need?" },
-    { name: "list", reads: ["table"], asks: "the objects' numbers, for a script", shows: "script" },
+    { name: "list", reads: TABLE, asks: "the objects' numbers, for a script", shows: "script" },
   ] },
   { title: "Who can touch whom", commands: [
-    { name: "summary", reads: SYSTEM, asks: "all programs at once", shows: "summary" },
-    { name: "why", reads: SYSTEM, pair: true, asks: "by which edges?" },
-    { name: "show", reads: SYSTEM, pair: true, asks: "by which calls does A change B?", gives: "script" },
-    { name: "show", option: "--take", reads: SYSTEM, pair: true, asks: "by which calls does A take from B?", gives: "script" },
-    { name: "draw", reads: SYSTEM, asks: "the programs, as a graph" },
-    { name: "draw", option: "--all", reads: SYSTEM, asks: "all labels, as a graph" },
+    { name: "summary", reads: TABLE, asks: "all programs at once", shows: "summary" },
+    { name: "why", reads: TABLE, pair: true, asks: "by which edges?" },
+    { name: "show", reads: TABLE, pair: true, asks: "by which calls does A change B?", gives: "script" },
+    { name: "show", option: "--take", reads: TABLE, pair: true, asks: "by which calls does A take from B?", gives: "script" },
+    { name: "draw", reads: TABLE, asks: "the programs, as a graph" },
+    { name: "draw", option: "--all", reads: TABLE, asks: "all labels, as a graph" },
   ] },
   { title: "What has to hold", commands: [
-    { name: "claims", reads: [...SYSTEM, "claims"], asks: "does each claim hold?" },
-    { name: "claims", option: "--all", reads: SYSTEM, asks: "the strongest claims that hold", gives: "claims" },
+    { name: "claims", reads: [...TABLE, "claims"], asks: "does each claim hold?" },
+    { name: "claims", option: "--all", reads: TABLE, asks: "the strongest claims that hold", gives: "claims" },
     { name: "import", option: "--claims", reads: ["description"], asks: "the claims that the description makes", gives: "claims" },
   ] },
   { title: "Runs and certificates", commands: [
@@ -228,12 +228,12 @@ function leaveExample(table) {
   takeOwn("");
 }
 
-// Asks what is asked first of other texts.
+// Asks what is asked first of other texts: of a table without a policy, the summary.
 function begin(wanted) {
   const isDescribed = texts.description.text !== "" && wanted !== "system";
   view(isDescribed ? "description" : "system");
   show("summary");
-  return ask(isDescribed ? IMPORT : CHECK);
+  return ask(isDescribed ? IMPORT : texts.policy.text === "" ? SUMMARY : CHECK);
 }
 
 function offerExamples() {
@@ -325,10 +325,10 @@ async function ask(command) {
   const output = decoded(answer.output);
   const report = reportOf(output);
   showAnswer(command, given, answer, output, report, took);
-  if (command.pair) showReason(given, words, answer, output);
+  if (command === WHY) showReason(given, words.slice(1 + WHY.reads.length), answer, output);
   await offerMissing(turn, given, answer, report);
   await markClaims(turn, given, command === CLAIMS ? report : null);
-  if (command !== IMPORT) await showSystem(turn, given, command, output, report);
+  if (command !== IMPORT) await showSystem(turn, given, command, answer);
   await listObjects(turn, allTexts());
   if (turn !== asked) return null;
   document.body.dataset.answered = turn;
@@ -486,7 +486,6 @@ offerExamples();
 offerCommands();
 layOut();
 texts.table.changed = takeTable;
-texts.policy.changed = () => texts.claims.unmark();
 texts.description.changed = takeDescription;
 texts.claims.changed = takeClaimed;
 find("pictured-programs").addEventListener("click", () => drawOf(DRAW));

@@ -36,7 +36,7 @@ function inWords(command, answer, report) {
   if (command.option === "--missing") return answer.status === 0 ? ["nothing is missing", "good"] : ["edges are missing", "bad"];
   if (command.option === "--surplus") return answer.status === 0 ? ["nothing is surplus", "good"] : ["edges are surplus", ""];
   if (command.name === "show") return ["a run that does it", ""];
-  if (command.name === "summary") return ["accepted", "good"];
+  if (command.name === "summary") return ["no fault", "good"];
   if (command.name === "run") return ["accepted, and run", "good"];
   return ["", ""];
 }

@@ -1,41 +1,32 @@
 "use strict";
 
-// What belongs to the system that is asked about, whatever is asked: its summary, the drawings, and the reason of two labels in them.
+// What belongs to the table, whatever is asked, and whatever the policy says: its summary, the drawings, and the reason of two labels in
+// them.
 
-// Shows what belongs to the texts, once a command has given an output: the summary and the drawings.
-async function showSystem(turn, given, command, output, report) {
-  let judged = command === CHECK ? report : null;
-  if (!judged) {
-    const answer = await program.answer(["check", "table", "policy"], given).catch(failed);
-    if (turn !== asked || !answer) return;
-    judged = reportOf(decoded(answer.output));
-  }
-  await summarize(turn, given, judged, command === SUMMARY ? output : null);
-  await tellClaims(turn, given, judged);
-  await draw(turn, given, judged, command, output);
+// Shows what belongs to the table, once a command was answered: the summary, which claims hold, and the drawings.
+async function showSystem(turn, given, command, answer) {
+  const told = command === SUMMARY ? answer : await program.answer(["summary", "table"], given).catch(failed);
+  if (turn !== asked || !told) return;
+  const lacking = told.status === 0 ? "" : whatLacks(told);
+  showSummary(lacking ? null : summaryOf(decoded(told.output)), lacking);
+  await tellClaims(turn, given, lacking !== "");
+  await draw(turn, given, lacking, command, answer);
 }
 
-// Shows the summary of an accepted system. Cells that say otherwise than the summary before are outlined.
-async function summarize(turn, given, judged, output) {
-  if (judged?.verdict !== "accept") return showSummary(given, null, judged);
-  if (output === null) {
-    const answer = await program.answer(["summary", "table", "policy"], given).catch(failed);
-    if (turn !== asked || answer?.status !== 0) return;
-    output = decoded(answer.output);
-  }
-  if (turn === asked) showSummary(given, summaryOf(output), judged);
+// Why a table has no summary, in words.
+function whatLacks(told) {
+  const report = reportOf(decoded(told.output));
+  return report?.fault ? `The ${report.file} has a fault.` : "The program gave no answer.";
 }
 
-function showSummary(given, summary, judged) {
+// Shows a summary, or says why there is none. Cells that say otherwise than the summary before are outlined.
+function showSummary(summary, lacking) {
   find("box-summary").classList.remove("old");
   find("stale").hidden = true;
   if (!summary || summary.labels.length === 0) {
     summed = null;
-    const why = summary ? "No label has a thread." :
-      judged?.fault ? `The ${judged.file} has a fault.` :
-      "The table doesn't keep to the policy, so nothing is said of it.";
     find("reason").hidden = true;
-    find("matrix").replaceChildren(element("p", { class: "small" }, why));
+    find("matrix").replaceChildren(element("p", { class: "small" }, summary ? "No label has a thread." : lacking));
     find("others").replaceChildren();
     find("changed").hidden = true;
     return;
@@ -54,29 +45,28 @@ function showSummary(given, summary, judged) {
   find("others").replaceChildren(element("b", {}, "Memory and other labels without a thread"), element("ul", {}, ...rows));
 }
 
-// Draws what belongs to the texts.
-async function draw(turn, given, report, command, output) {
-  const isKept = report?.verdict === "accept";
+// Draws what belongs to the table, or says what it lacks.
+async function draw(turn, given, lacking, command, answer) {
   if (command === DRAW || command === DRAW_ALL) pictured = command;
   find("pictured-programs").setAttribute("aria-pressed", pictured === DRAW);
   find("pictured-labels").setAttribute("aria-pressed", pictured === DRAW_ALL);
-  const [graph, text] = command === pictured && isKept ? [graphOf(output), output] : isKept ? await graphFor(given) : [null, ""];
+  const output = decoded(answer.output);
+  const [graph, text] = lacking ? [null, ""] : command === pictured ? [graphOf(output), output] : await graphFor(given);
   if (turn !== asked) return;
-  showGraph(graph, text, report);
-  const isTable = report && report.file !== "table";
-  const objects = isTable ? drawObjects(given.table) : null;
-  frame("objects", objects, isTable ? "The table has too many objects to be drawn." : "The table has a fault.");
-  find("objects").hidden = isTable && !objects;
+  showGraph(graph, text, lacking);
+  const objects = lacking ? null : drawObjects(given.table);
+  frame("objects", objects, lacking || "The table has too many objects to be drawn.");
+  find("objects").hidden = !lacking && !objects;
   find("signs").hidden = !objects;
 }
 
-// The graph of an accepted system, and its text. With many labels `draw --all` takes long, since it has a reason for each arrow: then the
-// graph is that of the claims that don't hold, of `none` for each pair, without reasons and without a text.
+// The graph of a table without a fault, and its text. With many labels `draw --all` takes long, since it has a reason for each arrow: then
+// the graph is that of the claims that don't hold, of `none` for each pair, without reasons and without a text.
 async function graphFor(given) {
   const labels = labelsOf(given.table);
   if (pictured === DRAW_ALL && labels.length > MOST_IN_TABLE) return [{ labels, arrows: [] }, ""];
   if (pictured === DRAW_ALL && labels.length > MOST_LABELS) return [await tableOf(labels, given), ""];
-  const words = ["draw", "table", "policy", ...(pictured === DRAW ? [] : ["--all"])];
+  const words = ["draw", "table", ...(pictured === DRAW ? [] : ["--all"])];
   const answer = await program.answer(words, given).catch(failed);
   if (answer?.status !== 0) return [null, ""];
   const text = decoded(answer.output);
@@ -85,19 +75,18 @@ async function graphFor(given) {
 
 async function tableOf(labels, given) {
   const claims = claimsOfNone(labels);
-  const answer = await program.answer(["claims", "table", "policy", "claims"], { ...given, claims }).catch(failed);
+  const answer = await program.answer(["claims", "table", "claims"], { ...given, claims }).catch(failed);
   if (answer?.status !== 0 && answer?.status !== 1) return null;
-  const report = JSON.parse(decoded(answer.output));
-  return report.verdict === "deny" ? null : graphOfBroken(labels, report);
+  return graphOfBroken(labels, JSON.parse(decoded(answer.output)));
 }
 
-// The graph is of an accepted system, so it is shown where the table keeps to the policy.
-function showGraph(graph, text, report) {
+// Shows a graph with its text, or says why there is none.
+function showGraph(graph, text, lacking) {
   const isDrawn = graph && graph.labels.length > 0 && graph.labels.length <= MOST_IN_TABLE;
-  const why = report?.fault ? `The ${report.file} has a fault.` :
-    graph?.labels.length === 0 ? "No label has a thread." :
+  const why = lacking ||
+    (graph?.labels.length === 0 ? "No label has a thread." :
     graph ? `More than ${MOST_IN_TABLE} labels aren't drawn here.` :
-    "The table doesn't keep to the policy, so nothing is drawn of it.";
+    "The program gave no graph.");
   frame("labels", isDrawn ? drawLabels(graph, (one, other) => askWhy(find("kept"), one, other)) : null, why);
   find("kept").hidden = !isDrawn;
   find("graph").hidden = !graph || text === "";
@@ -131,11 +120,10 @@ function frame(id, drawing, why) {
   find(id).querySelector(".drawing").replaceChildren(drawing ?? element("p", { class: "small" }, why));
 }
 
-// Shows what threads of A may do to objects of B beneath the matrix or the drawing, where the two were chosen: the edges of a reason with
-// their lines in the policy, where each is from, and the memory of both.
-function showReason(given, words, answer, output) {
-  const [one, other] = words.slice(3, 5);
-  if (words[0] !== "why" || answer.status !== 0) return;
+// Shows what threads of A may do to objects of B beneath the matrix or the drawing, where the two were chosen: the edges of a reason, each
+// with its line in the policy if it stands there, where each is from, and the memory of both.
+function showReason(given, [one, other], answer, output) {
+  if (answer.status !== 0) return;
   const [held, ...edges] = output.trimEnd().split("\n");
   const policy = given.policy.split("\n");
   const offer = (edge) => {
