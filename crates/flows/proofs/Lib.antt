@@ -1,0 +1,6 @@
+pub mod SeeSets
+pub mod Contested
+pub mod RowByRow
+pub mod FlowSets
+pub mod Chains
+pub mod Leading

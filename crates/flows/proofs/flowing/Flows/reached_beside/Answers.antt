@@ -1,0 +1,42 @@
+-- Label by label, until those that were reached are all done.
+use Rattle.std.proofs.{Common.{◌&&◌, ◌<◌, ◌||◌, ◌∙◌, ◌≡◌, Bool, ap, false, not, refl, subst, sym, true}, lemmas.Bool.{and_parts, eq-eqb, or_left, or_right}}
+use Rattle.base.specs.Labels.{is_in}
+use Rattle.reach.specs.Extents.{limits_of}
+use Rattle.sharp.proofs.Missing.{fewer_missing}
+use Rattle.flows.proofs.Chains.{all_reached, first_reached, more_reached}
+use Rattle.flows.proofs.flowing.Flows.reached_beside.Goals as goal
+
+pub loop-label-init : goal.loop-label-init
+loop-label-init c =
+    first_reached (limits_of c.args.self.now) c.args.filters c.args.from (is_in c.difference-done.result) (is_in c.only-reached.result)
+    (λ l. c.difference-done.ensures l ∙ ap (λ b. is_in c.args.filters l && not b) (c.only.ensures l)) c.only-reached.ensures
+
+was_false : (b : Bool) → not b ≡ true → b ≡ false
+was_false true is = sym is
+was_false false is = refl
+
+pub loop-label-smaller : goal.loop-label-smaller
+loop-label-smaller c =
+    let done = c.loop-label.done in
+    let label = c.in-Some.label in
+    let parts =
+    and_parts (is_in c.loop-label.reached label) (not (is_in done label)) (sym (c.difference.ensures label) ∙ c.in-Some.ensures.some.0) in
+    fewer_missing (is_in done) (is_in c.union-done.result)
+    (λ l is. c.union-done.ensures l ∙ or_left (is_in done l) (is_in c.only-in-Some.result l) is) label (was_false (is_in done label) parts.1)
+    (c.union-done.ensures label ∙ or_right (is_in done label) (is_in c.only-in-Some.result label) (c.only-in-Some.ensures label ∙ eq-eqb label label refl))
+    256 (subst (λ n. n < 256) c.number.ensures.value c.number.ensures.below)
+
+pub loop-label-preserved : goal.loop-label-preserved
+loop-label-preserved c =
+    let done = c.loop-label.done in
+    let label = c.in-Some.label in
+    let parts =
+    and_parts (is_in c.loop-label.reached label) (not (is_in done label)) (sym (c.difference.ensures label) ∙ c.in-Some.ensures.some.0) in
+    more_reached (limits_of c.args.self.now) c.args.filters c.args.from (is_in done) (is_in c.loop-label.reached) c.loop-label.invariant label
+    (is_in c.next_beside.result) (is_in c.union-done.result) (is_in c.union-reached.result) parts.0 (was_false (is_in done label) parts.1)
+    c.next_beside.ensures (λ l. c.union-done.ensures l ∙ ap (λ b. is_in done l || b) (c.only-in-Some.ensures l)) c.union-reached.ensures
+
+pub returns : goal.returns
+returns c =
+    all_reached (limits_of c.args.self.now) c.args.filters c.args.from (is_in c.loop-label.done) (is_in c.loop-label.reached) c.loop-label.invariant
+    (λ a. sym (c.difference.ensures a) ∙ c.in_default.ensures.none a)

@@ -1,0 +1,9 @@
+-- Of the rows so far, those that have a label of the set are found.
+use Rattle.std.proofs.Common.{ℕ, ◌↔◌, ◌≡◌, true}
+use Rattle.base.specs.Labels.{is_in}
+use Rattle.policy.proofs.Stepping.{IsBelow}
+use Rattle.flows.specs.Rows.{Meets}
+use Rattle.flows.proofs.meeting.meeting.Given as goal
+
+abbrev pub invariant-loop-number : goal.invariant-loop-number
+invariant-loop-number l = (y : ℕ) → (is_in l.found y ≡ true) ↔ IsBelow (λ k. (y ≡ k) × Meets l.rows l.set k) l.number

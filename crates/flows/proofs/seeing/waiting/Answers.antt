@@ -1,0 +1,8 @@
+use Rattle.base.specs.Labels.{is_in}
+use Rattle.policy.proofs.Gathering.{both, itself_tells}
+use Rattle.flows.proofs.seeing.waiting.Goals as goal
+
+pub returns : goal.returns
+returns c label =
+    both (is_in c.intersection.result label) (is_in c.sources.result label) (is_in c.args.actors label) (c.sources.ensures label)
+    (itself_tells (is_in c.args.actors label)) (c.intersection.ensures label)

@@ -1,0 +1,139 @@
+//! To whom what a label does may come, and through whom.
+ghost use Rattle.std.specs.Prelude.{ℕ, ◌↔◌, ◌≡◌, IfErr, IfOk, IsTrue, false, true};
+ghost use Rattle.base.specs.{Labels.is_in, Refusals.out_of_memory};
+ghost use Rattle.reach.specs.Extents.{limits_of};
+ghost use Rattle.flows.specs.Flowing.{FlowsBeside, FlowsTo, GoesOn, GoesThrough, IsShielded, Leads, NeverDisturbs};
+
+use crate::meeting::meeting;
+use crate::rows::{affected_rows, labels_are_few, seen_rows};
+use base::{Label, Labels, Refusal};
+use reach::{Reach, runs_keep_labels_apart};
+use std::alloc::Global;
+use std::marker::Model;
+
+/// The flows between the labels of a table, by its reach.
+///
+/// What a label does flows to another if its threads may change or shrink an object that the other sees.
+#[derive(Drop)]
+pub struct Flows<'a> {
+    reach: &'a Reach<'a>,
+    affected: Vec<Labels>,
+    seen: Vec<Labels>,
+}
+
+impl<'a> Model for Flows<'a> {
+    ghost use Rattle.reach.specs.{Extents.limits_of, Reach.TableReach};
+    ghost use Rattle.flows.specs.Rows.{AreFlowRows};
+
+    ghost Value = { TableReach };
+
+    ghost view = { λ flows. flows.reach.now };
+
+    ghost invariant = { λ flows. AreFlowRows (limits_of flows.reach.now) flows.affected.items flows.seen.items };
+}
+
+impl<'a> Flows<'a> {
+    /// Returns the flows by the reach of a table.
+    ///
+    /// # Errors
+    ///
+    /// 40 where memory is refused.
+    pub fn of(alloc: Global, reach: &'a Reach<'a>) -> Result<Flows<'a>, Refusal>
+        ensures reach { IfOk result (λ flows. flows ≡ reach.now) }
+        ensures memory { IfErr result (λ refusal. refusal ≡ out_of_memory) }
+    {
+        let affected = affected_rows(alloc, reach)?;
+        let seen = seen_rows(alloc, reach)?;
+        Ok(Flows {
+            reach,
+            affected,
+            seen,
+        })
+    }
+
+    /// Returns the labels to which what this one does may come at once.
+    pub fn next(&self, from: Label) -> Labels
+        ensures { (y : ℕ) → (is_in result y ≡ true) ↔ FlowsTo (limits_of self.now) from y }
+    {
+        self.next_beside(from, Labels::none())
+    }
+
+    /// Returns the labels to which what this one does may come at once, but by objects of filters.
+    pub fn next_beside(&self, from: Label, filters: Labels) -> Labels
+        ensures { (y : ℕ) → (is_in result y ≡ true) ↔ FlowsBeside (limits_of self.now) filters from y }
+    {
+        labels_are_few(self.reach.actors());
+        let affected = self.affected[usize::from(from.number())];
+        meeting(&self.seen, affected.difference(filters))
+    }
+
+    /// Returns the labels of which what they do may come to this one at once, but by objects of filters.
+    pub fn previous_beside(&self, to: Label, filters: Labels) -> Labels
+        ensures { (x : ℕ) → (is_in result x ≡ true) ↔ FlowsBeside (limits_of self.now) filters x to }
+    {
+        labels_are_few(self.reach.actors());
+        let seen = self.seen[usize::from(to.number())];
+        meeting(&self.affected, seen.difference(filters))
+    }
+
+    /// Returns the labels to which a chain of flows leads from this one, and the label itself.
+    ///
+    /// No label between the ends of the chain is a filter, and no flow of it is by an object of a filter.
+    pub fn reached_beside(&self, from: Label, filters: Labels) -> Labels
+        ensures { (l : ℕ) → (is_in result l ≡ true) ↔ Leads (limits_of self.now) filters from l }
+    {
+        // For the labels of `done`, all to which they flow are in `reached`, unless a chain ends with them.
+        let mut done = filters.difference(Labels::only(from));
+        let mut reached = Labels::only(from);
+        while let Some(label) = reached.difference(done).first() {
+            // A label's number is below `Label::COUNT`.
+            label.number();
+            done = done.union(Labels::only(label));
+            reached = reached.union(self.next_beside(label, filters));
+        }
+        reached
+    }
+
+    /// Returns the labels from which a chain of flows leads to this one, and the label itself.
+    ///
+    /// No label between the ends of the chain is a filter, and no flow of it is by an object of a filter.
+    /// The filters among them are those through which something comes. In every run, threads of other
+    /// labels never change what the label and those that lead to it see, but for objects of filters.
+    pub fn leading_to(&self, to: Label, filters: Labels) -> Labels
+        ensures leads { (l : ℕ) → (is_in result l ≡ true) ↔ Leads (limits_of self.now) filters l to }
+        ensures kept { (x y : ℕ) → is_in result x ≡ false → is_in result y ≡ true → GoesOn filters to y
+            → NeverDisturbs self.now.table (limits_of self.now) filters x y }
+    {
+        runs_keep_labels_apart();
+        // What the type keeps of the reach is known once its policy is.
+        let _ = self.reach.policy();
+        self.sources_of(to, filters)
+    }
+
+    // The labels from which a chain of flows leads to this one, and the label itself.
+    fn sources_of(&self, to: Label, filters: Labels) -> Labels
+        ensures { (l : ℕ) → (is_in result l ≡ true) ↔ Leads (limits_of self.now) filters l to }
+    {
+        // For the labels of `done`, all that flow to them are in `leading`, unless a chain starts with them.
+        let mut done = filters.difference(Labels::only(to));
+        let mut leading = Labels::only(to);
+        while let Some(label) = leading.difference(done).first() {
+            // A label's number is below `Label::COUNT`.
+            label.number();
+            done = done.union(Labels::only(label));
+            leading = leading.union(self.previous_beside(label, filters));
+        }
+        leading
+    }
+
+    /// Returns whether each chain of flows from one label to another goes through filters.
+    ///
+    /// It then passes a filter, or uses an object of one.
+    pub fn goes_through(&self, from: Label, to: Label, filters: Labels) -> bool
+        ensures through { IsTrue result ↔ GoesThrough (limits_of self.now) filters from to }
+        ensures kept { IsTrue result → is_in filters to ≡ false
+            → IsShielded self.now.table (limits_of self.now) filters from to }
+    {
+        !self.leading_to(to, filters).has(from)
+    }
+}

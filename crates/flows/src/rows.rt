@@ -1,0 +1,51 @@
+//! For each label, whose objects it may affect and whose it sees.
+ghost use Rattle.std.specs.Prelude.{ℕ, ◌<◌, ◌↔◌, ◌≡◌, IfOk, true};
+ghost use Rattle.base.specs.declared.label.TheConstants.Label as Label;
+ghost use Rattle.base.specs.Labels.{is_in};
+ghost use Rattle.reach.specs.Extents.{limits_of};
+ghost use Rattle.flows.specs.{Flowing.MayAffect, Rows.AreRowsOf, Seeing.Sees};
+
+use crate::seeing::sees;
+use base::{Label, Labels};
+use reach::Reach;
+use std::alloc::{AllocError, Global};
+
+/// Returns for each label the labels whose objects it may change or make smaller.
+pub(crate) fn affected_rows(alloc: Global, reach: &Reach<'_>) -> Result<Vec<Labels>, AllocError>
+    ensures { IfOk result (λ rows. AreRowsOf (MayAffect (limits_of reach.now)) rows.items) }
+{
+    let mut rows = Vec::with_capacity(alloc, Label::COUNT as usize)?;
+    for number in 0..Label::COUNT {
+        if let Some(actor) = Label::new(number) {
+            rows.push(affected(reach, actor))?;
+        }
+    }
+    Ok(rows)
+}
+
+/// Returns for each label the labels that it sees.
+pub(crate) fn seen_rows(alloc: Global, reach: &Reach<'_>) -> Result<Vec<Labels>, AllocError>
+    ensures { IfOk result (λ rows. AreRowsOf (Sees (limits_of reach.now)) rows.items) }
+{
+    let mut rows = Vec::with_capacity(alloc, Label::COUNT as usize)?;
+    for number in 0..Label::COUNT {
+        if let Some(actor) = Label::new(number) {
+            rows.push(sees(reach, actor))?;
+        }
+    }
+    Ok(rows)
+}
+
+// The labels whose objects threads of this label may change or make smaller.
+fn affected(reach: &Reach<'_>, actor: Label) -> Labels
+    ensures { (l : ℕ) → (is_in result l ≡ true) ↔ MayAffect (limits_of reach.now) actor l }
+{
+    reach.changed_by(actor).union(reach.shrunk_by(actor))
+}
+
+/// A law, with nothing to run: the labels of a set are some that there can be.
+pub(crate) fn labels_are_few(set: Labels)
+    ensures { (l : ℕ) → is_in set l ≡ true → l < Label.COUNT }
+{
+    let _ = set;
+}
