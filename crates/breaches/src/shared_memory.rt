@@ -5,6 +5,7 @@ use captext::label_name;
 use explain::{LabelNames, Start};
 use machine::ObjectKind;
 use policy::Policy;
+use reach::Reach;
 use stated::{Stated, StatedLines, Who, claim_text};
 use std::alloc::{AllocError, Global};
 use table::Table;
@@ -38,15 +39,21 @@ struct Ends {
 /// # Errors
 ///
 /// [`AllocError`] where memory is refused.
-pub fn explain_shared_memory(alloc: Global, judged: &Judged<'_>) -> Result<String, AllocError> {
+pub fn explain_shared_memory(
+    alloc: Global,
+    reach: &Reach<'_>,
+    judged: &Judged<'_>,
+) -> Result<String, AllocError> {
     let mut lines = String::new(alloc);
-    let memories = memories_of(alloc, judged)?;
+    let memories = memories_of(alloc, reach, judged)?;
     let mut told = 0;
     for (index, claim) in judged.lines.as_slice().iter().enumerate() {
         if let Some(claim) = claim {
             let line = index.saturating_add(StatedLines::FIRST);
             for memory in &memories {
-                if told < MOST && push_note(alloc, &mut lines, judged, line, claim, memory)? {
+                if told < MOST
+                    && push_note(alloc, &mut lines, reach, judged, line, claim, memory)?
+                {
                     told += 1;
                 }
             }
@@ -59,6 +66,7 @@ pub fn explain_shared_memory(alloc: Global, judged: &Judged<'_>) -> Result<Strin
 fn push_note(
     alloc: Global,
     lines: &mut String,
+    reach: &Reach<'_>,
     judged: &Judged<'_>,
     line: usize,
     claim: &Stated,
@@ -67,7 +75,7 @@ fn push_note(
     let Some(ends) = ends_of(claim) else {
         return Ok(false);
     };
-    let table = judged.reach.table();
+    let table = reach.table();
     let writers = memory.writers.intersection(ends.actors);
     let users = memory.users.intersection(ends.objects);
     if writers == Labels::none() || users == Labels::none() {
@@ -116,8 +124,11 @@ fn named(end: Who, other: Who) -> Labels {
 }
 
 /// The memories on which there is no claim `only`, with those who use them.
-fn memories_of(alloc: Global, judged: &Judged<'_>) -> Result<Vec<Memory>, AllocError> {
-    let reach = judged.reach;
+fn memories_of(
+    alloc: Global,
+    reach: &Reach<'_>,
+    judged: &Judged<'_>,
+) -> Result<Vec<Memory>, AllocError> {
     let (policy, actors) = (reach.policy(), reach.actors());
     let mut memories = Vec::new(alloc);
     for label in with_memory(reach.table())

@@ -26,8 +26,6 @@ const NOT_SEARCHED: &str =
 pub struct Judged<'a> {
     /// The name of the file of the table.
     pub file: &'a str,
-    /// The reach of the table.
-    pub reach: &'a Reach<'a>,
     /// The name of the file of the claims.
     pub claims: &'a str,
     pub lines: &'a StatedLines,
@@ -41,13 +39,14 @@ pub struct Judged<'a> {
 /// 40 where memory is refused.
 pub fn explain_breaches(
     alloc: Global,
+    reach: &Reach<'_>,
     judged: &Judged<'_>,
     broken: &[Broken],
 ) -> Result<String, Refusal> {
     let mut lines = String::new(alloc);
-    let origins = Origins::of(alloc, judged.reach)?;
+    let origins = Origins::of(alloc, reach)?;
     for (number, one) in broken.iter().enumerate() {
-        push_claim(alloc, &mut lines, judged, &origins, number, one)?;
+        push_claim(alloc, &mut lines, reach, judged, &origins, number, one)?;
     }
     Ok(lines)
 }
@@ -59,13 +58,14 @@ pub fn explain_breaches(
 /// 40 where memory is refused.
 pub fn breach_lines(
     alloc: Global,
+    reach: &Reach<'_>,
     judged: &Judged<'_>,
     broken: &[Broken],
 ) -> Result<String, Refusal> {
     let mut lines = String::new(alloc);
-    let origins = Origins::of(alloc, judged.reach)?;
+    let origins = Origins::of(alloc, reach)?;
     for one in broken {
-        push_line(alloc, &mut lines, judged, &origins, one)?;
+        push_line(alloc, &mut lines, reach, judged, &origins, one)?;
     }
     Ok(lines)
 }
@@ -74,16 +74,17 @@ pub fn breach_lines(
 fn push_claim(
     alloc: Global,
     lines: &mut String,
+    reach: &Reach<'_>,
     judged: &Judged<'_>,
     origins: &Origins<'_>,
     number: usize,
     broken: &Broken,
 ) -> Result<(), Refusal> {
-    let mut edges = push_line(alloc, lines, judged, origins, broken)?;
+    let mut edges = push_line(alloc, lines, reach, judged, origins, broken)?;
     origins.push_lines(alloc, lines, judged.file, &mut edges)?;
     match broken.failure {
         Failure::Pair(breach) if number < SEARCHES => {
-            push_shown(alloc, lines, judged.reach.table(), breach)
+            push_shown(alloc, lines, reach.table(), breach)
         }
         Failure::Pair(_) => Ok(lines.push_str(NOT_SEARCHED)?),
         Failure::Chain | Failure::Edge => Ok(()),
@@ -94,14 +95,15 @@ fn push_claim(
 fn push_line(
     alloc: Global,
     lines: &mut String,
+    reach: &Reach<'_>,
     judged: &Judged<'_>,
     origins: &Origins<'_>,
     broken: &Broken,
 ) -> Result<Vec<Edge>, Refusal> {
     match judged.lines.claim_at(broken.line) {
         Some(claim) => {
-            push_start(alloc, lines, judged, claim, broken.line)?;
-            push_failure(alloc, lines, judged, origins, claim, broken.failure)
+            push_start(alloc, lines, reach, judged, claim, broken.line)?;
+            push_failure(alloc, lines, reach, judged, origins, claim, broken.failure)
         }
         None => Ok(Vec::new(alloc)),
     }
@@ -111,12 +113,13 @@ fn push_line(
 fn push_start(
     alloc: Global,
     lines: &mut String,
+    reach: &Reach<'_>,
     judged: &Judged<'_>,
     claim: &Stated,
     line: usize,
 ) -> Result<(), AllocError> {
     let file = judged.claims;
-    let text = claim_text(alloc, claim, judged.reach.table())?;
+    let text = claim_text(alloc, claim, reach.table())?;
     write!(lines, "{file}:{line}: `{text}` doesn't hold: ")
 }
 
@@ -124,15 +127,16 @@ fn push_start(
 fn push_failure(
     alloc: Global,
     lines: &mut String,
+    reach: &Reach<'_>,
     judged: &Judged<'_>,
     origins: &Origins<'_>,
     claim: &Stated,
     failure: Failure,
 ) -> Result<Vec<Edge>, Refusal> {
     match (failure, claim) {
-        (Failure::Pair(breach), _) => push_breach(alloc, lines, judged, origins, breach),
+        (Failure::Pair(breach), _) => push_breach(alloc, lines, reach, judged, origins, breach),
         (Failure::Chain, Stated::Apart(from, to)) => {
-            push_chain(lines, judged.reach, *from, *to)?;
+            push_chain(lines, reach, *from, *to)?;
             Ok(Vec::new(alloc))
         }
         (Failure::Edge, Stated::Without(actor, kind, object)) => {
@@ -141,7 +145,7 @@ fn push_failure(
                 kind: *kind,
                 to: *object,
             };
-            push_edge(alloc, lines, judged, origins, edge)
+            push_edge(alloc, lines, reach, judged, origins, &edge)
         }
         _ => {
             lines.push('\n')?;
@@ -154,17 +158,18 @@ fn push_failure(
 fn push_breach(
     alloc: Global,
     lines: &mut String,
+    reach: &Reach<'_>,
     judged: &Judged<'_>,
     origins: &Origins<'_>,
     breach: Breach,
 ) -> Result<Vec<Edge>, Refusal> {
-    let why = judged.reach.why(alloc, breach.actor, breach.object)?;
+    let why = reach.why(alloc, breach.actor, breach.object)?;
     let (does, edges) = match why {
         Why::Full(edges) => ("may change objects of", edges),
         Why::Take(edges) => ("may take from", edges),
         Why::Nothing => ("has no authority on", Vec::new(alloc)),
     };
-    let table = judged.reach.table();
+    let table = reach.table();
     let places = origins.places(alloc, &edges)?;
     let ways = OtherWays {
         file: judged.file,
@@ -197,31 +202,33 @@ fn push_deed(
 fn push_edge(
     alloc: Global,
     lines: &mut String,
+    reach: &Reach<'_>,
     judged: &Judged<'_>,
     origins: &Origins<'_>,
-    edge: Edge,
+    edge: &Edge,
 ) -> Result<Vec<Edge>, Refusal> {
-    let edges = vec![in alloc; edge]?;
-    let given_at = origins.line_of(alloc, edge)?;
+    let edges = vec![in alloc; *edge]?;
+    let given_at = origins.line_of(alloc, *edge)?;
     let places = origins.places(alloc, &edges)?;
     let ways = OtherWays {
         file: judged.file,
-        table: judged.reach.table(),
+        table: reach.table(),
         places: &places,
     };
-    push_had(lines, judged, given_at, edge, &ways)?;
+    push_had(lines, reach, judged, given_at, *edge, &ways)?;
     Ok(edges)
 }
 
 /// Adds that a label has an edge, which this line of the table gives, or comes to have it.
 fn push_had(
     lines: &mut String,
+    reach: &Reach<'_>,
     judged: &Judged<'_>,
     given_at: Option<usize>,
     edge: Edge,
     ways: &OtherWays<'_>,
 ) -> Result<(), AllocError> {
-    let table = judged.reach.table();
+    let table = reach.table();
     let start = Start {
         file: judged.file,
         line: given_at,

@@ -3,7 +3,7 @@ use base::Refusal;
 use captext::{read_policy, read_table};
 use checker::{CheckError, Gate, Open};
 use policy::Policy;
-use report::{End, OnAccept, Silence, Watched};
+use report::{End, OnAccept, Rules, Silence, Watched};
 use std::alloc::{AllocError, Global};
 use std::process::Abort;
 use std::sync::Wait;
@@ -113,6 +113,7 @@ fn gate_check(rt: HostRuntime) {
     let end = report::check(
         &rt,
         rt.alloc(),
+        Rules::Closed,
         &mut table,
         &mut policy,
         OnAccept::Certificate,

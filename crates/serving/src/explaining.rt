@@ -157,8 +157,8 @@ impl<'a, R: AllocGlobal + Eprint> Explainer<'a, R> {
     fn broken_told(&self, heard: &Heard<'_>, broken: &[Broken]) -> Result<String, Refusal> {
         let alloc = self.rt.alloc();
         let reach = Reach::of(alloc, heard.table)?;
-        match self.judged(&reach, heard) {
-            Some(judged) => breach_lines(alloc, &judged, broken),
+        match self.judged(heard) {
+            Some(judged) => breach_lines(alloc, &reach, &judged, broken),
             None => Ok(String::new(alloc)),
         }
     }
@@ -167,17 +167,16 @@ impl<'a, R: AllocGlobal + Eprint> Explainer<'a, R> {
     fn breaches_told(&self, heard: &Heard<'_>, broken: &[Broken]) -> Result<String, Refusal> {
         let alloc = self.rt.alloc();
         let reach = Reach::of(alloc, heard.table)?;
-        match self.judged(&reach, heard) {
-            Some(judged) => explain_breaches(alloc, &judged, broken),
+        match self.judged(heard) {
+            Some(judged) => explain_breaches(alloc, &reach, &judged, broken),
             None => Ok(String::new(alloc)),
         }
     }
 
-    /// The table with this reach on which claims of version 2 were judged, if they were.
-    fn judged<'b>(&'b self, reach: &'b Reach<'b>, heard: &Heard<'b>) -> Option<Judged<'b>> {
+    /// The files and the lines of claims of version 2 that were judged, if they were.
+    fn judged(&self, heard: &Heard<'a>) -> Option<Judged<'a>> {
         Some(Judged {
-            file: self.table_name(),
-            reach,
+            file: self.invocation.request.name_of(File::Table),
             claims: self.invocation.request.name_of(File::Claims),
             lines: heard.claims?,
         })
@@ -291,8 +290,8 @@ impl<'a, R: AllocGlobal + Eprint> Explainer<'a, R> {
     fn shared_memory_told(&self, heard: &Heard<'_>) -> Result<String, Refusal> {
         let alloc = self.rt.alloc();
         let reach = Reach::of(alloc, heard.table)?;
-        match self.judged(&reach, heard) {
-            Some(judged) => Ok(explain_shared_memory(alloc, &judged)?),
+        match self.judged(heard) {
+            Some(judged) => Ok(explain_shared_memory(alloc, &reach, &judged)?),
             None => Ok(String::new(alloc)),
         }
     }
