@@ -182,7 +182,7 @@ def report(**keys):
 
 
 def breaches_in(words):
-    """What is told of claims of version 2, each as `LINE CLAIM`, with `by AUTHORITY` or `by AUTHORITY of A B` where there is one."""
+    """What is told of claims, each as `LINE CLAIM`, with `by AUTHORITY` or `by AUTHORITY of A B` where there is one."""
     for one in words.split("; "):
         if not (told := re.fullmatch(r"([0-9]+) (.*?)(?: by (full|take)(?: of (\w+) (\w+))?)?", one)):
             raise Wrong("a broken claim is told as `LINE CLAIM by AUTHORITY of A B`")
@@ -275,9 +275,6 @@ def expected(words, system, script, file, line):
         return 0, each(script, rest)
     if word == "hold":
         return 0, report(claims=number_in(rest), verdict="hold")
-    if word == "broken":
-        authority, _, claim = rest.partition(" ")
-        return 1, report(authority=authority, claim=number_in(claim), verdict="broken")
     if word == "breaks":
         return 1, report(broken=list(breaches_in(rest)), verdict="broken")
     if word == "within":
@@ -515,7 +512,7 @@ def command_of(words):
         return ["why", *(["--policy"] if told[1] else []), told[2], told[3]]
     if told := re.fullmatch(r"show (\S+) (\S+)((?: --take)?(?: --steps [0-9]+)?)", words):
         return ["show", told[1], told[2], *told[3].split()]
-    if told := re.fullmatch(r"import (least|all)((?: --children (?:control|directed))?(?: --claims)?)", words):
+    if told := re.fullmatch(r"import (least|all)((?: --claims)?)", words):
         return ["import", "--rights", told[1], *told[2].split()]
     raise Wrong("there is no such command")
 

@@ -1,6 +1,6 @@
 """The examples of the documents, and what they show. What counts as an example:
 
-- a code block that begins with `confine-table 1`, `confine-policy 1`, `confine-script 1` or `confine-claims 1` is that file
+- a code block that begins with `confine-table 1`, `confine-policy 1`, `confine-script 1` or `confine-claims 2` is that file
   from here on; `<!-- system: NAME -->` takes the files of examples/NAME, and `<!-- labels: NAME .. -->` a
   table of these labels alone, without an edge and without an event;
 - one that begins with `confine-log 1` is the log of its events on these files, and legal; after `<!-- log: not run -->`, it is the log
@@ -30,8 +30,8 @@ A report or a sentence that is too long for a line of the document goes on in th
 broken where it has a space. A block that ends with a line `..` is a beginning.
 
 A report with `full` is that of `check`; one that says no more than `accept`, the rule C1 and a fault of the
-certificate are those of `verify`; one with entries or an entry, and a fault of the log, are those of `replay`; one with claims or a
-claim, or that begins with `{"broken"`, and a fault of the claims, are those of `claims`; all others are those of `run`, and of `check` too.
+certificate are those of `verify`; one with entries or an entry, and a fault of the log, are those of `replay`; one with claims,
+or that begins with `{"broken"`, and a fault of the claims, are those of `claims`; all others are those of `run`, and of `check` too.
 
 A row of a table whose last cell is empty goes on in the next row.
 """
@@ -264,7 +264,7 @@ def commands_of(answer, asked):
         return [["close", "table", "policy", "--missing"]]
     if answer.startswith("confine-claims 2"):
         return [["claims", "table", "--all"]]
-    if re.match('{"(claims|authority|broken)"', answer) or '"file":"claims"' in answer:
+    if re.match('{"(claims|broken)"', answer) or '"file":"claims"' in answer:
         return [["claims", "table", "claims"]]
     if answer.startswith("confine-policy 1"):
         return [["close", "table", *asked]]

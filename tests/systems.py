@@ -603,7 +603,7 @@ def make_system(r):
         "script": texts.text_of("confine-script 1", [line.partition(" = ")[0] for line in log]),
         "log": texts.text_of("confine-log 1", log),
         "certificate": texts.text_of("confine-cert 1", commands.certificate(table)),
-        "claims": texts.text_of("confine-claims 1", [f"take {a} {b}" for a in table.labels for b in table.labels if a != b]),
+        "claims": texts.text_of("confine-claims 2", [f"take {a} {b}" for a in table.labels for b in table.labels if a != b]),
     }
 
 

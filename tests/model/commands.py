@@ -3,11 +3,11 @@ import copy
 import json
 from types import SimpleNamespace
 
+import claim_lists
 import imports
 import kernel
 import policies
 import sharp
-import statements
 import states
 import summaries
 import texts
@@ -260,28 +260,13 @@ def why(table, policy, a, b):
     return 0, "".join(f"{line}\n" for line in [how, *(texts.edge_line(edge, table) for edge in reason)])
 
 
-class Stated(list):
-    """Claims of version 2."""
-
-
-def read_claims(text, table):
-    return Stated(statements.read(text, table)) if statements.is_second(text) else texts.read_claims(text, table)
-
-
 def claims(table, claimed=None):
     """Whether these claims hold; where there are none, the strongest that do."""
     edges, acts = limits(table)
     if claimed is None:
-        return 0, texts.text_of(statements.HEADER, statements.strongest(table, edges, acts))
-    if isinstance(claimed, Stated):
-        broken = list(statements.broken(claimed, table, edges, acts))
-        if broken:
-            return 1, report(broken=broken, verdict="broken")
-        return 0, report(claims=len(claimed), verdict="hold")
-    extents = {(a, b): how for a, b, how in policies.extents(edges, acts, len(table.labels))}
-    for number, (most, a, b) in enumerate(claimed, 1):
-        if extents[a, b] not in ("none", most):
-            return 1, report(authority=extents[a, b], claim=number, verdict="broken")
+        return 0, texts.text_of(claim_lists.HEADER, claim_lists.strongest(table, edges, acts))
+    if broken := list(claim_lists.broken(claimed, table, edges, acts)):
+        return 1, report(broken=broken, verdict="broken")
     return 0, report(claims=len(claimed), verdict="hold")
 
 
@@ -330,13 +315,13 @@ def listed(table):
 
 def read(file, text, table, options=()):
     def import_text():
-        return imports.imported(text, "all" in options, "directed" not in options, "--claims" in options)
+        return imports.imported(text, "all" in options, "--claims" in options)
 
     return {
         "description": import_text, "table": lambda: texts.read_table(text), "policy": lambda: texts.read_policy(text, table),
         "certificate": lambda: texts.read_certificate(text, table),
         "script": lambda: texts.read_script(text), "log": lambda: texts.read_log(text),
-        "claims": lambda: read_claims(text, table),
+        "claims": lambda: claim_lists.read(text, table),
     }[file]()
 
 

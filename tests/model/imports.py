@@ -114,7 +114,7 @@ def fault_cap(every, parent):
     return cap(every, "entry", parent[0], "wy", (1 << 62) + parent[1])
 
 
-def low_caps(d, every, control, n):
+def low_caps(d, every, n):
     """What a domain has below slot 458, by slot."""
     called, own_bell, held = is_called(d, n), cap(every, "bell", n, "r", 0), {}
     held[1] = cap(every, "entry", n, "r", 0) if called else own_bell
@@ -129,9 +129,8 @@ def low_caps(d, every, control, n):
             held[BELLS + own.id] = cap(every, "bell", other.domain, "w", 1 << other.id)
         if own.domain == n and own.calls:
             held[CALLS + own.id] = cap(every, "entry", other.domain, "wy", (1 << 63) + other.id)
-    if control:
-        held |= {CHILDREN + one.parent[1]: (("main", m), "") for m, one in enumerate(d.domains) if one.parent and one.parent[0] == n}
-        held |= {PROCESSORS + one.id: (("vcpu", m), "") for m, one in enumerate(d.processors) if one.domain == n}
+    held |= {CHILDREN + one.parent[1]: (("main", m), "") for m, one in enumerate(d.domains) if one.parent and one.parent[0] == n}
+    held |= {PROCESSORS + one.id: (("vcpu", m), "") for m, one in enumerate(d.processors) if one.domain == n}
     return sorted(held.items())
 
 
@@ -146,23 +145,11 @@ def guest_caps(d, every, machine):
     return map_caps(d, ("machine", machine)) + faults
 
 
-def high_caps(d, every, control, n):
-    """What a domain has from slot 458 on: its maps, then, unless it controls its children, a copy of all that each of them has."""
-    found = map_caps(d, ("domain", n))
-    if not control:
-        for child, one in enumerate(d.domains):
-            if one.parent and one.parent[0] == n:
-                found += [held for _, held in low_caps(d, every, False, child)] + high_caps(d, every, False, child)
-        for machine, one in enumerate(d.machines):
-            found += guest_caps(d, every, machine) if one.domain == n else []
-    return found
-
-
-def filled(d, every, control):
+def filled(d, every):
     """What each CNode has: a list of slots and capabilities."""
     spaces = {}
     for n in range(len(d.domains)):
-        spaces["space", n] = low_caps(d, every, control, n) + [*enumerate(high_caps(d, every, control, n), MAPS)]
+        spaces["space", n] = low_caps(d, every, n) + [*enumerate(map_caps(d, ("domain", n)), MAPS)]
     for n in range(len(d.machines)):
         spaces["guest_space", n] = [*enumerate(guest_caps(d, every, n), 1)]
     return spaces
@@ -175,14 +162,14 @@ def share_words(item, core, line):
     return f" {core} {item.budget} {item.period}"
 
 
-def table_text(d, every, control):
+def table_text(d, every):
     """The text of the table; 54 where a limit is passed."""
     leads = leaders(d)
     own = [one for one in leads if leads[one] == one]
     for there, most in [([*leads], 4096), (own, 256)]:
         if len(there) > most:
             unless(54, item_of(d, there[most]).line, False)
-    names, spaces = dict(zip(leads, labels(d))), filled(d, every, control)
+    names, spaces = dict(zip(leads, labels(d))), filled(d, every)
     called, radix, free, lines, slots, threads = {}, {}, 0x1000, [], 0, 0
     for form, n in objects(d, every):
         subject, ending, line = owner(d, form, n)
@@ -193,7 +180,7 @@ def table_text(d, every, control):
             radix[form, n] = max(9, last.bit_length())
             more, size, slots = f" {radix[form, n]}", 32 << radix[form, n], slots + (1 << radix[form, n])
         elif kind == "tcb":
-            more, slots, threads = " inactive" if form == "vcpu" and control else " ready", slots + 1, threads + 1
+            more, slots, threads = " inactive" if form == "vcpu" else " ready", slots + 1, threads + 1
         elif form == "time":
             more = share_words(d.domains[n], d.domains[n].core, line)
         elif form == "vcpu_time":
@@ -209,7 +196,6 @@ def table_text(d, every, control):
     roots += [(("vcpu", n), ("guest_space", one.machine)) for n, one in enumerate(d.processors)]
     lines += [f"cap {called[thread]}.root {called[space]} {64 - radix[space]} 0x0" for thread, space in roots]
     lines += [f"bind {called['main', n]} {called['time', n]}" for n in range(len(d.domains))]
-    lines += [f"bind {called['vcpu', n]} {called['vcpu_time', n]}" for n in range(len(d.processors)) if not control]
     header = f"confine-table {1 if len(own) <= 64 else 2}"
     return texts.text_of(header, [*(f"label {names[one]}" for one in own), *lines])
 
@@ -227,45 +213,57 @@ def lineage(d, user):
     return [user, *(lineage(d, parent_of(d, user)) if parent_of(d, user) else [])]
 
 
-def claims_text(d, control):
-    def same(one, other):
-        return lineage(d, one)[-1] == lineage(d, other)[-1] if control else one == other
+def joins(d):
+    """A function that tells whether a description joins a user to what has a label."""
+    def stands_in(one, outer):
+        return outer in lineage(d, one)
 
-    def acts_for(one, other):
-        return same(one, other) if control else one in lineage(d, other)
+    def may_answer(one, called):
+        """Whether a user has a reply, and somebody may receive with it what calls the other one: whoever both stand in."""
+        return one[0] == "domain" and is_called(d, one[1]) and lineage(d, one)[-1] == lineage(d, called)[-1]
+
+    def may_wait(one, n):
+        """Whether a user calls a domain, by its faults too, or what stands in it does; or may answer such a call."""
+        calls = any(own.calls and other.domain == n and stands_in(("domain", own.domain), one) for own, other in ends(d))
+        return calls or parent_of(d, one) == ("domain", n) or may_answer(one, ("domain", n))
+
+    def meet(one, other, own, far):
+        near, there = ("domain", own.domain), ("domain", far.domain)
+        return (
+            (own.notifies and stands_in(near, one) and stands_in(there, other))
+            or (own.calls and stands_in(near, one) and may_answer(other, there))
+            or (far.calls and may_answer(one, near) and stands_in(there, other))
+            or ((own.notifies or own.calls) and near != one and stands_in(near, one) and may_wait(other, far.domain))
+        )
 
     def runners(n):
         """The domains that may run on the time of a domain: itself, and whoever is called by one of these."""
-        found = {m for m in range(len(d.domains)) if same(("domain", n), ("domain", m))}
-        while more := {m for m in range(len(d.domains)) if m not in found and any(
-            own.calls and own.domain in found and same(("domain", m), ("domain", other.domain)) for own, other in ends(d)
-        )}:
+        found = {n}
+        while more := {other.domain for own, other in ends(d) if own.calls and own.domain in found} - found:
             found |= more
         return found
 
     def joined(one, other):
         kind, n = other
         if kind == "time":
-            return any(acts_for(one, ("domain", m)) for m in running[n])
+            return any(stands_in(("domain", m), one) for m in running[n])
         if kind == "region":
-            return any(acts_for(one, user) for user in writers.get(n, []))
-        return acts_for(one, other) or parent_of(d, one) == other or any(
-            (own.notifies or own.calls or far.calls) and acts_for(one, ("domain", own.domain)) and same(other, ("domain", far.domain))
-            for own, far in ends(d)
-        )
+            return any(stands_in(user, one) and (writable or user != one) for user, region, writable in d.maps if region == n)
+        return may_answer(one, other) or may_answer(other, one) or any(meet(one, other, own, far) for own, far in ends(d))
 
-    running, writers = [runners(n) for n in range(len(d.domains))], {}
-    for user, region, writable in d.maps:
-        if writable:
-            writers.setdefault(region, []).append(user)
-    leads = leaders(d)
+    running = [runners(n) for n in range(len(d.domains))]
+    return joined
+
+
+def claims_text(d):
+    joined, leads = joins(d), leaders(d)
     there = {one: name for one, name in zip(leads, labels(d)) if leads[one] == one}
     apart = [(a, b) for a in there for b in there if a[0] in ("domain", "machine") and a != b and not joined(a, b)]
     return texts.text_of("confine-claims 2", [f"none {there[a]} {there[b]}" for a, b in apart])
 
 
-def imported(text, every, control, claimed):
+def imported(text, every, claimed):
     """The text of the table, or that of the claims."""
     d = read_description(text)
-    table = table_text(d, every, control)
-    return claims_text(d, control) if claimed else table
+    table = table_text(d, every)
+    return claims_text(d) if claimed else table

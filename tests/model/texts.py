@@ -1,4 +1,4 @@
-"""The texts: tables, policies, scripts, logs, certificates and claims, as docs/FORMATS.md has them, and their faults, as docs/FAULTS.md has them.
+"""The texts: tables, policies, scripts, logs and certificates, as docs/FORMATS.md has them, and their faults, as docs/FAULTS.md has them.
 
 Each reader goes line by line, and tests in a line what the fault of the lowest rank asks first: 50, 51, 52, 55, 54, 53.
 """
@@ -323,23 +323,6 @@ def read_policy(text, table):
 
     read_lines(text, "confine-policy 1", read)
     return set(edges)
-
-
-def read_claims(text, table):
-    """Claims as (most, actor, object)."""
-    claims = []
-
-    def read(words):
-        most, a, b = form(words, one_of("none", "take"), name, name)
-        last = claims[-1][1:] if claims else (-1, -1)
-        a = table.label(a)
-        ask(50, a >= last[0])
-        b = table.label(b)
-        ask(50, a != b and (a, b) > last)
-        claims.append((most, a, b))
-
-    read_lines(text, "confine-claims 1", read)
-    return claims
 
 
 def edge_line(edge, table):

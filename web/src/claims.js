@@ -7,7 +7,7 @@ async function markClaims(turn, given, report) {
   find("claimed").hidden = true;
   if (report?.verdict !== "hold" && report?.verdict !== "broken") return;
   const lines = given.claims.split("\n");
-  const answer = isSecond(given.claims) ? await brokenAtOnce(given, report) : await brokenInTurn(turn, given);
+  const answer = await brokenClaims(given, report);
   if (turn !== asked || !answer || CLAIMS.reads.some((name) => texts[name].text !== given[name])) return; // stopped, or of older texts
   const { claimed, broken } = answer;
   signClaims(claimed, broken);
@@ -26,9 +26,9 @@ function countOf(holding, broken) {
   return `${hold}, ${broken === 1 ? "1 is broken" : `${broken} are broken`}.`;
 }
 
-// Says above the summary which claims of version 2 hold of a table without a fault, and marks them, whatever was asked.
+// Says above the summary which claims hold of a table without a fault, and marks them, whatever was asked.
 async function tellClaims(turn, given, isFaulty) {
-  const isAsked = !isFaulty && isSecond(given.claims);
+  const isAsked = !isFaulty && given.claims !== "";
   const answer = isAsked ? await program.answer(["claims", "table", "claims"], given).catch(failed) : null;
   if (turn !== asked) return;
   const report = answer && reportOf(decoded(answer.output));
@@ -44,8 +44,8 @@ async function tellClaims(turn, given, isFaulty) {
   find("kept-claims").replaceChildren(words, ...(line ? [button] : []));
 }
 
-// Which claims of version 2 are broken: the report names all of them.
-async function brokenAtOnce(given, report) {
+// Which claims are broken: the report names all of them.
+async function brokenClaims(given, report) {
   const claimed = claimLines(given.claims);
   if (report.verdict === "hold") return { claimed, broken: [] };
   const told = await program.answer(["claims", "table", "claims", "--explain"], given);
@@ -55,30 +55,8 @@ async function brokenAtOnce(given, report) {
   return { claimed, broken: report.broken.map(({ line }) => ({ line, reason: reason(line) })) };
 }
 
-// Which claims of version 1 are broken. The program names the first, so those above it hold; then it is asked for those below it alone,
-// until none of them is broken.
-async function brokenInTurn(turn, given) {
-  const lines = given.claims.split("\n");
-  const broken = [];
-  const clock = startClock();
-  let report;
-  let told = 0; // how many claims are marked
-  do {
-    const below = [lines[0], ...lines.slice(1 + told)].join("\n");
-    const answer = await program.answer(["claims", "table", "claims", "--explain"], { ...given, claims: below });
-    report = answer && reportOf(decoded(answer.output));
-    told += report?.claim ?? report?.claims ?? 0;
-    if (report?.claim) broken.push({ line: told + 1, reason: reasonOf(decoded(answer.error)) });
-  } while (turn === asked && report?.claim && broken.length < MOST_BROKEN);
-  clock.stop();
-  return report && { claimed: Array.from({ length: told }, (_, at) => at + 2), broken };
-}
-
 function showClaims(given, lines, count, broken) {
-  const inTurn = `The program names the first broken claim, so the claims above it hold. The page then asks again for the claims below it,
-    until all are marked${broken.length === MOST_BROKEN ? `, or ${MOST_BROKEN} are broken` : ""}.`;
-  const signs = `The mark beside a line says if its claim holds (${SIGNS.good}) or is broken (${SIGNS.bad}).`;
-  const how = isSecond(given.claims) ? signs : `${signs} ${inTurn}`;
+  const how = `The mark beside a line says if its claim holds (${SIGNS.good}) or is broken (${SIGNS.bad}).`;
   const offer = ({ line, reason }) => {
     const button = element("button", {}, `Go to line ${line}`);
     button.addEventListener("click", () => {
@@ -101,7 +79,7 @@ async function takeClaims(command) {
 
 // Adds a claim, and marks all.
 async function putClaim(claim) {
-  const { text, line } = withClaim(texts.table.text, texts.claims.text, claim);
+  const { text, line } = withClaim(texts.claims.text, claim);
   texts.claims.text = text;
   await ask(CLAIMS);
   if (texts.claims.marked === 0) texts.claims.markLine(line);

@@ -49,14 +49,12 @@ const THIRD = ["summary", ...FILES.filter((name) => !Object.values(VIEWS).flat()
 const READINGS = {
   rights: { title: "Rights of capabilities", ways: {
     least: "only what the description needs", all: "every right of its kind, as the tool mints them" } },
-  children: { title: "A parent has of its child", ways: {
-    control: "control of its thread", directed: "a copy of its capabilities" } },
 };
 
 const FIRST = "echo_server"; // the example that the page opens with
 const MOST_SHOWN = 2000; // lines of an answer
 const MOST_MISSING = 200; // edges that are offered
-const MOST_BROKEN = 200; // claims that are marked as broken
+const MOST_BROKEN = 200; // broken claims that are listed with their reasons
 const MOST_NOTES = 300; // notes on a description
 const PAUSE = 300; // milliseconds without a key, before what follows from a text is asked
 

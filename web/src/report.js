@@ -29,7 +29,6 @@ function inWords(command, answer, report) {
   }
   if (report?.verdict === "hold") return ["each claim holds", "good"];
   if (report?.broken) return [report.broken.length === 1 ? "1 claim is broken" : `${report.broken.length} claims are broken`, "bad"];
-  if (report?.verdict === "broken") return [`claim ${report.claim} is broken`, "bad"];
   if (report?.run === "impossible") return ["no run does it", ""];
   if (report?.run && report.steps === 0) return ["no run does it: they may only take", ""];
   if (report?.run) return [`none found in ${report.steps} calls`, "faulty"];
@@ -47,7 +46,6 @@ function namedLine(report, texts) {
   if (report.fault) return { file: report.file, line: report.line };
   if (report.entry) return { file: "log", line: report.entry + 1 };
   if (report.broken) return { file: "claims", line: report.broken[0].line };
-  if (report.claim) return { file: "claims", line: report.claim + 1 };
   const [one, two, three, four] = report.place ?? [];
   const find = (file, ...beginnings) => {
     for (const beginning of beginnings) {
@@ -117,7 +115,7 @@ function graphOfBroken(labels, report) {
 }
 
 // Why a claim is broken, of the sentence that the program says of it: what stands before the way out.
-const reasonOf = (sentence) => /(?:is broken|doesn't hold): (.*?)\.(?: [A-Z].*)?$/.exec(sentence.trimEnd())?.[1] ?? "";
+const reasonOf = (sentence) => /doesn't hold: (.*?)\.(?: [A-Z].*)?$/.exec(sentence.trimEnd())?.[1] ?? "";
 
 // The lines of claims that claim something: all but the header, the last, empty lines and comments.
 function claimLines(text) {
@@ -126,16 +124,12 @@ function claimLines(text) {
   return lines.map((_, at) => at + 1).filter((line) => line > 1 && line <= end && !/^(#.*)?$/.test(lines[line - 1]));
 }
 
-const isSecond = (claims) => claims.startsWith("confine-claims 2\n");
-
-// Claims with one more, and the number of its line. Those of version 1 rise by the labels' numbers.
-function withClaim(table, claims, claim) {
+// Claims with one more, and the number of its line.
+function withClaim(claims, claim) {
   if (claims === "") return { text: `confine-claims 2\n${claim}\nend\n`, line: 2 };
-  const labels = labelsOf(table);
-  const rank = (line) => line.split(" ").slice(1).reduce((sum, label) => sum * labels.length + labels.indexOf(label), 0);
   const lines = claims.split("\n");
   if (lines.includes(claim)) return { text: claims, line: lines.indexOf(claim) + 1 };
-  let at = lines.findIndex((line, at) => line === "end" || (at > 0 && !isSecond(claims) && rank(line) > rank(claim)));
+  let at = lines.indexOf("end");
   if (at < 0) at = lines.length - (lines.at(-1) === "" ? 1 : 0);
   return { text: lines.toSpliced(at, 0, claim).join("\n"), line: at + 1 };
 }

@@ -9,6 +9,7 @@ use objects::State;
 use policy::Policy;
 use runs::{MOST_CALLS, leaves, place_outside, reach};
 use search::find_escape;
+use sources::Sheet;
 use std::alloc::{AllocError, Global};
 use table::Table;
 use verdict::Denial;
@@ -24,10 +25,10 @@ const STEPS: u64 = 2_000;
 /// # Errors
 ///
 /// 40 where memory is refused.
-pub fn explain_escape(alloc: Global, table: &Table, policy: &Policy) -> Result<String, Refusal> {
+pub fn explain_escape(alloc: Global, sheet: Sheet<'_>, policy: &Policy) -> Result<String, Refusal> {
     let mut lines = String::new(alloc);
-    if !leaves(alloc, table, policy, &[])? {
-        push_found(alloc, &mut lines, table, policy)?;
+    if !leaves(alloc, sheet.table, policy, &[])? {
+        push_found(alloc, &mut lines, sheet, policy)?;
     }
     Ok(lines)
 }
@@ -36,12 +37,12 @@ pub fn explain_escape(alloc: Global, table: &Table, policy: &Policy) -> Result<S
 fn push_found(
     alloc: Global,
     lines: &mut String,
-    table: &Table,
+    sheet: Sheet<'_>,
     policy: &Policy,
 ) -> Result<(), Refusal> {
-    let found = find_escape(alloc, table, policy, STEPS)?;
+    let found = find_escape(alloc, sheet.table, policy, STEPS)?;
     match &found.script {
-        Some(script) => push_escape(alloc, lines, table, policy, script),
+        Some(script) => push_escape(alloc, lines, sheet, policy, script),
         None => {
             let steps = found.steps;
             writeln!(
@@ -58,14 +59,15 @@ fn push_found(
 fn push_escape(
     alloc: Global,
     lines: &mut String,
-    table: &Table,
+    sheet: Sheet<'_>,
     policy: &Policy,
     script: &[Event],
 ) -> Result<(), Refusal> {
+    let table = sheet.table;
     let count = script.len();
     let calls = if count == 1 { "call" } else { "calls" };
     writeln!(lines, "a run of {count} {calls} leaves the policy:")?;
-    push_run(alloc, lines, table, script)?;
+    push_run(alloc, lines, sheet, script)?;
     let place = place_outside(alloc, table, policy, script)?;
     if let (Some(place), Some(state)) = (place, reach(alloc, table, script)?) {
         push_excess(lines, table, &state, &place)?;

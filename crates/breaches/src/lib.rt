@@ -7,10 +7,8 @@ mod broken;
 mod escapes;
 mod scripts;
 mod shared_memory;
-mod stated_claims;
 
-pub use broken::explain_broken;
+pub use broken::{Judged, breach_lines, explain_breaches};
 pub use escapes::explain_escape;
 pub use scripts::explain_run;
 pub use shared_memory::explain_shared_memory;
-pub use stated_claims::{Judged, breach_lines, explain_breaches};

@@ -1,12 +1,13 @@
 //! Notes on claims that hold although the one label writes memory that the other uses.
-use crate::stated_claims::Judged;
+use crate::broken::Judged;
 use base::{Edge, Kind, Label, Labels};
 use captext::label_name;
-use explain::{LabelNames, Start};
+use claims::{Claim, ClaimLines, Who, claim_text};
+use explain::LabelNames;
 use machine::ObjectKind;
 use policy::Policy;
 use reach::Reach;
-use stated::{Stated, StatedLines, Who, claim_text};
+use sources::Start;
 use std::alloc::{AllocError, Global};
 use table::Table;
 
@@ -49,7 +50,7 @@ pub fn explain_shared_memory(
     let mut told = 0;
     for (index, claim) in judged.lines.as_slice().iter().enumerate() {
         if let Some(claim) = claim {
-            let line = index.saturating_add(StatedLines::FIRST);
+            let line = index.saturating_add(ClaimLines::FIRST);
             for memory in &memories {
                 if told < MOST
                     && push_note(alloc, &mut lines, reach, judged, line, claim, memory)?
@@ -69,7 +70,7 @@ fn push_note(
     reach: &Reach<'_>,
     judged: &Judged<'_>,
     line: usize,
-    claim: &Stated,
+    claim: &Claim,
     memory: &Memory,
 ) -> Result<bool, AllocError> {
     let Some(ends) = ends_of(claim) else {
@@ -104,9 +105,9 @@ fn push_note(
 }
 
 /// The labels that a claim `none` or `take` keeps apart.
-fn ends_of(claim: &Stated) -> Option<Ends> {
+fn ends_of(claim: &Claim) -> Option<Ends> {
     match claim {
-        Stated::AtMost(_, actor, object) => Some(Ends {
+        Claim::AtMost(_, actor, object) => Some(Ends {
             actors: named(*actor, *object),
             objects: named(*object, *actor),
         }),
@@ -158,10 +159,10 @@ fn with_memory(table: &Table) -> Labels {
 }
 
 /// The labels on which there is a claim `only`.
-fn guarded(lines: &StatedLines) -> Labels {
+fn guarded(lines: &ClaimLines) -> Labels {
     let mut labels = Labels::none();
     for line in lines.as_slice() {
-        if let Some(Stated::Only(label, _)) = line {
+        if let Some(Claim::Only(label, _)) = line {
             labels = labels.union(Labels::only(*label));
         }
     }

@@ -1,4 +1,7 @@
-mod Order
-mod ClaimsLaws
-mod HoldingLaws
+mod Joined
+mod Chains
+mod Kept
+mod Gathered
+mod FirstBreach
+pub mod StrongestLaws
 pub mod OneList

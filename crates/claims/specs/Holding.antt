@@ -1,21 +1,70 @@
--- When claims hold: how far a label goes with another at most, what is then kept in every run from a table's boot state, and the first
--- claim that doesn't hold (the authority and what is kept are those of 'seL4 Enforces Integrity', section 4, restated; claims are
--- confine's own).
-use Rattle.std.specs.Prelude.{ℕ, ◌+◌, ◌<◌, ◌↔◌, ◌≡◌, ◌⊎◌, Bool, List, Some, false, slice_get, true}
-use Rattle.base.specs.Labels.{is_in}
-use Rattle.machine.specs.Layout.{Layout}
-use Rattle.integrity.specs.Apart.{NeverChanges, OnlyTakes}
-use Rattle.reach.specs.{declared.extent.Extent.{Extent, Extent as extent}, Extents.{GoesTo, MayChangeIn, MayShrinkIn, Limits}}
-use Rattle.claims.specs.declared.{claim.{Claim.Claim, Most.{Most, Most as most}}, extents.Extents.Extents, holding.BrokenClaim.BrokenClaim}
+-- When claims hold, what is then kept in every run from a table's boot state, and which of the claims of a text don't
+-- hold (the authority and what is kept are those of 'seL4 Enforces Integrity', sections 4 and 5, restated; claims are confine's own).
+use Rattle.std.specs.{List.Contains, Prelude.{[], ℕ, ◌+◌, ◌<◌, ◌∷◌, ◌≡◌, ◌≢◌, ◌⊎◌, Bool, List, None, Option, Some, false, length, true}}
+use Rattle.base.specs.declared.kind.Kind.{Kind}
+use Rattle.machine.specs.{Authority.HasAuthority, Layout.Layout, Machine.Machine}
+use Rattle.integrity.specs.{Apart.{NeverChanges, OnlyTakes}, Safe.IsReached}
+use Rattle.reach.specs.Extents.{GoesTo, MayChangeIn, MayShrinkIn, Limits}
+use Rattle.claims.specs.declared.{breaches.Breach.Breach, claim.{Claim.{Claim, Claim as claim}, Most.{Most, Most as most}, Who.{Who, Who as who}}}
+use Rattle.claims.specs.declared.deciding.{Broken.Broken, Failure.{Failure, Failure as failure}}
+
+-- what a claim says
+
+-- a label is among those that an end of a claim names, if it isn't that of the other end
+abbrev pub IsNamed : Who → ℕ → Type 0
+IsNamed (who.One named) label = label ≡ named
+IsNamed who.Others label = Unit {0}
+
+-- two labels of the table, which differ
+abbrev pub AreTwo : Layout → ℕ → ℕ → Type 0
+AreTwo t a l = (a < length t.labels) × (l < length t.labels) × (a ≢ l)
+
+-- a claim bounds what threads of a label do to objects of another
+abbrev pub Bounds : Layout → Claim → ℕ → ℕ → Type 0
+Bounds t (claim.AtMost _ actor object) a l = AreTwo t a l × IsNamed actor a × IsNamed object l
+Bounds t (claim.Only object actors) a l = AreTwo t a l × (l ≡ object) × (¬ Contains actors a)
+Bounds t (claim.Apart _ _) a l = ⊥
+Bounds t (claim.Without _ _ _) a l = ⊥
+
+-- and this is what it leaves them
+abbrev pub most_of : Claim → Most
+most_of (claim.AtMost limit _ _) = limit
+most_of _ = most.Nothing
+
+-- when it holds
 
 -- a label has no more authority on another than this
 abbrev pub HasAtMost : Limits → ℕ → ℕ → Most → Type 0
 HasAtMost limits a l most.Nothing = (¬ MayChangeIn limits a l) × (¬ MayShrinkIn limits a l)
 HasAtMost limits a l most.Take = ¬ MayChangeIn limits a l
 
--- a claim holds by a policy
-abbrev pub Holds : Limits → Claim → Type 0
-Holds limits claim = HasAtMost limits claim.actor claim.object claim.most
+-- threads of a label may change objects of another, or make them smaller
+abbrev pub MayAffect : Limits → ℕ → ℕ → Type 0
+MayAffect limits a l = MayChangeIn limits a l ⊎ MayShrinkIn limits a l
+
+-- a chain of labels, each of which may so affect the next
+pub data Leads (limits : Limits) (from : ℕ) : ℕ → Type 0 where
+  starts : Leads limits from from
+  goes_on : {a l : ℕ} → Leads limits from a → MayAffect limits a l → Leads limits from l
+
+-- a set of labels that has the second and not the first: no label outside it may affect one in it
+pub record AreApart (limits : Limits) (from to : ℕ) : Type 0 where
+  pub inside : ℕ → Bool
+  pub has : inside to ≡ true
+  pub lacks : inside from ≡ false
+  pub closed : (a l : ℕ) → inside a ≡ false → inside l ≡ true → ¬ MayAffect limits a l
+
+-- no label has more authority on another than the claim leaves it
+abbrev pub HoldsOnPairs : Layout → Limits → Claim → Type 0
+HoldsOnPairs t limits claim = (a l : ℕ) → Bounds t claim a l → HasAtMost limits a l (most_of claim)
+
+abbrev pub Holds : Layout → Limits → Claim → Type 0
+Holds t limits (claim.AtMost limit actor object) = HoldsOnPairs t limits (claim.AtMost limit actor object)
+Holds t limits (claim.Only object actors) = HoldsOnPairs t limits (claim.Only object actors)
+Holds t limits (claim.Apart from to) = AreApart limits from to
+Holds t limits (claim.Without actor kind object) = limits.test actor kind object ≡ false
+
+-- what is kept in every run
 
 -- in every run from the table's boot state, no step of a thread of the one label changes an object of the other; or none does other than
 -- by shrinking it
@@ -23,31 +72,66 @@ abbrev pub KeepsAtMost : Layout → ℕ → ℕ → Most → Type 0
 KeepsAtMost t a l most.Nothing = NeverChanges t a l
 KeepsAtMost t a l most.Take = OnlyTakes t a l
 
--- what is claimed is kept in every run
+-- a set of labels that has the second and not the first: threads of labels outside it never change objects of labels in it
+pub record StaysApart (t : Layout) (from to : ℕ) : Type 0 where
+  pub inside : ℕ → Bool
+  pub has : inside to ≡ true
+  pub lacks : inside from ≡ false
+  pub kept : (a l : ℕ) → inside a ≡ false → inside l ≡ true → NeverChanges t a l
+
+-- no state gives the one label this kind of authority on the other
+abbrev pub NeverHas : Layout → ℕ → Kind → ℕ → Type 0
+NeverHas t a kind l = (m : Machine) → IsReached t m → ¬ HasAuthority t m a kind l
+
+abbrev pub KeepsPairs : Layout → Claim → Type 0
+KeepsPairs t claim = (a l : ℕ) → Bounds t claim a l → KeepsAtMost t a l (most_of claim)
+
+-- what is claimed is kept in every run from the table's boot state
 abbrev pub IsKept : Layout → Claim → Type 0
-IsKept t claim = KeepsAtMost t claim.actor claim.object claim.most
+IsKept t (claim.AtMost limit actor object) = KeepsPairs t (claim.AtMost limit actor object)
+IsKept t (claim.Only object actors) = KeepsPairs t (claim.Only object actors)
+IsKept t (claim.Apart from to) = StaysApart t from to
+IsKept t (claim.Without actor kind object) = NeverHas t actor kind object
 
--- the first claim that doesn't hold, from 1: those before it do; and how far the authority goes there
-pub record IsFirstBroken (limits : Limits) (claims : List Claim) (broken : BrokenClaim) : Type 0 where
-  pub before : ℕ
-  pub counted : broken.number ≡ before + 1
-  pub there : slice_get claims before ≡ Some broken.claim
-  pub held : (k : ℕ) (claim : Claim) → k < before → slice_get claims k ≡ Some claim → Holds limits claim
-  pub breaks : ¬ Holds limits broken.claim
-  pub goes_to : GoesTo limits broken.claim.actor broken.claim.object broken.extent
-
--- an authority that goes so far is no more than this
-abbrev pub is_within : Most → Extent → Bool
-is_within most.Nothing extent.Nothing = true
-is_within most.Take extent.Nothing = true
-is_within most.Take extent.Take = true
-is_within m other = false
+-- where it doesn't hold
 
 -- a pair comes before another: by label, then label
 abbrev pub ComesBefore : ℕ → ℕ → ℕ → ℕ → Type 0
 ComesBefore x y a l = (x < a) ⊎ ((x ≡ a) × (y < l))
 
--- these are the labels that a label may change, and those that it may make smaller
-pub record AreExtents (limits : Limits) (extents : Extents) : Type 0 where
-  pub changed : (l : ℕ) → (is_in extents.changed l ≡ true) ↔ MayChangeIn limits extents.actor l
-  pub shrunk : (l : ℕ) → (is_in extents.shrunk l ≡ true) ↔ MayShrinkIn limits extents.actor l
+-- the first pair of labels, by label and then label, that has more authority than a claim leaves; and how far that goes
+pub record IsFirstBreach (t : Layout) (limits : Limits) (claim : Claim) (breach : Breach) : Type 0 where
+  pub bounded : Bounds t claim breach.actor breach.object
+  pub breaks : ¬ HasAtMost limits breach.actor breach.object (most_of claim)
+  pub goes_to : GoesTo limits breach.actor breach.object breach.extent
+  pub first : (a l : ℕ) → Bounds t claim a l → ComesBefore a l breach.actor breach.object → HasAtMost limits a l (most_of claim)
+
+-- what is told of a claim that doesn't hold: its first breach, if it bounds pairs; else that there is a chain, or the edge
+
+abbrev pub FailsOnPair : Layout → Limits → Claim → Failure → Type 0
+FailsOnPair t limits claim (failure.Pair breach) = IsFirstBreach t limits claim breach
+FailsOnPair t limits claim failure.Chain = ⊥
+FailsOnPair t limits claim failure.Edge = ⊥
+
+abbrev pub Fails : Layout → Limits → Claim → Failure → Type 0
+Fails t limits (claim.AtMost limit actor object) told = FailsOnPair t limits (claim.AtMost limit actor object) told
+Fails t limits (claim.Only object actors) told = FailsOnPair t limits (claim.Only object actors) told
+Fails t limits (claim.Apart from to) told = (told ≡ failure.Chain) × Leads limits from to
+Fails t limits (claim.Without actor kind object) told = (told ≡ failure.Edge) × (limits.test actor kind object ≡ true)
+
+-- the claim of a line doesn't hold
+pub record IsBroken (t : Layout) (limits : Limits) (line : ℕ) (claim : Claim) (broken : Broken) : Type 0 where
+  pub line_is : broken.line ≡ line
+  pub breaks : ¬ Holds t limits claim
+  pub fails : Fails t limits claim broken.failure
+
+-- of lines from this number on, these are all whose claims don't hold, in their order
+pub data AreBroken (t : Layout) (limits : Limits) : ℕ → List (Option Claim) → List Broken → Type 0 where
+  ended : {line : ℕ} → AreBroken t limits line [] []
+  silent : {line : ℕ} {entries : List (Option Claim)} {all : List Broken}
+      → AreBroken t limits (line + 1) entries all → AreBroken t limits line (None ∷ entries) all
+  held : {line : ℕ} {claim : Claim} {entries : List (Option Claim)} {all : List Broken}
+      → Holds t limits claim → AreBroken t limits (line + 1) entries all → AreBroken t limits line (Some claim ∷ entries) all
+  broke : {line : ℕ} {claim : Claim} {broken : Broken} {entries : List (Option Claim)} {all : List Broken}
+      → IsBroken t limits line claim broken → AreBroken t limits (line + 1) entries all
+      → AreBroken t limits line (Some claim ∷ entries) (broken ∷ all)

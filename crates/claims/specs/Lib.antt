@@ -1,4 +1,8 @@
 pub mod Claims
-pub mod ClaimsText
+pub mod Lines
 pub mod Reading
 pub mod Holding
+pub mod Strongest
+pub mod Rows
+pub mod Breaches
+pub mod Text

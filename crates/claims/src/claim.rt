@@ -1,12 +1,12 @@
-//! Claims, each on the authority of one label on another.
-ghost use Rattle.std.specs.Prelude.{[], ◌++◌, ◌∷◌, ◌≡◌, OnErr, OnOk};
-ghost use Rattle.claims.specs.Claims.{last_claim, most_named, most_word};
+//! Claims, each on labels of a table.
+ghost use Rattle.std.specs.{Cmp.Lexicographic.pointwise, Prelude.{[], ◌++◌, ◌==◌, ◌∷◌, ◌≡◌, OnErr, OnOk}};
+ghost use Rattle.claims.specs.Claims.{most_word, same_claim, same_most, same_who};
 
-use base::Label;
+use base::{Kind, Label};
 use std::alloc::{AllocError, Global};
 use std::marker::Model;
 
-/// The most authority that a claim leaves to a label on another.
+/// The most authority that `none` or `take` leaves to a label on another.
 #[derive(Clone, Copy, PartialEq, Eq, Debug)]
 pub enum Most {
     /// Neither full authority nor to take.
@@ -25,79 +25,125 @@ impl Most {
             Most::Take => "take",
         }
     }
-
-    /// Returns what this word leaves, if it begins the line of a claim.
-    #[tactic(auto, unfolding(crate::specs::Claims::most_named))]
-    pub fn from_word(word: &[u8]) -> Option<Most>
-        ensures { result ≡ most_named word.now }
-    {
-        if word == b"none".as_slice() {
-            Some(Most::Nothing)
-        } else if word == b"take".as_slice() {
-            Some(Most::Take)
-        } else {
-            None
-        }
-    }
 }
 
-/// The claim that the label `actor` has no more authority on the label `object` than `most`.
+/// The labels that one end of a claim names.
 #[derive(Clone, Copy, PartialEq, Eq, Debug)]
-pub struct Claim {
-    pub most: Most,
-    pub actor: Label,
-    pub object: Label,
+pub enum Who {
+    /// This label.
+    One(Label),
+    /// Each label but that of the other end.
+    Others,
 }
 
-/// A list of claims.
+/// Labels, in the order in which a claim names them.
 #[derive(Drop)]
-pub struct Claims {
-    claims: Vec<Claim>,
+pub struct LabelList {
+    labels: Vec<Label>,
 }
 
-impl Model for Claims {
-    ghost use Rattle.std.specs.Prelude.{List};
-    ghost use Rattle.claims.specs.declared.claim.Claim.{Claim as ClaimOf};
+impl Model for LabelList {
+    ghost use Rattle.std.specs.Prelude.{ℕ, List};
 
-    ghost Value = { List ClaimOf };
+    ghost Value = { List ℕ };
 
-    ghost view = { λ claims. claims.claims.items };
+    ghost view = { λ list. list.labels.items };
 }
 
-impl Claims {
-    /// Returns a list without claims.
-    pub fn new(alloc: Global) -> Claims
+impl LabelList {
+    /// Returns a list without labels.
+    pub fn new(alloc: Global) -> LabelList
         ensures { result ≡ [] }
     {
-        Claims {
-            claims: Vec::new(alloc),
+        LabelList {
+            labels: Vec::new(alloc),
         }
     }
 
-    /// Returns the claims, as they were made or read.
-    pub fn as_slice(&self) -> &[Claim]
+    /// Returns the labels.
+    pub fn as_slice(&self) -> &[Label]
         ensures { result.now ≡ self.now }
     {
-        self.claims.as_slice()
+        self.labels.as_slice()
     }
 
-    /// Returns the last claim, if there is one.
-    pub fn last(&self) -> Option<Claim>
-        ensures { result ≡ last_claim self.now }
-    {
-        self.claims.last().copied()
-    }
-
-    /// Adds a claim behind the others.
+    /// Adds a label behind the others.
     ///
     /// # Errors
     ///
     /// [`AllocError`] where memory is refused. Then nothing has changed.
-    pub fn push(&mut self, claim: Claim) -> Result<(), AllocError>
-        ensures ok { OnOk result (self.new ≡ self.old ++ claim ∷ []) }
+    pub fn push(&mut self, label: Label) -> Result<(), AllocError>
+        ensures ok { OnOk result (self.new ≡ self.old ++ label ∷ []) }
         ensures err { OnErr result (self.new ≡ self.old) }
     {
-        self.claims.push(claim)?;
+        self.labels.push(label)?;
         Ok(())
+    }
+}
+
+/// A claim.
+#[derive(Drop)]
+pub enum Claim {
+    /// `none` and `take`: labels of the one end have no more authority on those of the other than this.
+    AtMost(Most, Who, Who),
+    /// `only`: objects of the label are changed by threads of its own and of these labels alone.
+    Only(Label, LabelList),
+    /// `apart`: no chain of changes leads from the first label to the second.
+    Apart(Label, Label),
+    /// `without`: the first label never has this kind of authority on the second.
+    Without(Label, Kind, Label),
+}
+
+/// Whether two claims leave as much.
+fn is_same_most(one: Most, other: Most) -> bool
+    ensures { result ≡ same_most one other }
+{
+    one == other
+}
+
+/// Whether two ends name the same labels.
+fn is_same_who(one: Who, other: Who) -> bool
+    ensures { result ≡ same_who one other }
+{
+    one == other
+}
+
+/// Whether two lists have the same labels in the same order.
+fn are_same_labels(one: &LabelList, other: &LabelList) -> bool
+    ensures { result ≡ pointwise ◌==◌ one.now other.now }
+{
+    one.as_slice() == other.as_slice()
+}
+
+impl Claim {
+    /// Returns whether this is the other claim, word by word.
+    pub fn is(&self, other: &Claim) -> bool
+        ensures { result ≡ same_claim self.now other.now }
+    {
+        match (self, other) {
+            (
+                Claim::AtMost(most, actor, object),
+                Claim::AtMost(other_most, other_actor, other_object),
+            ) => {
+                is_same_most(*most, *other_most)
+                    && is_same_who(*actor, *other_actor)
+                    && is_same_who(*object, *other_object)
+            }
+            (Claim::Only(object, actors), Claim::Only(other_object, other_actors)) => {
+                object.number() == other_object.number() && are_same_labels(actors, other_actors)
+            }
+            (Claim::Apart(from, to), Claim::Apart(other_from, other_to)) => {
+                from.number() == other_from.number() && to.number() == other_to.number()
+            }
+            (
+                Claim::Without(actor, kind, object),
+                Claim::Without(other_actor, other_kind, other_object),
+            ) => {
+                actor.number() == other_actor.number()
+                    && kind.number() == other_kind.number()
+                    && object.number() == other_object.number()
+            }
+            _ => false,
+        }
     }
 }

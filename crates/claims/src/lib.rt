@@ -1,13 +1,22 @@
-//! Claims: at most how much authority a label has on another; their text, and whether they hold.
+//! Claims: their text, which of them don't hold of a system, and the strongest that do.
 //!
-//! `stated`, `breaches` and the commands stand on it. It knows no code of the kernel's calls.
+//! `reptext`, `breaches` and the commands stand on it. It knows no code of the kernel's calls.
 #![tactic(auto)]
 
+mod breaches;
 mod claim;
-mod extents;
-mod holding;
+mod deciding;
+mod gathering;
+mod lines;
+mod reaching;
 mod reading;
+mod rows;
+mod writing;
 
-pub use claim::{Claim, Claims, Most};
-pub use holding::{BrokenClaim, first_broken};
-pub use reading::{claims_are_read_back, read};
+pub use breaches::Breach;
+pub use claim::{Claim, LabelList, Most, Who};
+pub use deciding::{Broken, Failure, all_broken};
+pub use gathering::strongest;
+pub use lines::ClaimLines;
+pub use reading::read;
+pub use writing::{claim_text, write};

@@ -1,116 +1,283 @@
 //! How the text of claims is read.
-ghost use Rattle.std.specs.Prelude.{ℕ, ◌<◌, ◌↔◌, ◌≡◌, ◌≢◌, Err, IfErr, IfOk, List, Ok, OnErr};
+ghost use Rattle.std.specs.Prelude.{[], ℕ, ◌≡◌, ◌≢◌, Err, IfErr, List, Option, map, option_map};
+ghost use Rattle.words.specs.{declared.faults.Wrong.Wrong, Fault.{fault_at, no_memory}, FirstFault.IsFirstFault};
+ghost use Rattle.words.specs.{FirstFault.TellsFirst, Reading.{Gives, GivesOrStops, Reads}, Text.lines_of};
 ghost use Rattle.machine.specs.Layout.{Layout};
-ghost use Rattle.words.specs.{declared.faults.Wrong.Wrong, Fault.{fault_at, no_memory}, FirstFault.{IsFirstFault, TellsFirst}};
-ghost use Rattle.words.specs.{Reading.{Gives, GivesOrStops, Reads}, Text.lines_of};
-ghost use Rattle.table.specs.Rules.{IsLawful};
-ghost use Rattle.claims.specs.{declared.claim.Claim.Claim as ClaimOf, Claims.AreClaimsOf, ClaimsText.claims_text};
+ghost use Rattle.captext.specs.Policies.{kind_at};
+ghost use Rattle.claims.specs.declared.claim.Claim.{Claim as ClaimOf};
 ghost use Rattle.claims.specs.Reading as reading;
 
-use crate::claim::{Claim, Claims, Most};
-use base::Label;
+use crate::claim::{Claim, LabelList, Most, Who};
+use crate::lines::ClaimLines;
+use base::{Kind, Label, Labels};
 use captext::Fault;
 use std::alloc::Global;
 use table::Table;
-use words::{LineError, Reader, Words, Wrong, read_text};
+use words::{LineError, Reader, Words, Wrong, name_of, read_text};
 
-/// The next word as what is left.
-#[tactic(auto, unfolding(crate::specs::Reading::most_at, words::specs::Reading::word_at, words::specs::Reading::or_syntax, words::specs::Reading::bind))]
-fn most(words: &mut Words<'_>) -> Result<Most, Wrong>
-    ensures { Gives (λ most. (most, words.new)) result (reading.most_at words.old) }
+/// The next word as a name, or `None` where it is `*`.
+#[tactic(auto, unfolding(crate::specs::Reading::end_at, crate::specs::Reading::end_named, words::specs::Reading::word_at, words::specs::Reading::or_syntax, words::specs::Reading::bind))]
+fn end<'a>(words: &mut Words<'a>) -> Result<Option<&'a str>, Wrong>
+    ensures { Gives (λ end. (option_map (λ name. name.now) end, words.new)) result (reading.end_at words.old) }
 {
     let word = words.word()?;
-    Most::from_word(word).ok_or(Wrong::Syntax)
+    if word == b"*".as_slice() {
+        return Ok(None);
+    }
+    let name = name_of(word).ok_or(Wrong::Syntax)?;
+    Ok(Some(name))
 }
 
-/// A claim by the names of its labels.
-struct NamedClaim<'a> {
-    most: Most,
-    actor: &'a str,
-    object: &'a str,
-}
-
-/// Reads `none LABEL LABEL` or `take LABEL LABEL`.
-#[tactic(auto, unfolding(crate::specs::Reading::named_claim_at, words::specs::Parts::in_turn, words::specs::Reading::bind))]
-fn named_claim<'a>(words: &mut Words<'a>) -> Result<NamedClaim<'a>, Wrong>
-    ensures { Gives (λ claim. ((claim.most, (claim.actor.now, claim.object.now)), words.new)) result (reading.named_claim_at words.old) }
+/// The next word as a kind of authority.
+#[tactic(auto, unfolding(captext::specs::Policies::kind_at, words::specs::Reading::word_at, words::specs::Reading::or_syntax, words::specs::Reading::bind))]
+fn kind(words: &mut Words<'_>) -> Result<Kind, Wrong>
+    ensures { Gives (λ kind. (kind, words.new)) result (kind_at words.old) }
 {
-    let most = most(words)?;
-    let actor = words.name()?;
-    let object = words.name()?;
-    Ok(NamedClaim {
-        most,
-        actor,
-        object,
-    })
+    let word = words.word()?;
+    Kind::from_name(word).ok_or(Wrong::Syntax)
 }
 
-/// Whether a claim of this label may come after the last one.
-fn may_follow(last: Option<Claim>, actor: Label) -> bool
-    ensures { result ≡ reading.may_follow last actor }
+/// The label of this name.
+#[tactic(auto, unfolding(crate::specs::Reading::label_at))]
+fn label(table: &Table, name: &str) -> Result<Label, Wrong>
+    ensures { result ≡ reading.label_at table.now name.now }
 {
-    match last {
-        None => true,
-        Some(last) => last.actor.number() <= actor.number(),
+    table.label_named(name).ok_or(Wrong::UnknownName)
+}
+
+/// The labels that an end of a claim names.
+#[tactic(auto, unfolding(crate::specs::Reading::who_named, words::specs::Reading::bind))]
+fn who(table: &Table, end: Option<&str>) -> Result<Who, Wrong>
+    ensures { result ≡ reading.who_named table.now (option_map (λ name. name.now) end.entry) }
+{
+    match end {
+        None => Ok(Who::Others),
+        Some(name) => Ok(Who::One(label(table, name)?)),
     }
 }
 
-/// Whether a claim rises above the last one.
-#[tactic(auto, using(crate::proofs::Order::below))]
-fn follows(last: Option<Claim>, claim: &Claim) -> bool
-    ensures { result ≡ reading.follows last claim.now }
+/// Whether the two ends of a claim may stand in one.
+fn may_meet(actor: &Who, object: &Who) -> bool
+    ensures { result ≡ reading.may_meet actor.now object.now }
 {
-    match last {
-        None => true,
-        Some(last) => {
-            last.actor.number() < claim.actor.number()
-                || last.actor.number() == claim.actor.number()
-                    && last.object.number() < claim.object.number()
+    match actor {
+        Who::One(actor) => match object {
+            Who::One(object) => actor.number() != object.number(),
+            Who::Others => true,
+        },
+        Who::Others => match object {
+            Who::One(_) => true,
+            Who::Others => false,
+        },
+    }
+}
+
+/// Reads what follows `none` or `take`: two ends.
+#[tactic(auto, unfolding(crate::specs::Reading::at_most_claim, words::specs::Reading::bind))]
+fn at_most(table: &Table, most: Most, words: &mut Words<'_>) -> Result<Claim, Wrong>
+    ensures { result ≡ reading.at_most_claim table.now most words.old }
+{
+    let actor = end(words)?;
+    let object = end(words)?;
+    words.end()?;
+    let actor = who(table, actor)?;
+    let object = who(table, object)?;
+    if !may_meet(&actor, &object) {
+        return Err(Wrong::Syntax);
+    }
+    Ok(Claim::AtMost(most, actor, object))
+}
+
+/// The words that are left, as names.
+#[tactic(auto, unfolding(crate::specs::Reading::names_after, words::specs::Reading::or_syntax, words::specs::Reading::bind))]
+fn names<'a>(alloc: Global, words: &mut Words<'a>) -> Result<Vec<&'a str>, LineError>
+    ensures { GivesOrStops (λ names. map (λ name. name.now) names.items) result (reading.names_after [] words.old) }
+{
+    let mut names = Vec::new(alloc);
+    while let Some(word) = words.next_word() {
+        let name = name_of(word).ok_or(Wrong::Syntax)?;
+        names.push(name)?;
+    }
+    Ok(names)
+}
+
+/// The labels of these names.
+#[tactic(auto, unfolding(crate::specs::Reading::labels_named, words::specs::Reading::bind))]
+fn labels(alloc: Global, table: &Table, names: &[&str]) -> Result<LabelList, LineError>
+    ensures { GivesOrStops (λ labels. labels) result
+        (reading.labels_named table.now [] (map (λ name. name.now) names.now)) }
+{
+    let mut labels = LabelList::new(alloc);
+    for name in names {
+        let label = label(table, name)?;
+        labels.push(label)?;
+    }
+    Ok(labels)
+}
+
+/// Whether the label is among these.
+fn is_among(labels: &LabelList, label: Label) -> bool
+    ensures { result ≡ reading.is_among labels.now label }
+{
+    labels
+        .as_slice()
+        .iter()
+        .any(|other| other.number() == label.number())
+}
+
+/// Whether no label comes twice.
+fn are_distinct(labels: &LabelList) -> bool
+    ensures { result ≡ reading.are_distinct [] labels.now }
+{
+    let mut before = Labels::none();
+    for label in labels.as_slice() {
+        if before.has(*label) {
+            return false;
         }
+        before = before.union(Labels::only(*label));
+    }
+    true
+}
+
+/// Reads what follows `only`: a label, and one or more others.
+#[tactic(auto, unfolding(crate::specs::Reading::only_claim, words::specs::Reading::bind))]
+fn only(alloc: Global, table: &Table, words: &mut Words<'_>) -> Result<Claim, LineError>
+    ensures { GivesOrStops (λ claim. claim) result (reading.only_claim table.now words.old) }
+{
+    let object = words.name()?;
+    let names = names(alloc, words)?;
+    if names.is_empty() {
+        return Err(LineError::Text(Wrong::Syntax));
+    }
+    let object = label(table, object)?;
+    let actors = labels(alloc, table, &names)?;
+    if is_among(&actors, object) {
+        return Err(LineError::Text(Wrong::Syntax));
+    }
+    if !are_distinct(&actors) {
+        return Err(LineError::Text(Wrong::Double));
+    }
+    Ok(Claim::Only(object, actors))
+}
+
+/// Reads what follows `apart`: two labels.
+#[tactic(auto, unfolding(crate::specs::Reading::apart_claim, words::specs::Reading::bind))]
+fn apart(table: &Table, words: &mut Words<'_>) -> Result<Claim, Wrong>
+    ensures { result ≡ reading.apart_claim table.now words.old }
+{
+    let from = words.name()?;
+    let to = words.name()?;
+    words.end()?;
+    let from = label(table, from)?;
+    let to = label(table, to)?;
+    if from.number() == to.number() {
+        return Err(Wrong::Syntax);
+    }
+    Ok(Claim::Apart(from, to))
+}
+
+/// Reads what follows `without`: a label, a kind of authority, and a label.
+#[tactic(auto, unfolding(crate::specs::Reading::without_claim, words::specs::Reading::bind))]
+fn without(table: &Table, words: &mut Words<'_>) -> Result<Claim, Wrong>
+    ensures { result ≡ reading.without_claim table.now words.old }
+{
+    let actor = words.name()?;
+    let kind = kind(words)?;
+    let object = words.name()?;
+    words.end()?;
+    let actor = label(table, actor)?;
+    let object = label(table, object)?;
+    Ok(Claim::Without(actor, kind, object))
+}
+
+/// Reads the claim of a line that begins with this word.
+#[tactic(auto, unfolding(crate::specs::Reading::claim_by))]
+fn claim_by(
+    alloc: Global,
+    table: &Table,
+    word: &[u8],
+    words: &mut Words<'_>,
+) -> Result<Claim, LineError>
+    ensures { GivesOrStops (λ claim. claim) result (reading.claim_by table.now word.now words.old) }
+{
+    if word == b"none".as_slice() {
+        return Ok(at_most(table, Most::Nothing, words)?);
+    }
+    if word == b"take".as_slice() {
+        return Ok(at_most(table, Most::Take, words)?);
+    }
+    if word == b"only".as_slice() {
+        return only(alloc, table, words);
+    }
+    if word == b"apart".as_slice() {
+        return Ok(apart(table, words)?);
+    }
+    if word == b"without".as_slice() {
+        return Ok(without(table, words)?);
+    }
+    Err(LineError::Text(Wrong::Syntax))
+}
+
+/// Whether a line with this first word is a comment.
+fn begins_comment(word: &[u8]) -> bool
+    ensures { result ≡ reading.begins_comment word.now }
+{
+    match word {
+        [] => false,
+        [first, ..] => *first == b'#',
     }
 }
 
-/// Adds a claim of two labels that rises above the last one.
-#[tactic(auto, unfolding(crate::specs::Reading::with_claim, words::specs::Reading::bind))]
-fn add_claim(claims: &mut Claims, claim: Claim) -> Result<(), LineError>
-    ensures exact { GivesOrStops (λ _. claims.new) result (reading.with_claim claims.old claim) }
-    ensures err { OnErr result (claims.new ≡ claims.old) }
+/// Reads what a line says.
+#[tactic(auto, unfolding(crate::specs::Reading::entry_at, crate::specs::Reading::said_by, words::specs::Reading::word_at, words::specs::Reading::bind))]
+fn entry(alloc: Global, table: &Table, words: &mut Words<'_>) -> Result<Option<Claim>, LineError>
+    ensures { GivesOrStops (λ entry. entry) result (reading.entry_at table.now words.old) }
 {
-    if claim.actor.number() == claim.object.number() {
-        return Err(LineError::Text(Wrong::Syntax));
+    if words.is(b"") {
+        return Ok(None);
     }
-    if !follows(claims.last(), &claim) {
-        return Err(LineError::Text(Wrong::Syntax));
+    let word = words.word()?;
+    if begins_comment(word) {
+        return Ok(None);
     }
-    claims.push(claim)?;
+    let claim = claim_by(alloc, table, word, words)?;
+    Ok(Some(claim))
+}
+
+/// Adds what a line says, if none of the lines before says the same claim.
+#[tactic(auto, unfolding(crate::specs::Reading::with_entry, words::specs::Reading::bind))]
+fn add_entry(lines: &mut ClaimLines, entry: Option<Claim>) -> Result<(), LineError>
+    ensures { GivesOrStops (λ _. lines.new) result (reading.with_entry lines.old entry) }
+{
+    if !may_follow(lines, &entry) {
+        return Err(LineError::Text(Wrong::Double));
+    }
+    lines.push(entry)?;
     Ok(())
 }
 
-/// Reads the line of a claim, and adds it.
-#[tactic(auto, unfolding(crate::specs::Reading::claim_line, crate::specs::Reading::labelled_claim, words::specs::Reading::bind))]
-fn claim_line(table: &Table, claims: &mut Claims, words: &mut Words<'_>) -> Result<(), LineError>
-    ensures exact { GivesOrStops (λ _. claims.new) result (reading.claim_line table.now claims.old words.old) }
-    ensures err { OnErr result (claims.new ≡ claims.old) }
+/// Whether a line may follow these.
+fn may_follow(lines: &ClaimLines, entry: &Option<Claim>) -> bool
+    ensures { result ≡ reading.may_follow lines.now entry.now }
 {
-    let NamedClaim {
-        most,
-        actor,
-        object,
-    } = named_claim(words)?;
-    words.end()?;
-    let actor = table.label_named(actor).ok_or(Wrong::UnknownName)?;
-    if !may_follow(claims.last(), actor) {
-        return Err(LineError::Text(Wrong::Syntax));
+    match entry {
+        None => true,
+        Some(claim) => !lines.say(claim),
     }
-    let object = table.label_named(object).ok_or(Wrong::UnknownName)?;
-    add_claim(
-        claims,
-        Claim {
-            most,
-            actor,
-            object,
-        },
-    )
+}
+
+/// Reads a line, and adds what it says.
+#[tactic(auto, unfolding(crate::specs::Reading::entry_line, words::specs::Reading::bind))]
+fn entry_line(
+    alloc: Global,
+    table: &Table,
+    lines: &mut ClaimLines,
+    words: &mut Words<'_>,
+) -> Result<(), LineError>
+    ensures { GivesOrStops (λ _. lines.new) result (reading.entry_line table.now lines.old words.old) }
+{
+    let entry = entry(alloc, table, words)?;
+    add_entry(lines, entry)
 }
 
 /// Reads the text of claims, whose labels are those of the table.
@@ -118,68 +285,51 @@ fn claim_line(table: &Table, claims: &mut Claims, words: &mut Words<'_>) -> Resu
 /// # Errors
 ///
 /// The fault of the first faulty line, or 40 where memory is refused.
-pub fn read(alloc: Global, text: &[u8], table: &Table) -> Result<Claims, Fault>
-    ensures exact { Reads (λ claims. claims) result (reading.read_claims_of table.now text.now) }
+pub fn read(alloc: Global, text: &[u8], table: &Table) -> Result<ClaimLines, Fault>
+    ensures exact { Reads (λ lines. lines) result (reading.read_claims_of table.now text.now) }
 
-    // A text that is read is that of the claims, and the text of all claims for the table is read as them.
-    ensures found { IfOk result
-        (λ claims. AreClaimsOf table.now claims × (text.now ≡ claims_text table.now claims)) }
-    ensures only { (claims : List ClaimOf) → AreClaimsOf table.now claims
-        → text.now ≡ claims_text table.now claims → Reads (λ claims. claims) result (Ok claims) }
-
-    // One that isn't read is refused for its first fault, unless memory was refused.
+    // A text that isn't read is refused for its first fault, unless memory was refused.
     ensures faults { IfErr result (λ fault. fault ≢ no_memory
         → TellsFirst (reading.claims_format table.now) (lines_of text.now) fault) }
     ensures refused { (line : ℕ) (wrong : Wrong)
         → IsFirstFault (reading.claims_format table.now) (lines_of text.now) line wrong
-        → Reads (λ claims. claims) result (Err (fault_at line wrong)) }
+        → Reads (λ lines. lines) result (Err (fault_at line wrong)) }
 {
-    // That no two labels have one name is a rule of the table's own, which it tells with its objects.
-    let _ = table.objects();
-    claims_of(alloc, text, table)
+    body_of(alloc, text, table)
 }
 
 /// Reads the text of claims, by the definition alone.
 #[tactic(auto, unfolding(crate::specs::Reading::read_claims_of))]
-fn claims_of(alloc: Global, text: &[u8], table: &Table) -> Result<Claims, Fault>
-    ensures { Reads (λ claims. claims) result (reading.read_claims_of table.now text.now) }
+fn body_of(alloc: Global, text: &[u8], table: &Table) -> Result<ClaimLines, Fault>
+    ensures { Reads (λ lines. lines) result (reading.read_claims_of table.now text.now) }
 {
-    let mut lines = Lines {
+    let mut body = Body {
+        alloc,
         table,
-        claims: Claims::new(alloc),
+        lines: ClaimLines::new(alloc),
     };
-    match read_text(&mut lines, b"confine-claims 1", text) {
-        Ok(()) => Ok(lines.claims),
+    match read_text(&mut body, b"confine-claims 2", text) {
+        Ok(()) => Ok(body.lines),
         Err(fault) => Err(fault),
     }
 }
 
-/// The claims of the lines so far.
+/// The lines so far.
 #[derive(Drop)]
-struct Lines<'a> {
+struct Body<'a> {
+    alloc: Global,
     table: &'a Table,
-    claims: Claims,
+    lines: ClaimLines,
 }
 
-impl<'a> Reader for Lines<'a> {
-    ghost Seen = { List ClaimOf };
+impl<'a> Reader for Body<'a> {
+    ghost Seen = { List (Option ClaimOf) };
 
-    ghost seen = { λ lines. lines.claims };
+    ghost seen = { λ body. body.lines };
 
-    ghost step = { λ lines. reading.claim_line lines.table.now };
+    ghost step = { λ body. reading.entry_line body.table.now };
 
     fn take_line(&mut self, words: &mut Words<'_>) -> Result<(), LineError> {
-        claim_line(self.table, &mut self.claims, words)
+        entry_line(self.alloc, self.table, &mut self.lines, words)
     }
 }
-
-/// A law: for a table, a text is read as claims exactly where it is the text of these claims.
-///
-/// So different claims have different texts.
-pub fn claims_are_read_back()
-    ensures named { (t : Layout) (text : List ℕ) (claims : List ClaimOf) → IsLawful t
-        → (reading.read_claims_of t text ≡ Ok claims)
-        ↔ (AreClaimsOf t claims × (text ≡ claims_text t claims)) }
-    ensures once { (t : Layout) (one other : List ClaimOf) → IsLawful t
-        → AreClaimsOf t one → AreClaimsOf t other → claims_text t one ≡ claims_text t other → one ≡ other }
-{}

@@ -1,62 +1,96 @@
 -- What the files of a command hold, as far as their bytes are known, and why they couldn't be loaded (confine's own).
-use Rattle.std.specs.Prelude.{[], ℕ, ◌∷◌, ◌≡◌, Bool, Err, List, None, Ok, Option, Result, Some, false, true}
+use Rattle.std.specs.Prelude.{[], ℕ, ◌∷◌, ◌≡◌, ◌⊎◌, Bool, Err, List, None, Ok, Option, Result, Some, false, true}
 use Rattle.words.specs.{declared.faults.Fault.Fault, Reading.◌>>=◌}
 use Rattle.forms.specs.declared.file.File.{File, TheVariants.{Description, Policy, Table}}
 use Rattle.microkit.specs.Reading.{description_of_text}
 use Rattle.machine.specs.Layout.{Layout}
 use Rattle.captext.specs.{Policies.read_policy_of, Tables.read_table_of}
-use Rattle.importing.specs.{declared.pieces.{Children.Children, Minting.Minting}, Tables.table_at}
-use Rattle.commands.specs.{declared.{end.Asked.Asked, load.{Stop.{Stop, Stop as stop}, System.System, Three.Three, Two.Two}}, Described.Described}
+use Rattle.importing.specs.{declared.pieces.Minting.Minting, Tables.table_at}
+use Rattle.commands.specs.{declared.{end.{Asked.Asked, Misuse.{Misuse, Misuse as misuse}}, load.{Pair.Pair, Stop.{Stop, Stop as stop}, Three.Three, With.With}}}
+use Rattle.commands.specs.{declared.{choices.Taken.{Taken, Taken as taken}, given.Given.{Given, Given as given}}, Described.Described, Given.{is_description, layout_of}}
 
--- what the files hold; or the first file that isn't a text of its kind, with its fault; or nothing is known, since a file's bytes aren't
+-- what the files hold; or the first file that isn't a text of its kind, with its text, the table that it was read by, if that is another,
+-- and its fault; or the system isn't read as it was given; or nothing is known, since a file's bytes aren't
 pub data Contents (X : Type 0) : Type 0 where
   whole : X → Contents X
-  faulty : File → Fault → Contents X
+  faulty : File → List ℕ → Option Layout → Fault → Contents X
+  misused : Misuse → Contents X
   unknown : Contents X
 
--- what a text was read as, and then what the files after it hold
-abbrev pub and_then : {X Y : Type 0} → File → Result Y Fault → (Y → Contents X) → Contents X
-and_then file (Ok y) next = next y
-and_then file (Err fault) next = faulty file fault
+-- what files hold, and then what the files after them do
+abbrev pub and_then : {X Y : Type 0} → Contents X → (X → Contents Y) → Contents Y
+and_then (whole x) next = next x
+and_then (faulty file text table fault) next = faulty file text table fault
+and_then (misused told) next = misused told
+and_then unknown next = unknown
 
--- a file whose bytes may be known, and then those after it
-abbrev pub read_then : {X Y : Type 0} → File → Option (List ℕ) → (List ℕ → Result Y Fault) → (Y → Contents X) → Contents X
-read_then file None read next = unknown
-read_then file (Some bytes) read next = and_then file (read bytes) next
+-- what a text of a file was read as, by a table, if that is another
+abbrev pub held_by : {X : Type 0} → File → Option Layout → List ℕ → Result X Fault → Contents X
+held_by file table text (Ok x) = whole x
+held_by file table text (Err fault) = faulty file text table fault
+
+-- a file whose bytes may be known, which is read so
+abbrev pub contents_of : {X : Type 0} → File → Option Layout → Option (List ℕ) → (List ℕ → Result X Fault) → Contents X
+contents_of file table None read = unknown
+contents_of file table (Some text) read = held_by file table text (read text)
 
 -- what a table holds
 abbrev pub table_contents : Option (List ℕ) → Contents Layout
-table_contents table = read_then Table table read_table_of whole
+table_contents table = contents_of Table None table read_table_of
+
+-- a text is read as a description, of which a table is made; or the first fault
+unfoldable pub described_of : Minting → List ℕ → Result Described Fault
+described_of minting text = do
+  description ← description_of_text text
+  table ← table_at description minting
+  Ok (record { description = description; table = table })
+
+-- what a description holds, with its table
+abbrev pub described_contents : Minting → Option (List ℕ) → Contents Described
+described_contents minting description = contents_of Description None description (described_of minting)
+
+-- a text that is read as a table
+abbrev pub as_table : List ℕ → Contents Given
+as_table text = and_then (held_by Table None text (read_table_of text)) (λ t. whole (given.Table t))
+
+-- .. as a description
+abbrev pub as_description : Minting → List ℕ → Contents Given
+as_description minting text = and_then (held_by Description None text (described_of minting text)) (λ d. whole (given.Description d))
+
+-- a system's text, by whether it is one of a description, and whether rights are given
+abbrev pub as_system : Option Minting → Bool → List ℕ → Contents Given
+as_system None true text = misused misuse.NoRights
+as_system (Some minting) true text = as_description minting text
+as_system None false text = as_table text
+as_system (Some minting) false text = misused misuse.NeedlessRights
+
+abbrev pub as_taken : Taken → List ℕ → Contents Given
+as_taken taken.Table text = as_table text
+as_taken (taken.System rights) text = as_system rights (is_description text) text
+
+-- what a system holds
+abbrev pub given_contents : Taken → Option (List ℕ) → Contents Given
+given_contents taken None = unknown
+given_contents taken (Some text) = as_taken taken text
+
+-- what a system and a second file of this name hold, which is read so
+abbrev pub with_contents :
+    {X : Type 0} → Taken → File → (Layout → List ℕ → Result X Fault) → Option (List ℕ) → Option (List ℕ) → Contents (With X)
+with_contents taken name read system second =
+    and_then (given_contents taken system) (λ s.
+    and_then (contents_of name (Some (layout_of s)) second (read (layout_of s))) (λ x. whole (record { system = s; second = x })))
 
 -- what a table and a policy with its labels hold
-abbrev pub system_contents : Option (List ℕ) → Option (List ℕ) → Contents System
-system_contents table policy =
-    read_then Table table read_table_of (λ t.
-    read_then Policy policy (read_policy_of t) (λ edges. whole (record { table = t; policy = edges })))
-
--- what a table and a second file of this name hold, which is read so
-abbrev pub two_contents : {X : Type 0} → File → (Layout → List ℕ → Result X Fault) → Option (List ℕ) → Option (List ℕ) → Contents (Two X)
-two_contents name read table second =
-    read_then Table table read_table_of (λ t.
-    read_then name second (read t) (λ x. whole (record { table = t; second = x })))
+abbrev pub pair_contents : Option (List ℕ) → Option (List ℕ) → Contents Pair
+pair_contents table policy =
+    and_then (table_contents table) (λ t.
+    and_then (contents_of Policy (Some t) policy (read_policy_of t)) (λ edges. whole (record { table = t; policy = edges })))
 
 -- what a table, a policy and a third file of this name hold, which is read so
 abbrev pub three_contents : {X : Type 0} → File → (Layout → List ℕ → Result X Fault) → Option (List ℕ) → Option (List ℕ) → Option (List ℕ) → Contents (Three X)
 three_contents name read table policy third =
-    read_then Table table read_table_of (λ t.
-    read_then Policy policy (read_policy_of t) (λ edges.
-    read_then name third (read t) (λ x. whole (record { table = t; policy = edges; third = x }))))
-
--- a text is read as a description, of which a table is made; or the first fault
-unfoldable pub described_of : Minting → Children → List ℕ → Result Described Fault
-described_of minting children text = do
-  description ← description_of_text text
-  table ← table_at description minting children
-  Ok (record { description = description; table = table })
-
--- what a description holds, with its table
-abbrev pub described_contents : Option (List ℕ) → Minting → Children → Contents Described
-described_contents description minting children = read_then Description description (described_of minting children) whole
+    and_then (pair_contents table policy) (λ s.
+    and_then (contents_of name (Some s.table) third (read s.table)) (λ x. whole (record { table = s.table; policy = s.policy; third = x })))
 
 -- the first of some files whose device failed
 abbrev pub first_failed : List (File × Bool) → Option File
@@ -70,6 +104,7 @@ IsDeviceStop file stop.NoMemory = Unit {0}
 IsDeviceStop file (stop.CannotRead which) = which ≡ file
 IsDeviceStop file (stop.Faulty which fault) = ⊥
 IsDeviceStop file (stop.NoLabel asked) = ⊥
+IsDeviceStop file (stop.Misused told) = ⊥
 
 -- a file of this name stopped the load, or memory did
 abbrev pub IsStopOf : File → Stop → Type 0
@@ -77,6 +112,15 @@ IsStopOf file stop.NoMemory = Unit {0}
 IsStopOf file (stop.CannotRead which) = which ≡ file
 IsStopOf file (stop.Faulty which fault) = which ≡ file
 IsStopOf file (stop.NoLabel asked) = ⊥
+IsStopOf file (stop.Misused told) = ⊥
+
+-- a system stopped the load, or memory did
+abbrev pub IsSystemStop : Stop → Type 0
+IsSystemStop stop.NoMemory = Unit {0}
+IsSystemStop (stop.CannotRead which) = which ≡ Table
+IsSystemStop (stop.Faulty which fault) = (which ≡ Table) ⊎ (which ≡ Description)
+IsSystemStop (stop.NoLabel asked) = ⊥
+IsSystemStop (stop.Misused told) = Unit {0}
 
 -- a device failed
 abbrev pub is_unread : {X : Type 0} → Result X Stop → Bool
@@ -93,17 +137,16 @@ abbrev pub lacking_of : {X : Type 0} → Result X Stop → Option Asked
 lacking_of (Err (stop.NoLabel asked)) = Some asked
 lacking_of _ = None
 
--- one file was loaded as its text is read, or its text has the fault that the stop tells
-abbrev pub LoadsAs : {X : Type 0} → Result X Stop → Result X Fault → Type 0
-LoadsAs (Ok x) read = read ≡ Ok x
-LoadsAs (Err (stop.Faulty file fault)) read = read ≡ Err fault
-LoadsAs (Err _) read = Unit {0}
-
--- what was loaded is what the files hold, and the fault that was told is theirs
+-- what was loaded is what the files hold, and the fault or the misuse that was told is theirs
 abbrev pub Gives : {X : Type 0} → Contents X → Result X Stop → Type 0
 Gives unknown loaded = Unit {0}
-Gives (faulty file fault) (Ok x) = ⊥
 Gives (whole x) (Ok y) = x ≡ y
-Gives (faulty file fault) (Err (stop.Faulty which told)) = (which ≡ file) × (told ≡ fault)
+Gives (faulty file text table fault) (Ok x) = ⊥
+Gives (misused why) (Ok x) = ⊥
 Gives (whole x) (Err (stop.Faulty which told)) = ⊥
+Gives (faulty file text table fault) (Err (stop.Faulty which told)) = (which ≡ file) × (told ≡ fault)
+Gives (misused why) (Err (stop.Faulty which told)) = ⊥
+Gives (whole x) (Err (stop.Misused told)) = ⊥
+Gives (faulty file text table fault) (Err (stop.Misused told)) = ⊥
+Gives (misused why) (Err (stop.Misused told)) = told ≡ why
 Gives contents (Err _) = Unit {0}

@@ -1,6 +1,6 @@
 pub mod Ends
 pub mod Described
+pub mod Given
 pub mod Files
 pub mod Hearing
 pub mod Commands
-pub mod Claims

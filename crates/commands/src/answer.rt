@@ -1,9 +1,6 @@
 //! What a command writes, with its exit status, and what a listener hears besides.
-ghost use Rattle.std.specs.Prelude.{◌≡◌, IfOk, None, Some};
-ghost use Rattle.machine.specs.Layout.{Layout};
-ghost use Rattle.verdict.specs.Verdict.{rule_name};
-ghost use Rattle.reptext.specs.{Places.place_names, Reports.denial_report};
-ghost use Rattle.commands.specs.declared.listener.Finding.TheVariants as finding;
+ghost use Rattle.std.specs.Prelude.{◌≡◌, IfOk};
+ghost use Rattle.commands.specs.Commands.{Denies, Finds, IsPlain};
 
 use crate::Finding;
 use machine::{Event, Log, Outcome};
@@ -37,7 +34,8 @@ pub enum Made {
 impl Answer {
     /// Returns an answer of a text and a status alone.
     pub fn plain(text: Vec<u8>, status: u8) -> Answer
-        ensures { (result.text ≡ text) × (result.status ≡ status) × (result.finding ≡ None) × (result.made ≡ None) }
+        ensures text { result.text ≡ text }
+        ensures plain { IsPlain text.items status result }
     {
         Answer {
             text,
@@ -50,7 +48,8 @@ impl Answer {
 
     /// Returns the answer to a finding: the text that says what is wrong, with status 1.
     pub fn found(text: Vec<u8>, finding: Finding) -> Answer
-        ensures { (result.text ≡ text) × (result.status ≡ 1) × (result.finding ≡ Some finding) × (result.made ≡ None) }
+        ensures text { result.text ≡ text }
+        ensures finds { Finds text.items (λ told. told ≡ finding) result }
     {
         Answer {
             text,
@@ -68,10 +67,7 @@ impl Answer {
 ///
 /// [`AllocError`] where memory is refused.
 pub fn denied(alloc: Global, table: &Table, denial: Denial) -> Result<Answer, AllocError>
-    ensures text { IfOk result (λ answer. answer.text.items
-        ≡ denial_report (rule_name denial) (place_names table.now denial)) }
-    ensures status { IfOk result (λ answer. answer.status ≡ 1) }
-    ensures finding { IfOk result (λ answer. answer.finding ≡ Some (finding.Denied denial)) }
+    ensures { IfOk result (Denies table.now denial) }
 {
     let text = denial_text(alloc, table, &denial)?;
     Ok(Answer::found(text, Finding::Denied(denial)))

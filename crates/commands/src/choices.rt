@@ -1,5 +1,6 @@
 //! What a user chooses of a command: what it writes, or what it looks for.
-use importing::{Children, Minting};
+use importing::Minting;
+use verdict::Rules;
 
 /// What `check` writes where a table and a policy are accepted.
 #[derive(Clone, Copy, PartialEq, Eq, Debug)]
@@ -37,8 +38,6 @@ pub enum Imported {
 pub struct OnImport {
     /// Which rights the capabilities have.
     pub minting: Minting,
-    /// What a parent holds of a child.
-    pub children: Children,
     pub writes: Imported,
 }
 
@@ -58,4 +57,51 @@ pub struct Search {
     pub takes: bool,
     /// The most calls that are tried, 1 to 1,000,000.
     pub steps: u64,
+}
+
+/// As what the first file of a command is read.
+#[derive(Clone, Copy, Debug)]
+pub enum Taken {
+    /// As a capability table.
+    Table,
+    /// As a system: a description, whose capabilities then have these rights, or a table, for which none are given.
+    System(Option<Minting>),
+}
+
+/// What is asked of a system alone.
+#[derive(Clone, Copy)]
+pub enum OfSystem<'a> {
+    /// Writes the least policy for the system by these rules, or how another differs from it.
+    Start(Rules, OnClose),
+    /// Lists the objects.
+    List,
+    /// Reports what threads of the label `actor` may do to objects of the label `object`, and why.
+    Why {
+        actor: &'a str,
+        object: &'a str,
+    },
+    /// Searches for a run in which a thread of the label `actor` changes an object of the label `object`.
+    Show {
+        search: Search,
+        actor: &'a str,
+        object: &'a str,
+    },
+    /// Draws who may change or take from whom.
+    Draw(Picture),
+    /// Summarises who may change whom, and who uses which memory.
+    Summary,
+    /// Writes the strongest claims that hold.
+    Strongest,
+}
+
+/// What is asked of a system and a policy.
+#[derive(Clone, Copy)]
+pub enum OfPolicy<'a> {
+    /// Closes the policy over the system by these rules.
+    Close(Rules, OnClose),
+    /// Reports what the policy lets threads of the label `actor` do to objects of the label `object`, and
+    /// why. This says nothing about runs.
+    Why { actor: &'a str, object: &'a str },
+    /// Draws whom the policy lets change or take from whom.
+    Draw(Picture),
 }

@@ -1,6 +1,6 @@
 //! How a command ends: its exit status, and the line for standard error.
 ghost use Rattle.std.specs.{Option.option_copied, Prelude.◌≡◌};
-ghost use Rattle.commands.specs.Ends.{message_of, status_of, unlabelled_message, unread_message};
+ghost use Rattle.commands.specs.Ends.{message_of, misuse_message, status_of, unlabelled_message, unread_message};
 
 use reptext::File;
 
@@ -21,6 +21,29 @@ impl Asked {
         match self {
             Asked::Actor => "confine: A is no label of the table",
             Asked::Object => "confine: B is no label of the table",
+        }
+    }
+}
+
+/// Why a system isn't read as the command line has it.
+#[derive(Clone, Copy, PartialEq, Eq, Debug)]
+pub enum Misuse {
+    /// It is a description, and `--rights` wasn't given.
+    NoRights,
+    /// It is a table, and `--rights` was given.
+    NeedlessRights,
+}
+
+impl Misuse {
+    /// The line that says so.
+    fn message(self) -> &'static str
+        ensures { result.now ≡ misuse_message self }
+    {
+        match self {
+            Misuse::NoRights =>
+                "confine: this is a system description: say --rights least (each capability has the rights that its line needs) or --rights all (all that Microkit's tool may give it)",
+            Misuse::NeedlessRights =>
+                "confine: this is a capability table: --rights is for system descriptions",
         }
     }
 }
@@ -51,6 +74,8 @@ pub enum End {
     CannotRead(File),
     /// The table has no label of the name that was asked for, and nothing was written.
     NoLabel(Asked),
+    /// The system isn't one that `--rights` is for, or needs it, and nothing was written.
+    Misused(Misuse),
     /// The answer couldn't be written, or only a beginning of it.
     CannotWrite,
 }
@@ -62,7 +87,11 @@ impl End {
     {
         match self {
             End::Status(status) => status,
-            End::NoMemory | End::CannotRead(_) | End::NoLabel(_) | End::CannotWrite => 2,
+            End::NoMemory
+            | End::CannotRead(_)
+            | End::NoLabel(_)
+            | End::Misused(_)
+            | End::CannotWrite => 2,
         }
     }
 
@@ -75,6 +104,7 @@ impl End {
             End::NoMemory => Some("confine: no memory"),
             End::CannotRead(file) => Some(unread_message(file)),
             End::NoLabel(asked) => Some(asked.unlabelled_message()),
+            End::Misused(misuse) => Some(misuse.message()),
             End::CannotWrite => Some("confine: cannot write"),
         }
     }

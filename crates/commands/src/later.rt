@@ -1,28 +1,27 @@
-//! The files that are read after the table: a policy, a certificate, a script, a log and claims.
-ghost use Rattle.std.specs.Prelude.{ℕ, ◌≡◌, List, None, Option, Result, Some, option_copied, option_map};
-ghost use Rattle.machine.specs.{declared.call.{Event.Event as EventOf, Outcome.Outcome as OutcomeOf}, Layout.Layout};
-ghost use Rattle.words.specs.{declared.faults.Fault.Fault, Reading.Reads, Text.lines_of};
+//! The files that are read after the first: a policy, claims, a certificate, a script and a log.
+ghost use Rattle.std.specs.Prelude.{ℕ, ◌≡◌, List, Option, Result};
+ghost use Rattle.base.specs.declared.edge.Edge.{Edge};
+ghost use Rattle.machine.specs.Layout.{Layout};
+ghost use Rattle.words.specs.{declared.faults.Fault.Fault, Reading.Reads};
 ghost use Rattle.captext.specs.Policies.{read_policy_of};
 ghost use Rattle.evtext.specs.{Log.read_log_of, Script.read_script_of};
 ghost use Rattle.certificate.specs.Reading.{read_certificate_of};
+ghost use Rattle.claims.specs.Reading.{read_claims_of};
 ghost use Rattle.forms.specs.declared.file.File.{File, File as file};
-ghost use Rattle.commands.specs.{declared.answer.Made.Made, Claims.{is_second, read_claim_list_of}};
-ghost use Rattle.commands.specs.Hearing.{entries_of, made_of};
+ghost use Rattle.commands.specs.{declared.given.Given.Given, Hearing.{Held, certificate, claims, held_of, log, policy, script}};
 
-use crate::{File, Made, Outcomes};
+use crate::{File, Files, Given};
 use captext::Fault;
 use certificate::Certificate;
-use claims::Claims;
+use claims::ClaimLines;
 use evtext::{read_log, read_script};
 use machine::{Event, Log};
 use policy::Policy;
-use stated::StatedLines;
 use std::alloc::Global;
 use std::marker::Model;
 use table::Table;
-use words::Lines;
 
-/// What a file holds that is read after the table.
+/// What a file holds that is read after the first, with the labels and objects of its table.
 pub trait LaterFile: Drop {
     // The file's name, and how its text is read.
     ghost named: { File };
@@ -36,16 +35,26 @@ pub trait LaterFile: Drop {
     /// Reads its text; a fault that is `Fault::MEMORY` says that memory was refused.
     fn read(alloc: Global, table: &Table, bytes: &[u8]) -> Result<Self, Fault>
         ensures { Reads (λ held. held) result (read_of table.now bytes.now) };
+}
 
-    // The calls that it holds, or that were made of it, each with what it came to.
-    ghost calls: { Self → Option Made → Option (List (EventOf × OutcomeOf)) } = { λ held made. None };
+/// What a file holds that is read after a system.
+pub trait SecondFile: LaterFile {
+    // What both hold.
+    ghost held_with: { Given → Self → Held };
 
-    /// The calls that it holds, or that were made of it, with what they came to.
-    fn outcomes<'a>(&'a self, made: Option<&'a Made>) -> Option<Outcomes<'a>>
-        ensures { option_map entries_of result ≡ calls self.now (option_copied made.entry) };
+    /// What both hold.
+    fn files<'a>(&'a self, given: &'a Given) -> Files<'a>
+        ensures { held_of result ≡ held_with given.now self.now };
+}
 
-    /// The lines of claims of the second version, if it holds such.
-    fn claims(&self) -> Option<&StatedLines>;
+/// What a file holds that is read after a table and a policy.
+pub trait ThirdFile: LaterFile {
+    // What the three hold.
+    ghost held_after: { Layout → List Edge → Self → Held };
+
+    /// What the three hold.
+    fn files<'a>(&'a self, table: &'a Table, policy: &'a Policy) -> Files<'a>
+        ensures { held_of result ≡ held_after table.now policy.now self.now };
 }
 
 impl LaterFile for Policy {
@@ -60,13 +69,35 @@ impl LaterFile for Policy {
     fn read(alloc: Global, table: &Table, bytes: &[u8]) -> Result<Policy, Fault> {
         captext::read_policy(alloc, bytes, table)
     }
+}
 
-    fn outcomes<'a>(&'a self, _made: Option<&'a Made>) -> Option<Outcomes<'a>> {
-        None
+impl SecondFile for Policy {
+    ghost held_with = { policy };
+
+    fn files<'a>(&'a self, given: &'a Given) -> Files<'a> {
+        Files::Policy(given, self)
+    }
+}
+
+impl LaterFile for ClaimLines {
+    ghost named = { file.Claims };
+
+    ghost read_of = { read_claims_of };
+
+    fn name() -> File {
+        File::Claims
     }
 
-    fn claims(&self) -> Option<&StatedLines> {
-        None
+    fn read(alloc: Global, table: &Table, bytes: &[u8]) -> Result<ClaimLines, Fault> {
+        claims::read(alloc, bytes, table)
+    }
+}
+
+impl SecondFile for ClaimLines {
+    ghost held_with = { claims };
+
+    fn files<'a>(&'a self, given: &'a Given) -> Files<'a> {
+        Files::Claims(given, self)
     }
 }
 
@@ -82,13 +113,13 @@ impl LaterFile for Certificate {
     fn read(alloc: Global, table: &Table, bytes: &[u8]) -> Result<Certificate, Fault> {
         certificate::read(alloc, bytes, table)
     }
+}
 
-    fn outcomes<'a>(&'a self, _made: Option<&'a Made>) -> Option<Outcomes<'a>> {
-        None
-    }
+impl ThirdFile for Certificate {
+    ghost held_after = { λ table edges x. certificate table edges };
 
-    fn claims(&self) -> Option<&StatedLines> {
-        None
+    fn files<'a>(&'a self, table: &'a Table, policy: &'a Policy) -> Files<'a> {
+        Files::Certificate(table, policy)
     }
 }
 
@@ -125,19 +156,13 @@ impl LaterFile for Script {
             Err(fault) => Err(fault),
         }
     }
+}
 
-    ghost calls = { made_of };
+impl ThirdFile for Script {
+    ghost held_after = { script };
 
-    fn outcomes<'a>(&'a self, made: Option<&'a Made>) -> Option<Outcomes<'a>> {
-        match made {
-            Some(Made::InTurn(outcomes)) => Some(Outcomes::OfRun(&self.events, outcomes)),
-            Some(Made::ByWorkers(log)) => Some(Outcomes::OfLog(log)),
-            None => None,
-        }
-    }
-
-    fn claims(&self) -> Option<&StatedLines> {
-        None
+    fn files<'a>(&'a self, table: &'a Table, policy: &'a Policy) -> Files<'a> {
+        Files::Script(table, policy, &self.events)
     }
 }
 
@@ -171,69 +196,12 @@ impl LaterFile for Entries {
             Err(fault) => Err(fault),
         }
     }
-
-    ghost calls = { λ log made. Some log };
-
-    fn outcomes<'a>(&'a self, _made: Option<&'a Made>) -> Option<Outcomes<'a>> {
-        Some(Outcomes::OfLog(&self.entries))
-    }
-
-    fn claims(&self) -> Option<&StatedLines> {
-        None
-    }
 }
 
-/// The claims of a text, by its version.
-#[derive(Drop)]
-pub enum ClaimList {
-    /// How much authority labels have on others at most.
-    First(Claims),
-    /// What each line claims.
-    Second(StatedLines),
-}
+impl ThirdFile for Entries {
+    ghost held_after = { log };
 
-impl LaterFile for ClaimList {
-    ghost named = { file.Claims };
-
-    ghost read_of = { read_claim_list_of };
-
-    fn name() -> File {
-        File::Claims
-    }
-
-    fn read(alloc: Global, table: &Table, bytes: &[u8]) -> Result<ClaimList, Fault> {
-        if is_second(bytes) {
-            match stated::read(alloc, bytes, table) {
-                Ok(lines) => Ok(ClaimList::Second(lines)),
-                Err(fault) => Err(fault),
-            }
-        } else {
-            match claims::read(alloc, bytes, table) {
-                Ok(claims) => Ok(ClaimList::First(claims)),
-                Err(fault) => Err(fault),
-            }
-        }
-    }
-
-    fn outcomes<'a>(&'a self, _made: Option<&'a Made>) -> Option<Outcomes<'a>> {
-        None
-    }
-
-    fn claims(&self) -> Option<&StatedLines> {
-        match self {
-            ClaimList::First(_) => None,
-            ClaimList::Second(lines) => Some(lines),
-        }
-    }
-}
-
-// Whether a text is of the second version, as its first line says.
-#[tactic(auto, unfolding(crate::specs::Claims::is_second))]
-fn is_second(text: &[u8]) -> bool
-    ensures { result ≡ is_second (lines_of text.now) }
-{
-    match Lines::new(text).next_line() {
-        Some(words) => words.is(b"confine-claims 2"),
-        None => false,
+    fn files<'a>(&'a self, table: &'a Table, policy: &'a Policy) -> Files<'a> {
+        Files::Log(table, policy, &self.entries)
     }
 }

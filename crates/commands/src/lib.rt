@@ -7,8 +7,9 @@
 
 mod answer;
 mod choices;
-mod described;
 mod end;
+mod files;
+mod given;
 mod later;
 mod listener;
 mod load;
@@ -16,14 +17,17 @@ mod telling;
 
 pub use answer::{Answer, Made, denied};
 pub use captext::Fault;
-pub use choices::{Imported, OnAccept, OnClose, OnImport, Picture, Search};
-pub use described::{Described, load_description};
+pub use choices::{
+    Imported, OfPolicy, OfSystem, OnAccept, OnClose, OnImport, Picture, Search, Taken,
+};
 pub use devices::{ReadError, Sink, Source};
-pub use end::{Asked, End};
-pub use importing::{Children, Minting};
-pub use later::{ClaimList, Entries, LaterFile, Script};
-pub use listener::{Finding, Heard, Listener, Outcomes, Silence};
-pub use load::{Held, Stop, System, Three, Two, load_system, load_table, load_three, load_two};
+pub use end::{Asked, End, Misuse};
+pub use files::{Files, Loaded};
+pub use given::{Described, Given, load_description, load_given};
+pub use importing::Minting;
+pub use later::{Entries, LaterFile, Script, SecondFile, ThirdFile};
+pub use listener::{Finding, Listener, Silence};
+pub use load::{Stop, Three, With, load_table, load_three, load_with};
 pub use reptext::File;
 pub use telling::tell;
 pub use verdict::Rules;

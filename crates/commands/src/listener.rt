@@ -1,14 +1,10 @@
 //! Who hears what a command finds, to say it to a person.
 ghost use Rattle.std.specs.Prelude.{Option, option_copied};
-ghost use Rattle.commands.specs.Hearing.{Hearing, faulty, hearing_of, unlabelled};
+ghost use Rattle.commands.specs.Hearing.{Hearing, answered, faulty, held_of, unlabelled};
 
-use crate::{Asked, File};
+use crate::{Answer, Asked, File, Files};
 use captext::Fault;
-use claims::BrokenClaim;
-use machine::{Event, Outcome};
-use microkit::Description;
-use policy::Policy;
-use stated::{Broken, StatedLines};
+use claims::Broken;
 use table::Table;
 use verdict::Denial;
 
@@ -21,37 +17,8 @@ pub enum Finding {
     Outside(Denial),
     /// A log isn't legal: the entry, from 1, that is no step.
     Illegal(usize),
-    /// A claim of the first version doesn't hold.
-    Broken(BrokenClaim),
-    /// Claims of the second version don't hold.
-    BrokenLines(Vec<Broken>),
-}
-
-/// What calls came to, in their order.
-#[derive(Clone, Copy)]
-pub enum Outcomes<'a> {
-    /// The entries of a log: of one that was read, or of one that workers made.
-    OfLog(&'a [(Event, Outcome)]),
-    /// The calls of a script, and what each came to.
-    OfRun(&'a [Event], &'a [Outcome]),
-}
-
-/// What was judged, and what came of it.
-#[derive(Clone, Copy)]
-pub struct Heard<'a> {
-    pub table: &'a Table,
-    /// The description that the table was made of, if one was read.
-    pub description: Option<&'a Description>,
-    /// The policy, if one was read.
-    pub policy: Option<&'a Policy>,
-    /// What calls came to, if any were read or made.
-    pub outcomes: Option<Outcomes<'a>>,
-    /// What is found wrong, if anything is.
-    pub finding: Option<&'a Finding>,
-    /// The lines of claims of the second version, if such were read.
-    pub claims: Option<&'a StatedLines>,
-    /// The script that was searched for, if it was found.
-    pub script: Option<&'a [Event]>,
+    /// Claims don't hold.
+    Broken(Vec<Broken>),
 }
 
 /// Hears what a command finds, to tell a person of it. What is answered doesn't depend on it.
@@ -65,9 +32,9 @@ pub trait Listener {
     fn hear_fault(&mut self, file: File, text: &[u8], table: Option<&Table>, fault: Fault)
         ensures { Hears self.old (faulty file text.now (option_copied table.entry) fault) self.new };
 
-    /// The files were judged.
-    fn hear_answer(&mut self, heard: &Heard<'_>)
-        ensures { Hears self.old (hearing_of heard.now) self.new };
+    /// What the files hold was judged, and this is the answer.
+    fn hear_answer(&mut self, files: Files<'_>, answer: &Answer)
+        ensures { Hears self.old (answered (held_of files.entry) answer.now) self.new };
 
     /// The table lacks a label that is asked about.
     fn hear_unlabelled(&mut self, table: &Table, asked: Asked)
@@ -81,7 +48,7 @@ pub struct Silence;
 impl Listener for Silence {
     fn hear_fault(&mut self, _file: File, _text: &[u8], _table: Option<&Table>, _fault: Fault) {}
 
-    fn hear_answer(&mut self, _heard: &Heard<'_>) {}
+    fn hear_answer(&mut self, _files: Files<'_>, _answer: &Answer) {}
 
     fn hear_unlabelled(&mut self, _table: &Table, _asked: Asked) {}
 }

@@ -1,18 +1,19 @@
 //! How the files of a command are loaded one after another, and why a command has no answer.
-ghost use Rattle.std.specs.Prelude.{[], ◌∷◌, ◌≡◌, ◌≢◌, ◌⊎◌, Err, IfErr, IfOk, IfSome, None, Ok, Some, false};
-ghost use Rattle.std.specs.Prelude.{option_copied};
+ghost use Rattle.std.specs.Prelude.{[], ◌∷◌, ◌≡◌, ◌≢◌, ◌⊎◌, Err, IfErr, IfOk, IfSome, None, Ok, Some, false, option_copied};
 ghost use Rattle.words.specs.Fault.{no_memory};
 ghost use Rattle.forms.specs.declared.file.File.TheVariants as file;
 ghost use Rattle.machine.specs.Layout.{Layout};
 ghost use Rattle.captext.specs.Tables.{read_table_of};
-ghost use Rattle.commands.specs.{declared.{answer.Answer.Answer, load.Stop.Stop}, Commands.{HasPolicy, HasTable}};
-ghost use Rattle.commands.specs.{Commands.input, Files.{Gives, IsDeviceStop, IsStopOf, LoadsAs, first_failed}};
-ghost use Rattle.commands.specs.Files.{is_unread, lacking_of, system_contents, table_contents, three_contents};
-ghost use Rattle.commands.specs.Files.{two_contents, unread_of};
-ghost use Rattle.commands.specs.Hearing.{Hearing, HearsFault, HearsStop, answered, hearing_of};
+ghost use Rattle.commands.specs.{declared.load.Stop.{Stop}, Commands.{HasPolicy, HasSystem, HasTable, input}};
+ghost use Rattle.commands.specs.{Files.{Gives, IsDeviceStop, IsStopOf, contents_of, first_failed, is_unread, lacking_of}};
+ghost use Rattle.commands.specs.{Files.{pair_contents, table_contents, three_contents, unread_of, with_contents}, Given.layout_of};
+ghost use Rattle.commands.specs.Hearing.{HearsFault, HearsStop, Held, description, held_of, system};
 
-use crate::later::LaterFile;
-use crate::{Answer, Asked, File, Heard, Listener, ReadError, Source};
+use crate::given::load_given;
+use crate::later::{LaterFile, SecondFile, ThirdFile};
+use crate::{
+    Asked, Described, File, Files, Given, Listener, Loaded, Misuse, ReadError, Source, Taken,
+};
 use base::Refusal;
 use captext::{Fault, read_table};
 use policy::Policy;
@@ -30,6 +31,8 @@ pub enum Stop {
     Faulty(File, Fault),
     /// The table has no label of the name that is asked about.
     NoLabel(Asked),
+    /// The system isn't one that `--rights` is for, or needs it.
+    Misused(Misuse),
 }
 
 impl From<AllocError> for Stop {
@@ -49,18 +52,18 @@ impl From<Refusal> for Stop {
     }
 }
 
-/// A table and a policy.
+/// A system, and what a second file holds.
 #[derive(Drop)]
-pub struct System {
-    pub table: Table,
-    pub policy: Policy,
+pub struct With<X: Drop> {
+    pub system: Given,
+    pub second: X,
 }
 
-/// A table, and what a second file holds.
+/// A table and a policy.
 #[derive(Drop)]
-pub struct Two<X: Drop> {
-    pub table: Table,
-    pub second: X,
+struct Pair {
+    table: Table,
+    policy: Policy,
 }
 
 /// A table, a policy, and what a third file holds.
@@ -71,109 +74,59 @@ pub struct Three<X: Drop> {
     pub third: X,
 }
 
-/// What the files of a command hold, of which a listener hears.
-pub trait Held: Drop {
-    // Its table.
-    ghost layout: { Self → Layout };
+impl Loaded for Described {
+    ghost layout = { λ d. d.table };
 
-    // What is heard of it with an answer.
-    ghost hears: { Self → Answer → Hearing };
-
-    /// Its table.
-    fn table(&self) -> &Table
-        ensures { result.now ≡ layout self.now };
-
-    /// What a listener hears of it with an answer.
-    fn heard<'a>(&'a self, answer: &'a Answer) -> Heard<'a>
-        ensures { hearing_of result ≡ hears self.now answer.now };
-}
-
-impl Held for Table {
-    ghost layout = { λ table. table };
-
-    ghost hears = { λ table answer. answered table None None None answer.finding };
-
-    fn table(&self) -> &Table {
-        self
-    }
-
-    fn heard<'a>(&'a self, answer: &'a Answer) -> Heard<'a> {
-        Heard {
-            table: self,
-            description: None,
-            policy: None,
-            outcomes: None,
-            finding: answer.finding.as_ref(),
-            claims: None,
-            script: answer.script.as_deref(),
-        }
-    }
-}
-
-impl Held for System {
-    ghost layout = { λ system. system.table };
-
-    ghost hears = { λ system answer. answered system.table None (Some system.policy) None answer.finding };
+    ghost held = { description };
 
     fn table(&self) -> &Table {
         &self.table
     }
 
-    fn heard<'a>(&'a self, answer: &'a Answer) -> Heard<'a> {
-        Heard {
-            table: &self.table,
-            description: None,
-            policy: Some(&self.policy),
-            outcomes: None,
-            finding: answer.finding.as_ref(),
-            claims: None,
-            script: None,
-        }
+    fn files(&self) -> Files<'_> {
+        Files::Description(self)
     }
 }
 
-impl<X: LaterFile> Held for Two<X> {
-    ghost layout = { λ two. two.table };
+impl Loaded for Given {
+    ghost layout = { layout_of };
 
-    ghost hears = { λ two answer. answered two.table None None (X.calls two.second answer.made) answer.finding };
+    ghost held = { system };
 
     fn table(&self) -> &Table {
-        &self.table
+        Given::table(self)
     }
 
-    fn heard<'a>(&'a self, answer: &'a Answer) -> Heard<'a> {
-        Heard {
-            table: &self.table,
-            description: None,
-            policy: None,
-            outcomes: self.second.outcomes(answer.made.as_ref()),
-            finding: answer.finding.as_ref(),
-            claims: self.second.claims(),
-            script: None,
-        }
+    fn files(&self) -> Files<'_> {
+        Files::System(self)
     }
 }
 
-impl<X: LaterFile> Held for Three<X> {
+impl<X: SecondFile> Loaded for With<X> {
+    ghost layout = { λ w. layout_of w.system };
+
+    ghost held = { λ w. X.held_with w.system w.second };
+
+    fn table(&self) -> &Table {
+        self.system.table()
+    }
+
+    fn files(&self) -> Files<'_> {
+        self.second.files(&self.system)
+    }
+}
+
+impl<X: ThirdFile> Loaded for Three<X> {
     ghost layout = { λ three. three.table };
 
-    ghost hears = { λ three answer. answered three.table None
-        (Some three.policy) (X.calls three.third answer.made) answer.finding };
+    ghost held = { λ three. X.held_after three.table three.policy three.third };
 
     fn table(&self) -> &Table {
         &self.table
     }
 
-    fn heard<'a>(&'a self, answer: &'a Answer) -> Heard<'a> {
-        Heard {
-            table: &self.table,
-            description: None,
-            policy: Some(&self.policy),
-            outcomes: self.third.outcomes(answer.made.as_ref()),
-            finding: answer.finding.as_ref(),
-            claims: self.third.claims(),
-            script: None,
-        }
+    fn files(&self) -> Files<'_> {
+        self.third.files(&self.table, &self.policy)
     }
 }
 
@@ -232,7 +185,7 @@ pub fn load_table<T: Source, L: Listener>(
     ensures stops { IfErr result (λ stop. IsStopOf file.Table stop) }
     ensures unread { unread_of result ≡ first_failed ((file.Table, T.failed table.new) ∷ []) }
     ensures labels { lacking_of result ≡ None }
-    ensures heard { HearsFault L.Hears result listener.old listener.new }
+    ensures heard { HearsFault L.Hears (table_contents (T.remaining table.old)) result listener.old listener.new }
 {
     let bytes = read_file(alloc, File::Table, table)?;
     match read_table(alloc, &bytes) {
@@ -249,10 +202,10 @@ fn load_later<X: LaterFile, S: Source, L: Listener>(
     listener: &mut L,
 ) -> Result<X, Stop>
     requires { S.failed source.old ≡ false }
-    ensures loaded { IfSome (S.remaining source.old) (λ bytes. LoadsAs result (X.read_of table.now bytes)) }
+    ensures loaded { Gives (contents_of X.named (Some table.now) (S.remaining source.old) (X.read_of table.now)) result }
     ensures stops { IfErr result (λ stop. IsStopOf X.named stop) }
     ensures device { S.failed source.new ≡ is_unread result }
-    ensures heard { HearsFault L.Hears result listener.old listener.new }
+    ensures heard { HearsFault L.Hears (contents_of X.named (Some table.now) (S.remaining source.old) (X.read_of table.now)) result listener.old listener.new }
 {
     let bytes = read_file(alloc, X::name(), source)?;
     match X::read(alloc, table, &bytes) {
@@ -261,61 +214,57 @@ fn load_later<X: LaterFile, S: Source, L: Listener>(
     }
 }
 
-/// Loads a table and a policy one after another, up to the first that stops it.
+/// Loads a system and a second file one after another, up to the first that stops it.
 ///
 /// # Errors
 ///
-/// Those of [`load_table`], and then the same for the policy, whose first fault is 50 or 51, as
-/// [`read_policy`](captext::read_policy) says. The policy is read only if the table has no fault.
-pub fn load_system<T: Source, P: Source, L: Listener>(
+/// Those of [`load_given`], and then the same for the second file, with the first fault of its text.
+/// The second file is read only if the system has no fault.
+pub fn load_with<X: LaterFile, T: Source, S: Source, L: Listener>(
     alloc: Global,
-    table: &mut T,
-    policy: &mut P,
+    taken: Taken,
+    system: &mut T,
+    second: &mut S,
     listener: &mut L,
-) -> Result<System, Stop>
-    requires table { T.failed table.old ≡ false }
-    requires policy { P.failed policy.old ≡ false }
-    ensures loaded { Gives (system_contents (T.remaining table.old) (P.remaining policy.old)) result }
-    ensures policy_waits { (policy.new ≡ policy.old) ⊎ HasTable (input T.remaining T.failed table.old table.new) }
+) -> Result<With<X>, Stop>
+    requires system { T.failed system.old ≡ false }
+    requires second { S.failed second.old ≡ false }
+    ensures loaded { Gives (with_contents taken X.named X.read_of (T.remaining system.old) (S.remaining second.old)) result }
+    ensures second_waits { (second.new ≡ second.old) ⊎ HasSystem taken (input T.remaining T.failed system.old system.new) }
     ensures unread { unread_of result ≡ first_failed
-        ((file.Table, T.failed table.new) ∷ (file.Policy, P.failed policy.new) ∷ []) }
+        ((file.Table, T.failed system.new) ∷ (X.named, S.failed second.new) ∷ []) }
     ensures labels { lacking_of result ≡ None }
-    ensures heard { HearsFault L.Hears result listener.old listener.new }
+    ensures heard { HearsFault L.Hears (with_contents taken X.named X.read_of (T.remaining system.old) (S.remaining second.old)) result listener.old listener.new }
 {
-    let table = load_table(alloc, table, listener)?;
-    match load_later::<Policy, P, L>(alloc, &table, policy, listener) {
-        Ok(policy) => Ok(System { table, policy }),
+    let system = load_given(alloc, taken, system, listener)?;
+    match load_later::<X, S, L>(alloc, system.table(), second, listener) {
+        Ok(second) => Ok(With { system, second }),
         Err(stop) => {
-            drop(table);
+            drop(system);
             Err(stop)
         }
     }
 }
 
-/// Loads a table and a second file one after another, up to the first that stops it.
-///
-/// # Errors
-///
-/// Those of [`load_table`], and then the same for the second file, with the first fault of its text.
-/// The second file is read only if the table has no fault.
-pub fn load_two<X: LaterFile, T: Source, S: Source, L: Listener>(
+/// Loads a table and a policy one after another, up to the first that stops it.
+fn load_pair<T: Source, P: Source, L: Listener>(
     alloc: Global,
     table: &mut T,
-    second: &mut S,
+    policy: &mut P,
     listener: &mut L,
-) -> Result<Two<X>, Stop>
+) -> Result<Pair, Stop>
     requires table { T.failed table.old ≡ false }
-    requires second { S.failed second.old ≡ false }
-    ensures loaded { Gives (two_contents X.named X.read_of (T.remaining table.old) (S.remaining second.old)) result }
-    ensures second_waits { (second.new ≡ second.old) ⊎ HasTable (input T.remaining T.failed table.old table.new) }
+    requires policy { P.failed policy.old ≡ false }
+    ensures loaded { Gives (pair_contents (T.remaining table.old) (P.remaining policy.old)) result }
+    ensures policy_waits { (policy.new ≡ policy.old) ⊎ HasTable (input T.remaining T.failed table.old table.new) }
     ensures unread { unread_of result ≡ first_failed
-        ((file.Table, T.failed table.new) ∷ (X.named, S.failed second.new) ∷ []) }
+        ((file.Table, T.failed table.new) ∷ (file.Policy, P.failed policy.new) ∷ []) }
     ensures labels { lacking_of result ≡ None }
-    ensures heard { HearsFault L.Hears result listener.old listener.new }
+    ensures heard { HearsFault L.Hears (pair_contents (T.remaining table.old) (P.remaining policy.old)) result listener.old listener.new }
 {
     let table = load_table(alloc, table, listener)?;
-    match load_later::<X, S, L>(alloc, &table, second, listener) {
-        Ok(second) => Ok(Two { table, second }),
+    match load_later::<Policy, P, L>(alloc, &table, policy, listener) {
+        Ok(policy) => Ok(Pair { table, policy }),
         Err(stop) => {
             drop(table);
             Err(stop)
@@ -327,7 +276,8 @@ pub fn load_two<X: LaterFile, T: Source, S: Source, L: Listener>(
 ///
 /// # Errors
 ///
-/// Those of [`load_system`], and then the same for the third file, with the first fault of its
+/// Those of [`load_table`], and then the same for the policy, whose first fault is 50 or 51, as
+/// [`read_policy`](captext::read_policy) says, and for the third file, with the first fault of its
 /// text. The third file is read only if the table and the policy have no fault.
 pub fn load_three<X: LaterFile, T: Source, P: Source, S: Source, L: Listener>(
     alloc: Global,
@@ -348,9 +298,10 @@ pub fn load_three<X: LaterFile, T: Source, P: Source, S: Source, L: Listener>(
     ensures unread { unread_of result ≡ first_failed ((file.Table, T.failed table.new)
         ∷ (file.Policy, P.failed policy.new) ∷ (X.named, S.failed third.new) ∷ []) }
     ensures labels { lacking_of result ≡ None }
-    ensures heard { HearsFault L.Hears result listener.old listener.new }
+    ensures heard { HearsFault L.Hears (three_contents X.named X.read_of (T.remaining table.old)
+        (P.remaining policy.old) (S.remaining third.old)) result listener.old listener.new }
 {
-    let System { table, policy } = load_system(alloc, table, policy, listener)?;
+    let Pair { table, policy } = load_pair(alloc, table, policy, listener)?;
     match load_later::<X, S, L>(alloc, &table, third, listener) {
         Ok(third) => Ok(Three {
             table,

@@ -1,15 +1,15 @@
 //! How the listener hears of an answer, and how the answer is written.
 ghost use Rattle.std.specs.Prelude.{◌≡◌, Err, None, Some, false};
-ghost use Rattle.commands.specs.{Commands.{IsTold, IsWritten, output}, Ends.{IfNoLabel, unread_file}};
+ghost use Rattle.commands.specs.{Commands.{IsTold, IsWritten, output}, Ends.{IfMisused, IfNoLabel, unread_file}};
 ghost use Rattle.commands.specs.{Hearing.HearsAnswer, declared.load.Stop.{Stop as stop}};
 
-use crate::{Answer, End, Fault, File, Held, Listener, Sink, Stop};
+use crate::{Answer, End, Fault, File, Listener, Loaded, Sink, Stop};
 use reptext::fault_report;
 use std::alloc::Global;
 
 /// Has the listener hear of the answer to what was loaded, and writes the answer. If there is no
 /// answer because of a fault, writes the report of the fault.
-pub fn tell<X: Held, L: Listener, O: Sink>(
+pub fn tell<X: Loaded, L: Listener, O: Sink>(
     alloc: Global,
     loaded: &Result<X, Stop>,
     answer: Result<Answer, Stop>,
@@ -18,22 +18,22 @@ pub fn tell<X: Held, L: Listener, O: Sink>(
 ) -> End
     requires { O.failed out.old ≡ false }
     ensures told { IsTold answer (output O.contents O.failed O.is_flushed out.old out.new) result }
-    ensures heard { HearsAnswer L.Hears X.layout X.hears loaded.now answer listener.old listener.new }
+    ensures heard { HearsAnswer L.Hears X.layout X.held loaded.now answer listener.old listener.new }
 {
     announce(loaded, &answer, listener);
     write(alloc, answer, out)
 }
 
 /// Has the listener hear of the answer to what was loaded, or of the label that its table lacks.
-fn announce<X: Held, L: Listener>(
+fn announce<X: Loaded, L: Listener>(
     loaded: &Result<X, Stop>,
     answer: &Result<Answer, Stop>,
     listener: &mut L,
 )
-    ensures { HearsAnswer L.Hears X.layout X.hears loaded.now answer.now listener.old listener.new }
+    ensures { HearsAnswer L.Hears X.layout X.held loaded.now answer.now listener.old listener.new }
 {
     match (loaded, answer) {
-        (Ok(held), Ok(answer)) => listener.hear_answer(&held.heard(answer)),
+        (Ok(held), Ok(answer)) => listener.hear_answer(held.files(), answer),
         (Ok(held), Err(Stop::NoLabel(asked))) => listener.hear_unlabelled(held.table(), *asked),
         _ => {}
     }
@@ -49,6 +49,7 @@ fn write<O: Sink>(alloc: Global, answer: Result<Answer, Stop>, out: &mut O) -> E
         Err(Stop::Faulty(file, fault)) => write_fault(alloc, file, fault, out),
         Err(Stop::CannotRead(file)) => End::CannotRead(file),
         Err(Stop::NoLabel(asked)) => End::NoLabel(asked),
+        Err(Stop::Misused(misuse)) => End::Misused(misuse),
         Err(Stop::NoMemory) => End::NoMemory,
     }
 }
@@ -70,6 +71,7 @@ fn write_text<O: Sink>(text: &[u8], status: u8, out: &mut O) -> End
     ensures written { IsWritten (Some (text.now, status))
         (output O.contents O.failed O.is_flushed out.old out.new) result }
     ensures unlabelled { IfNoLabel result (λ asked. ⊥) }
+    ensures misused { IfMisused result (λ why. ⊥) }
     ensures unread { unread_file result ≡ None }
 {
     match out.write_whole(text) {

@@ -1,10 +1,12 @@
 //! The lines on the edges that closing adds to a policy.
 use crate::asked::asked_edge;
-use crate::lines::{Start, line_of_place};
+use crate::lines::line_of_place;
+use crate::place_words::PlaceWords;
 use crate::sentences::{EdgeLine, PlaceNames};
 use base::{Edge, Kind, Label, Refusal};
 use deal::Open;
 use policy::{Broken, Policy};
+use sources::{Sheet, Start};
 use std::alloc::{AllocError, Global};
 use std::thread::Threads;
 use table::Table;
@@ -16,7 +18,10 @@ pub(crate) const MOST_EDGES: usize = LABELS * Kind::ALL.len() * LABELS;
 const LABELS: usize = Label::COUNT as usize;
 
 /// Returns a line for each edge that a policy lacks by a set of rules: the rule and the place that ask for it, and the
-/// edge, as `table:11: A1 space.0: edge app await bell`, where the place is a line of the table of this name.
+/// edge, as `table:11: A1 space.0: edge app await bell`.
+///
+/// Of a description the place is an element, as in
+/// ``my.system:7: A1 `app` may notify `fs` by channel 1: edge app notify fs``.
 ///
 /// Each is what the verdict asks for first, where the edges of the lines before are there. So each
 /// line costs a verdict.
@@ -28,12 +33,11 @@ pub fn explain_closing<R: Threads + Sync>(
     rt: &R,
     alloc: Global,
     rules: Rules,
-    file: &str,
-    table: &Table,
+    sheet: Sheet<'_>,
     policy: &Policy,
 ) -> Result<String, Refusal> {
     let mut closed = Policy::new(alloc);
-    let lines = lines_for(rt, alloc, rules, file, table, policy, &mut closed);
+    let lines = lines_for(rt, alloc, rules, sheet, policy, &mut closed);
     drop(closed);
     lines
 }
@@ -43,15 +47,14 @@ fn lines_for<R: Threads + Sync>(
     rt: &R,
     alloc: Global,
     rules: Rules,
-    file: &str,
-    table: &Table,
+    sheet: Sheet<'_>,
     policy: &Policy,
     closed: &mut Policy,
 ) -> Result<String, Refusal> {
     closed.extend(&policy.edges(alloc)?)?;
     let mut lines = String::new(alloc);
     for _ in 0..MOST_EDGES {
-        if !push_line(rt, alloc, rules, file, table, closed, &mut lines)? {
+        if !push_line(rt, alloc, rules, sheet, closed, &mut lines)? {
             break;
         }
     }
@@ -63,13 +66,12 @@ fn push_line<R: Threads + Sync>(
     rt: &R,
     alloc: Global,
     rules: Rules,
-    file: &str,
-    table: &Table,
+    sheet: Sheet<'_>,
     closed: &mut Policy,
     lines: &mut String,
 ) -> Result<bool, Refusal> {
-    match first_denial(rt, alloc, rules, table, closed)? {
-        Some(denial) => push_edge(file, table, &denial, closed, lines),
+    match first_denial(rt, alloc, rules, sheet.table, closed)? {
+        Some(denial) => push_edge(sheet, &denial, closed, lines),
         None => Ok(false),
     }
 }
@@ -90,15 +92,14 @@ fn first_denial<R: Threads + Sync>(
 
 /// Adds the edge that a denial asks for, and the line for it, if one edge would mend it.
 fn push_edge(
-    file: &str,
-    table: &Table,
+    sheet: Sheet<'_>,
     denial: &Denial,
     closed: &mut Policy,
     lines: &mut String,
 ) -> Result<bool, Refusal> {
-    match mending_edge(table, closed, denial) {
+    match mending_edge(sheet.table, closed, denial) {
         Some(edge) => {
-            push_edge_line(lines, file, table, denial, &edge)?;
+            push_edge_line(lines, sheet, denial, &edge)?;
             closed.add(edge)?;
             Ok(true)
         }
@@ -106,20 +107,36 @@ fn push_edge(
     }
 }
 
-/// Adds the line for an edge that a denial asks for. It begins with the place's line, if the table has it.
+/// Adds the line for an edge that a denial asks for. It begins with the place's line, if there is one.
 fn push_edge_line(
     lines: &mut String,
-    file: &str,
-    table: &Table,
+    sheet: Sheet<'_>,
     denial: &Denial,
     edge: &Edge,
 ) -> Result<(), AllocError> {
-    let line = line_of_place(table, denial);
+    let Sheet { file, table, made } = sheet;
+    let line = line_of_place(sheet, denial);
     let start = Start { file, line };
     let rule = denial.rule();
-    let place = PlaceNames { table, denial };
     let edge = EdgeLine { table, edge: *edge };
-    writeln!(lines, "{start}{rule} {place}: {edge}")
+    if made.is_some() && is_in_table(denial) {
+        let place = PlaceWords { sheet, denial };
+        writeln!(lines, "{start}{rule} {place}: {edge}")
+    } else {
+        let place = PlaceNames { table, denial };
+        writeln!(lines, "{start}{rule} {place}: {edge}")
+    }
+}
+
+/// Whether the place of a denial is in the table, by A1 to A4, and not in the policy.
+fn is_in_table(denial: &Denial) -> bool {
+    matches!(
+        *denial,
+        Denial::Capability { .. }
+            | Denial::Root { .. }
+            | Denial::Pair { .. }
+            | Denial::Binding { .. }
+    )
 }
 
 /// The edge that a policy lacks where it is denied so: of the two for which P1 asks, the one that isn't there.

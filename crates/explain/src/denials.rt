@@ -3,21 +3,21 @@ use crate::asked::asked_edge;
 use crate::capability::push_capability;
 use crate::closing::mending_edge;
 use crate::grounds::first_premise;
-use crate::lines::{Start, line_of_edge, line_of_place};
+use crate::lines::{line_of_edge, line_of_place};
 use crate::premises::premises;
 use crate::sentences::{EdgeAfter, EdgeLine, OtherWay, Reason};
 use crate::sharp_denials::push_sharp;
 use base::{Edge, Refusal};
 use policy::{Broken, Policy};
+use sources::{Sheet, Start};
 use std::alloc::{AllocError, Global};
 use std::fmt;
 use table::Table;
 use verdict::{Denial, Rules};
 
-/// The names of the files that a denial is on. One that isn't read has an empty name.
+/// The names of the files that a denial is on, beside the table's. One that isn't read has an empty name.
 #[derive(Clone, Copy)]
 pub struct Names<'a> {
-    pub table: &'a str,
     pub policy: &'a str,
     pub certificate: &'a str,
 }
@@ -33,14 +33,14 @@ pub struct Names<'a> {
 pub fn explain_denial(
     alloc: Global,
     names: &Names<'_>,
-    table: &Table,
+    sheet: Sheet<'_>,
     policy: &Policy,
     rules: Rules,
     denial: &Denial,
 ) -> Result<String, Refusal> {
     let mut sentence = String::new(alloc);
-    let missing = push_denial(alloc, &mut sentence, names, table, policy, denial)?;
-    push_command(&mut sentence, names, rules, missing)?;
+    let missing = push_denial(alloc, &mut sentence, names, sheet, policy, denial)?;
+    push_command(&mut sentence, sheet.file, names.policy, rules, missing)?;
     Ok(sentence)
 }
 
@@ -49,11 +49,12 @@ fn push_denial(
     alloc: Global,
     sentence: &mut String,
     names: &Names<'_>,
-    table: &Table,
+    sheet: Sheet<'_>,
     policy: &Policy,
     denial: &Denial,
 ) -> Result<usize, Refusal> {
-    push_start(alloc, sentence, names, table, policy, denial)?;
+    let table = sheet.table;
+    push_start(alloc, sentence, names, sheet, policy, denial)?;
     match *denial {
         Denial::Capability { slot, label, .. } => {
             push_capability(alloc, sentence, table, policy, slot, label)
@@ -71,7 +72,7 @@ fn push_start(
     alloc: Global,
     sentence: &mut String,
     names: &Names<'_>,
-    table: &Table,
+    sheet: Sheet<'_>,
     policy: &Policy,
     denial: &Denial,
 ) -> Result<(), Refusal> {
@@ -81,12 +82,12 @@ fn push_start(
             (names.policy, line_of_premise(alloc, policy, first)?)
         }
         Denial::Sharp(broken) => {
-            let first = first_premise(table, policy, &broken);
+            let first = first_premise(sheet.table, policy, &broken);
             (names.policy, line_of_premise(alloc, policy, first)?)
         }
         // The report counts lines after the header.
         Denial::Certificate { line } => (names.certificate, Some(line.saturating_add(1))),
-        _ => (names.table, line_of_place(table, denial)),
+        _ => (sheet.file, line_of_place(sheet, denial)),
     };
     let start = Start { file, line };
     let rule = denial.rule();
@@ -138,11 +139,12 @@ fn push_place(
 /// Adds the command that adds the missing edges, if there are any.
 fn push_command(
     sentence: &mut String,
-    names: &Names<'_>,
+    table: &str,
+    policy: &str,
     rules: Rules,
     missing: usize,
 ) -> Result<(), AllocError> {
-    let (table, policy) = (Pasted(names.table), Pasted(names.policy));
+    let (table, policy) = (Pasted(table), Pasted(policy));
     let edges = match missing {
         0 => return Ok(()),
         1 => "edge",

@@ -13,6 +13,7 @@ mod label_sets;
 mod lines;
 mod nothing;
 mod origins;
+mod place_words;
 mod premises;
 mod reach_origins;
 mod rounds;
@@ -24,10 +25,7 @@ pub use asked::{an_asked_edge_is_missing, asked_edge};
 pub use closing::explain_closing;
 pub use denials::{Names, explain_denial, explain_outside};
 pub use label_sets::LabelNames;
-pub use lines::{
-    Start, line_of_binding, line_of_child, line_of_edge, line_of_label, line_of_object,
-    line_of_slot,
-};
+pub use lines::line_of_edge;
 pub use origins::explain_why_allowed;
 pub use reach_origins::{Origins, OtherWays, explain_why};
 pub use sentences::{EdgeLine, EdgeList, Reason};

@@ -2,13 +2,15 @@
 //! edges, or the policy alone; and, for labels with no reason, why there is none.
 use crate::asked::asked_edge;
 use crate::closing::{MOST_EDGES, mending_edge};
-use crate::lines::{Start, line_of_place};
+use crate::lines::line_of_place;
 use crate::nothing::push_not_allowed;
+use crate::place_words::PlaceWords;
 use crate::premises::premises;
-use crate::sentences::{EdgeLine, EdgeList, Reason};
+use crate::sentences::{EdgeLine, EdgeList};
 use base::{Edge, Kind, Label, Refusal, SlotRef};
 use labels::{authority, filled_edges};
 use policy::{Broken, Policy, Why, first_broken};
+use sources::{Sheet, Start};
 use std::alloc::{AllocError, Global};
 use std::thread::Threads;
 use table::Table;
@@ -18,7 +20,7 @@ use verdict::Denial;
 /// for each edge by which a rule asks for one of those before: where it comes from. Where nothing is allowed, it
 /// returns why that is so.
 ///
-/// Each label counts as one whose threads make calls. `file` is the table's name.
+/// Each label counts as one whose threads make calls.
 ///
 /// # Errors
 ///
@@ -26,15 +28,15 @@ use verdict::Denial;
 pub fn explain_why_allowed<R: Threads + Sync>(
     rt: &R,
     alloc: Global,
-    file: &str,
-    table: &Table,
+    sheet: Sheet<'_>,
     policy: &Policy,
     actor: &str,
     object: &str,
 ) -> Result<String, Refusal> {
+    let table = sheet.table;
     let mut lines = String::new(alloc);
     if let (Some(actor), Some(object)) = (table.label_named(actor), table.label_named(object)) {
-        push_why(rt, alloc, &mut lines, file, table, policy, actor, object)?;
+        push_why(rt, alloc, &mut lines, sheet, policy, actor, object)?;
     }
     Ok(lines)
 }
@@ -44,28 +46,27 @@ fn push_why<R: Threads + Sync>(
     rt: &R,
     alloc: Global,
     lines: &mut String,
-    file: &str,
-    table: &Table,
+    sheet: Sheet<'_>,
     policy: &Policy,
     actor: Label,
     object: Label,
 ) -> Result<(), Refusal> {
+    let table = sheet.table;
     match policy.why_among(alloc, table.labels(), actor, object)? {
         Why::Full(mut edges) | Why::Take(mut edges) => {
-            push_origins(rt, alloc, lines, file, table, policy, &mut edges)
+            push_origins(rt, alloc, lines, sheet, policy, &mut edges)
         }
         Why::Nothing => push_not_allowed(alloc, lines, table, policy, actor, object),
     }
 }
 
 /// Adds a line for each of these edges: where it comes from. The edges by which a rule asks for one of them are added
-/// to `edges`, and get lines too. `file` is the table's name.
+/// to `edges`, and get lines too.
 fn push_origins<R: Threads + Sync>(
     rt: &R,
     alloc: Global,
     lines: &mut String,
-    file: &str,
-    table: &Table,
+    sheet: Sheet<'_>,
     policy: &Policy,
     edges: &mut Vec<Edge>,
 ) -> Result<(), Refusal> {
@@ -73,7 +74,7 @@ fn push_origins<R: Threads + Sync>(
         match edges.get(number) {
             Some(edge) => {
                 let edge = *edge;
-                push_origin(rt, alloc, lines, file, table, policy, edge, edges)?;
+                push_origin(rt, alloc, lines, sheet, policy, edge, edges)?;
             }
             None => break,
         }
@@ -86,44 +87,47 @@ fn push_origin<R: Threads + Sync>(
     rt: &R,
     alloc: Global,
     lines: &mut String,
-    file: &str,
-    table: &Table,
+    sheet: Sheet<'_>,
     policy: &Policy,
     edge: Edge,
     edges: &mut Vec<Edge>,
 ) -> Result<(), Refusal> {
-    match place_of(alloc, table, &edge)? {
-        Some(denial) => Ok(push_place(lines, file, table, edge, &denial)?),
-        None => push_rule(rt, alloc, lines, table, policy, edge, edges),
+    match place_of(alloc, sheet.table, &edge)? {
+        Some(denial) => Ok(push_place(lines, sheet, edge, &denial)?),
+        None => push_rule(rt, alloc, lines, sheet.table, policy, edge, edges),
     }
 }
 
 /// Adds that an edge comes from a place of the table.
 fn push_place(
     lines: &mut String,
-    file: &str,
-    table: &Table,
+    sheet: Sheet<'_>,
     edge: Edge,
     denial: &Denial,
 ) -> Result<(), AllocError> {
-    let edge = EdgeLine { table, edge };
-    let line = line_of_place(table, denial);
-    let start = Start { file, line };
-    let reason = Reason { table, denial };
-    writeln!(lines, "`{edge}` comes from {start}{reason}")
+    let edge = EdgeLine {
+        table: sheet.table,
+        edge,
+    };
+    let line = line_of_place(sheet, denial);
+    let start = Start {
+        file: sheet.file,
+        line,
+    };
+    let words = PlaceWords { sheet, denial };
+    writeln!(lines, "`{edge}` comes from {start}{words}")
 }
 
 /// Adds that an edge comes from a place of the table, if one gives it, and returns whether one does.
 pub(crate) fn push_place_of(
     alloc: Global,
     lines: &mut String,
-    file: &str,
-    table: &Table,
+    sheet: Sheet<'_>,
     edge: &Edge,
 ) -> Result<bool, Refusal> {
-    match place_of(alloc, table, edge) {
+    match place_of(alloc, sheet.table, edge) {
         Ok(Some(denial)) => {
-            push_place(lines, file, table, *edge, &denial)?;
+            push_place(lines, sheet, *edge, &denial)?;
             Ok(true)
         }
         Ok(None) => Ok(false),
@@ -134,11 +138,11 @@ pub(crate) fn push_place_of(
 /// Returns the line of the place of a table that gives an edge first, from 1.
 pub(crate) fn line_of_origin(
     alloc: Global,
-    table: &Table,
+    sheet: Sheet<'_>,
     edge: &Edge,
 ) -> Result<Option<usize>, Refusal> {
-    match place_of(alloc, table, edge) {
-        Ok(Some(place)) => Ok(line_of_place(table, &place)),
+    match place_of(alloc, sheet.table, edge) {
+        Ok(Some(place)) => Ok(line_of_place(sheet, &place)),
         Ok(None) => Ok(None),
         Err(refusal) => Err(refusal),
     }

@@ -1,10 +1,11 @@
-//! The sentences on where the edges of the reach of a table come from: a line of the table, or a sharp rule; and on what in the table
-//! may be changed.
+//! The sentences on where the edges of the reach of a table come from: a place of the table, or a sharp rule; and on
+//! what in the table, or in its description, may be changed.
 use crate::closing::MOST_EDGES;
 use crate::grounds::{Grounds, Way, WayWords};
-use crate::lines::{Start, line_of_place, line_of_slot};
+use crate::lines::line_of_place;
 use crate::nothing::push_nothing;
 use crate::origins::{line_of_origin, place_of, push_edge, push_new, push_place_of};
+use crate::place_words::remedy_at;
 use crate::rounds::Rounds;
 use crate::sentences::{EdgeLine, EdgeList, comes_by_right, name_of_label};
 use crate::sharp_denials::edges_of;
@@ -14,6 +15,7 @@ use labels::declared_label;
 use machine::ObjectKind;
 use policy::Why;
 use reach::Reach;
+use sources::{At, Sheet, Start};
 use std::alloc::{AllocError, Global};
 use std::fmt;
 use table::Table;
@@ -25,24 +27,23 @@ const MOST_PLACES: usize = 3;
 /// Where the edges of the reach of a table come from.
 #[derive(Drop)]
 pub struct Origins<'a> {
-    table: &'a Table,
+    sheet: Sheet<'a>,
     rounds: Rounds,
 }
 
 impl<'a> Origins<'a> {
-    /// Returns where the edges of the reach of a table come from.
+    /// Returns where the edges of the reach of a table come from. The reach is that of the sheet's table.
     ///
     /// # Errors
     ///
     /// 40 where memory is refused.
-    pub fn of(alloc: Global, reach: &Reach<'a>) -> Result<Origins<'a>, Refusal> {
-        let table = reach.table();
+    pub fn of(alloc: Global, sheet: Sheet<'a>, reach: &Reach<'_>) -> Result<Origins<'a>, Refusal> {
         let rounds = Rounds::of(alloc, reach)?;
-        Ok(Origins { table, rounds })
+        Ok(Origins { sheet, rounds })
     }
 
     /// Adds a line for each of these edges of the reach: where it comes from. The edges by which a rule requires one
-    /// of them are added to `edges`, and get lines too. `file` is the table's name.
+    /// of them are added to `edges`, and get lines too.
     ///
     /// # Errors
     ///
@@ -51,7 +52,6 @@ impl<'a> Origins<'a> {
         &self,
         alloc: Global,
         lines: &mut String,
-        file: &str,
         edges: &mut Vec<Edge>,
     ) -> Result<(), Refusal> {
         let mut told = Told {
@@ -62,7 +62,7 @@ impl<'a> Origins<'a> {
             match edges.get(number) {
                 Some(edge) => {
                     let edge = *edge;
-                    self.push_origin(alloc, lines, file, edge, edges, &mut told)?;
+                    self.push_origin(alloc, lines, edge, edges, &mut told)?;
                 }
                 None => break,
             }
@@ -75,16 +75,15 @@ impl<'a> Origins<'a> {
         &self,
         alloc: Global,
         lines: &mut String,
-        file: &str,
         edge: Edge,
         edges: &mut Vec<Edge>,
         told: &mut Told,
     ) -> Result<(), Refusal> {
-        if push_place_of(alloc, lines, file, self.table, &edge)? {
+        if push_place_of(alloc, lines, self.sheet, &edge)? {
             return Ok(());
         }
-        match self.rounds.grounds_of(self.table, edge) {
-            Some(grounds) => self.push_grounds(alloc, lines, file, edge, &grounds, edges, told),
+        match self.rounds.grounds_of(self.sheet.table, edge) {
+            Some(grounds) => self.push_grounds(alloc, lines, edge, &grounds, edges, told),
             None => Ok(()),
         }
     }
@@ -94,18 +93,17 @@ impl<'a> Origins<'a> {
         &self,
         alloc: Global,
         lines: &mut String,
-        file: &str,
         edge: Edge,
         grounds: &Grounds,
         edges: &mut Vec<Edge>,
         told: &mut Told,
     ) -> Result<(), Refusal> {
-        let table = self.table;
+        let table = self.sheet.table;
         let by = edges_of(alloc, grounds)?;
         push_required(lines, table, edge, grounds, &by)?;
         push_new(edges, &by)?;
         if let Some(keeper) = grounds.way.keeper() {
-            self.push_keeper(lines, file, keeper, edges, told)?;
+            self.push_keeper(lines, keeper, edges, told)?;
         }
         if let Way::Lends(_, idler) = grounds.way {
             self.push_idler(lines, idler, edges, told)?;
@@ -118,7 +116,6 @@ impl<'a> Origins<'a> {
     fn push_keeper(
         &self,
         lines: &mut String,
-        file: &str,
         keeper: Label,
         edges: &mut Vec<Edge>,
         told: &mut Told,
@@ -129,14 +126,14 @@ impl<'a> Origins<'a> {
                 break;
             }
             told.keepers = told.keepers.union(Labels::only(label));
-            match self.rounds.keeping_of(self.table, label) {
+            match self.rounds.keeping_of(self.sheet.table, label) {
                 Some((edge, other)) => {
-                    push_kept_by(lines, self.table, label, &edge, other)?;
+                    push_kept_by(lines, self.sheet.table, label, &edge, other)?;
                     push_edge(edges, edge)?;
                     label = other;
                 }
                 None => {
-                    push_held(lines, file, self.table, label)?;
+                    push_held(lines, self.sheet, label)?;
                     break;
                 }
             }
@@ -159,7 +156,7 @@ impl<'a> Origins<'a> {
         told.idlers = told.idlers.union(Labels::only(idler));
         match self.rounds.idling_of(idler) {
             Some(by) => {
-                push_idling(lines, self.table, idler, &by)?;
+                push_idling(lines, self.sheet.table, idler, &by)?;
                 push_new(edges, &by)
             }
             None => Ok(()),
@@ -201,25 +198,25 @@ impl<'a> Origins<'a> {
         edge: Edge,
         edges: &mut Vec<Edge>,
     ) -> Result<(), Refusal> {
-        if let Some(place) = place_of(alloc, self.table, &edge)? {
-            if !has_line(self.table, places, &place) {
+        if let Some(place) = place_of(alloc, self.sheet.table, &edge)? {
+            if may_be_changed(self.sheet, &place) && !has_line(self.sheet, places, &place) {
                 places.push(place)?;
             }
             return Ok(());
         }
-        if let Some(grounds) = self.rounds.grounds_of(self.table, edge) {
+        if let Some(grounds) = self.rounds.grounds_of(self.sheet.table, edge) {
             push_new(edges, &edges_of(alloc, &grounds)?)?;
         }
         Ok(())
     }
 
-    /// Returns the line of the table that gives an edge, from 1, if one does.
+    /// Returns the line of the place that gives an edge, from 1, if one does.
     ///
     /// # Errors
     ///
     /// 40 where memory is refused.
     pub fn line_of(&self, alloc: Global, edge: Edge) -> Result<Option<usize>, Refusal> {
-        line_of_origin(alloc, self.table, &edge)
+        line_of_origin(alloc, self.sheet, &edge)
     }
 }
 
@@ -265,22 +262,20 @@ fn push_kept_by(
 }
 
 /// Adds that a label has a capability for a CNode at boot.
-fn push_held(
-    lines: &mut String,
-    file: &str,
-    table: &Table,
-    label: Label,
-) -> Result<(), AllocError> {
+fn push_held(lines: &mut String, sheet: Sheet<'_>, label: Label) -> Result<(), AllocError> {
+    let Sheet { file, table, made } = sheet;
     match node_slot(table, label) {
         Some(slot) => {
             let label = label_name(table, label);
-            let line = line_of_slot(table, slot);
+            let line = sheet.line_of_slot(slot);
             let start = Start { file, line };
-            let slot = SlotName { table, slot };
-            writeln!(
-                lines,
-                "`{label}` keeps a capability for a CNode: {start}`{slot}` has one"
-            )
+            write!(lines, "`{label}` keeps a capability for a CNode: {start}")?;
+            if made.is_some() {
+                writeln!(lines, "a CNode of `{label}` has one")
+            } else {
+                let slot = SlotName { table, slot };
+                writeln!(lines, "`{slot}` has one")
+            }
         }
         None => Ok(()),
     }
@@ -316,46 +311,71 @@ fn push_idling(
 }
 
 /// Whether one of these places has the line of another.
-fn has_line(table: &Table, places: &[Denial], other: &Denial) -> bool {
-    let line = line_of_place(table, other);
+fn has_line(sheet: Sheet<'_>, places: &[Denial], other: &Denial) -> bool {
+    let line = line_of_place(sheet, other);
     places
         .iter()
-        .any(|place| line_of_place(table, place) == line)
+        .any(|place| line_of_place(sheet, place) == line)
 }
 
-/// Places of a table that may be changed, as the end of a sentence that begins with another way.
+/// Whether it can be said how a place may be changed. Of a description that can't be said of each place.
+fn may_be_changed(sheet: Sheet<'_>, place: &Denial) -> bool {
+    sheet.made.is_none() || remedy_at(sheet, place).is_some()
+}
+
+/// Places that may be changed, as the end of a sentence that begins with another way.
 ///
-/// They begin with `, or `, if there are any. `file` is the table's name.
+/// They begin with `, or `, if there are any.
 #[derive(Clone, Copy)]
 pub struct OtherWays<'a> {
-    pub file: &'a str,
-    pub table: &'a Table,
+    pub sheet: Sheet<'a>,
     pub places: &'a [Denial],
 }
 
 impl fmt::Display for OtherWays<'_> {
     fn fmt<W: fmt::Write>(&self, f: &mut fmt::Formatter<W>) -> fmt::Result {
         for place in self.places {
-            tell_change(f, self.file, self.table, place)?;
+            if self.sheet.made.is_some() {
+                tell_remedy(f, self.sheet, place)?;
+            } else {
+                tell_change(f, self.sheet, place)?;
+            }
         }
         Ok(())
     }
 }
 
-/// How a place of a table may be changed.
+/// How a description may be changed at a place.
+fn tell_remedy<W: fmt::Write>(
+    f: &mut fmt::Formatter<W>,
+    sheet: Sheet<'_>,
+    place: &Denial,
+) -> fmt::Result {
+    match remedy_at(sheet, place) {
+        Some(remedy) => {
+            let at = At {
+                file: sheet.file,
+                line: line_of_place(sheet, place),
+            };
+            write!(f, ", or{at} {remedy}")
+        }
+        None => Ok(()),
+    }
+}
+
+/// How a table may be changed at a place.
 fn tell_change<W: fmt::Write>(
     f: &mut fmt::Formatter<W>,
-    file: &str,
-    table: &Table,
+    sheet: Sheet<'_>,
     place: &Denial,
 ) -> fmt::Result {
     let at = At {
-        file,
-        line: line_of_place(table, place),
+        file: sheet.file,
+        line: line_of_place(sheet, place),
     };
     match *place {
         Denial::Capability { slot, kind, .. } => {
-            let label = name_of_label(table, slot.holder);
+            let label = name_of_label(sheet.table, slot.holder);
             let less = if comes_by_right(kind) {
                 "fewer rights"
             } else {
@@ -370,33 +390,16 @@ fn tell_change<W: fmt::Write>(
     }
 }
 
-/// A line of a file behind words on it, as ` at table:12`. Nothing, if there is no such line.
-#[derive(Clone, Copy)]
-struct At<'a> {
-    file: &'a str,
-    line: Option<usize>,
-}
-
-impl fmt::Display for At<'_> {
-    fn fmt<W: fmt::Write>(&self, f: &mut fmt::Formatter<W>) -> fmt::Result {
-        let file = self.file;
-        match self.line {
-            Some(line) => write!(f, " at {file}:{line}"),
-            None => Ok(()),
-        }
-    }
-}
-
 /// Returns a line for each edge of the reason for what the one label's threads may do to the other's objects, and then
 /// for each edge by which a rule requires one of those before: where it comes from. Where nothing may be done, it
-/// returns why that is so. `file` is the table's name.
+/// returns why that is so. The reach is that of the sheet's table.
 ///
 /// # Errors
 ///
 /// 40 where memory is refused.
 pub fn explain_why(
     alloc: Global,
-    file: &str,
+    sheet: Sheet<'_>,
     reach: &Reach<'_>,
     actor: &str,
     object: &str,
@@ -404,7 +407,7 @@ pub fn explain_why(
     let mut lines = String::new(alloc);
     let table = reach.table();
     if let (Some(actor), Some(object)) = (table.label_named(actor), table.label_named(object)) {
-        push_why(alloc, &mut lines, file, reach, actor, object)?;
+        push_why(alloc, &mut lines, sheet, reach, actor, object)?;
     }
     Ok(lines)
 }
@@ -413,15 +416,15 @@ pub fn explain_why(
 fn push_why(
     alloc: Global,
     lines: &mut String,
-    file: &str,
+    sheet: Sheet<'_>,
     reach: &Reach<'_>,
     actor: Label,
     object: Label,
 ) -> Result<(), Refusal> {
     match reach.why(alloc, actor, object)? {
         Why::Full(mut edges) | Why::Take(mut edges) => {
-            let origins = Origins::of(alloc, reach)?;
-            origins.push_lines(alloc, lines, file, &mut edges)
+            let origins = Origins::of(alloc, sheet, reach)?;
+            origins.push_lines(alloc, lines, &mut edges)
         }
         Why::Nothing => push_nothing(alloc, lines, reach, actor, object),
     }

@@ -273,10 +273,10 @@ impl fmt::Display for Lets<'_> {
 
 /// What an edge of the kind lets a label do to another.
 #[derive(Clone, Copy)]
-struct Deed<'a> {
-    table: &'a Table,
-    kind: Kind,
-    label: Label,
+pub(crate) struct Deed<'a> {
+    pub table: &'a Table,
+    pub kind: Kind,
+    pub label: Label,
 }
 
 impl fmt::Display for Deed<'_> {

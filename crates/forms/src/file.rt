@@ -41,18 +41,17 @@ impl File {
             File::Certificate => "confine-cert 1",
             File::Script => "confine-script 1",
             File::Log => "confine-log 1",
-            File::Claims => "confine-claims 1",
+            File::Claims => "confine-claims 2",
             File::Description => "<?xml version=\"1.0\"?>",
         }
     }
 
     /// Returns the first line of the file's second version, if there is one.
     ///
-    /// Tables and claims have one.
+    /// Tables have one.
     pub fn later_header(self) -> Option<&'static str> {
         match self {
             File::Table => Some("confine-table 2"),
-            File::Claims => Some("confine-claims 2"),
             _ => None,
         }
     }

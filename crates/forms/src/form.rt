@@ -13,17 +13,6 @@ pub fn form_of(file: File, line: &str) -> Option<Form> {
     None
 }
 
-/// Returns the form by whose word a line of claims of version 2 is known, if there is one.
-pub fn stated_form_of(line: &str) -> Option<Form> {
-    let word = word(line, 0)?;
-    for form in &Form::STATED {
-        if form.word() == word {
-            return Some(*form);
-        }
-    }
-    None
-}
-
 /// A form of the lines of a file.
 #[derive(Clone, Copy, PartialEq, Eq)]
 pub enum Form {
@@ -70,16 +59,14 @@ pub enum Form {
     Unbind,
     ClaimNothing,
     ClaimTake,
-    StatedNothing,
-    StatedTake,
-    StatedOnly,
-    StatedApart,
-    StatedWithout,
+    ClaimOnly,
+    ClaimApart,
+    ClaimWithout,
 }
 
 impl Form {
-    /// All forms but those of claims of version 2, those of a file in the order in which its lines may come.
-    pub const ALL: [Form; 43] = [
+    /// All forms, those of a file in the order in which its lines may come.
+    pub const ALL: [Form; 46] = [
         Form::Label,
         Form::Untyped,
         Form::CNode,
@@ -123,15 +110,9 @@ impl Form {
         Form::Unbind,
         Form::ClaimNothing,
         Form::ClaimTake,
-    ];
-
-    /// The forms of claims of version 2.
-    pub const STATED: [Form; 5] = [
-        Form::StatedNothing,
-        Form::StatedTake,
-        Form::StatedOnly,
-        Form::StatedApart,
-        Form::StatedWithout,
+        Form::ClaimOnly,
+        Form::ClaimApart,
+        Form::ClaimWithout,
     ];
 
     /// Returns the file that has such lines.
@@ -140,11 +121,9 @@ impl Form {
             Form::Edge => File::Policy,
             Form::ClaimNothing
             | Form::ClaimTake
-            | Form::StatedNothing
-            | Form::StatedTake
-            | Form::StatedOnly
-            | Form::StatedApart
-            | Form::StatedWithout => File::Claims,
+            | Form::ClaimOnly
+            | Form::ClaimApart
+            | Form::ClaimWithout => File::Claims,
             Form::CertifiedCap
             | Form::CertifiedSpace
             | Form::CertifiedDerive
@@ -218,11 +197,11 @@ impl Form {
             Form::Resume => "resume",
             Form::Configure => "configure",
             Form::Unbind => "unbind",
-            Form::ClaimNothing | Form::StatedNothing => "none",
-            Form::ClaimTake | Form::StatedTake => "take",
-            Form::StatedOnly => "only",
-            Form::StatedApart => "apart",
-            Form::StatedWithout => "without",
+            Form::ClaimNothing => "none",
+            Form::ClaimTake => "take",
+            Form::ClaimOnly => "only",
+            Form::ClaimApart => "apart",
+            Form::ClaimWithout => "without",
         }
     }
 
@@ -274,13 +253,11 @@ impl Form {
             Form::Configure => "`DEC DEC configure DEC DEC DEC DEC`",
             Form::BindContext => "`DEC DEC bind DEC DEC`",
             Form::Unbind => "`DEC DEC unbind DEC`",
-            Form::ClaimNothing => "`none LABEL LABEL`",
-            Form::ClaimTake => "`take LABEL LABEL`",
-            Form::StatedNothing => "`none LABEL LABEL`, with `*` for at most one LABEL",
-            Form::StatedTake => "`take LABEL LABEL`, with `*` for at most one LABEL",
-            Form::StatedOnly => "`only LABEL LABEL ..`",
-            Form::StatedApart => "`apart LABEL LABEL`",
-            Form::StatedWithout => "`without LABEL KIND LABEL`",
+            Form::ClaimNothing => "`none LABEL LABEL`, with `*` for at most one LABEL",
+            Form::ClaimTake => "`take LABEL LABEL`, with `*` for at most one LABEL",
+            Form::ClaimOnly => "`only LABEL LABEL ..`",
+            Form::ClaimApart => "`apart LABEL LABEL`",
+            Form::ClaimWithout => "`without LABEL KIND LABEL`",
         }
     }
 
@@ -325,8 +302,8 @@ impl Form {
             }
             Form::Mint => "DEC DEC mint DEC DEC DEC DEC DEC DEC RIGHTS MINTING DEC",
             Form::Retype => "DEC DEC retype DEC MATERIAL DEC DEC DEC DEC",
-            Form::StatedNothing => "none END END",
-            Form::StatedTake => "take END END",
+            Form::ClaimNothing => "none END END",
+            Form::ClaimTake => "take END END",
             form => match part(form.words(), '`', 1) {
                 Some(pattern) => pattern,
                 None => "",

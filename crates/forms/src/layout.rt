@@ -9,6 +9,8 @@ use crate::lines::{Line, text_of, word};
 pub enum LayoutFlaw<'a> {
     /// The header of another text.
     HeaderOf(File),
+    /// The header of claims of version 1.
+    OldClaims,
     NoHeader,
     NoLineFeed,
     AfterEnd,
@@ -23,15 +25,17 @@ pub enum LayoutFlaw<'a> {
     Capitals(&'a str),
     /// A word that begins no line of the text, and what may come after the line before.
     Unknown(&'a str, Option<Form>),
-    /// A word that begins no line of claims of version 2.
-    UnknownClaim(&'a str),
-    /// A comment that doesn't begin its line with `#`, in claims of version 2.
+    /// A word that begins no line of the text, and the nearest one that may.
+    NearLine(&'a str, &'static str),
+    /// A comment that doesn't begin its line with `#`, in claims.
     OtherComment,
-    /// A line that begins with the word of the last, but has more.
+    /// A line of claims that begins with the word of the last, but has more.
     MoreThanEnd,
     NoCall,
     NoOutcome,
     UnknownCall(&'a str),
+    /// A word that is no call, and the nearest call.
+    NearCall(&'a str, &'static str),
     /// A line below one of a later section.
     Below(Form, Form),
 }
@@ -43,11 +47,23 @@ pub fn header_flaw(line: &str) -> LayoutFlaw<'_> {
             return LayoutFlaw::HeaderOf(*file);
         }
     }
+    if line == "confine-claims 1" {
+        return LayoutFlaw::OldClaims;
+    }
     LayoutFlaw::NoHeader
 }
 
 /// Returns what is wrong with the bytes of a line after the header, if anything is.
-pub fn bytes_flaw<'a>(line: Line<'a>, before: &str) -> Option<LayoutFlaw<'a>> {
+pub fn bytes_flaw<'a>(file: File, line: Line<'a>, before: &str) -> Option<LayoutFlaw<'a>> {
+    match (file, line_flaw(line, before)) {
+        (File::Claims, Some(LayoutFlaw::Comment)) => Some(LayoutFlaw::OtherComment),
+        (File::Claims, None) if line.bytes.contains(&b'#') => Some(LayoutFlaw::OtherComment),
+        (_, flaw) => flaw,
+    }
+}
+
+// The same, for a text without comments.
+fn line_flaw<'a>(line: Line<'a>, before: &str) -> Option<LayoutFlaw<'a>> {
     if !line.has_line_feed {
         return Some(LayoutFlaw::NoLineFeed);
     }
@@ -97,25 +113,8 @@ pub fn formless_flaw<'a>(file: File, line: &'a str, before: &str) -> LayoutFlaw<
     }
     match file {
         File::Script | File::Log => LayoutFlaw::UnknownCall(first),
+        File::Claims if first == "end" => LayoutFlaw::MoreThanEnd,
         _ => LayoutFlaw::Unknown(first, form_of(file, before)),
-    }
-}
-
-/// Returns what is wrong with the bytes of a line of claims of version 2, if anything is.
-pub fn stated_bytes_flaw<'a>(line: Line<'a>, before: &str) -> Option<LayoutFlaw<'a>> {
-    match bytes_flaw(line, before) {
-        Some(LayoutFlaw::Comment) => Some(LayoutFlaw::OtherComment),
-        None if line.bytes.contains(&b'#') => Some(LayoutFlaw::OtherComment),
-        flaw => flaw,
-    }
-}
-
-/// Returns what is wrong with a line of claims of version 2 that has no form.
-pub fn stated_formless_flaw(line: &str) -> LayoutFlaw<'_> {
-    match formless_flaw(File::Claims, line, "") {
-        LayoutFlaw::Unknown("end", _) => LayoutFlaw::MoreThanEnd,
-        LayoutFlaw::Unknown(first, _) => LayoutFlaw::UnknownClaim(first),
-        flaw => flaw,
     }
 }
 

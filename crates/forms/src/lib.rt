@@ -9,18 +9,21 @@ mod file;
 mod form;
 mod layout;
 mod lines;
+mod nearest;
+mod offers;
 mod outcomes;
 mod shapes;
 mod telling;
 mod wanted;
 
 pub use file::File;
-pub use form::{Form, form_of, stated_form_of};
+pub use form::{Form, form_of};
 pub use layout::{
     LayoutFlaw, OfLayout, before_of, bytes_flaw, formless_flaw, header_flaw, section_flaw,
-    stated_bytes_flaw, stated_formless_flaw,
 };
 pub use lines::{Line, Lines, Shown, has_word, line_at, part, text_of, word};
+pub use nearest::{LISTED, nearest_name, write_more};
+pub use offers::{near_layout, near_word};
 pub use outcomes::{OutcomeFlaw, outcome_flaw};
 pub use shapes::shape_flaw;
 pub use wanted::{Wanted, WordFlaw, decimal, hexadecimal, kind_number, right_number};

@@ -2,6 +2,7 @@
 use crate::file::File;
 use crate::form::Form;
 use crate::layout::{LayoutFlaw, OfLayout};
+use crate::nearest::{LISTED, write_more};
 use crate::outcomes::OutcomeFlaw;
 use std::fmt::{self, Display};
 
@@ -9,18 +10,27 @@ impl fmt::Display for OfLayout<'_> {
     fn fmt<W: fmt::Write>(&self, f: &mut fmt::Formatter<W>) -> fmt::Result {
         match self.flaw {
             LayoutFlaw::HeaderOf(other) => tell_header(f, other, self.file),
+            LayoutFlaw::OldClaims if self.file == File::Claims => f.write_str(OLD_CLAIMS),
+            LayoutFlaw::OldClaims => tell_header(f, File::Claims, self.file),
             LayoutFlaw::NoHeader => tell_headers(f, self.file),
             LayoutFlaw::Capitals(word) => write!(f, "`{word}` must be in small letters"),
             LayoutFlaw::NoCall => f.write_str("core, thread and call are missing"),
             LayoutFlaw::NoOutcome => f.write_str("` = ` and an outcome are missing"),
             LayoutFlaw::UnknownCall(word) => tell_calls(f, word),
             LayoutFlaw::Unknown(word, before) => tell_lines(f, self.file, word, before),
-            LayoutFlaw::UnknownClaim(word) => tell_claims(f, word),
+            LayoutFlaw::NearCall(word, near) => {
+                write!(f, "`{word}` isn't a call: did you mean `{near}`?")
+            }
+            LayoutFlaw::NearLine(word, near) => tell_near_line(f, self.file, word, near),
             LayoutFlaw::Below(form, above) => tell_order(f, form, above),
             flaw => f.write_str(plain(flaw)),
         }
     }
 }
+
+/// What is said of the header of claims of version 1.
+const OLD_CLAIMS: &str =
+    "claims of version 1 aren't read any more: write `confine-claims 2` here. The other lines can stay as they are";
 
 // That a line is the header of another text.
 fn tell_header<W: fmt::Write>(f: &mut fmt::Formatter<W>, is: File, wanted: File) -> fmt::Result {
@@ -41,7 +51,33 @@ fn tell_headers<W: fmt::Write>(f: &mut fmt::Formatter<W>, file: File) -> fmt::Re
 // Which calls there are, in place of a word.
 fn tell_calls<W: fmt::Write>(f: &mut fmt::Formatter<W>, word: &str) -> fmt::Result {
     write!(f, "`{word}` isn't a call: the calls are ")?;
-    words_of(f, File::Script, 0, ", ")
+    let mut count = 0usize;
+    let mut between = "";
+    for form in &Form::ALL {
+        if form.file() == File::Script {
+            if count < LISTED {
+                f.write_str(between)?;
+                f.write_str(form.word())?;
+                between = ", ";
+            }
+            count = count.saturating_add(1);
+        }
+    }
+    write_more(f, count)
+}
+
+// Which line is meant, in place of one that begins with a word.
+fn tell_near_line<W: fmt::Write>(
+    f: &mut fmt::Formatter<W>,
+    file: File,
+    word: &str,
+    near: &str,
+) -> fmt::Result {
+    let name = file.name();
+    write!(
+        f,
+        "no line of a {name} begins with `{word}`: did you mean `{near}`?"
+    )
 }
 
 // Which lines may stand there, in place of one that begins with a word.
@@ -62,19 +98,6 @@ fn tell_lines<W: fmt::Write>(
     };
     words_of(f, file, section, "`, `")?;
     f.write_str("`, or `end`")
-}
-
-// Which lines claims of version 2 may have, in place of one that begins with a word.
-fn tell_claims<W: fmt::Write>(f: &mut fmt::Formatter<W>, word: &str) -> fmt::Result {
-    write!(
-        f,
-        "no line of a claim list begins with `{word}`: expected one of "
-    )?;
-    for form in &Form::STATED {
-        let word = form.word();
-        write!(f, "`{word}`, ")?;
-    }
-    f.write_str("or `end`")
 }
 
 // That lines of a form don't stand below those of another.

@@ -1,6 +1,7 @@
 //! The words of lines: which are wanted, and why one isn't right.
 use crate::classes::Class;
 use crate::lines::part;
+use crate::nearest::{LISTED, write_more};
 use std::fmt;
 
 /// A word that a form wants.
@@ -99,9 +100,13 @@ pub enum WordFlaw<'a> {
     RightsFall,
     NoStart(&'a str),
     NoKind(&'a str),
+    /// A word that is no kind of authority, and the nearest kind.
+    NearKind(&'a str, &'static str),
     KindTwice(&'a str),
     KindsFall(&'a str, &'a str),
     NoMaterial(&'a str),
+    /// A word that is no kind of object, and the nearest kind.
+    NearMaterial(&'a str, &'static str),
     NoMinting(&'a str),
     NoCame(&'a str),
 }
@@ -152,7 +157,7 @@ pub const KINDS: [&str; 17] = [
 ];
 
 /// The kinds of objects that a retype makes.
-const MATERIALS: [&str; 8] = [
+pub(crate) const MATERIALS: [&str; 8] = [
     "untyped",
     "cnode",
     "tcb",
@@ -415,6 +420,11 @@ fn kinds_flaw(word: &str) -> Option<WordFlaw<'_>> {
     None
 }
 
+/// What a kind of authority is one of, and what a kind of objects that a retype makes.
+const AUTHORITY: &str = "authority";
+
+const MATERIAL: &str = "object that a retype makes";
+
 impl fmt::Display for WordFlaw<'_> {
     fn fmt<W: fmt::Write>(&self, f: &mut fmt::Formatter<W>) -> fmt::Result {
         match *self {
@@ -425,13 +435,10 @@ impl fmt::Display for WordFlaw<'_> {
             WordFlaw::Name(word, flaw) => tell_name(f, word, flaw),
             WordFlaw::Number(word, flaw) => tell_number(f, word, flaw),
             WordFlaw::NoKind("") => f.write_str("a comma is only allowed between two kinds"),
-            WordFlaw::NoKind(word) => tell_kinds(f, word, "authority", &KINDS),
-            WordFlaw::NoMaterial(word) => tell_kinds(
-                f,
-                word,
-                "object that a retype makes",
-                &MATERIALS,
-            ),
+            WordFlaw::NoKind(word) => tell_kinds(f, word, AUTHORITY, &KINDS),
+            WordFlaw::NoMaterial(word) => tell_kinds(f, word, MATERIAL, &MATERIALS),
+            WordFlaw::NearKind(word, near) => tell_near_kind(f, word, AUTHORITY, near),
+            WordFlaw::NearMaterial(word, near) => tell_near_kind(f, word, MATERIAL, near),
             WordFlaw::RightsFall => f.write_str("rights must be in the order `rwgy`"),
             WordFlaw::NoRight(..)
             | WordFlaw::RightTwice(_)
@@ -488,12 +495,22 @@ fn tell_kinds<W: fmt::Write>(
 ) -> fmt::Result {
     write!(f, "`{word}` isn't a kind of {what}: the kinds are ")?;
     let mut separator = "";
-    for kind in kinds {
+    for kind in &kinds[..LISTED.min(kinds.len())] {
         f.write_str(separator)?;
         f.write_str(kind)?;
         separator = ", ";
     }
-    Ok(())
+    write_more(f, kinds.len())
+}
+
+// Which kind is meant, in place of a word.
+fn tell_near_kind<W: fmt::Write>(
+    f: &mut fmt::Formatter<W>,
+    word: &str,
+    what: &str,
+    near: &str,
+) -> fmt::Result {
+    write!(f, "`{word}` isn't a kind of {what}: did you mean `{near}`?")
 }
 
 // Why a word is no name.

@@ -1,8 +1,6 @@
 pub mod Items
 pub mod Ids
-pub mod Maps
-pub mod Copies
-pub mod Generations
+pub mod Regions
 pub mod Numbers
 pub mod Takes
 pub mod Alignment
@@ -12,3 +10,4 @@ pub mod Labels
 pub mod Counts
 pub mod Places
 pub mod Whole
+pub mod Elements

@@ -3,7 +3,7 @@ use Rattle.std.{specs.List.{flat_map, range_with_len}, proofs.Common.{[], ℕ, �
 use Rattle.std.proofs.{Common.{append_assoc, arith, drop, get_or, length, map, refl, suc, sym, zero}, lemmas.Grind.flat_map-append}
 use Rattle.std.proofs.lemmas.List.{append-nil, drop_all}
 use Rattle.importing.specs.{declared.{pieces.{Grant.Grant, Piece.Piece}, slots.Held.Held}, Grants.{grant, numbered}}
-use Rattle.importing.proofs.Maps.{drop_more}
+use Rattle.importing.proofs.Regions.{drop_more}
 
 pub one_more : (holder : Piece) (first i : ℕ) (helds : List Held) (held : Held) (grants : List Grant) → i < length helds
     → get_or helds i held ≡ held

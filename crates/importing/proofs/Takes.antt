@@ -7,7 +7,7 @@ use Rattle.machine.specs.{declared.{layout.{Binding.Binding, Filled.Filled}, obj
 use Rattle.machine.specs.declared.object.ObjectKind.TheVariants as kind
 use Rattle.table.specs.Building.{AdmitsBinding, AdmitsCap}
 use Rattle.importing.specs.{declared.{pieces.{Grant.Grant, Piece.Piece}, tables.Bond.Bond}, Tables.{bond_added, bonds_added, grant_added}}
-use Rattle.importing.{specs.Tables.{grants_added, is_context, is_thread, takes_binding, takes_cap}, proofs.Maps.drop_more}
+use Rattle.importing.{specs.Tables.{grants_added, is_context, is_thread, takes_binding, takes_cap}, proofs.Regions.drop_more}
 
 -- a filled slot that a table may take, it admits
 pub admits_cap : (t : Layout) (filled : Filled) → takes_cap t filled ≡ true → filled.cap.original ≡ true → AdmitsCap t filled

@@ -10,7 +10,7 @@ use Rattle.machine.specs.declared.{cap.Detail.Detail, layout.{Binding.Binding, F
 use Rattle.machine.specs.{declared.object.Object.Object, Layout.{Layout, initial_parent}, Objects.end_of}
 use Rattle.table.specs.{Building.{has_room, with_binding, with_filled}, Names.object_named, Tree.{is_original, source_of, tree_fault}}
 use Rattle.table.specs.Tree.{with_mark, with_originals}
-use Rattle.importing.specs.{declared.{pieces.{Children.Children, Grant.Grant, Minting.Minting, Piece.Piece}, tables.Bond.Bond}, Built.Built}
+use Rattle.importing.specs.{declared.{pieces.{Grant.Grant, Minting.Minting, Piece.Piece}, tables.Bond.Bond}, Built.Built}
 use Rattle.importing.specs.Built.{Plan, labelled, object_added, object_placed, or_fault, piece_added, piece_label, piece_name, pieces_added}
 use Rattle.importing.specs.{Built.{started, with_object}, Grants.{grants_of, roots_of}, Groups.labels_at, Objects.object_of}
 use Rattle.importing.specs.{Pieces.pieces_of, Tables.{binding_added, binding_by, bond_added, bonds_added, bonds_of, cap_added, filled_by}}
@@ -21,12 +21,12 @@ same_ok : {X E : Type 0} (x y : X) → ◌≡◌ {A = Result X E} (Ok x) (Ok y) 
 same_ok x y e = cc
 
 -- what is there is what was looked for
-found : {X : Type 0} (line : ℕ) (wrong : Wrong) (o : Option X) (x : X) → or_fault line wrong o ≡ Ok x → o ≡ Some x
+pub found : {X : Type 0} (line : ℕ) (wrong : Wrong) (o : Option X) (x : X) → or_fault line wrong o ≡ Ok x → o ≡ Some x
 found line wrong None x e = absurd cc
 found line wrong (Some y) x e = ap (λ z. Some z) (same_ok y x e)
 
 -- a step that came to something
-stepped : {E X Y : Type 0} (r : Result X E) (next : X → Result Y E) (y : Y) → bind r next ≡ Ok y → (x : X) × (r ≡ Ok x) × (next x ≡ Ok y)
+pub stepped : {E X Y : Type 0} (r : Result X E) (next : X → Result Y E) (y : Y) → bind r next ≡ Ok y → (x : X) × (r ≡ Ok x) × (next x ≡ Ok y)
 unfolding bind
 stepped (Err e) next y h = absurd cc
 stepped (Ok x) next y h = (x, refl, h)
@@ -137,7 +137,7 @@ piece_was plan piece b c e =
     let one = stepped _ _ c e in
     let two = stepped _ _ c one.2 in
     let label = found _ _ (piece_label plan piece) one.0 one.1 in
-    let object = found _ _ (object_of plan.description plan.children plan.grants piece b.next) two.0 two.1 in
+    let object = found _ _ (object_of plan.description plan.grants piece b.next) two.0 two.1 in
     let initial : Initial = record { label = one.0; object = two.0 } in (
       initial,
       (label, object),
@@ -194,30 +194,30 @@ finished_is t none =
     λ pairs. finished (record t { pairs = pairs }) ≡ Ok (with_originals (record t { pairs = pairs })) in
     subst P (sym none) refl
 
-filled_whole : (d : Description) (pieces : List Piece) (grants : List Grant) (children : Children) (t u : Layout)
-    → filled_up d pieces grants children t ≡ Ok u
+filled_whole : (d : Description) (pieces : List Piece) (grants : List Grant) (t u : Layout)
+    → filled_up d pieces grants t ≡ Ok u
     → u
     ≡ record t {
       caps = t.caps ++ map (filled_at pieces) (grants ++ roots_of d grants);
-      bindings = t.bindings ++ map (binding_at pieces) (bonds_of d children);
+      bindings = t.bindings ++ map (binding_at pieces) (bonds_of d);
     }
 unfolding filled_up
-filled_whole d pieces grants children t u e =
+filled_whole d pieces grants t u e =
     let one = stepped _ _ u e in
     let two = stepped _ _ u one.2 in
     let held = grants_whole d pieces grants t one.0 one.1 in
     let rooted = grants_whole d pieces (roots_of d grants) one.0 two.0 two.1 in
-    bonds_whole d pieces (bonds_of d children) two.0 u two.2
-    ∙ ap (λ (s : Layout). record s { bindings = s.bindings ++ map (binding_at pieces) (bonds_of d children) }) rooted
+    bonds_whole d pieces (bonds_of d) two.0 u two.2
+    ∙ ap (λ (s : Layout). record s { bindings = s.bindings ++ map (binding_at pieces) (bonds_of d) }) rooted
     ∙ ap
     (λ (s : Layout).
     record s {
       caps = s.caps ++ map (filled_at pieces) (roots_of d grants);
-      bindings = s.bindings ++ map (binding_at pieces) (bonds_of d children);
+      bindings = s.bindings ++ map (binding_at pieces) (bonds_of d);
     })
     held
     ∙ ap
-    (λ caps. record t { caps = caps; bindings = t.bindings ++ map (binding_at pieces) (bonds_of d children) })
+    (λ caps. record t { caps = caps; bindings = t.bindings ++ map (binding_at pieces) (bonds_of d) })
     (append_assoc t.caps (map (filled_at pieces) grants) (map (filled_at pieces) (roots_of d grants))
     ∙ ap (λ xs. t.caps ++ xs) (sym (map-append (filled_at pieces) grants (roots_of d grants))))
 
@@ -230,23 +230,23 @@ objects_were plan pieces t e =
     let whole = pieces_whole plan pieces (started (labels_at plan.names plan.places)) one.0 one.1 in
     (whole.0, whole.1, sym (same_ok _ t one.2) ∙ whole.2)
 
-planned_was : (d : Description) (minting : Minting) (children : Children) (plan : Plan) → planned d minting children ≡ Ok plan
-    → (names : List (List ℕ)) × (names_of d ≡ Ok names) × (plan ≡ plan_for d children names (grants_of d minting children))
+pub planned_was : (d : Description) (minting : Minting) (plan : Plan) → planned d minting ≡ Ok plan
+    → (names : List (List ℕ)) × (names_of d ≡ Ok names) × (plan ≡ plan_for d names (grants_of d minting))
 unfolding planned
-planned_was d minting children plan e =
+planned_was d minting plan e =
     let one = stepped _ _ plan e in
     let two = stepped _ _ plan one.2 in
     let three = stepped _ _ plan two.2 in
     (three.0, three.1, sym (same_ok _ plan three.2))
 
-by_plan : (d : Description) (minting : Minting) (children : Children) (names : List (List ℕ)) (t : Layout) → names_of d ≡ Ok names
-    → table_by (pieces_of d minting) (plan_for d children names (grants_of d minting children)) ≡ Ok t
-    → IsTableOf d minting children t
+by_plan : (d : Description) (minting : Minting) (names : List (List ℕ)) (t : Layout) → names_of d ≡ Ok names
+    → table_by (pieces_of d minting) (plan_for d names (grants_of d minting)) ≡ Ok t
+    → IsTableOf d minting t
 unfolding table_by
-by_plan d minting children names t named e =
+by_plan d minting names t named e =
     let pieces : List Piece = pieces_of d minting in
-    let grants : List Grant = grants_of d minting children in
-    let plan : Plan = plan_for d children names grants in
+    let grants : List Grant = grants_of d minting in
+    let plan : Plan = plan_for d names grants in
     let one = stepped _ _ t e in
     let two = stepped _ _ t one.2 in
     let objects = objects_were plan pieces one.0 one.1 in
@@ -255,22 +255,22 @@ by_plan d minting children names t named e =
       names = map (piece_name plan) pieces;
       objects = objects.0;
       caps = map (filled_at pieces) (grants ++ roots_of d grants);
-      bindings = map (binding_at pieces) (bonds_of d children);
+      bindings = map (binding_at pieces) (bonds_of d);
     } in
     let filled : two.0 ≡ whole =
-    filled_whole d pieces grants children one.0 two.0 two.1
+    filled_whole d pieces grants one.0 two.0 two.1
     ∙ ap
     (λ (s : Layout).
     record s {
       caps = s.caps ++ map (filled_at pieces) (grants ++ roots_of d grants);
-      bindings = s.bindings ++ map (binding_at pieces) (bonds_of d children);
+      bindings = s.bindings ++ map (binding_at pieces) (bonds_of d);
     })
     objects.2 in
     let done : finished whole ≡ Ok t = subst (λ s. finished s ≡ Ok t) filled two.2 in
     let marked : with_originals whole ≡ t = same_ok (with_originals whole) t (sym (finished_is whole refl) ∙ done) in
     let same : with_originals whole ≡ whole =
     ap (λ caps. record whole { caps = caps }) (originals whole pieces (grants ++ roots_of d grants) refl) in
-    let is : IsTableOf d minting children whole =
+    let is : IsTableOf d minting whole =
     record {
       all = names;
       called = named;
@@ -282,13 +282,13 @@ by_plan d minting children names t named e =
       pairs = refl;
       bindings = refl;
     } in
-    subst (IsTableOf d minting children) (sym same ∙ marked) is
+    subst (IsTableOf d minting) (sym same ∙ marked) is
 
 -- the table that is built up is that of the description
-pub table_whole : (d : Description) (minting : Minting) (children : Children) (t : Layout) → table_at d minting children ≡ Ok t
-    → IsTableOf d minting children t
+pub table_whole : (d : Description) (minting : Minting) (t : Layout) → table_at d minting ≡ Ok t
+    → IsTableOf d minting t
 unfolding table_at
-table_whole d minting children t e =
+table_whole d minting t e =
     let one = stepped _ _ t e in
-    let plan = planned_was d minting children one.0 one.1 in
-    by_plan d minting children plan.0 t plan.1 (subst (λ p. table_by (pieces_of d minting) p ≡ Ok t) plan.2 one.2)
+    let plan = planned_was d minting one.0 one.1 in
+    by_plan d minting plan.0 t plan.1 (subst (λ p. table_by (pieces_of d minting) p ≡ Ok t) plan.2 one.2)

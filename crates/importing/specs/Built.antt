@@ -9,14 +9,13 @@ use Rattle.machine.specs.{declared.{layout.{Initial.Initial, Version.Version}, o
 use Rattle.machine.specs.Objects.{end_of}
 use Rattle.machine.specs.declared.layout.Version.TheVariants as version
 use Rattle.table.specs.{Building.{has_room, with_initial}, Names.object_named}
-use Rattle.importing.specs.{declared.pieces.{Children.Children, Grant.Grant, Piece.Piece}, Groups.{leader_of, name_at}, Objects.object_of}
+use Rattle.importing.specs.{declared.pieces.{Grant.Grant, Piece.Piece}, Groups.{leader_of, name_at}, Objects.object_of}
 use Rattle.importing.specs.Plan.{label_of, part_of, piece_line, subject_of}
 
 -- what a table is built up from: what has a name and how it is called, the maps of regions if some share a label, and which subjects
 -- have a label of their own
 pub record Plan : Type 0 where
   pub description : Description
-  pub children : Children
   pub subjects : List Subject
   pub names : List (List ℕ)
   pub uses : List (List Map)
@@ -83,7 +82,7 @@ unfoldable pub piece_added : Plan → Piece → Built → Result Built Fault
 piece_added plan piece built = do
   label ← or_fault (piece_line plan.description piece) UnknownName (piece_label plan piece)
   object ← or_fault (piece_line plan.description piece) Limit
-      (object_of plan.description plan.children plan.grants piece built.next)
+      (object_of plan.description plan.grants piece built.next)
   object_added (piece_line plan.description piece) (piece_name plan piece) label object built
 
 -- the objects of pieces, one after another

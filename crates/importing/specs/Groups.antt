@@ -4,7 +4,7 @@ use Rattle.std.specs.Prelude.{List, false, filter, if◌then◌else◌, length, 
 use Rattle.base.specs.declared.label.TheConstants.Label as Label
 use Rattle.microkit.specs.{declared.{description.Map.Map, labels.Subject.Subject}, Description.Description, Labels.{line_of, subjects_of}}
 use Rattle.microkit.specs.declared.labels.Subject.TheVariants as subject
-use Rattle.importing.specs.{Plan.same_subject, Tails.is_user}
+use Rattle.importing.specs.{Maps.is_user, Plan.same_subject}
 
 -- the maps of a region
 abbrev pub uses_of : List Map → ℕ → List Map

@@ -2,10 +2,11 @@ pub mod Pieces
 pub mod Objects
 pub mod Slots
 pub mod Plan
-pub mod Tails
+pub mod Maps
 pub mod Groups
 pub mod Grants
 pub mod Built
 pub mod PlanView
 pub mod Tables
 pub mod Whole
+pub mod Origins

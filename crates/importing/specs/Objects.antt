@@ -7,8 +7,7 @@ use Rattle.microkit.specs.{declared.description.{Processor.Processor, Schedule.S
 use Rattle.machine.specs.declared.object.{Object.{Object, Object as o}, ReplyState.ReplyState as reply, Share.Share}
 use Rattle.machine.specs.{declared.thread.{Inbox.Inbox as inbox, RunState.{RunState, RunState as run}}, Objects.{address_of, size_bits}}
 use Rattle.table.specs.{Placement.is_aligned, Rules.{IsBlank, is_control_of}}
-use Rattle.importing.specs.{declared.pieces.{Children.Children, Form.Form, Grant.Grant, Piece.Piece}, Pieces.same_piece}
-use Rattle.importing.specs.declared.pieces.Children.TheVariants as children
+use Rattle.importing.specs.{declared.pieces.{Form.Form, Grant.Grant, Piece.Piece}, Pieces.same_piece}
 use Rattle.importing.specs.declared.pieces.Form.TheVariants as form
 
 -- the next multiple of a power of two
@@ -57,11 +56,6 @@ context_at next share = o.Context (record { address = aligned_up next 8; share =
 abbrev pub context_of : Option Share → ℕ → Option Object
 context_of share next = option_map (context_at next) share
 
--- a virtual processor can't run where its thread is its parent's
-abbrev pub guest_state : Children → RunState
-guest_state children.Control = run.Inactive
-guest_state children.Directed = run.Ready
-
 -- the share of a core's time, if it is within the limits
 unfoldable pub share_of : ℕ → Schedule → Option Share
 share_of core schedule =
@@ -94,14 +88,14 @@ unfoldable pub processor_share : Description → ℕ → Option Share
 processor_share d n = share_for d (slice_get d.processors n)
 
 -- the object of a piece, at the next multiple of its size from an address on, if it is within the limits of its kind
-unfoldable pub object_of : Description → Children → List Grant → Piece → ℕ → Option Object
-object_of d children grants piece next = by_form piece.form
+unfoldable pub object_of : Description → List Grant → Piece → ℕ → Option Object
+object_of d grants piece next = by_form piece.form
   where
     by_form : Form → Option Object
     by_form form.Space = cnode_of grants piece next
     by_form form.GuestSpace = cnode_of grants piece next
     by_form form.Main = Some (thread_of run.Ready next)
-    by_form form.Processor = Some (thread_of (guest_state children) next)
+    by_form form.Processor = Some (thread_of run.Inactive next)
     by_form form.Bell = Some (notification_at next)
     by_form form.Answer = Some (reply_at next)
     by_form form.Entry = Some (endpoint_at next)

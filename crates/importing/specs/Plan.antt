@@ -69,6 +69,10 @@ same_subject one other = subject_code one == subject_code other && subject_numbe
 abbrev pub label_of : List Subject → Subject → Option ℕ
 label_of subjects subject = position (λ (other : Subject). same_subject other subject) subjects
 
+-- the line of a domain
+abbrev pub domain_line : Description → ℕ → ℕ
+domain_line d n = line_of d (subject.Domain n)
+
 -- the line of what a piece is of
 unfoldable pub piece_line : Description → Piece → ℕ
 piece_line d piece = by_form piece.form

@@ -11,7 +11,6 @@ abbrev pub plan_of : declared_plan.Plan → Plan
 plan_of plan =
     record {
       description = description_of plan.description.now;
-      children = plan.children;
       subjects = plan.subjects.items;
       names = bytes_of plan.names.items;
       uses = maps_of plan.uses.items;

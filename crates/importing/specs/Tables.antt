@@ -2,7 +2,7 @@
 --
 -- Labels, objects, capabilities and bindings are added one after another, each in the order of its list. The first that passes a limit of
 -- tables is the fault, with its line. There are no pairs of the derivation tree: each capability is original.
-use Rattle.std.specs.{List.range_with_len, Prelude.{[], ℕ, ◌&&◌, ◌++◌, ◌∷◌, Bool, Err, List, None, Ok, Option, Result, Some, false}}
+use Rattle.std.specs.{List.range_with_len, Prelude.{[], ℕ, ◌&&◌, ◌∷◌, Bool, Err, List, None, Ok, Option, Result, Some, false}}
 use Rattle.std.specs.Prelude.{if◌then◌else◌, length, map, not, position, slice_get, true}
 use Rattle.base.specs.declared.limits.TheConstants.{MAX_OBJECTS}
 use Rattle.base.specs.declared.label.TheConstants.Label as Label
@@ -12,10 +12,9 @@ use Rattle.machine.specs.{declared.{layout.{Binding.Binding, Filled.Filled}, obj
 use Rattle.machine.specs.declared.object.ObjectKind.TheVariants as kind
 use Rattle.table.specs.Building.{declares_slot, is_above_bindings, is_above_caps, is_bound, is_fitting, may_hold, repeats_untyped}
 use Rattle.table.specs.{Building.{with_binding, with_filled}, Rules.kind_at, Tree.{tree_fault, with_originals}}
-use Rattle.importing.specs.declared.{pieces.{Children.Children, Form.Form, Grant.Grant, Minting.Minting, Piece.Piece}, tables.Bond.Bond}
+use Rattle.importing.specs.declared.{pieces.{Grant.Grant, Minting.Minting, Piece.Piece}, tables.Bond.Bond}
 use Rattle.importing.specs.{Built.{Plan, or_fault, pieces_added, started}, Grants.{grants_of, roots_of}, Groups.{labelled_of, labels_at}}
 use Rattle.importing.specs.{Groups.{line_at, places_of, uses_in}, Pieces.{pieces_of, same_piece}, Plan.piece_line}
-use Rattle.importing.specs.declared.pieces.Children.TheVariants as children
 use Rattle.importing.specs.declared.pieces.Form.TheVariants as form
 
 -- each subject has an object, and there are at most as many objects as a table may have
@@ -70,17 +69,13 @@ unfoldable pub grants_added : Description → List Piece → List Grant → Layo
 grants_added d pieces [] t = Ok t
 grants_added d pieces (grant ∷ grants) t = grant_added d pieces grant t >>= λ next. grants_added d pieces grants next
 
--- each thread with the context that it is bound to: those of domains, and of virtual processors that can run
+-- a domain's thread with its context
+abbrev pub bond_of : ℕ → Bond
+bond_of n = record { thread = record { form = form.Main; number = n }; context = record { form = form.Time; number = n } }
 
-abbrev pub bond_of : Form → Form → ℕ → Bond
-bond_of thread context n = record { thread = record { form = thread; number = n }; context = record { form = context; number = n } }
-
-abbrev pub guest_bonds : Description → Children → List Bond
-guest_bonds d children.Control = []
-guest_bonds d children.Directed = map (bond_of form.Processor form.ProcessorTime) (range_with_len 0 (length d.processors))
-
-unfoldable pub bonds_of : Description → Children → List Bond
-bonds_of d children = map (bond_of form.Main form.Time) (range_with_len 0 (length d.domains)) ++ guest_bonds d children
+-- those of all domains; no virtual processor runs at boot
+abbrev pub bonds_of : Description → List Bond
+bonds_of d = map bond_of (range_with_len 0 (length d.domains))
 
 abbrev pub is_thread : Option ObjectKind → Bool
 is_thread (Some kind.Tcb) = true
@@ -122,11 +117,10 @@ finished t = by (tree_fault (with_originals t))
     by (Some pair) = Err (fault_at 0 Tree)
 
 -- what the table is built up from
-abbrev pub plan_for : Description → Children → List (List ℕ) → List Grant → Plan
-plan_for d children names grants =
+abbrev pub plan_for : Description → List (List ℕ) → List Grant → Plan
+plan_for d names grants =
     record {
       description = d;
-      children = children;
       subjects = subjects_of d;
       names = names;
       uses = uses_in d;
@@ -136,19 +130,19 @@ plan_for d children names grants =
     }
 
 -- the plan of a description, whose subjects and labels must be within the limits
-unfoldable pub planned : Description → Minting → Children → Result Plan Fault
-planned d minting children = do
+unfoldable pub planned : Description → Minting → Result Plan Fault
+planned d minting = do
   _ ← subjects_fit d (subjects_of d)
   _ ← labels_fit d (subjects_of d) (places_of (uses_in d) (subjects_of d))
   names ← names_of d
-  Ok (plan_for d children names (grants_of d minting children))
+  Ok (plan_for d names (grants_of d minting))
 
 -- the capabilities and bindings of a table that has its objects
-unfoldable pub filled_up : Description → List Piece → List Grant → Children → Layout → Result Layout Fault
-filled_up d pieces grants children t = do
+unfoldable pub filled_up : Description → List Piece → List Grant → Layout → Result Layout Fault
+filled_up d pieces grants t = do
   held ← grants_added d pieces grants t
   rooted ← grants_added d pieces (roots_of d grants) held
-  bonds_added d pieces (bonds_of d children) rooted
+  bonds_added d pieces (bonds_of d) rooted
 
 -- the table of the labels and objects of a plan
 unfoldable pub objects_by : List Piece → Plan → Result Layout Fault
@@ -160,9 +154,9 @@ objects_by pieces plan = do
 unfoldable pub table_by : List Piece → Plan → Result Layout Fault
 table_by pieces plan = do
   objects ← objects_by pieces plan
-  filled ← filled_up plan.description pieces plan.grants plan.children objects
+  filled ← filled_up plan.description pieces plan.grants objects
   finished filled
 
 -- the table of a description, or its first fault
-unfoldable pub table_at : Description → Minting → Children → Result Layout Fault
-table_at d minting children = planned d minting children >>= λ plan. table_by (pieces_of d minting) plan
+unfoldable pub table_at : Description → Minting → Result Layout Fault
+table_at d minting = planned d minting >>= λ plan. table_by (pieces_of d minting) plan

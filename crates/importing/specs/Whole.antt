@@ -5,7 +5,7 @@ use Rattle.microkit.specs.{Description.{Description}, Labels.{names_of, subjects
 use Rattle.importing.specs.{Built.{Plan, piece_label, piece_name, version_for}, Groups.{labels_at, places_of, uses_in}}
 use Rattle.importing.specs.{Grants.{grants_of, roots_of}, Objects.{object_of}, Pieces.{pieces_of}}
 use Rattle.importing.specs.{Tables.{binding_by, bonds_of, filled_by, piece_number, plan_for}}
-use Rattle.importing.specs.declared.{pieces.{Children.{Children}, Grant.{Grant}, Minting.{Minting}, Piece.{Piece}}, tables.Bond.{Bond}}
+use Rattle.importing.specs.declared.{pieces.{Grant.{Grant}, Minting.{Minting}, Piece.{Piece}}, tables.Bond.{Bond}}
 
 -- a filled slot of these pieces
 abbrev pub filled_at : List Piece → Grant → Filled
@@ -21,7 +21,7 @@ binding_at pieces bond =
 abbrev pub IsOfPiece : Plan → ℕ → Piece → Initial → Type 0
 IsOfPiece plan next piece initial =
     (piece_label plan piece ≡ Some initial.label)
-    × (object_of plan.description plan.children plan.grants piece next ≡ Some initial.object)
+    × (object_of plan.description plan.grants piece next ≡ Some initial.object)
 
 -- objects are those of pieces, each from the end of the one before on
 abbrev pub AreOfPieces : Plan → ℕ → List Piece → List Initial → Type 0
@@ -31,19 +31,19 @@ AreOfPieces plan next (piece ∷ pieces) (initial ∷ objects) =
     IsOfPiece plan next piece initial × AreOfPieces plan (end_of initial.object) pieces objects
 
 -- the plan of a description whose subjects have these names
-abbrev pub plan_by : Description → Minting → Children → List (List ℕ) → Plan
-plan_by d minting children names = plan_for d children names (grants_of d minting children)
+abbrev pub plan_by : Description → Minting → List (List ℕ) → Plan
+plan_by d minting names = plan_for d names (grants_of d minting)
 
 -- a table is that of a description: its labels, objects from 0x1000 up, capabilities and bindings, each in order
-pub record IsTableOf (d : Description) (minting : Minting) (children : Children) (t : Layout) : Type 0 where
+pub record IsTableOf (d : Description) (minting : Minting) (t : Layout) : Type 0 where
   pub all : List (List ℕ)
   pub called : names_of d ≡ Ok all
   pub labels : t.labels ≡ labels_at all (places_of (uses_in d) (subjects_of d))
   pub version : t.version ≡ version_for (length t.labels)
-  pub names : t.names ≡ map (piece_name (plan_by d minting children all)) (pieces_of d minting)
-  pub objects : AreOfPieces (plan_by d minting children all) 4096 (pieces_of d minting) t.objects
+  pub names : t.names ≡ map (piece_name (plan_by d minting all)) (pieces_of d minting)
+  pub objects : AreOfPieces (plan_by d minting all) 4096 (pieces_of d minting) t.objects
   pub caps :
       t.caps
-      ≡ map (filled_at (pieces_of d minting)) (grants_of d minting children ++ roots_of d (grants_of d minting children))
+      ≡ map (filled_at (pieces_of d minting)) (grants_of d minting ++ roots_of d (grants_of d minting))
   pub pairs : t.pairs ≡ []
-  pub bindings : t.bindings ≡ map (binding_at (pieces_of d minting)) (bonds_of d children)
+  pub bindings : t.bindings ≡ map (binding_at (pieces_of d minting)) (bonds_of d)

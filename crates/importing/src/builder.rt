@@ -13,7 +13,7 @@ ghost use Rattle.importing.specs.{Groups.{labels_at, name_at}, Objects.{IsPlaced
 
 use crate::groups::leader_of;
 use crate::objects::object_of;
-use crate::pieces::{Children, Grant, Piece};
+use crate::pieces::{Grant, Piece};
 use crate::plan::{label_of, object_name, part_of, piece_line, subject_of};
 use base::Label;
 use machine::{Initial, Object, Version};
@@ -27,7 +27,6 @@ use words::{Fault, Wrong, name_of};
 #[derive(Drop)]
 pub(crate) struct Plan<'a> {
     pub description: &'a Description,
-    pub children: Children,
     /// What has a label or shares one, and what its objects are called by.
     pub subjects: Vec<Subject>,
     pub names: Vec<Vec<u8>>,
@@ -117,7 +116,7 @@ impl Builder {
         };
         let name = piece_name(alloc, plan, piece)?;
         let next = self.next;
-        match object_of(plan.description, plan.children, &plan.grants, piece, next) {
+        match object_of(plan.description, &plan.grants, piece, next) {
             Some(object) => self.add_object(line, &name, label, object),
             None => Err(Fault::at(Wrong::Limit, line)),
         }

@@ -5,13 +5,13 @@ ghost use Rattle.importing.specs.Grants.{domain_grants, domain_root, grant, gran
 ghost use Rattle.importing.specs.Grants.{numbered, processor_root, root_of, roots_of, slot_grant, slot_grants};
 ghost use Rattle.importing.specs.Grants.{space_of};
 
+use crate::maps::{guest_held, maps_held};
 use crate::objects::radix_of;
-use crate::pieces::{Children, Form, Grant, Minting, Piece};
-use crate::plan::machine_number;
+use crate::pieces::{Form, Grant, Minting, Piece};
+use crate::plan::{domain_line, machine_number, processor_line};
 use crate::slots::{Held, MAPS, slot_held};
-use crate::tails::{guest_held, tail_held};
 use machine::{Detail, Guard};
-use microkit::Description;
+use microkit::{Description, User};
 use std::alloc::{AllocError, Global};
 
 fn grant(holder: Piece, index: u64, held: Held) -> Grant
@@ -22,6 +22,7 @@ fn grant(holder: Piece, index: u64, held: Held) -> Grant
         index,
         target: held.target,
         detail: held.detail,
+        line: held.line,
     }
 }
 
@@ -66,13 +67,12 @@ pub(crate) fn guest_space_of(number: usize) -> Piece
 fn slot_grant(
     description: &Description,
     minting: Minting,
-    children: Children,
     domain: usize,
     index: u64,
 ) -> Option<Grant>
-    ensures { result ≡ slot_grant (description_of description.now) minting children domain index }
+    ensures { result ≡ slot_grant (description_of description.now) minting domain index }
 {
-    match slot_held(description, minting, children, domain, index) {
+    match slot_held(description, minting, domain, index) {
         Some(held) => Some(grant(space_of(domain), index, held)),
         None => None,
     }
@@ -83,14 +83,13 @@ fn slot_grants(
     alloc: Global,
     description: &Description,
     minting: Minting,
-    children: Children,
     domain: usize,
 ) -> Result<Vec<Grant>, AllocError>
     ensures { IfOk result (λ grants. grants.items
-        ≡ slot_grants (description_of description.now) minting children domain) }
+        ≡ slot_grants (description_of description.now) minting domain) }
 {
     (0..MAPS)
-        .filter_map(|index| slot_grant(description, minting, children, domain, index))
+        .filter_map(|index| slot_grant(description, minting, domain, index))
         .collect(alloc)
 }
 
@@ -100,16 +99,15 @@ fn domain_grants(
     alloc: Global,
     description: &Description,
     minting: Minting,
-    children: Children,
     domain: usize,
 ) -> Result<Vec<Grant>, AllocError>
     ensures { IfOk result (λ grants. grants.items
-        ≡ domain_grants (description_of description.now) minting children domain) }
+        ≡ domain_grants (description_of description.now) minting domain) }
 {
-    let mut grants = slot_grants(alloc, description, minting, children, domain)?;
-    let tail = tail_held(alloc, description, minting, children, domain)?;
-    let numbered_tail = numbered(alloc, space_of(domain), MAPS, &tail)?;
-    grants.extend_from_slice(&numbered_tail)?;
+    let mut grants = slot_grants(alloc, description, minting, domain)?;
+    let maps = maps_held(alloc, &description.maps, User::Domain(domain))?;
+    let mapped = numbered(alloc, space_of(domain), MAPS, &maps)?;
+    grants.extend_from_slice(&mapped)?;
     Ok(grants)
 }
 
@@ -133,11 +131,10 @@ pub(crate) fn grants_of(
     alloc: Global,
     description: &Description,
     minting: Minting,
-    children: Children,
 ) -> Result<Vec<Grant>, AllocError>
-    ensures { IfOk result (λ grants. grants.items ≡ grants_of (description_of description.now) minting children) }
+    ensures { IfOk result (λ grants. grants.items ≡ grants_of (description_of description.now) minting) }
 {
-    let mut grants = all_domain_grants(alloc, description, minting, children)?;
+    let mut grants = all_domain_grants(alloc, description, minting)?;
     let guests = all_guest_grants(alloc, description, minting)?;
     grants.extend_from_slice(&guests)?;
     Ok(grants)
@@ -148,15 +145,14 @@ fn all_domain_grants(
     alloc: Global,
     description: &Description,
     minting: Minting,
-    children: Children,
 ) -> Result<Vec<Grant>, AllocError>
     ensures { IfOk result (λ grants. grants.items
-        ≡ flat_map (domain_grants (description_of description.now) minting children)
+        ≡ flat_map (domain_grants (description_of description.now) minting)
         (range_with_len 0 (length description.now.domains.items))) }
 {
     let mut grants = Vec::new(alloc);
     for n in 0..description.domains.len() {
-        let more = domain_grants(alloc, description, minting, children, n)?;
+        let more = domain_grants(alloc, description, minting, n)?;
         grants.extend_from_slice(&more)?;
     }
     Ok(grants)
@@ -181,8 +177,8 @@ fn all_guest_grants(
 }
 
 // The root of a thread.
-fn root_of(grants: &[Grant], thread: Piece, space: Piece) -> Option<Grant>
-    ensures { result ≡ root_of grants.now thread space }
+fn root_of(line: u64, grants: &[Grant], thread: Piece, space: Piece) -> Option<Grant>
+    ensures { result ≡ root_of line grants.now thread space }
 {
     match radix_of(grants, space) {
         Some(radix) => Some(Grant {
@@ -193,19 +189,21 @@ fn root_of(grants: &[Grant], thread: Piece, space: Piece) -> Option<Grant>
                 size: 64 - radix.bits(),
                 value: 0,
             }),
+            line,
         }),
         None => None,
     }
 }
 
-fn domain_root(grants: &[Grant], domain: usize) -> Option<Grant>
-    ensures { result ≡ domain_root grants.now domain }
+fn domain_root(description: &Description, grants: &[Grant], domain: usize) -> Option<Grant>
+    ensures { result ≡ domain_root (description_of description.now) grants.now domain }
 {
     let thread = Piece {
         form: Form::Main,
         number: domain,
     };
-    root_of(grants, thread, space_of(domain))
+    let line = domain_line(description, domain);
+    root_of(line, grants, thread, space_of(domain))
 }
 
 fn processor_root(description: &Description, grants: &[Grant], processor: usize) -> Option<Grant>
@@ -216,7 +214,8 @@ fn processor_root(description: &Description, grants: &[Grant], processor: usize)
         number: processor,
     };
     let machine = machine_number(description, processor);
-    root_of(grants, thread, guest_space_of(machine))
+    let line = processor_line(description, processor);
+    root_of(line, grants, thread, guest_space_of(machine))
 }
 
 /// Returns the roots of all threads.
@@ -228,17 +227,23 @@ pub(crate) fn roots_of(
 ) -> Result<Vec<Grant>, AllocError>
     ensures { IfOk result (λ roots. roots.items ≡ roots_of (description_of description.now) grants.now) }
 {
-    let mut roots = domain_roots(alloc, grants, description.domains.len())?;
+    let mut roots = domain_roots(alloc, description, grants)?;
     let processors = processor_roots(alloc, description, grants)?;
     roots.extend_from_slice(&processors)?;
     Ok(roots)
 }
 
-fn domain_roots(alloc: Global, grants: &[Grant], count: usize) -> Result<Vec<Grant>, AllocError>
-    ensures { IfOk result (λ roots. roots.items ≡ filter_map (domain_root grants.now) (range_with_len 0 count)) }
+fn domain_roots(
+    alloc: Global,
+    description: &Description,
+    grants: &[Grant],
+) -> Result<Vec<Grant>, AllocError>
+    ensures { IfOk result (λ roots. roots.items
+        ≡ filter_map (domain_root (description_of description.now) grants.now)
+        (range_with_len 0 (length description.now.domains.items))) }
 {
-    (0..count)
-        .filter_map(|n| domain_root(grants, n))
+    (0..description.domains.len())
+        .filter_map(|n| domain_root(description, grants, n))
         .collect(alloc)
 }
 

@@ -7,8 +7,8 @@ ghost use Rattle.importing.specs.Groups.{are_alike, are_met_by, first_alike, is_
 ghost use Rattle.importing.specs.Groups.{leaders_at, leads, line_at, places_of, uses_at, uses_in, uses_of};
 ghost use Rattle.importing.specs.PlanView.{maps_of};
 
+use crate::maps::is_user;
 use crate::plan::{line_of, same_subject};
-use crate::tails::is_user;
 use base::Label;
 use microkit::{Description, Map, Subject, subjects_of};
 use std::alloc::{AllocError, Global};

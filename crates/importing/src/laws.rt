@@ -1,19 +1,14 @@
-//! Laws about what the CNodes of parents have.
-ghost use Rattle.std.specs.{List.flat_map, Prelude.{ℕ, ◌++◌, ◌<◌, ◌≡◌, length}};
+//! A law on where the capabilities of an imported table come from.
+ghost use Rattle.std.specs.{List.AllZip, Prelude.{◌≡◌, Ok}};
 ghost use Rattle.microkit.specs.Description.{Description as DescriptionOf};
-ghost use Rattle.microkit.specs.declared.description.User.TheVariants as user;
-ghost use Rattle.importing.specs.Tails.{HasParentsFirst, children_of, domain_has, guests_held, maps_held, tail_held};
-ghost use Rattle.importing.specs.declared.pieces.Children.TheVariants as children;
+ghost use Rattle.machine.specs.Layout.{Layout};
+ghost use Rattle.importing.specs.{Origins.{ComesFrom, origins_of}, Pieces.pieces_of, Tables.table_at};
 ghost use Rattle.importing.specs.declared.pieces.Minting.{Minting};
 
-/// Proves that, with `directed`, a domain has from slot 458 on its maps, then all that each of its
-/// children has, child by child, then all that its virtual machine has.
+/// A law: the filled slots of a description's table are its capabilities, in the same order.
 ///
-/// All that a child has includes its copies of what its own children have. Each domain must stand
-/// before its children, as in each description that is read.
-pub fn parents_have_what_children_have()
-    ensures { (d : DescriptionOf) (minting : Minting) (n : ℕ) → HasParentsFirst d.domains → n < length d.domains
-        → tail_held d minting children.Directed n
-        ≡ maps_held d.maps (user.Domain n)
-        ++ (flat_map (domain_has d minting) (children_of d.domains n) ++ guests_held d minting n) }
+/// So the element that a filled slot comes from is found by the slot's place in the table.
+pub fn capabilities_come_from_their_elements()
+    ensures { (d : DescriptionOf) (minting : Minting) (t : Layout) → table_at d minting ≡ Ok t
+        → AllZip (ComesFrom (pieces_of d minting)) t.caps (origins_of d minting) }
 {}

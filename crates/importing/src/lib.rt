@@ -1,21 +1,25 @@
 //! How a system description becomes a capability table.
 //!
-//! `separation`, `remarks` and the commands stand on it. It knows no policy, and no text of a
-//! table.
+//! `separation`, `sources`, `remarks` and the commands stand on it. It knows no policy, and no text
+//! of a table.
 #![tactic(auto)]
 
 mod builder;
 mod grants;
 mod groups;
 mod laws;
+mod maps;
 mod objects;
+mod origins;
 mod pieces;
 mod plan;
 mod slots;
 mod tables;
-mod tails;
 
 pub use groups::labelled_of;
-pub use laws::parents_have_what_children_have;
-pub use pieces::{Children, Minting};
+pub use laws::capabilities_come_from_their_elements;
+pub use origins::{Origins, origins_of};
+pub use pieces::{Form, Grant, Minting, Piece, is_called};
+pub use plan::piece_line;
+pub use slots::{BELLS, CALLS};
 pub use tables::table_of;

@@ -5,11 +5,11 @@ ghost use Rattle.base.specs.declared.limits.TheConstants.{ADDRESS_END};
 ghost use Rattle.microkit.specs.View.{description_of, domain_of, machine_of};
 ghost use Rattle.table.specs.Rules.{IsAtRest, IsWithinLimits};
 ghost use Rattle.importing.specs.Objects.{IsPlaced, aligned_up, cnode_of, context_of, domain_share, endpoint_at};
-ghost use Rattle.importing.specs.Objects.{fits_radix, frame_of, guest_state, machine_share, notification_at};
+ghost use Rattle.importing.specs.Objects.{fits_radix, frame_of, machine_share, notification_at};
 ghost use Rattle.importing.specs.Objects.{object_of, processor_share, radix_of, reply_at, share_of, thread_of};
 ghost use Rattle.importing.specs.Pieces.{same_piece};
 
-use crate::pieces::{Children, Form, Grant, Piece, same_piece};
+use crate::pieces::{Form, Grant, Piece, same_piece};
 use base::{CoreNo, MAX_PERIOD};
 use machine::{
     CNode, Context, Endpoint, Frame, Inbox, Notification, Object, Radix, Reply, ReplyState,
@@ -23,19 +23,18 @@ use microkit::{Description, Schedule};
 #[tactic(auto, unfolding(crate::specs::Objects::object_of))]
 pub(crate) fn object_of(
     description: &Description,
-    children: Children,
     grants: &[Grant],
     piece: Piece,
     next: u64,
 ) -> Option<Object>
     requires { next ≤ ADDRESS_END }
-    ensures exact { result ≡ object_of (description_of description.now) children grants.now piece next }
+    ensures exact { result ≡ object_of (description_of description.now) grants.now piece next }
     ensures placed { IfSome result (λ object. IsPlaced next object) }
 {
     match piece.form {
         Form::Space | Form::GuestSpace => cnode_of(grants, piece, next),
         Form::Main => Some(thread_of(RunState::Ready, next)),
-        Form::Processor => Some(thread_of(guest_state(children), next)),
+        Form::Processor => Some(thread_of(RunState::Inactive, next)),
         Form::Bell => Some(notification_at(next)),
         Form::Answer => Some(reply_at(next)),
         Form::Entry => Some(endpoint_at(next)),
@@ -119,17 +118,6 @@ fn thread_of(state: RunState, next: u64) -> Object
         inbox: Inbox::Empty,
         context: None,
     })
-}
-
-// A virtual processor can't run where its thread is its parent's.
-fn guest_state(children: Children) -> RunState
-    ensures exact { result ≡ guest_state children }
-    ensures rest { IsAtRest result }
-{
-    match children {
-        Children::Control => RunState::Inactive,
-        Children::Directed => RunState::Ready,
-    }
 }
 
 fn notification_at(next: u64) -> Object

@@ -19,15 +19,6 @@ pub enum Minting {
     All,
 }
 
-/// What a parent holds of a child.
-#[derive(Clone, Copy, Debug)]
-pub enum Children {
-    /// The child's thread.
-    Control,
-    /// A copy of each capability of the child.
-    Directed,
-}
-
 /// What an object is for.
 #[derive(Clone, Copy, Debug)]
 pub enum Form {
@@ -88,6 +79,8 @@ pub struct Grant {
     pub index: u64,
     pub target: Piece,
     pub detail: Detail,
+    /// The line of the element of the description that it comes from.
+    pub line: u64,
 }
 
 /// Returns whether two pieces are one.
@@ -224,7 +217,7 @@ pub(crate) fn answers(description: &Description, minting: Minting, domain: usize
 /// Returns whether a domain is called: by another one, or by a fault of a child or of a virtual
 /// machine.
 #[tactic(auto, using(crate::proofs::Items::any_seen), unfolding(crate::specs::Pieces::is_called))]
-pub(crate) fn is_called(description: &Description, domain: usize) -> bool
+pub fn is_called(description: &Description, domain: usize) -> bool
     ensures { result ≡ is_called (description_of description.now) domain }
 {
     is_called_by(&description.channels, domain)
@@ -248,8 +241,8 @@ fn has_children(domains: &[Domain], domain: usize) -> bool
     domains.iter().any(|one| has_parent(one, domain))
 }
 
-/// Returns whether a domain is a child of another one.
-pub(crate) fn has_parent(one: &Domain, domain: usize) -> bool
+// Whether a domain is a child of another one.
+fn has_parent(one: &Domain, domain: usize) -> bool
     ensures { result ≡ has_parent domain (domain_of one.now) }
 {
     match one.parent {

@@ -3,7 +3,7 @@ ghost use Rattle.std.specs.{List.position, Prelude.{◌==◌, ◌≡◌, IfOk, m
 ghost use Rattle.microkit.specs.{declared.labels.Subject.Subject, LabelView.bytes_of, Labels.{line_of, may_call}};
 ghost use Rattle.microkit.specs.{Names.{object_name, part_word}, View.{description_of, domain_of, machine_of}};
 ghost use Rattle.microkit.specs.View.{region_of};
-ghost use Rattle.importing.specs.Plan.{label_of, machine_number, part_of, piece_line, processor_id, processor_line};
+ghost use Rattle.importing.specs.Plan.{domain_line, label_of, machine_number, part_of, piece_line, processor_id, processor_line};
 ghost use Rattle.importing.specs.Plan.{same_subject, subject_code, subject_number, subject_of, time_of};
 
 use crate::pieces::{Form, Piece};
@@ -147,9 +147,18 @@ fn subject_number(subject: Subject) -> usize
     }
 }
 
-/// Returns the line of what a piece is of.
+/// Returns the line of a domain.
+pub(crate) fn domain_line(description: &Description, domain: usize) -> u64
+    ensures { result ≡ domain_line (description_of description.now) domain }
+{
+    line_of(description, Subject::Domain(domain))
+}
+
+/// Returns the line of the element that a piece is of.
+///
+/// It is the line of a domain, a virtual machine, a virtual processor or a region.
 #[tactic(auto, unfolding(crate::specs::Plan::piece_line))]
-pub(crate) fn piece_line(description: &Description, piece: Piece) -> u64
+pub fn piece_line(description: &Description, piece: Piece) -> u64
     ensures { result ≡ piece_line (description_of description.now) piece }
 {
     match piece.form {
@@ -158,7 +167,8 @@ pub(crate) fn piece_line(description: &Description, piece: Piece) -> u64
     }
 }
 
-fn processor_line(description: &Description, processor: usize) -> u64
+/// Returns the line of a virtual processor.
+pub(crate) fn processor_line(description: &Description, processor: usize) -> u64
     ensures { result ≡ processor_line (description_of description.now) processor }
 {
     match description.processors.get(processor) {

@@ -9,7 +9,8 @@ ghost use Rattle.importing.specs.Slots.{fault_held, id_held, input_held, is_chil
 ghost use Rattle.importing.specs.Slots.{notified_held, notify_held, own_bell_held, parent_held, processor_held};
 ghost use Rattle.importing.specs.Slots.{processor_number, slot_held};
 
-use crate::pieces::{Children, Form, Minting, Piece, answers, is_called};
+use crate::pieces::{Form, Minting, Piece, answers, is_called};
+use crate::plan::{domain_line, processor_line};
 use base::Rights;
 use bitflags::Flags;
 use machine::{Badged, Detail};
@@ -20,6 +21,8 @@ use microkit::{Channel, Description, Domain, End, Id, Processor};
 pub struct Held {
     pub target: Piece,
     pub detail: Detail,
+    /// The line of the element that it comes from.
+    pub line: u64,
 }
 
 /// The first slot of notifications of channels.
@@ -45,31 +48,24 @@ pub const IDS: u64 = 62;
 pub(crate) fn slot_held(
     description: &Description,
     minting: Minting,
-    children: Children,
     domain: usize,
     index: u64,
 ) -> Option<Held>
-    ensures { result ≡ slot_held (description_of description.now) minting children domain index }
+    ensures { result ≡ slot_held (description_of description.now) minting domain index }
 {
     match index {
         1 => Some(input_held(description, minting, domain)),
         2 => fault_held(description, minting, domain),
         3 => own_bell_held(description, minting, domain),
         4 => answer_held(description, minting, domain),
-        _ => id_held(description, minting, children, domain, index),
+        _ => id_held(description, minting, domain, index),
     }
 }
 
 // What a slot in a row of ids has.
 #[tactic(auto, unfolding(crate::specs::Slots::id_held))]
-fn id_held(
-    description: &Description,
-    minting: Minting,
-    children: Children,
-    domain: usize,
-    index: u64,
-) -> Option<Held>
-    ensures { result ≡ id_held (description_of description.now) minting children domain index }
+fn id_held(description: &Description, minting: Minting, domain: usize, index: u64) -> Option<Held>
+    ensures { result ≡ id_held (description_of description.now) minting domain index }
 {
     if index < BELLS {
         None
@@ -82,23 +78,24 @@ fn id_held(
     } else if index < CHILDREN {
         None
     } else if index < CHILDREN + IDS {
-        child_held(description, children, domain, index - CHILDREN)
+        child_held(description, domain, index - CHILDREN)
     } else if index < PROCESSORS {
         None
     } else if index < PROCESSORS + IDS {
-        processor_held(description, children, domain, index - PROCESSORS)
+        processor_held(description, domain, index - PROCESSORS)
     } else {
         None
     }
 }
 
-/// Returns a capability.
-pub(crate) fn capability(form: Form, number: usize, detail: Detail) -> Held
-    ensures { result ≡ capability form number detail }
+/// Returns a capability that comes from the element of a line.
+pub(crate) fn capability(line: u64, form: Form, number: usize, detail: Detail) -> Held
+    ensures { result ≡ capability line form number detail }
 {
     Held {
         target: Piece { form, number },
         detail,
+        line,
     }
 }
 
@@ -135,14 +132,15 @@ fn every_right() -> Rights
 }
 
 // A capability for a domain's notification.
-fn bell_held(minting: Minting, domain: usize, rights: Rights, badge: u64) -> Held
-    ensures { result ≡ bell_held minting domain rights.0 badge }
+fn bell_held(minting: Minting, line: u64, domain: usize, rights: Rights, badge: u64) -> Held
+    ensures { result ≡ bell_held minting line domain rights.0 badge }
 {
     let rights = match minting {
         Minting::Least => rights,
         Minting::All => read_write(),
     };
     capability(
+        line,
         Form::Bell,
         domain,
         Detail::Notification(Badged { rights, badge }),
@@ -150,14 +148,15 @@ fn bell_held(minting: Minting, domain: usize, rights: Rights, badge: u64) -> Hel
 }
 
 // A capability for a domain's endpoint.
-fn entry_held(minting: Minting, domain: usize, rights: Rights, badge: u64) -> Held
-    ensures { result ≡ entry_held minting domain rights.0 badge }
+fn entry_held(minting: Minting, line: u64, domain: usize, rights: Rights, badge: u64) -> Held
+    ensures { result ≡ entry_held minting line domain rights.0 badge }
 {
     let rights = match minting {
         Minting::Least => rights,
         Minting::All => every_right(),
     };
     capability(
+        line,
         Form::Entry,
         domain,
         Detail::Endpoint(Badged { rights, badge }),
@@ -168,19 +167,26 @@ fn entry_held(minting: Minting, domain: usize, rights: Rights, badge: u64) -> He
 fn input_held(description: &Description, minting: Minting, domain: usize) -> Held
     ensures { result ≡ input_held (description_of description.now) minting domain }
 {
+    let line = domain_line(description, domain);
     if is_called(description, domain) {
-        entry_held(minting, domain, read(), 0)
+        entry_held(minting, line, domain, read(), 0)
     } else {
-        bell_held(minting, domain, read(), 0)
+        bell_held(minting, line, domain, read(), 0)
     }
 }
 
 /// Returns the capability for the endpoint at which a parent gets faults, if the id is one.
-pub(crate) fn parent_held(minting: Minting, id: Id) -> Option<Held>
-    ensures { result ≡ parent_held minting id }
+pub(crate) fn parent_held(minting: Minting, line: u64, id: Id) -> Option<Held>
+    ensures { result ≡ parent_held minting line id }
 {
     if id.number < IDS {
-        Some(entry_held(minting, id.domain, write_reply(), (1 << 62) + id.number))
+        Some(entry_held(
+            minting,
+            line,
+            id.domain,
+            write_reply(),
+            (1 << 62) + id.number,
+        ))
     } else {
         None
     }
@@ -192,7 +198,7 @@ fn fault_held(description: &Description, minting: Minting, domain: usize) -> Opt
 {
     match description.domains.get(domain) {
         Some(domain) => match domain.parent {
-            Some(id) => parent_held(minting, id),
+            Some(id) => parent_held(minting, domain.line, id),
             None => None,
         },
         None => None,
@@ -204,7 +210,8 @@ fn own_bell_held(description: &Description, minting: Minting, domain: usize) -> 
     ensures { result ≡ own_bell_held (description_of description.now) minting domain }
 {
     if is_called(description, domain) {
-        Some(bell_held(minting, domain, read(), 0))
+        let line = domain_line(description, domain);
+        Some(bell_held(minting, line, domain, read(), 0))
     } else {
         None
     }
@@ -215,7 +222,8 @@ fn answer_held(description: &Description, minting: Minting, domain: usize) -> Op
     ensures { result ≡ answer_held (description_of description.now) minting domain }
 {
     if answers(description, minting, domain) {
-        Some(capability(Form::Answer, domain, Detail::Reply))
+        let line = domain_line(description, domain);
+        Some(capability(line, Form::Answer, domain, Detail::Reply))
     } else {
         None
     }
@@ -283,6 +291,7 @@ fn notify_held(description: &Description, minting: Minting, domain: usize, id: u
     match end_at(&description.channels, domain, id) {
         Some((own, other)) if own.may_notify => Some(bell_held(
             minting,
+            own.line,
             other.id.domain,
             write(),
             badge_of(other.id.number),
@@ -298,6 +307,7 @@ fn call_held(description: &Description, minting: Minting, domain: usize, id: u64
     match end_at(&description.channels, domain, id) {
         Some((own, other)) if own.may_call => Some(entry_held(
             minting,
+            own.line,
             other.id.domain,
             write_reply(),
             (1 << 63) + other.id.number,
@@ -328,15 +338,15 @@ fn place_of(domains: &[Domain], domain: usize, id: u64) -> Option<usize>
 }
 
 #[tactic(auto, unfolding(crate::specs::Slots::child_held))]
-fn child_held(description: &Description, children: Children, domain: usize, id: u64) -> Option<Held>
-    ensures { result ≡ child_held (description_of description.now) children domain id }
+fn child_held(description: &Description, domain: usize, id: u64) -> Option<Held>
+    ensures { result ≡ child_held (description_of description.now) domain id }
 {
-    match children {
-        Children::Control => match child_number(&description.domains, domain, id) {
-            Some(child) => Some(capability(Form::Main, child, Detail::Tcb)),
-            None => None,
-        },
-        Children::Directed => None,
+    match child_number(&description.domains, domain, id) {
+        Some(child) => {
+            let line = domain_line(description, child);
+            Some(capability(line, Form::Main, child, Detail::Tcb))
+        }
+        None => None,
     }
 }
 
@@ -348,19 +358,14 @@ fn processor_number(processors: &[Processor], domain: usize, id: u64) -> Option<
 }
 
 #[tactic(auto, unfolding(crate::specs::Slots::processor_held))]
-fn processor_held(
-    description: &Description,
-    children: Children,
-    domain: usize,
-    id: u64,
-) -> Option<Held>
-    ensures { result ≡ processor_held (description_of description.now) children domain id }
+fn processor_held(description: &Description, domain: usize, id: u64) -> Option<Held>
+    ensures { result ≡ processor_held (description_of description.now) domain id }
 {
-    match children {
-        Children::Control => match processor_number(&description.processors, domain, id) {
-            Some(number) => Some(capability(Form::Processor, number, Detail::Tcb)),
-            None => None,
-        },
-        Children::Directed => None,
+    match processor_number(&description.processors, domain, id) {
+        Some(number) => {
+            let line = processor_line(description, number);
+            Some(capability(line, Form::Processor, number, Detail::Tcb))
+        }
+        None => None,
     }
 }

@@ -5,17 +5,17 @@ ghost use Rattle.base.specs.declared.label.TheConstants.Label as LabelLimits;
 ghost use Rattle.words.specs.{declared.faults.Wrong.TheVariants.UnknownName, Reading.Reads};
 ghost use Rattle.microkit.specs.{LabelView.bytes_of, Labels.names_of, Names.IsLabelName, View.description_of};
 ghost use Rattle.table.specs.Building.{repeats_untyped};
-ghost use Rattle.importing.specs.{declared.pieces.Form.Form, Built.or_fault, Groups.labels_at, Pieces.same_piece};
+ghost use Rattle.importing.specs.{Built.or_fault, Groups.labels_at, Pieces.same_piece};
 ghost use Rattle.importing.specs.{PlanView.plan_of, Tables.{binding_added, bond_added, bond_of, bonds_added, bonds_of}};
 ghost use Rattle.importing.specs.Tables.{cap_added, filled_by, filled_up, finished, grant_added, grants_added};
-ghost use Rattle.importing.specs.Tables.{guest_bonds, is_context, is_thread, labels_fit, objects_by, piece_number};
+ghost use Rattle.importing.specs.Tables.{is_context, is_thread, labels_fit, objects_by, piece_number};
 ghost use Rattle.importing.specs.Tables.{planned, subjects_fit, table_at, table_by, takes_binding, takes_cap};
 ghost use Rattle.importing.specs.Whole.{IsTableOf};
 
 use crate::builder::{Builder, Plan};
 use crate::grants::{grants_of, roots_of};
 use crate::groups::{leaders_at, line_at, places_of, uses_in};
-use crate::pieces::{Children, Form, Grant, Minting, Piece, pieces_of, same_piece};
+use crate::pieces::{Form, Grant, Minting, Piece, pieces_of, same_piece};
 use crate::plan::{line_of, piece_line};
 use base::{Label, MAX_OBJECTS, ObjId, SlotRef};
 use machine::{Binding, Cap, Detail, Filled, ObjectKind};
@@ -192,59 +192,22 @@ fn add_bonds(
     Ok(())
 }
 
-// The contexts of so many threads of this form.
-fn bonds_for(
-    alloc: Global,
-    thread: Form,
-    context: Form,
-    count: usize,
-) -> Result<Vec<Bond>, AllocError>
-    ensures { IfOk result (λ bonds. bonds.items ≡ map (bond_of thread context) (range_with_len 0 count)) }
+// Each domain's thread with its context.
+fn bonds_of(alloc: Global, domains: usize) -> Result<Vec<Bond>, AllocError>
+    ensures { IfOk result (λ bonds. bonds.items ≡ map bond_of (range_with_len 0 domains)) }
 {
-    (0..count)
+    (0..domains)
         .map(|number| Bond {
             thread: Piece {
-                form: thread,
+                form: Form::Main,
                 number,
             },
             context: Piece {
-                form: context,
+                form: Form::Time,
                 number,
             },
         })
         .collect(alloc)
-}
-
-fn guest_bonds(
-    alloc: Global,
-    description: &Description,
-    children: Children,
-) -> Result<Vec<Bond>, AllocError>
-    ensures { IfOk result (λ bonds. bonds.items ≡ guest_bonds (description_of description.now) children) }
-{
-    match children {
-        Children::Control => Ok(Vec::new(alloc)),
-        Children::Directed => bonds_for(
-            alloc,
-            Form::Processor,
-            Form::ProcessorTime,
-            description.processors.len(),
-        ),
-    }
-}
-
-#[tactic(auto, unfolding(crate::specs::Tables::bonds_of))]
-fn bonds_of(
-    alloc: Global,
-    description: &Description,
-    children: Children,
-) -> Result<Vec<Bond>, AllocError>
-    ensures { IfOk result (λ bonds. bonds.items ≡ bonds_of (description_of description.now) children) }
-{
-    let mut bonds = bonds_for(alloc, Form::Main, Form::Time, description.domains.len())?;
-    let guests = guest_bonds(alloc, description, children)?;
-    bonds.extend_from_slice(&guests)?;
-    Ok(bonds)
 }
 
 // The table of a draft.
@@ -266,15 +229,14 @@ fn fill_up(
     description: &Description,
     pieces: &[Piece],
     grants: &[Grant],
-    children: Children,
 ) -> Result<(), Fault>
     ensures { Reads (λ _. draft.new) result
-        (filled_up (description_of description.now) pieces.now grants.now children draft.old) }
+        (filled_up (description_of description.now) pieces.now grants.now draft.old) }
 {
     add_grants(draft, description, pieces, grants)?;
     let roots = roots_of(alloc, description, grants)?;
     add_grants(draft, description, pieces, &roots)?;
-    let bonds = bonds_of(alloc, description, children)?;
+    let bonds = bonds_of(alloc, description.domains.len())?;
     add_bonds(draft, description, pieces, &bonds)
 }
 
@@ -307,13 +269,8 @@ fn check_labels(
 
 // The plan of a description.
 #[tactic(auto, unfolding(crate::specs::Tables::planned, crate::specs::Groups::labelled_of, words::specs::Reading::bind))]
-fn planned(
-    alloc: Global,
-    description: &Description,
-    minting: Minting,
-    children: Children,
-) -> Result<Plan<'_>, Fault>
-    ensures exact { Reads (λ plan. plan_of plan) result (planned (description_of description.now) minting children) }
+fn planned(alloc: Global, description: &Description, minting: Minting) -> Result<Plan<'_>, Fault>
+    ensures exact { Reads (λ plan. plan_of plan) result (planned (description_of description.now) minting) }
     ensures names { IfOk result (λ plan. AllByRecursion IsLabelName
         (labels_at (bytes_of plan.names.items) plan.places.items)) }
     ensures distinct { IfOk result (λ plan. AllPairs (λ one other. one ≢ other)
@@ -327,10 +284,9 @@ fn planned(
     check_labels(description, &subjects, &places)?;
     let labelled = leaders_at(alloc, &subjects, &places)?;
     let names = label_names(alloc, description)?;
-    let grants = grants_of(alloc, description, minting, children)?;
+    let grants = grants_of(alloc, description, minting)?;
     Ok(Plan {
         description,
-        children,
         subjects,
         names,
         uses,
@@ -369,14 +325,7 @@ fn table_by(alloc: Global, plan: &Plan<'_>, pieces: &[Piece]) -> Result<Table, F
     ensures { Reads (λ table. table) result (table_by pieces.now (plan_of plan.now)) }
 {
     let mut draft = objects_by(alloc, plan, pieces)?;
-    match fill_up(
-        alloc,
-        &mut draft,
-        plan.description,
-        pieces,
-        &plan.grants,
-        plan.children,
-    ) {
+    match fill_up(alloc, &mut draft, plan.description, pieces, &plan.grants) {
         Ok(()) => finish(draft),
         Err(fault) => {
             drop(draft);
@@ -395,30 +344,20 @@ fn table_by(alloc: Global, plan: &Plan<'_>, pieces: &[Piece]) -> Result<Table, F
 /// virtual processors of a virtual machine have one id, none of which a description has that was
 /// read. 40 at line 0 where memory is refused.
 #[tactic(auto, using(crate::proofs::Whole::table_whole))]
-pub fn table_of(
-    alloc: Global,
-    description: &Description,
-    minting: Minting,
-    children: Children,
-) -> Result<Table, Fault>
+pub fn table_of(alloc: Global, description: &Description, minting: Minting) -> Result<Table, Fault>
     // Which table it is, or which fault is the first.
-    ensures exact { Reads (λ table. table) result (table_at (description_of description.now) minting children) }
+    ensures exact { Reads (λ table. table) result (table_at (description_of description.now) minting) }
     // The table as whole lists.
-    ensures whole { IfOk result (λ table. IsTableOf (description_of description.now) minting children table) }
+    ensures whole { IfOk result (λ table. IsTableOf (description_of description.now) minting table) }
 {
-    table_at(alloc, description, minting, children)
+    table_at(alloc, description, minting)
 }
 
 #[tactic(auto, unfolding(crate::specs::Tables::table_at, words::specs::Reading::bind))]
-fn table_at(
-    alloc: Global,
-    description: &Description,
-    minting: Minting,
-    children: Children,
-) -> Result<Table, Fault>
-    ensures { Reads (λ table. table) result (table_at (description_of description.now) minting children) }
+fn table_at(alloc: Global, description: &Description, minting: Minting) -> Result<Table, Fault>
+    ensures { Reads (λ table. table) result (table_at (description_of description.now) minting) }
 {
-    let plan = planned(alloc, description, minting, children)?;
+    let plan = planned(alloc, description, minting)?;
     let pieces = pieces_of(alloc, description, minting)?;
     table_by(alloc, &plan, &pieces)
 }

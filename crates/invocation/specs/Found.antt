@@ -22,10 +22,10 @@ Each P (x ∷ xs) = P x × Each P xs
 abbrev pub AreFound : Found → Words → Type 0
 AreFound found words =
     Each (IsFound found)
-    ((codes "description", words.description) ∷ (codes "table", words.table) ∷ (codes "policy", words.policy) ∷ (codes "certificate", words.certificate)
+    ((codes "system", words.system) ∷ (codes "policy", words.policy) ∷ (codes "certificate", words.certificate)
     ∷ (codes "script", words.script) ∷ (codes "log", words.log) ∷ (codes "claims", words.claims) ∷ (codes "actor", words.actor)
     ∷ (codes "object", words.object) ∷ (codes "workers", words.workers) ∷ (codes "steps", words.steps) ∷ (codes "rights", words.rights)
-    ∷ (codes "children", words.children) ∷ (codes "rules", words.rules) ∷ (codes "format", words.format) ∷ [])
+    ∷ (codes "rules", words.rules) ∷ (codes "format", words.format) ∷ [])
     × Each (IsGiven found)
     ((codes "explain", words.explain) ∷ (codes "quiet", words.quiet) ∷ (codes "cert", words.cert) ∷ (codes "missing", words.missing)
     ∷ (codes "surplus", words.surplus) ∷ (codes "split", words.split) ∷ (codes "all", words.all) ∷ (codes "take", words.take)
@@ -39,3 +39,7 @@ pub record IsAskedIn (matches : ArgMatches) (line : CommandLine) : Type 0 where
   pub rows : option_map (λ rows. rows.1) (subcommand_rows_of matches) ≡ Some (rows_of found)
   pub read : AreFound found words
   pub asks : command_line_of words ≡ Some line
+
+-- a line asks for what a command and words make that were found, by the library for command lines, in the words of the line
+abbrev pub IsRead : CommandLine → Type 0
+IsRead line = (matches : ArgMatches) × IsAskedIn matches line

@@ -12,6 +12,9 @@ pub const ABOUT: &str =
 pub const ABOUT_IMPORT: &str =
     "Writes the capability table of a Microkit system description, or the claims that it makes";
 
+// It shows `--rights` as required. Clap isn't told so: its message on a missing option doesn't say what the values mean.
+pub const USAGE_IMPORT: &str = "confine import [OPTIONS] --rights <least|all> <FILE>";
+
 pub const ABOUT_SUMMARY: &str =
     "Prints a matrix of who may change whom, and who changes and reads which memory";
 
@@ -31,7 +34,7 @@ pub const ABOUT_REPLAY: &str =
     "Reports whether a system could have made a log, and whether it ends within a policy";
 
 pub const ABOUT_CLOSE: &str =
-    "Writes the smallest policy that accepts a table, and keeps the edges of POLICY";
+    "Writes the smallest policy that accepts a system, and keeps the edges of POLICY";
 
 pub const ABOUT_WHY: &str =
     "Reports what threads of a label may do to objects of another, and by which edges";
@@ -43,7 +46,12 @@ pub const ABOUT_CLAIMS: &str =
     "Reports whether claims hold: how much authority labels have on others at most";
 
 pub const ABOUT_LIST: &str =
-    "Lists the objects of a table: by which number a script names each, its kind, name, label";
+    "Lists the objects of a system: by which number a script names each, its kind, name, label";
+
+pub const SYSTEM: &str = "\
+A capability table, as `confine check --help` shows it, or a system description, as
+`confine import --help` says. A text that begins with `<` is a description. For each
+file, `-` is standard input.";
 
 // Clap indents what a file holds by twelve columns.
 pub const TABLE: &str = "\
@@ -154,22 +162,20 @@ says nothing:
   take A B           .. other than by shrinking it; `*` for A or B: each other label
   only B A A ..      threads of B and of these labels alone change an object of B
   apart A B          no chain of such changes leads from A to B
-  without A KIND B   A never has authority of this kind on B, as in an edge of a policy
-
-With `confine-claims 1` there are lines `none A B` and `take A B` alone, by label.";
+  without A KIND B   A never has authority of this kind on B, as in an edge of a policy";
 
 pub const DESCRIPTION: &str = "\
 A system description, as Microkit 1.x reads it: protection domains, virtual machines,
 memory regions, maps and channels, in XML. What it doesn't show is told with `--explain`.
 docs/IMPORT.md says what each element becomes.";
 
-pub const VERSION: &str = "0.19.0";
+pub const VERSION: &str = "0.20.0";
 
 pub const EXPLAIN: &str = "Explains on standard error what is denied or faulty, and what to do";
 
 pub const QUIET: &str = "Leaves out notes on standard error";
 
-pub const FORMAT: &str = "Prints reports as `json`, or as `short`: FILE:LINE: message";
+pub const FORMAT: &str = "Prints reports as `json` or `short`: FILE:LINE: message";
 
 pub const WRONG_FORMAT: &str = "'--format <F>' takes 'json' or 'short'";
 
@@ -181,12 +187,13 @@ pub const CERT: &str = "Writes the certificate of an accepted table instead of t
 
 pub const RIGHTS: &str = "The rights of capabilities: `least`, as the description needs, or `all`";
 
-pub const CHILDREN: &str = "What a parent has of a child: `control` or `directed`";
+pub const RIGHTS_OF_SYSTEM: &str = "Of a description: `least`, the rights that it needs, or `all`";
+
+pub const TWO_INPUTS: &str = "'-' is standard input, so only one file can be '-'";
 
 pub const WRONG_RIGHTS: &str =
-    "'--rights <R>' takes 'least' or 'all': with 'least' a capability has the rights \
-that the description needs, with 'all' every right of its kind, as Microkit 1.x mints them; '--children <C>' takes \
-'control' or 'directed'";
+    "'--rights <least|all>' takes 'least' or 'all': with 'least' a capability has the rights \
+that the description needs, with 'all' every right of its kind, as Microkit 1.x mints them";
 
 pub const AS_CLAIMS: &str = "Writes the claims that the description makes, in place of the table";
 
@@ -273,10 +280,11 @@ end
 pub const BEGINNING: &str = "\
 confine decides, before a separated system boots, whether its capabilities keep to a policy.
 
-  confine close TABLE          writes the smallest policy that accepts a table
-  confine check TABLE POLICY   accepts or denies, and prints who may change what
-  confine claims TABLE CLAIMS  reports whether claims on labels hold in every run
-  confine why TABLE A B        reports what label A may do to label B, and by which edges
+  confine summary SYSTEM        prints a matrix of who may change whom, and who reads what
+  confine why SYSTEM A B        reports what label A may do to label B, and by which edges
+  confine claims SYSTEM CLAIMS  reports whether claims on labels hold in every run
+  confine close SYSTEM          writes the smallest policy that accepts a system
+  confine check TABLE POLICY    accepts or denies, and prints who may change what
 
 `confine --help` lists all commands, and `confine COMMAND --help` explains one, with an example.
 docs/TUTORIAL.md is the place to begin.

@@ -2,7 +2,7 @@
 ghost use Rattle.std.specs.Prelude.{◌≡◌, IfOk, IfSome};
 ghost use Rattle.clap.specs.Matches.{found_of};
 ghost use Rattle.requests.specs.Requests.{IsWithinLimits, OnInTurn};
-ghost use Rattle.invocation.specs.Found.{AreFound, IsAskedIn};
+ghost use Rattle.invocation.specs.Found.{AreFound, IsAskedIn, IsRead};
 
 use crate::help;
 use clap::error::ErrorKind;
@@ -17,7 +17,8 @@ use std::fmt;
 ///
 /// A message for the user, if the words are no command, or ask for help or for the version.
 pub fn read_request<'a>(alloc: Global, words: &'a [String]) -> Result<CommandLine<'a>, Error>
-    ensures { IfOk result (λ line. OnInTurn line IsWithinLimits) }
+    ensures asked { IfOk result IsRead }
+    ensures limits { IfOk result (λ line. OnInTurn line IsWithinLimits) }
 {
     let mut command = command(alloc)?;
     read_by(alloc, &mut command, words)
@@ -29,7 +30,8 @@ fn read_by<'a>(
     command: &mut Command<'a>,
     words: &'a [String],
 ) -> Result<CommandLine<'a>, Error>
-    ensures { IfOk result (λ line. OnInTurn line IsWithinLimits) }
+    ensures asked { IfOk result IsRead }
+    ensures limits { IfOk result (λ line. OnInTurn line IsWithinLimits) }
 {
     let matches = command.try_get_matches_from_mut(words)?;
     let line = line_of(&matches);
@@ -54,11 +56,16 @@ fn misuse_of(alloc: Global, matches: &ArgMatches<'_>) -> Result<(ErrorKind, Stri
         let message = format!(in alloc; "{unneeded}")?;
         return Ok((ErrorKind::TooManyValues, message));
     }
+    if inputs(found) > 1 {
+        let message = String::from_str(alloc, help::TWO_INPUTS)?;
+        return Ok((ErrorKind::TooManyValues, message));
+    }
     let message = match name {
         _ if !has_format(found) => help::WRONG_FORMAT,
         _ if !has_rules(found) => help::WRONG_RULES,
-        "show" => help::WRONG_STEPS,
+        _ if !has_rights(found) => help::WRONG_RIGHTS,
         "import" => help::WRONG_RIGHTS,
+        "show" => help::WRONG_STEPS,
         _ => help::WRONG_WORKERS,
     };
     Ok((ErrorKind::InvalidValue, String::from_str(alloc, message)?))
@@ -69,14 +76,15 @@ fn misuse_of(alloc: Global, matches: &ArgMatches<'_>) -> Result<(ErrorKind, Stri
 struct Unneeded<'a> {
     policy: &'a str,
     command: &'a str,
-    table: &'a str,
+    system: &'a str,
     rest: [&'a str; 2],
+    rights: Option<&'a str>,
 }
 
 impl<'a> Unneeded<'a> {
     // The policy among the words of a command, if there is one word more than the command takes.
     fn of(name: &'a str, found: &ArgMatches<'a>) -> Option<Unneeded<'a>> {
-        let table = found.get_str("table")?;
+        let system = found.get_str("system")?;
         let last = found.get_str("unneeded");
         let (policy, rest) = match (found.get_str("actor"), found.get_str("object"), last) {
             (Some(policy), Some(actor), Some(object)) => (policy, [actor, object]),
@@ -89,10 +97,25 @@ impl<'a> Unneeded<'a> {
         Some(Unneeded {
             policy,
             command: name,
-            table,
+            system,
             rest,
+            rights: found.get_str("rights"),
         })
     }
+}
+
+// The ids of files.
+const FILES: [&str; 6] = ["system", "policy", "certificate", "script", "log", "claims"];
+
+// How many files are standard input, which can be read once.
+fn inputs(found: &ArgMatches<'_>) -> u64 {
+    let mut inputs = 0;
+    for id in &FILES {
+        if found.get_str(id) == Some("-") {
+            inputs = 1u64.saturating_add(inputs);
+        }
+    }
+    inputs
 }
 
 // The file of claims, where the strongest that hold are asked for.
@@ -109,17 +132,21 @@ impl fmt::Display for Unneeded<'_> {
         let Unneeded {
             policy,
             command,
-            table,
+            system,
             rest: [first, second],
+            rights,
         } = self;
         write!(
             f,
-            "'{policy}' isn't needed any more: 'confine {command} {table}"
+            "'{policy}' isn't needed any more: 'confine {command} {system}"
         )?;
         for word in [first, second] {
             if !word.is_empty() {
                 write!(f, " {word}")?;
             }
+        }
+        if let Some(rights) = rights {
+            write!(f, " --rights {rights}")?;
         }
         f.write_str("'")
     }
@@ -129,6 +156,14 @@ impl fmt::Display for Unneeded<'_> {
 fn has_rules(found: &ArgMatches<'_>) -> bool {
     match found.get_str("rules") {
         Some(word) => word == "closed" || word == "sharp",
+        None => true,
+    }
+}
+
+// Whether the word for the rights is one, if there is such a word.
+fn has_rights(found: &ArgMatches<'_>) -> bool {
+    match found.get_str("rights") {
+        Some(word) => word == "least" || word == "all",
         None => true,
     }
 }
@@ -147,7 +182,7 @@ fn line_of<'a>(matches: &ArgMatches<'a>) -> Option<CommandLine<'a>>
     ensures limits { IfSome result (λ line. OnInTurn line IsWithinLimits) }
 {
     let (name, found) = matches.subcommand()?;
-    if Unneeded::of(name, found).is_some() {
+    if Unneeded::of(name, found).is_some() || inputs(found) > 1 {
         return None;
     }
     words_of(Verb::from_name(name)?, found).line()
@@ -160,8 +195,7 @@ fn words_of<'a>(verb: Verb, found: &ArgMatches<'a>) -> Words<'a>
 {
     Words {
         verb,
-        description: found.get_str("description"),
-        table: found.get_str("table"),
+        system: found.get_str("system"),
         policy: found.get_str("policy"),
         certificate: found.get_str("certificate"),
         script: found.get_str("script"),
@@ -172,7 +206,6 @@ fn words_of<'a>(verb: Verb, found: &ArgMatches<'a>) -> Words<'a>
         workers: found.get_str("workers"),
         steps: found.get_str("steps"),
         rights: found.get_str("rights"),
-        children: found.get_str("children"),
         rules: found.get_str("rules"),
         format: found.get_str("format"),
         explain: found.get_flag("explain"),
@@ -237,33 +270,32 @@ fn taking<'a>(
 }
 
 fn import_command<'a>(alloc: Global) -> Result<Command<'a>, AllocError> {
-    let command = telling(alloc, "import", help::ABOUT_IMPORT, help::EXAMPLE_IMPORT);
-    let description = word(alloc, "description", "FILE", help::DESCRIPTION);
+    let command = telling(alloc, "import", help::ABOUT_IMPORT, help::EXAMPLE_IMPORT)?;
+    let command = Ok(command.override_usage(help::USAGE_IMPORT));
+    let description = word(alloc, "system", "FILE", help::DESCRIPTION);
     let command = taking(command, Ok(description));
-    let rights = option(alloc, "rights", "R", help::RIGHTS);
+    let rights = option(alloc, "rights", "least|all", help::RIGHTS);
     let command = taking(command, Ok(rights));
-    let children = option(alloc, "children", "C", help::CHILDREN);
-    let command = taking(command, Ok(children.default_value("control")));
     let claims = flag(alloc, "as-claims", help::AS_CLAIMS).long("claims");
     taking(command, Ok(claims))
 }
 
 fn check_command<'a>(alloc: Global) -> Result<Command<'a>, AllocError> {
-    let command = on_system(alloc, "check", help::ABOUT_CHECK, help::EXAMPLE_CHECK);
+    let command = on_policy(alloc, "check", help::ABOUT_CHECK, help::EXAMPLE_CHECK);
     let command = taking(command, Ok(rules(alloc)));
     let command = taking(command, Ok(workers(alloc)));
     taking(command, Ok(flag(alloc, "cert", help::CERT)))
 }
 
 fn verify_command<'a>(alloc: Global) -> Result<Command<'a>, AllocError> {
-    let command = on_system(alloc, "verify", help::ABOUT_VERIFY, help::EXAMPLE_VERIFY);
+    let command = on_policy(alloc, "verify", help::ABOUT_VERIFY, help::EXAMPLE_VERIFY);
     let certificate = word(alloc, "certificate", "CERT", help::CERTIFICATE);
     let command = taking(command, Ok(certificate));
     taking(command, Ok(rules(alloc)))
 }
 
 fn run_command<'a>(alloc: Global) -> Result<Command<'a>, AllocError> {
-    let command = on_system(alloc, "run", help::ABOUT_RUN, help::EXAMPLE_RUN);
+    let command = on_policy(alloc, "run", help::ABOUT_RUN, help::EXAMPLE_RUN);
     let command = taking(command, Ok(word(alloc, "script", "SCRIPT", help::SCRIPT)));
     let command = taking(command, Ok(rules(alloc)));
     let split = flag(alloc, "split", help::SPLIT);
@@ -271,7 +303,7 @@ fn run_command<'a>(alloc: Global) -> Result<Command<'a>, AllocError> {
 }
 
 fn replay_command<'a>(alloc: Global) -> Result<Command<'a>, AllocError> {
-    on_system(alloc, "replay", help::ABOUT_REPLAY, help::EXAMPLE_REPLAY)?.arg(word(
+    on_policy(alloc, "replay", help::ABOUT_REPLAY, help::EXAMPLE_REPLAY)?.arg(word(
         alloc,
         "log",
         "LOG",
@@ -280,7 +312,7 @@ fn replay_command<'a>(alloc: Global) -> Result<Command<'a>, AllocError> {
 }
 
 fn close_command<'a>(alloc: Global) -> Result<Command<'a>, AllocError> {
-    let command = on_table(alloc, "close", help::ABOUT_CLOSE, help::EXAMPLE_CLOSE);
+    let command = on_system(alloc, "close", help::ABOUT_CLOSE, help::EXAMPLE_CLOSE);
     let policy = word(alloc, "policy", "POLICY", help::POLICY_TO_CLOSE).required(false);
     let command = taking(command, Ok(policy));
     let command = taking(command, Ok(rules(alloc)));
@@ -290,7 +322,7 @@ fn close_command<'a>(alloc: Global) -> Result<Command<'a>, AllocError> {
 }
 
 fn why_command<'a>(alloc: Global) -> Result<Command<'a>, AllocError> {
-    let command = on_table(alloc, "why", help::ABOUT_WHY, help::EXAMPLE_WHY);
+    let command = on_system(alloc, "why", help::ABOUT_WHY, help::EXAMPLE_WHY);
     let command = taking(command, Ok(word(alloc, "actor", "A", help::ACTOR)));
     let command = taking(command, Ok(word(alloc, "object", "B", help::OBJECT)));
     let command = taking(command, Ok(one_word_more(alloc)));
@@ -298,7 +330,7 @@ fn why_command<'a>(alloc: Global) -> Result<Command<'a>, AllocError> {
 }
 
 fn show_command<'a>(alloc: Global) -> Result<Command<'a>, AllocError> {
-    let command = on_table(alloc, "show", help::ABOUT_SHOW, help::EXAMPLE_SHOW);
+    let command = on_system(alloc, "show", help::ABOUT_SHOW, help::EXAMPLE_SHOW);
     let command = taking(command, Ok(word(alloc, "actor", "A", help::ACTOR)));
     let command = taking(command, Ok(word(alloc, "object", "B", help::OBJECT)));
     let command = taking(command, Ok(one_word_more(alloc)));
@@ -308,19 +340,19 @@ fn show_command<'a>(alloc: Global) -> Result<Command<'a>, AllocError> {
 }
 
 fn summary_command<'a>(alloc: Global) -> Result<Command<'a>, AllocError> {
-    let command = on_table(alloc, "summary", help::ABOUT_SUMMARY, help::EXAMPLE_SUMMARY);
+    let command = on_system(alloc, "summary", help::ABOUT_SUMMARY, help::EXAMPLE_SUMMARY);
     taking(command, Ok(one_word_more(alloc)))
 }
 
 fn draw_command<'a>(alloc: Global) -> Result<Command<'a>, AllocError> {
-    let command = on_table(alloc, "draw", help::ABOUT_DRAW, help::EXAMPLE_DRAW);
+    let command = on_system(alloc, "draw", help::ABOUT_DRAW, help::EXAMPLE_DRAW);
     let command = taking(command, Ok(one_word_more(alloc)));
     let command = taking(command, Ok(flag(alloc, "all", help::ALL_LABELS)));
     taking(command, Ok(allowing(alloc)))
 }
 
 fn claims_command<'a>(alloc: Global) -> Result<Command<'a>, AllocError> {
-    let command = on_table(alloc, "claims", help::ABOUT_CLAIMS, help::EXAMPLE_CLAIMS);
+    let command = on_system(alloc, "claims", help::ABOUT_CLAIMS, help::EXAMPLE_CLAIMS);
     let claims = word(alloc, "claims", "CLAIMS", help::CLAIMS).required(false);
     let command = taking(command, claims.required_unless_present("all"));
     let command = taking(command, Ok(one_word_more(alloc)));
@@ -328,27 +360,34 @@ fn claims_command<'a>(alloc: Global) -> Result<Command<'a>, AllocError> {
 }
 
 fn list_command<'a>(alloc: Global) -> Result<Command<'a>, AllocError> {
-    on_table(alloc, "list", help::ABOUT_LIST, help::EXAMPLE_LIST)
+    on_system(alloc, "list", help::ABOUT_LIST, help::EXAMPLE_LIST)
 }
 
 // A command whose first files are a table and a policy.
+fn on_policy<'a>(
+    alloc: Global,
+    name: &'a str,
+    about: &'a str,
+    example: &'a str,
+) -> Result<Command<'a>, AllocError> {
+    let command = telling(alloc, name, about, example);
+    let command = taking(command, Ok(word(alloc, "system", "TABLE", help::TABLE)));
+    taking(command, Ok(word(alloc, "policy", "POLICY", help::POLICY)))
+}
+
+// A command whose first file is a system.
 fn on_system<'a>(
     alloc: Global,
     name: &'a str,
     about: &'a str,
     example: &'a str,
 ) -> Result<Command<'a>, AllocError> {
-    on_table(alloc, name, about, example)?.arg(word(alloc, "policy", "POLICY", help::POLICY))
-}
-
-// A command whose first file is a table.
-fn on_table<'a>(
-    alloc: Global,
-    name: &'a str,
-    about: &'a str,
-    example: &'a str,
-) -> Result<Command<'a>, AllocError> {
-    telling(alloc, name, about, example)?.arg(word(alloc, "table", "TABLE", help::TABLE))
+    let command = telling(alloc, name, about, example);
+    let command = taking(command, Ok(word(alloc, "system", "SYSTEM", help::SYSTEM)));
+    taking(
+        command,
+        Ok(option(alloc, "rights", "R", help::RIGHTS_OF_SYSTEM)),
+    )
 }
 
 // A command with the options that each has: how it tells what it finds.

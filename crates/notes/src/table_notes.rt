@@ -2,9 +2,9 @@
 use base::{Kind, Label, Labels, ObjId, Rights, SlotRef};
 use bitflags::Flags;
 use captext::{SlotName, label_name, object_name};
-use explain::{Start, line_of_label, line_of_object, line_of_slot};
 use machine::{Detail, Filled, Initial, Object, ObjectKind};
 use reach::Reach;
+use sources::{Sheet, Start};
 use std::alloc::{AllocError, Global};
 use std::fmt;
 use table::Table;
@@ -46,25 +46,51 @@ enum Matter {
     Short(SlotRef, u64),
 }
 
-/// Returns the notes on a table with this reach, which stands in this file, each with its line. Those of
-/// one kind are at most 16.
+/// Returns the notes on a table with this reach, each with its line. Those of one kind are at most 16.
 ///
 /// # Errors
 ///
 /// [`AllocError`] where memory is refused.
-pub fn explain_notes(alloc: Global, file: &str, reach: &Reach<'_>) -> Result<String, AllocError> {
+pub fn explain_notes(
+    alloc: Global,
+    sheet: Sheet<'_>,
+    reach: &Reach<'_>,
+) -> Result<String, AllocError> {
+    let mut matters = Vec::new(alloc);
+    add_notes(alloc, &mut matters, reach)?;
+    let notes = notes_of(alloc, sheet, &matters)?;
+    lines_of(alloc, sheet, &notes)
+}
+
+/// The notes on these, by their lines.
+fn notes_of(alloc: Global, sheet: Sheet<'_>, matters: &[Matter]) -> Result<Vec<Note>, AllocError> {
     let mut notes = Vec::new(alloc);
-    add_notes(alloc, &mut notes, reach)?;
-    lines_of(alloc, file, reach.table(), &notes)
+    for matter in matters {
+        notes.push(Note {
+            line: line_of(sheet, *matter),
+            matter: *matter,
+        })?;
+    }
+    notes.sort_by_key(|note| note.line)?;
+    Ok(notes)
+}
+
+/// The line of what a note says something of.
+fn line_of(sheet: Sheet<'_>, matter: Matter) -> Option<usize> {
+    match matter {
+        Matter::Unused(label) => sheet.line_of_label(label),
+        Matter::Unnamed(id) | Matter::Rootless(id) | Matter::Unbound(id, _) => {
+            sheet.line_of_object(id)
+        }
+        Matter::Unanswering(slot) | Matter::Alike(slot, _) | Matter::Short(slot, _) => {
+            sheet.line_of_slot(slot)
+        }
+    }
 }
 
 /// A line for each note.
-fn lines_of(
-    alloc: Global,
-    file: &str,
-    table: &Table,
-    notes: &[Note],
-) -> Result<String, AllocError> {
+fn lines_of(alloc: Global, sheet: Sheet<'_>, notes: &[Note]) -> Result<String, AllocError> {
+    let Sheet { file, table, .. } = sheet;
     let mut lines = String::new(alloc);
     for Note { line, matter } in notes {
         let start = Start { file, line: *line };
@@ -156,41 +182,25 @@ fn tell_short<W: fmt::Write>(
     )
 }
 
-/// Adds the notes, and sorts them by their lines.
-fn add_notes(alloc: Global, notes: &mut Vec<Note>, reach: &Reach<'_>) -> Result<(), AllocError> {
+/// Adds what there is to note.
+fn add_notes(alloc: Global, notes: &mut Vec<Matter>, reach: &Reach<'_>) -> Result<(), AllocError> {
     let table = reach.table();
     add_labels(notes, table)?;
     add_objects(alloc, notes, table)?;
     add_threads(notes, reach)?;
     add_receivers(alloc, notes, table)?;
     add_badges(alloc, notes, table)?;
-    add_roots(notes, table)?;
-    notes.sort_by_key(|note| note.line)
-}
-
-/// Adds a note on this.
-fn push_note(notes: &mut Vec<Note>, table: &Table, matter: Matter) -> Result<(), AllocError> {
-    let line = match matter {
-        Matter::Unused(label) => line_of_label(table, label),
-        Matter::Unnamed(id) | Matter::Rootless(id) | Matter::Unbound(id, _) => {
-            line_of_object(table, id)
-        }
-        Matter::Unanswering(slot) | Matter::Alike(slot, _) | Matter::Short(slot, _) => {
-            line_of_slot(table, slot)
-        }
-    };
-    notes.push(Note { line, matter })?;
-    Ok(())
+    add_roots(notes, table)
 }
 
 /// Adds the labels without an object.
-fn add_labels(notes: &mut Vec<Note>, table: &Table) -> Result<(), AllocError> {
+fn add_labels(notes: &mut Vec<Matter>, table: &Table) -> Result<(), AllocError> {
     let mut unused = table.labels();
     for initial in table.objects() {
         unused = unused.difference(Labels::only(initial.label));
     }
     for label in unused.iter().take(MOST) {
-        push_note(notes, table, Matter::Unused(label))?;
+        notes.push(Matter::Unused(label))?;
     }
     Ok(())
 }
@@ -232,19 +242,19 @@ fn object_by(filled: &Filled, listed: Listed) -> Option<ObjId> {
 }
 
 /// Adds the endpoints, notifications, frames and untyped memories for which there is no capability.
-fn add_objects(alloc: Global, notes: &mut Vec<Note>, table: &Table) -> Result<(), AllocError> {
+fn add_objects(alloc: Global, notes: &mut Vec<Matter>, table: &Table) -> Result<(), AllocError> {
     let named = list_of(alloc, table, Listed::Named)?;
     add_unnamed(notes, table, &named)
 }
 
 /// The same, where these objects have capabilities.
-fn add_unnamed(notes: &mut Vec<Note>, table: &Table, named: &[ObjId]) -> Result<(), AllocError> {
+fn add_unnamed(notes: &mut Vec<Matter>, table: &Table, named: &[ObjId]) -> Result<(), AllocError> {
     let mut told = 0;
     for (id, initial) in table.objects().iter().enumerate() {
         let id = ObjId(id as u64);
         if told < MOST && is_for_use(initial.object.kind()) && named.binary_search(&id).is_err() {
             told += 1;
-            push_note(notes, table, Matter::Unnamed(id))?;
+            notes.push(Matter::Unnamed(id))?;
         }
     }
     Ok(())
@@ -260,7 +270,7 @@ fn is_for_use(kind: ObjectKind) -> bool {
 }
 
 /// Adds what threads lack.
-fn add_threads(notes: &mut Vec<Note>, reach: &Reach<'_>) -> Result<(), AllocError> {
+fn add_threads(notes: &mut Vec<Matter>, reach: &Reach<'_>) -> Result<(), AllocError> {
     let table = reach.table();
     let controlled = controlled(reach);
     let mut told = 0;
@@ -284,7 +294,7 @@ fn controlled(reach: &Reach<'_>) -> Labels {
 
 /// Adds what a thread lacks. A label whose threads make calls may control it, or none may.
 fn add_thread(
-    notes: &mut Vec<Note>,
+    notes: &mut Vec<Matter>,
     table: &Table,
     thread: ObjId,
     is_controlled: bool,
@@ -294,16 +304,16 @@ fn add_thread(
         index: 0,
     };
     if table.cap(root).is_none() {
-        push_note(notes, table, Matter::Rootless(thread))?;
+        notes.push(Matter::Rootless(thread))?;
     }
     if table.bound_context(thread).is_none() {
-        push_note(notes, table, Matter::Unbound(thread, is_controlled))?;
+        notes.push(Matter::Unbound(thread, is_controlled))?;
     }
     Ok(())
 }
 
 /// Adds the capabilities by which calls arrive where their holder has no capability for a reply object.
-fn add_receivers(alloc: Global, notes: &mut Vec<Note>, table: &Table) -> Result<(), AllocError> {
+fn add_receivers(alloc: Global, notes: &mut Vec<Matter>, table: &Table) -> Result<(), AllocError> {
     let called = list_of(alloc, table, Listed::Called)?;
     let answering = list_of(alloc, table, Listed::Answering)?;
     add_unanswering(notes, table, &called, &answering)
@@ -311,7 +321,7 @@ fn add_receivers(alloc: Global, notes: &mut Vec<Note>, table: &Table) -> Result<
 
 /// The same, where these endpoints are called, and these objects have capabilities for reply objects.
 fn add_unanswering(
-    notes: &mut Vec<Note>,
+    notes: &mut Vec<Matter>,
     table: &Table,
     called: &[ObjId],
     answering: &[ObjId],
@@ -324,7 +334,7 @@ fn add_unanswering(
             && answering.binary_search(&filled.slot.holder).is_err()
         {
             told += 1;
-            push_note(notes, table, Matter::Unanswering(filled.slot))?;
+            notes.push(Matter::Unanswering(filled.slot))?;
         }
     }
     Ok(())
@@ -359,20 +369,20 @@ struct Sender {
 }
 
 /// Adds the capabilities that signal or send with the badge of another holder's.
-fn add_badges(alloc: Global, notes: &mut Vec<Note>, table: &Table) -> Result<(), AllocError> {
+fn add_badges(alloc: Global, notes: &mut Vec<Matter>, table: &Table) -> Result<(), AllocError> {
     let senders = senders_of(alloc, table)?;
     add_alike(notes, table, &senders)
 }
 
 /// The same, where these signal or send, by object and badge.
-fn add_alike(notes: &mut Vec<Note>, table: &Table, senders: &[Sender]) -> Result<(), AllocError> {
+fn add_alike(notes: &mut Vec<Matter>, table: &Table, senders: &[Sender]) -> Result<(), AllocError> {
     let mut told = 0;
     let mut last: Option<Sender> = None;
     for sender in senders {
         match last {
             Some(last) if told < MOST && are_alike(last, *sender) => {
                 told += 1;
-                push_note(notes, table, Matter::Alike(sender.slot, last.slot))?;
+                notes.push(Matter::Alike(sender.slot, last.slot))?;
             }
             _ => {}
         }
@@ -414,14 +424,14 @@ fn badge_of_sender(filled: &Filled) -> Option<u64> {
 /// Adds the roots whose lookups end before the last bit of an address: where several addresses find
 /// each slot, and address 1 may be no slot 1. A CNode that has capabilities for CNodes may be meant
 /// to, and isn't told.
-fn add_roots(notes: &mut Vec<Note>, table: &Table) -> Result<(), AllocError> {
+fn add_roots(notes: &mut Vec<Matter>, table: &Table) -> Result<(), AllocError> {
     let mut short = 0;
     for filled in table.caps() {
         match bits_read(table, filled) {
             Some(bits) if bits < 64 && short < MOST => {
                 short += 1;
                 if !leads_on(table, filled.cap.object) {
-                    push_note(notes, table, Matter::Short(filled.slot, bits))?;
+                    notes.push(Matter::Short(filled.slot, bits))?;
                 }
             }
             _ => {}

@@ -5,9 +5,9 @@ use crate::bell::{CERTIFICATE, LOG, POLICY, SCRIPT, TABLE};
 use crate::memory::{Stopped, Wrong, are, holds, prepared, spend};
 use crate::retypes::{self, LOG_WITHOUT_MEMORY};
 use report::{
-    Children, End, Imported, Minting, OnAccept, OnClose, OnImport, Open, Picture, Rules, Search,
-    Silence, Sink, Source, Watched, check, check_claims, close, draw, draw_allowed, import, list,
-    replay, run, run_split, show, start, summary, verify, why, why_allowed, write_claims,
+    End, Imported, Minting, OfPolicy, OfSystem, OnAccept, OnClose, OnImport, Open, Picture, Rules,
+    Search, Silence, Sink, Source, Taken, Watched, ask, ask_policy, check, check_claims, import,
+    replay, run, run_split, verify,
 };
 use std::sync::Wait;
 use std::thread::Threads;
@@ -23,25 +23,11 @@ pub enum Engine {
     Sharp,
     Verify,
     Replay,
-    /// Closing for a table alone, by these rules.
-    Start(Rules),
-    /// What a policy lacks.
-    Missing,
-    /// Why label `a` has authority on itself.
-    Why,
-    /// What the policy lets label `a` do to `b`.
-    Allowed,
+    /// What is asked of a system alone: a table, or a description with the least rights.
+    Asked(OfSystem<'static>),
+    /// What is asked of a table and a policy.
+    AskedOfPolicy(OfPolicy<'static>),
     Claims,
-    /// The strongest claims that hold.
-    Strongest,
-    Summary,
-    /// A run in which a thread of label `a` changes an object of this one.
-    Show(&'static str),
-    /// A drawing of what the policy allows.
-    Draw(Picture),
-    /// A drawing of the table's labels.
-    DrawTable,
-    List,
     /// What is imported of a description, with the least rights.
     Import(Imported),
 }
@@ -127,7 +113,7 @@ pub const CALLS: [EngineCall; 35] = [
     },
     EngineCall {
         name: "engine_close",
-        engine: Engine::Start(Rules::Closed),
+        engine: Engine::Asked(OfSystem::Start(Rules::Closed, OnClose::Policy)),
         table: TABLE,
         policy: "",
         third: "",
@@ -136,7 +122,7 @@ pub const CALLS: [EngineCall; 35] = [
     },
     EngineCall {
         name: "engine_close_sharp",
-        engine: Engine::Start(Rules::Sharp),
+        engine: Engine::Asked(OfSystem::Start(Rules::Sharp, OnClose::Policy)),
         table: TABLE,
         policy: "",
         third: "",
@@ -154,7 +140,7 @@ pub const CALLS: [EngineCall; 35] = [
     },
     EngineCall {
         name: "engine_missing",
-        engine: Engine::Missing,
+        engine: Engine::AskedOfPolicy(OfPolicy::Close(Rules::Closed, OnClose::Missing)),
         table: TABLE,
         policy: EMPTY_POLICY,
         third: "",
@@ -163,7 +149,10 @@ pub const CALLS: [EngineCall; 35] = [
     },
     EngineCall {
         name: "engine_why",
-        engine: Engine::Why,
+        engine: Engine::Asked(OfSystem::Why {
+            actor: "a",
+            object: "a",
+        }),
         table: TABLE,
         policy: "",
         third: "",
@@ -172,7 +161,10 @@ pub const CALLS: [EngineCall; 35] = [
     },
     EngineCall {
         name: "engine_why_allowed",
-        engine: Engine::Allowed,
+        engine: Engine::AskedOfPolicy(OfPolicy::Why {
+            actor: "a",
+            object: "b",
+        }),
         table: TWO_LABELS,
         policy: ONE_EDGE,
         third: "",
@@ -189,17 +181,8 @@ pub const CALLS: [EngineCall; 35] = [
         text: HOLD,
     },
     EngineCall {
-        name: "engine_stated",
-        engine: Engine::Claims,
-        table: TWO_LABELS,
-        policy: "",
-        third: STATED,
-        status: 0,
-        text: ALL_HOLD,
-    },
-    EngineCall {
         name: "engine_strongest",
-        engine: Engine::Strongest,
+        engine: Engine::Asked(OfSystem::Strongest),
         table: TWO_LABELS,
         policy: "",
         third: "",
@@ -208,7 +191,7 @@ pub const CALLS: [EngineCall; 35] = [
     },
     EngineCall {
         name: "engine_summary",
-        engine: Engine::Summary,
+        engine: Engine::Asked(OfSystem::Summary),
         table: TABLE,
         policy: "",
         third: "",
@@ -217,7 +200,11 @@ pub const CALLS: [EngineCall; 35] = [
     },
     EngineCall {
         name: "engine_show",
-        engine: Engine::Show("a"),
+        engine: Engine::Asked(OfSystem::Show {
+            search: OF_A_CHANGE,
+            actor: "a",
+            object: "a",
+        }),
         table: TABLE,
         policy: "",
         third: "",
@@ -226,7 +213,7 @@ pub const CALLS: [EngineCall; 35] = [
     },
     EngineCall {
         name: "engine_draw",
-        engine: Engine::Draw(Picture::Labels),
+        engine: Engine::AskedOfPolicy(OfPolicy::Draw(Picture::Labels)),
         table: ONE_OBJECT,
         policy: ONE_EDGE,
         third: "",
@@ -235,7 +222,7 @@ pub const CALLS: [EngineCall; 35] = [
     },
     EngineCall {
         name: "engine_draw_table",
-        engine: Engine::DrawTable,
+        engine: Engine::Asked(OfSystem::Draw(Picture::Labels)),
         table: TWO_LABELS,
         policy: "",
         third: "",
@@ -244,7 +231,7 @@ pub const CALLS: [EngineCall; 35] = [
     },
     EngineCall {
         name: "engine_draw_programs",
-        engine: Engine::Draw(Picture::Programs),
+        engine: Engine::AskedOfPolicy(OfPolicy::Draw(Picture::Programs)),
         table: TABLE,
         policy: POLICY,
         third: "",
@@ -253,12 +240,21 @@ pub const CALLS: [EngineCall; 35] = [
     },
     EngineCall {
         name: "engine_list",
-        engine: Engine::List,
+        engine: Engine::Asked(OfSystem::List),
         table: ONE_OBJECT,
         policy: "",
         third: "",
         status: 0,
         text: "0 notification n b\n",
+    },
+    EngineCall {
+        name: "engine_list_description",
+        engine: Engine::Asked(OfSystem::List),
+        table: DESCRIPTION,
+        policy: "",
+        third: "",
+        status: 0,
+        text: LIST_OF_A_DESCRIPTION,
     },
     EngineCall {
         name: "engine_import",
@@ -325,7 +321,11 @@ pub const CALLS: [EngineCall; 35] = [
     },
     EngineCall {
         name: "engine_unshown",
-        engine: Engine::Show("b"),
+        engine: Engine::Asked(OfSystem::Show {
+            search: OF_A_CHANGE,
+            actor: "a",
+            object: "b",
+        }),
         table: TWO_LABELS,
         policy: "",
         third: "",
@@ -423,14 +423,10 @@ edge a runs a
 /// A table of two labels, which have no authority.
 const TWO_LABELS: &str = "confine-table 1\nlabel a\nlabel b\nend\n";
 
-const CLAIMS: &str = "confine-claims 1\nnone a b\nnone b a\nend\n";
-
 const STRONGEST: &str = "confine-claims 2\nnone * a\nnone * b\nend\n";
 
-const HOLD: &str = "{\"claims\":2,\"verdict\":\"hold\"}\n";
-
 /// Claims of each form, and lines that claim nothing.
-const STATED: &str = "\
+const CLAIMS: &str = "\
 confine-claims 2
 none a *
 
@@ -441,7 +437,7 @@ without a notify b
 end
 ";
 
-const ALL_HOLD: &str = "{\"claims\":4,\"verdict\":\"hold\"}\n";
+const HOLD: &str = "{\"claims\":4,\"verdict\":\"hold\"}\n";
 
 /// The summary of a system with one thread.
 const MATRIX: &str = "\
@@ -529,6 +525,15 @@ bind a_main a_time0
 end
 ";
 
+/// The objects of that table.
+const LIST_OF_A_DESCRIPTION: &str = "\
+0 cnode a_space a
+1 tcb a_main a
+2 notification a_bell a
+3 context a_time0 a
+4 frame r_frame r
+";
+
 /// The claims that it makes.
 const INTENDED: &str = "confine-claims 2\nnone a r\nend\n";
 
@@ -558,7 +563,6 @@ const OF_A_CHANGE: Search = Search {
 fn with_least(imported: Imported) -> OnImport {
     OnImport {
         minting: Minting::Least,
-        children: Children::Control,
         writes: imported,
     }
 }
@@ -567,6 +571,7 @@ fn with_least(imported: Imported) -> OnImport {
 fn carry_out<R, T, P, S, O>(
     rt: &R,
     engine: Engine,
+    taken: Taken,
     table: &mut T,
     policy: &mut P,
     third: &mut S,
@@ -606,18 +611,21 @@ where
         ),
         Engine::Verify => verify(rt, alloc, rules, table, policy, third, silence, out),
         Engine::Replay => replay(alloc, table, policy, third, silence, out),
-        Engine::Start(rules) => start(alloc, rules, table, OnClose::Policy, silence, out),
-        Engine::Missing => close(alloc, rules, table, policy, OnClose::Missing, silence, out),
-        Engine::Why => why(alloc, table, "a", "a", silence, out),
-        Engine::Allowed => why_allowed(alloc, table, policy, "a", "b", silence, out),
-        Engine::Claims => check_claims(alloc, table, third, silence, out),
-        Engine::Strongest => write_claims(alloc, table, silence, out),
-        Engine::Summary => summary(alloc, table, silence, out),
-        Engine::Show(object) => show(alloc, OF_A_CHANGE, table, "a", object, silence, out),
-        Engine::Draw(picture) => draw_allowed(alloc, table, policy, picture, silence, out),
-        Engine::DrawTable => draw(alloc, table, Picture::Labels, silence, out),
-        Engine::List => list(alloc, table, silence, out),
+        Engine::Asked(asked) => ask(alloc, asked, taken, table, silence, out),
+        Engine::AskedOfPolicy(asked) => ask_policy(
+            alloc, asked, taken, table, policy, silence, out,
+        ),
+        Engine::Claims => check_claims(alloc, taken, table, third, silence, out),
         Engine::Import(imported) => import(alloc, with_least(imported), third, silence, out),
+    }
+}
+
+/// As what the first text of a call is read.
+fn taken_of(text: &str) -> Taken {
+    if text.starts_with('<') {
+        Taken::System(Some(Minting::Least))
+    } else {
+        Taken::System(None)
     }
 }
 
@@ -634,6 +642,7 @@ fn carry_out_onto<R: AllocGlobal + Threads + Wait + Sync>(
     let end = carry_out(
         rt,
         call.engine,
+        taken_of(call.table),
         &mut table,
         &mut policy,
         &mut third,

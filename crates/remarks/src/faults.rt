@@ -4,6 +4,7 @@ use crate::elements::Place;
 use crate::flaws::Flaw;
 use crate::limits::limit_flaw;
 use crate::naming::{join_flaw, known_flaw, twice_flaw};
+use crate::near::near_flaw;
 use crate::rules::{elements_in, outer_kind};
 use forms::Shown;
 use microkit::{Need, has_form, kind_within, rules_of};
@@ -31,7 +32,8 @@ pub fn explain_fault(
     let line = fault.line;
     match read_document(alloc, text) {
         Ok(elements) => {
-            let told = told_of(&elements, fault);
+            let mut told = told_of(&elements, fault);
+            told.flaw = near_flaw(alloc, &elements, told.flaw)?;
             format!(in alloc; "{name}:{line}: {told}")
         }
         Err(other) if other == Fault::MEMORY => format!(in alloc; "{name}: no memory"),

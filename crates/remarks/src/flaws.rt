@@ -19,6 +19,12 @@ pub(crate) enum Flaw<'a> {
     NoRegion(&'a [u8]),
     /// There is no domain of this name.
     NoDomain(&'a [u8]),
+    /// There is no attribute of this name, but one of a near name.
+    NearAttribute(&'a [u8], &'static str),
+    /// There is no region of this name, but one of a near name.
+    NearRegion(&'a [u8], &'a str),
+    /// There is no domain of this name, but one of a near name.
+    NearDomain(&'a [u8], &'a str),
     /// A name is given to another element, in this line.
     Name(u64),
     /// An id is given twice in this domain.
@@ -83,6 +89,9 @@ impl fmt::Display for Flaw<'_> {
                 "there is no protection domain {}",
                 Shown { bytes: name }
             ),
+            Flaw::NearAttribute(name, near) => tell_near(f, "attribute", name, near),
+            Flaw::NearRegion(name, near) => tell_near(f, "memory region", name, near),
+            Flaw::NearDomain(name, near) => tell_near(f, "protection domain", name, near),
             Flaw::Name(line) => write!(f, "line {line} has the same name"),
             Flaw::Id(domain) => write!(f, "this id is given twice in {}", Shown { bytes: domain }),
             Flaw::Interrupt(line) => write!(f, "line {line} has the same interrupt"),
@@ -112,6 +121,17 @@ impl fmt::Display for Flaw<'_> {
 }
 
 const PAGES: &str = "its size must be a multiple of the page size";
+
+// Which name is meant, in place of an unknown one.
+fn tell_near<W: fmt::Write>(
+    f: &mut fmt::Formatter<W>,
+    what: &str,
+    name: &[u8],
+    near: &str,
+) -> fmt::Result {
+    let name = Shown { bytes: name };
+    write!(f, "there is no {what} `{name}`: did you mean `{near}`?")
+}
 
 // Which attributes there are.
 fn tell_attribute<W: fmt::Write>(

@@ -9,6 +9,7 @@ mod faults;
 mod flaws;
 mod limits;
 mod naming;
+mod near;
 mod notes;
 mod rules;
 

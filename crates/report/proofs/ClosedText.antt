@@ -9,7 +9,7 @@ use Rattle.integrity.specs.Confined.{IsConfined}
 use Rattle.verdict.specs.{ByRules.IsAcceptedBy, declared.rules.Rules.{Rules, Rules as rules}}
 use Rattle.captext.specs.{Policies.read_policy_of, PolicyText.{IsEdgeOf, edge_lines, policy_text}}
 use Rattle.reptext.proofs.OneText.{same_answer}
-use Rattle.commands.specs.declared.{answer.Answer.Answer, choices.OnClose.OnClose as on_close}
+use Rattle.commands.specs.{declared.{answer.Answer.Answer, choices.OnClose.OnClose as on_close}, Commands.{IsBare, IsPlain}}
 use Rattle.report.specs.Closings.{Closes, IsAuthorityOf, IsClosing, IsInEachPolicyFor, IsLeastBy, Obeys, missing_edges, missing_status}
 use Rattle.report.proofs.{ClosedLabels.{either_within, least_within, listed_within, within_listed}, Missing.none_if_within}
 use Rattle.report.proofs.Missing.{within_if_none}
@@ -56,9 +56,13 @@ module _ (set : Rules) (t : Layout) (boot : Machine) (booted : IsBoot t boot) wh
       → ((from : ℕ) (kind : Kind) (to : ℕ) → HasAuthority t boot from kind to → (from < length t.labels) × (to < length t.labels))
       → IsClosing set t edges policy
       → (text : List ℕ) → text ≡ policy_text t policy → (AllByRecursion (IsEdgeOf t) policy → read_policy_of t text ≡ Ok policy)
-      → Closes set on_close.Policy t edges text 0
-  policy_told edges policy joins closing text told read =
-      (policy, closing, (told, (λ is. read (joins_labels edges policy joins closing is.1)), refl))
+      → (answer : Answer) → IsPlain text 0 answer → Closes set on_close.Policy t edges answer
+  policy_told edges policy joins closing text told read answer plain = record {
+    policy = policy;
+    closing = closing;
+    told = rw (plain.text, plain.status) (told, (λ is. read (joins_labels edges policy joins closing is.1)), refl);
+    bare = plain.bare;
+  }
 
   -- the given edges are all there is, exactly if the table keeps to them
   same_if_within : (edges policy : List Edge) → IsClosing set t edges policy → IsWithin (allows policy) (allows edges) → allows policy ≡ allows edges
@@ -82,11 +86,14 @@ module _ (set : Rules) (t : Layout) (boot : Machine) (booted : IsBoot t boot) wh
       {E : Type 0} (result : Result Answer E) (edges policy : List Edge) → IsClosing set t edges policy
       → IfOk result (λ answer. answer.text.items ≡ edge_lines t (missing_edges edges policy))
       → IfOk result (λ answer. answer.status ≡ missing_status (missing_edges edges policy))
-      → AcceptedAs set t edges
-      → IfOk result (λ answer. Closes set on_close.Missing t edges answer.text.items answer.status)
-  missing_told (Ok answer) edges policy closing text status accepted =
-      (policy, closing, (text, status, nothing_missing edges policy closing answer.status status accepted))
-  missing_told (Err error) edges policy closing text status accepted = tt
+      → IfOk result IsBare → AcceptedAs set t edges → IfOk result (Closes set on_close.Missing t edges)
+  missing_told (Ok answer) edges policy closing text status bare accepted = record {
+    policy = policy;
+    closing = closing;
+    told = (text, status, nothing_missing edges policy closing answer.status status accepted);
+    bare = bare;
+  }
+  missing_told (Err error) edges policy closing text status bare accepted = tt
 
   -- the least policy for the table alone is within each to which the table keeps
   least_in_each : (least : List Edge) → IsClosing set t [] least → ((p : List Edge) → AcceptedAs set t p) → IsInEachPolicyFor set t least
@@ -107,8 +114,11 @@ module _ (set : Rules) (t : Layout) (boot : Machine) (booted : IsBoot t boot) wh
       {E : Type 0} (result : Result Answer E) (edges least : List Edge) → IsClosing set t [] least
       → IfOk result (λ answer. answer.text.items ≡ edge_lines t (missing_edges least edges))
       → IfOk result (λ answer. answer.status ≡ missing_status (missing_edges least edges))
-      → ((p : List Edge) → AcceptedAs set t p)
-      → IfOk result (λ answer. Closes set on_close.Surplus t edges answer.text.items answer.status)
-  surplus_told (Ok answer) edges least alone text status accepted =
-      (least, alone, (text, status, nothing_surplus edges least alone answer.status status accepted))
-  surplus_told (Err error) edges least alone text status accepted = tt
+      → IfOk result IsBare → ((p : List Edge) → AcceptedAs set t p) → IfOk result (Closes set on_close.Surplus t edges)
+  surplus_told (Ok answer) edges least alone text status bare accepted = record {
+    policy = least;
+    closing = alone;
+    told = (text, status, nothing_surplus edges least alone answer.status status accepted);
+    bare = bare;
+  }
+  surplus_told (Err error) edges least alone text status bare accepted = tt

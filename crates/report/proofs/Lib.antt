@@ -1,16 +1,10 @@
 mod Denied
+mod Retold
 mod ClosedLabels
 mod Missing
 mod ClosedText
 mod LeastBySet
 mod OneAnswer
 mod OneReport
-mod OneClaimed
 mod OneLog
-mod OneClosing
-mod OneAsked
-mod OneDrawing
 mod LabelNames
-mod OneImport
-mod OneSummary
-mod SameRows

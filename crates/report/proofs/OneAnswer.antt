@@ -1,66 +1,74 @@
 -- Two answers to the bytes of files are one, where two answers to what such files hold are.
-use Rattle.std.proofs.Common.{ℕ, ◌∙◌, ◌≡◌, Err, List, Ok, Result, sym}
+use Rattle.std.proofs.Common.{ℕ, ◌∙◌, ◌≡◌, Err, List, None, Ok, Option, Result, Some, sym}
 use Rattle.base.specs.declared.edge.Edge.{Edge}
 use Rattle.machine.specs.Layout.{Layout}
 use Rattle.words.specs.declared.faults.Fault.{Fault}
-use Rattle.microkit.specs.Description.{Description}
-use Rattle.importing.specs.declared.pieces.{Children.{Children}, Minting.{Minting}}
 use Rattle.captext.specs.{Policies.read_policy_of, Tables.read_table_of}
-use Rattle.forms.specs.declared.file.File.{File, File as file, TheVariants.{Policy, Table}}
-use Rattle.commands.specs.{declared.load.{System.System, Three.Three, Two.Two}, Described.Described, Files.{Contents, and_then, described_of, whole}}
-use Rattle.report.specs.OneAnswer.{DescriptionHasOneAnswer, IsAnsweredOnce, SystemHasOneAnswer, TableHasOneAnswer, ThreeHaveOneAnswer}
-use Rattle.report.specs.OneAnswer.{TwoHaveOneAnswer}
+use Rattle.forms.specs.declared.file.File.{File, File as file}
+use Rattle.commands.specs.declared.{answer.Answer.Answer, load.{Three.Three, With.With}}
+use Rattle.commands.specs.{Files.{Contents, and_then, as_table, faulty, held_by, misused, pair_contents, unknown, whole}, Given.layout_of}
+use Rattle.report.specs.OneAnswer.{IsAnsweredOnce, ThreeHaveOneAnswer, TwoHaveOneAnswer}
 
--- two answers to one value are one
-abbrev pub IsOne : (List ℕ → ℕ → Type 0) → Type 0
-IsOne judges =
-    (text other : List ℕ) (status another : ℕ) → judges text status → judges other another → (text ≡ other) × (status ≡ another)
+-- two answers say the same
+abbrev pub IsSame : Answer → Answer → Type 0
+IsSame a b = (a.text.items ≡ b.text.items) × (a.status ≡ b.status)
 
-abbrev pub JudgesTableOnce : (Layout → List ℕ → ℕ → Type 0) → Type 0
-JudgesTableOnce judges = (t : Layout) → IsOne (judges t)
+-- two answers to one value say the same
+abbrev pub IsOne : (Answer → Type 0) → Type 0
+IsOne judges = (a b : Answer) → judges a → judges b → IsSame a b
 
-abbrev pub JudgesTwoOnce : {X : Type 0} → (Layout → X → List ℕ → ℕ → Type 0) → Type 0
-JudgesTwoOnce {X} judges = (t : Layout) (x : X) → IsOne (judges t x)
+abbrev pub JudgesTwoOnce : (Layout → List Edge → Answer → Type 0) → Type 0
+JudgesTwoOnce judges = (t : Layout) (edges : List Edge) → IsOne (judges t edges)
 
-abbrev pub JudgesSystemOnce : (Layout → List Edge → List ℕ → ℕ → Type 0) → Type 0
-JudgesSystemOnce judges = (t : Layout) (edges : List Edge) → IsOne (judges t edges)
-
-abbrev pub JudgesOnce : {X : Type 0} → (Layout → List Edge → X → List ℕ → ℕ → Type 0) → Type 0
+abbrev pub JudgesOnce : {X : Type 0} → (Layout → List Edge → X → Answer → Type 0) → Type 0
 JudgesOnce {X} judges = (t : Layout) (edges : List Edge) (x : X) → IsOne (judges t edges x)
 
--- where what follows a text is answered once, so is the text
-module _ {X : Type 0} (judges : X → List ℕ → ℕ → Type 0) where
-  then_once : {Y : Type 0} (file : File) (found : Result Y Fault) (next : Y → Contents X) → ((y : Y) → IsAnsweredOnce judges (next y))
-      → IsAnsweredOnce judges (and_then file found next)
-  then_once file (Ok y) next once = once y
-  then_once file (Err fault) next once = λ text other status another is also. (is.0 ∙ sym also.0, is.1 ∙ sym also.1)
+-- the bytes of the files are known
+abbrev IsKnown : {X : Type 0} → Contents X → Type 0
+IsKnown (whole x) = Unit {0}
+IsKnown (faulty file text table fault) = Unit {0}
+IsKnown (misused why) = Unit {0}
+IsKnown unknown = ⊥
 
-pub of_table : (judges : Layout → List ℕ → ℕ → Type 0) → ((t : Layout) → IsOne (judges t)) → TableHasOneAnswer judges
-of_table judges one table = then_once judges Table (read_table_of table) whole one
+held_known : {X : Type 0} (file : File) (table : Option Layout) (text : List ℕ) (found : Result X Fault) → IsKnown (held_by file table text found)
+held_known file table text (Ok x) = tt
+held_known file table text (Err fault) = tt
 
-pub of_description : (minting : Minting) (children : Children) (judges : Description → Layout → List ℕ → ℕ → Type 0)
-    → ((d : Description) (t : Layout) → IsOne (judges d t)) → DescriptionHasOneAnswer minting children judges
-of_description minting children judges one description =
-    then_once (λ (d : Described). judges d.description d.table) file.Description (described_of minting children description) whole
-    (λ d. one d.description d.table)
+then_known : {X Y : Type 0} (contents : Contents Y) (next : Y → Contents X) → IsKnown contents → ((y : Y) → IsKnown (next y))
+    → IsKnown (and_then contents next)
+then_known (whole y) next known each = each y
+then_known (faulty file text table fault) next known each = tt
+then_known (misused why) next known each = tt
+then_known unknown next known each = absurd known
 
-pub of_system : (judges : Layout → List Edge → List ℕ → ℕ → Type 0) → JudgesSystemOnce judges → SystemHasOneAnswer judges
-of_system judges one table policy =
-    let judged : System → List ℕ → ℕ → Type 0 = λ s. judges s.table s.policy in
-    then_once judged Table (read_table_of table) _ (λ t.
-    then_once judged Policy (read_policy_of t policy) (λ edges. whole (record { table = t; policy = edges })) (one t))
+-- where what follows files is answered once, so are the files
+module _ {X : Type 0} (judges : X → Answer → Type 0) where
+  whole_once : (x : X) → IsOne (judges x) → IsAnsweredOnce judges (whole x)
+  whole_once x one text other status another (a, is, says, exit) (b, also, tells, out) =
+      let same = one a b is also in (sym says ∙ same.0 ∙ tells, sym exit ∙ same.1 ∙ out)
 
-pub of_two : {X : Type 0} (name : File) (read : Layout → List ℕ → Result X Fault) (judges : Layout → X → List ℕ → ℕ → Type 0)
-    → JudgesTwoOnce judges → TwoHaveOneAnswer name read judges
-of_two {X} name read judges one table second =
-    let judged : Two X → List ℕ → ℕ → Type 0 = λ s. judges s.table s.second in
-    then_once judged Table (read_table_of table) _ (λ t.
-    then_once judged name (read t second) (λ x. whole (record { table = t; second = x })) (one t))
+  then_once : {Y : Type 0} (contents : Contents Y) (next : Y → Contents X) → IsKnown contents → ((y : Y) → IsAnsweredOnce judges (next y))
+      → IsAnsweredOnce judges (and_then contents next)
+  then_once (whole y) next known once = once y
+  then_once (faulty file faulty_text table fault) next known once = λ text other status another is also. (is.0 ∙ sym also.0, is.1 ∙ sym also.1)
+  then_once (misused why) next known once = λ text other status another is also. absurd is
+  then_once unknown next known once = absurd known
 
-pub of_three : {X : Type 0} (name : File) (read : Layout → List ℕ → Result X Fault) (judges : Layout → List Edge → X → List ℕ → ℕ → Type 0)
+pub of_two : (judges : Layout → List Edge → Answer → Type 0) → JudgesTwoOnce judges → TwoHaveOneAnswer judges
+of_two judges one table policy =
+    let judged : With (List Edge) → Answer → Type 0 = λ w. judges (layout_of w.system) w.second in
+    then_once judged (as_table table) _
+    (then_known (held_by file.Table None table (read_table_of table)) _ (held_known file.Table None table (read_table_of table)) (λ t. tt)) (λ s.
+    then_once judged (held_by file.Policy (Some (layout_of s)) policy (read_policy_of (layout_of s) policy)) _
+    (held_known file.Policy (Some (layout_of s)) policy (read_policy_of (layout_of s) policy)) (λ edges.
+    whole_once judged (record { system = s; second = edges }) (one (layout_of s) edges)))
+
+pub of_three : {X : Type 0} (name : File) (read : Layout → List ℕ → Result X Fault) (judges : Layout → List Edge → X → Answer → Type 0)
     → JudgesOnce judges → ThreeHaveOneAnswer name read judges
 of_three {X} name read judges one table policy third =
-    let judged : Three X → List ℕ → ℕ → Type 0 = λ s. judges s.table s.policy s.third in
-    then_once judged Table (read_table_of table) _ (λ t.
-    then_once judged Policy (read_policy_of t policy) _ (λ edges.
-    then_once judged name (read t third) (λ x. whole (record { table = t; policy = edges; third = x })) (one t edges)))
+    let judged : Three X → Answer → Type 0 = λ s. judges s.table s.policy s.third in
+    then_once judged (pair_contents (Some table) (Some policy)) _
+    (then_known (held_by file.Table None table (read_table_of table)) _ (held_known file.Table None table (read_table_of table)) (λ t.
+    then_known (held_by file.Policy (Some t) policy (read_policy_of t policy)) _ (held_known file.Policy (Some t) policy (read_policy_of t policy)) (λ edges. tt))) (λ s.
+    then_once judged (held_by name (Some s.table) third (read s.table third)) _ (held_known name (Some s.table) third (read s.table third)) (λ x.
+    whole_once judged (record { table = s.table; policy = s.policy; third = x }) (one s.table s.policy x)))

@@ -16,7 +16,7 @@ use Rattle.verdict.specs.Verdict.{place_of, rule_name}
 use Rattle.verdict.proofs.{DenialPlaces.numbered, OneVerdict.{one_least, same_outside}, Outsides.within_confined}
 use Rattle.reptext.specs.{Places.place_names_by, Reports.{illegal_data, line_of, outside_data}}
 use Rattle.report.specs.{OneAnswer.{IsLogInMemory, RunsInMemory}, Replays.{IsFirstOutside, IsReplayedTo, Replays, illegal, outside, within}}
-use Rattle.report.proofs.{OneAnswer.JudgesOnce, OneReport.verdict_once}
+use Rattle.report.proofs.{OneAnswer.{IsOne, JudgesOnce}, OneReport.verdict_once}
 
 -- the log of a run
 
@@ -45,13 +45,15 @@ run_once (e ∷ es) (o ∷ os) (p ∷ ps) m last after ran again free clear =
     by rest (inr (inl lack)) = absurd (All-head Unrefused (e, o) (zip es os) free (lack.takes, lack.refused))
     by rest (inr (inr lack)) = absurd (All-head Unrefused (e, p) (zip es ps) clear (lack.takes, lack.refused))
 
-log_once : (t : Layout) (events : List Event) (text other : List ℕ) → IsLogInMemory t events text → IsLogInMemory t events other → text ≡ other
-log_once t events text other is also =
-    let boot = boot_one t is.log.boot also.log.boot is.log.booted also.log.booted in
+log_once : (t : Layout) (events : List Event) → IsOne (IsLogInMemory t events)
+log_once t events a b is also =
+    let one = is.log.log in
+    let other = also.log.log in
+    let boot = boot_one t one.boot other.boot one.booted other.booted in
     let outcomes =
-    run_once events is.log.outcomes also.log.outcomes also.log.boot is.log.last also.log.last
-    (subst (λ (m : Machine). Run m events is.log.outcomes is.log.last) boot is.log.ran) also.log.ran is.unrefused also.unrefused in
-    is.log.told ∙ ap (λ (os : List Outcome). log_text (zip events os)) outcomes ∙ sym also.log.told
+    run_once events is.log.outcomes.items also.log.outcomes.items other.boot one.last other.last
+    (subst (λ (m : Machine). Run m events is.log.outcomes.items one.last) boot one.ran) other.ran is.unrefused also.unrefused in
+    (one.told ∙ ap (λ (os : List Outcome). log_text (zip events os)) outcomes ∙ sym other.told, is.log.status ∙ sym also.log.status)
 
 pub run_told_once : (set : Rules) → JudgesOnce (RunsInMemory set)
 run_told_once set t edges events = verdict_once set t edges (IsLogInMemory t events) (log_once t events)
@@ -102,31 +104,22 @@ module _ (t : Layout) (edges : List Edge) (entries : List Entry) where
   abbrev told_outside : Machine → Denial → List ℕ
   told_outside m d = line_of (outside_data (length entries) (rule_name d) (place_names_by (kind_of m) t d))
 
-  pub replay_at_once :
-      (text other : List ℕ) (status another : ℕ) → Replays t edges entries text status → Replays t edges entries other another
-      → (text ≡ other) × (status ≡ another)
-  replay_at_once text other status another (within m one confined told zero) (within n two again says nil) =
-      (told ∙ sym says, zero ∙ sym nil)
-  replay_at_once text other status another (within m one confined told zero) (outside n e two first says exit) =
-      absurd (not_outside m n e one two confined first)
-  replay_at_once text other status another (within m one confined told zero) (illegal boot at booted stops says exit) =
-      absurd (not_illegal m boot at one booted stops)
-  replay_at_once text other status another (outside n e two first says exit) (within m one confined told zero) =
-      absurd (not_outside m n e one two confined first)
-  replay_at_once text other status another (outside m d one is told zero) (outside n e two also says exit) =
+  pub replay_at_once : IsOne (Replays t edges entries)
+  replay_at_once a b (within m one confined told) (within n two again says) = (told.text ∙ sym says.text, told.status ∙ sym says.status)
+  replay_at_once a b (within m one confined told) (outside n e two first says) = absurd (not_outside m n e one two confined first)
+  replay_at_once a b (within m one confined told) (illegal boot at booted stops says) = absurd (not_illegal m boot at one booted stops)
+  replay_at_once a b (outside n e two first says) (within m one confined told) = absurd (not_outside m n e one two confined first)
+  replay_at_once a b (outside m d one is told) (outside n e two also says) =
       let last = one_last m n one two in
       let denied = outside_once n d e (subst (λ (x : Machine). IsFirstOutside t edges x d) last is) also in
-      (told ∙ (λ i. told_outside (last i) (denied i)) ∙ sym says, zero ∙ sym exit)
-  replay_at_once text other status another (outside m d one is told zero) (illegal boot at booted stops says exit) =
-      absurd (not_illegal m boot at one booted stops)
-  replay_at_once text other status another (illegal boot at booted stops says exit) (within m one confined told zero) =
-      absurd (not_illegal m boot at one booted stops)
-  replay_at_once text other status another (illegal boot at booted stops says exit) (outside m d one is told zero) =
-      absurd (not_illegal m boot at one booted stops)
-  replay_at_once text other status another (illegal boot at booted stops told zero) (illegal begin to began ends says exit) =
+      (told.text ∙ (λ i. told_outside (last i) (denied i)) ∙ sym says.text, told.status ∙ sym says.status)
+  replay_at_once a b (outside m d one is told) (illegal boot at booted stops says) = absurd (not_illegal m boot at one booted stops)
+  replay_at_once a b (illegal boot at booted stops says) (within m one confined told) = absurd (not_illegal m boot at one booted stops)
+  replay_at_once a b (illegal boot at booted stops says) (outside m d one is told) = absurd (not_illegal m boot at one booted stops)
+  replay_at_once a b (illegal boot at booted stops told) (illegal begin to began ends says) =
       let same =
       one_stop begin entries at to (subst (λ (b : Machine). StopsAt b entries at) (boot_one t boot begin booted began) stops) ends in
-      (told ∙ ap (λ k. line_of (illegal_data (k + 1))) same ∙ sym says, zero ∙ sym exit)
+      (told.text ∙ ap (λ k. line_of (illegal_data (k + 1))) same ∙ sym says.text, told.status ∙ sym says.status)
 
 pub replay_once : JudgesOnce Replays
 replay_once = replay_at_once

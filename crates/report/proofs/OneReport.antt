@@ -10,30 +10,25 @@ use Rattle.verdict.proofs.OneVerdict.{one_denial}
 use Rattle.certificate.specs.{declared.line.Line.Line, Right.right_certificate}
 use Rattle.checker.specs.Verified.{DiffersFirst, IsDeniedBy}
 use Rattle.reptext.{specs.{Places.place_names, Reports.{accept_data, denial_report, line_of}}, proofs.OneText.report_once}
-use Rattle.commands.specs.declared.choices.OnAccept.{OnAccept, OnAccept as on_accept}
+use Rattle.commands.specs.declared.{answer.Answer.Answer, choices.OnAccept.{OnAccept, OnAccept as on_accept}}
+use Rattle.commands.specs.Commands.{IsPlain, Says}
 use Rattle.report.specs.Answers.{Answers, AnswersVerdict, Checks}
-use Rattle.report.{specs.Answers.{TellsCheck, Verifies, accepted, denied}, proofs.OneAnswer.{JudgesOnce, JudgesSystemOnce}}
+use Rattle.report.{specs.Answers.{TellsCheck, Verifies, accepted, denied}, proofs.OneAnswer.{IsOne, JudgesOnce, JudgesTwoOnce}}
 
--- an acceptance that is told by one text, and denials of which there is one, and none beside an acceptance
+-- an acceptance that is told in one way, and denials of which there is one, and none beside an acceptance
 module _
-    (t : Layout) (Accepted : Type 0) (Denied : Denial → Type 0) (Tells : List ℕ → Type 0)
-    (one : (d e : Denial) → Denied d → Denied e → d ≡ e) (never : (d : Denial) → Accepted → Denied d → ⊥)
-    (told : (text other : List ℕ) → Tells text → Tells other → text ≡ other) where
-  pub answers_once :
-      (text other : List ℕ) (status another : ℕ) → Answers t Accepted Denied Tells text status
-      → Answers t Accepted Denied Tells other another → (text ≡ other) × (status ≡ another)
-  answers_once text other status another (accepted is tells zero) (accepted also again nil) =
-      (told text other tells again, zero ∙ sym nil)
-  answers_once text other status another (accepted is tells zero) (denied d broken says exit) = absurd (never d is broken)
-  answers_once text other status another (denied d broken says exit) (accepted is tells zero) = absurd (never d is broken)
-  answers_once text other status another (denied d is says exit) (denied e also again out) =
-      (says ∙ ap (λ (d : Denial). denial_report (rule_name d) (place_names t d)) (one d e is also) ∙ sym again, exit ∙ sym out)
+    (t : Layout) (Accepted : Type 0) (Denied : Denial → Type 0) (Tells : Answer → Type 0)
+    (one : (d e : Denial) → Denied d → Denied e → d ≡ e) (never : (d : Denial) → Accepted → Denied d → ⊥) (told : IsOne Tells) where
+  pub answers_once : IsOne (Answers t Accepted Denied Tells)
+  answers_once a b (accepted is tells) (accepted also again) = told a b tells again
+  answers_once a b (accepted is tells) (denied d broken says) = absurd (never d is broken)
+  answers_once a b (denied d broken says) (accepted is tells) = absurd (never d is broken)
+  answers_once a b (denied d is says) (denied e also again) = (
+    says.text ∙ ap (λ (d : Denial). denial_report (rule_name d) (place_names t d)) (one d e is also) ∙ sym again.text,
+    says.status ∙ sym again.status,
+  )
 
-pub verdict_once :
-    (set : Rules) (t : Layout) (edges : List Edge) (Tells : List ℕ → Type 0)
-    → ((text other : List ℕ) → Tells text → Tells other → text ≡ other)
-    → (text other : List ℕ) (status another : ℕ) → AnswersVerdict set t edges Tells text status
-    → AnswersVerdict set t edges Tells other another → (text ≡ other) × (status ≡ another)
+pub verdict_once : (set : Rules) (t : Layout) (edges : List Edge) (Tells : Answer → Type 0) → IsOne Tells → IsOne (AnswersVerdict set t edges Tells)
 verdict_once set t edges Tells told =
     answers_once t (IsAcceptedBy set t (allows edges)) (IsLeastBrokenBy set t (allows edges)) Tells (one_denial set t (allows edges))
     (λ d none least. none d least.has) told
@@ -46,8 +41,10 @@ check_told :
 check_told on_accept.Report t edges text other is also = report_once t edges text other is also
 check_told on_accept.Certificate t edges text other is also = is ∙ sym also
 
-pub check_once : (set : Rules) (written : OnAccept) → JudgesSystemOnce (Checks set written)
-check_once set written t edges = verdict_once set t edges (TellsCheck written t edges) (check_told written t edges)
+pub check_once : (set : Rules) (written : OnAccept) → JudgesTwoOnce (Checks set written)
+check_once set written t edges =
+    verdict_once set t edges (Says (TellsCheck written t edges))
+    (λ a b is also. (check_told written t edges a.text.items b.text.items is.so also.so, is.status ∙ sym also.status))
 
 -- a certificate
 
@@ -73,5 +70,5 @@ module _ (set : Rules) (t : Layout) (edges : List Edge) (lines : List Line) wher
 pub verify_once : (set : Rules) → JudgesOnce (Verifies set)
 verify_once set t edges lines =
     answers_once t (IsAcceptedBy set t (allows edges) × (lines ≡ right_certificate t)) (IsDeniedBy set t edges lines)
-    (λ text. text ≡ line_of accept_data) (denied_once set t edges lines) (never_denied set t edges lines)
-    (λ text other is also. is ∙ sym also)
+    (IsPlain (line_of accept_data) 0) (denied_once set t edges lines) (never_denied set t edges lines)
+    (λ a b is also. (is.text ∙ sym also.text, is.status ∙ sym also.status))

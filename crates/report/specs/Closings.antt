@@ -7,8 +7,7 @@ use Rattle.policy.specs.{Closed.IsClosed, Closing.IsWithin, Domain.EdgeTest, Pol
 use Rattle.integrity.specs.Keeping.{IsSharp}
 use Rattle.captext.specs.{Policies.read_policy_of, PolicyText.{IsPolicyOf, edge_lines, policy_text}}
 use Rattle.verdict.specs.{ByRules.IsAcceptedBy, declared.rules.Rules.{Rules, Rules as rules}}
-use Rattle.commands.specs.{declared.end.End.End, Commands.{Input, IsDoneOnSystem, IsDoneOnTable, Output, no_label}}
-use Rattle.commands.specs.declared.choices.OnClose.{OnClose, OnClose as on_close}
+use Rattle.commands.specs.{declared.{answer.Answer.Answer, choices.OnClose.{OnClose, OnClose as on_close}}, Commands.IsBare}
 
 -- these edges are the authority of the table's boot state
 abbrev pub IsAuthorityOf : Layout → List Edge → Type 0
@@ -69,15 +68,9 @@ TellsClosing set on_close.Surplus t edges policy text status =
     (text ≡ edge_lines t (missing_edges policy edges)) × (status ≡ missing_status (missing_edges policy edges))
     × ((status ≡ 0) ↔ IsInEachPolicyFor set t edges)
 
--- the answer to a table and a policy that is to be closed over it
-abbrev pub Closes : Rules → OnClose → Layout → List Edge → List ℕ → ℕ → Type 0
-Closes set written t edges text status =
-    (policy : List Edge) × IsClosing set t (kept_edges written edges) policy × TellsClosing set written t edges policy text status
-
--- a policy was closed over a table
-abbrev pub IsClosedOver : {T P O : Type 0} → Rules → OnClose → Input T → Input P → Output O → End → Type 0
-IsClosedOver set written = IsDoneOnSystem no_label (Closes set written)
-
--- a policy was made for a table alone: one without an edge was closed over it
-abbrev pub IsStarted : {T O : Type 0} → Rules → OnClose → Input T → Output O → End → Type 0
-IsStarted set written = IsDoneOnTable no_label (λ t. Closes set written t [])
+-- the answer to a table and a policy that is to be closed over it; or, for a table alone, one without an edge
+pub record Closes (set : Rules) (written : OnClose) (t : Layout) (edges : List Edge) (answer : Answer) : Type 0 where
+  pub policy : List Edge
+  pub closing : IsClosing set t (kept_edges written edges) policy
+  pub told : TellsClosing set written t edges policy answer.text.items answer.status
+  pub bare : IsBare answer

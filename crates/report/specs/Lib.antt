@@ -6,4 +6,5 @@ pub mod Questions
 pub mod Imports
 pub mod Shows
 pub mod Summaries
+pub mod Systems
 pub mod OneAnswer

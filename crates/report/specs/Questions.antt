@@ -1,5 +1,5 @@
--- What is told of what a label may do to another, drawn of all labels, and listed of a table (compare the integrity of 'seL4 Enforces
--- Integrity', section 4; telling why, drawing and listing are confine's own).
+-- What is told of what a label may do to another, and drawn of all labels (compare the integrity of 'seL4 Enforces Integrity', section 4;
+-- telling why and drawing are confine's own).
 use Rattle.std.specs.Prelude.{ℕ, ◌++◌, ◌<◌, ◌↔◌, ◌≡◌, List, None, Option, Some, codes, true}
 use Rattle.base.specs.declared.edge.Edge.{Edge}
 use Rattle.base.specs.declared.label.TheConstants.Label as Label
@@ -9,9 +9,8 @@ use Rattle.policy.specs.{declared.why.Why.{Why, Why as why}, ActorReasons.IsWhyA
 use Rattle.reach.specs.{Extents.{Limits, limits_of}, Reach.{IsReachOf, TableReach}}
 use Rattle.captext.specs.PolicyText.{edge_lines}
 use Rattle.diagram.specs.Folded.{IsFoldedDrawing}
-use Rattle.reptext.specs.{Drawing.IsDrawing, Objects.objects_text}
-use Rattle.commands.specs.declared.{choices.Picture.{Picture, Picture as picture}, end.{Asked.{Asked, Asked as asked}, End.End}}
-use Rattle.commands.specs.Commands.{Input, IsDoneOnSystem, IsDoneOnTable, Output, no_label}
+use Rattle.reptext.specs.Drawing.{IsDrawing}
+use Rattle.commands.specs.declared.{choices.Picture.{Picture, Picture as picture}, end.Asked.{Asked, Asked as asked}}
 
 -- of two labels that may be there, the first that isn't
 abbrev pub first_absent : Option ℕ → Option ℕ → Option Asked
@@ -56,47 +55,7 @@ pub record TellsWhy (actor object : List ℕ) (t : Layout) (text : List ℕ) (li
   pub is_why : IsWhyAmong limits.test limits.acts of_actor of_object authority
   pub told : text ≡ why_text t authority
 
--- the answer to a table that is asked why, with status 0
-abbrev pub Tells : List ℕ → List ℕ → Layout → List ℕ → ℕ → Type 0
-Tells actor object t text status = IsSoByReach t (TellsWhy actor object t text) × (status ≡ 0)
-
--- the answer to a table and a policy that are asked why the policy allows it, with status 0
-abbrev pub TellsOfPolicy : List ℕ → List ℕ → Layout → List Edge → List ℕ → ℕ → Type 0
-TellsOfPolicy actor object t edges text status = IsSoByPolicy edges (TellsWhy actor object t text) × (status ≡ 0)
-
--- it was told what a label may do to another
-abbrev pub IsTold : {T O : Type 0} → List ℕ → List ℕ → Input T → Output O → End → Type 0
-IsTold actor object = IsDoneOnTable (λ t. unlabelled t actor object) (Tells actor object)
-
--- .. what a policy allows it
-abbrev pub IsToldOfPolicy : {T P O : Type 0} → List ℕ → List ℕ → Input T → Input P → Output O → End → Type 0
-IsToldOfPolicy actor object = IsDoneOnSystem (λ t. unlabelled t actor object) (TellsOfPolicy actor object)
-
 -- a text is this picture of who may change or take from whom within limits
 abbrev pub IsPicture : Picture → Layout → List ℕ → Limits → Type 0
 IsPicture picture.Labels t text limits = IsDrawing t limits text
 IsPicture picture.Programs t text limits = IsFoldedDrawing t limits text
-
--- the answer to a table that is to be drawn, with status 0
-abbrev pub Draws : Picture → Layout → List ℕ → ℕ → Type 0
-Draws picture t text status = IsSoByReach t (IsPicture picture t text) × (status ≡ 0)
-
--- the answer to a table and a policy of which it is to be drawn what the policy allows, with status 0
-abbrev pub DrawsOfPolicy : Picture → Layout → List Edge → List ℕ → ℕ → Type 0
-DrawsOfPolicy picture t edges text status = IsSoByPolicy edges (IsPicture picture t text) × (status ≡ 0)
-
--- who may change or take from whom was drawn
-abbrev pub IsDrawn : {T O : Type 0} → Picture → Input T → Output O → End → Type 0
-IsDrawn picture = IsDoneOnTable no_label (Draws picture)
-
--- .. by what a policy allows
-abbrev pub IsDrawnOfPolicy : {T P O : Type 0} → Picture → Input T → Input P → Output O → End → Type 0
-IsDrawnOfPolicy picture = IsDoneOnSystem no_label (DrawsOfPolicy picture)
-
--- the answer to a table: the list of its objects, with status 0
-abbrev pub Lists : Layout → List ℕ → ℕ → Type 0
-Lists t text status = (text ≡ objects_text t) × (status ≡ 0)
-
--- a table's objects were listed
-abbrev pub IsListed : {T O : Type 0} → Input T → Output O → End → Type 0
-IsListed = IsDoneOnTable no_label Lists

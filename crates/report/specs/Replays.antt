@@ -9,7 +9,8 @@ use Rattle.integrity.specs.Confined.{IsConfined}
 use Rattle.verdict.specs.{declared.denial.Denial.Denial, Rules.Excess, Verdict.{IsOutside, excess_of, rule_name}}
 use Rattle.evtext.specs.Log.{read_log_of}
 use Rattle.reptext.specs.{Places.place_names_by, Reports.{illegal_data, line_of, outside_data, within_data}}
-use Rattle.commands.specs.{declared.end.End.End, Commands.{Input, IsDoneOnThree, Output}}
+use Rattle.commands.specs.declared.{answer.Answer.Answer, end.End.End, listener.Finding.Finding as finding}
+use Rattle.commands.specs.Commands.{Finds, Input, IsDoneOnThree, IsPlain, Output}
 
 -- the log's last state: its entries are a run from the boot state of the table to there
 abbrev pub IsReplayedTo : Layout → List Entry → Machine → Type 0
@@ -34,16 +35,16 @@ AnswersAt t entries at None = (slice_get entries at ≡ None) ⊎ ((boot : Machi
 abbrev pub IsFirstOutside : Layout → List Edge → Machine → Denial → Type 0
 IsFirstOutside t edges m denial = (place : Excess) × (excess_of denial ≡ Some place) × IsOutside t (allows edges) m place
 
--- the log is legal and its last state lies within the policy, and the text says so, with status 0; or that lies outside, and it says
--- where, with status 1; or the log isn't legal, and it says which entry is the first that is no step, with status 1
-pub data Replays (t : Layout) (edges : List Edge) (entries : List Entry) (text : List ℕ) (status : ℕ) : Type 0 where
+-- the log is legal and its last state lies within the policy, and the answer says so; or that lies outside, and it says where; or the log
+-- isn't legal, and it says which entry is the first that is no step
+pub data Replays (t : Layout) (edges : List Edge) (entries : List Entry) (answer : Answer) : Type 0 where
   within : (last : Machine) → IsReplayedTo t entries last → IsConfined t (allows edges) last
-      → text ≡ line_of (within_data (length entries)) → status ≡ 0 → Replays t edges entries text status
+      → IsPlain (line_of (within_data (length entries))) 0 answer → Replays t edges entries answer
   outside : (last : Machine) (denial : Denial) → IsReplayedTo t entries last → IsFirstOutside t edges last denial
-      → text ≡ line_of (outside_data (length entries) (rule_name denial) (place_names_by (kind_of last) t denial)) → status ≡ 1
-      → Replays t edges entries text status
+      → Finds (line_of (outside_data (length entries) (rule_name denial) (place_names_by (kind_of last) t denial)))
+      (λ told. told ≡ finding.Outside denial) answer → Replays t edges entries answer
   illegal : (boot : Machine) (at : ℕ) → IsBoot t boot → StopsAt boot entries at
-      → text ≡ line_of (illegal_data (at + 1)) → status ≡ 1 → Replays t edges entries text status
+      → Finds (line_of (illegal_data (at + 1))) (λ told. told ≡ finding.Illegal (at + 1)) answer → Replays t edges entries answer
 
 -- a log was replayed on a table and a policy, accepted or not
 abbrev pub IsReplayed : {T P S O : Type 0} → Input T → Input P → Input S → Output O → End → Type 0

@@ -1,14 +1,13 @@
 -- What the command `show` answers to a table and two labels (compare the integrity of 'seL4 Enforces Integrity', section 4;
 -- showing a run where that ends is confine's own).
-use Rattle.std.specs.Prelude.{ℕ, ◌≡◌, ◌≤◌, List, Some, if◌then◌else◌}
+use Rattle.std.specs.{Prelude.{ℕ, ◌≡◌, ◌≤◌, List, None, Some, Vec, if◌then◌else◌}, declared.alloc.Global.Global}
 use Rattle.machine.specs.{declared.call.Event.Event, Layout.Layout}
 use Rattle.table.specs.Names.{label_named}
 use Rattle.reach.specs.{declared.extent.Extent.{Extent, Extent as extent}, Extents.{GoesTo, KeepsTo, limits_of}, Reach.{IsReachOf, TableReach}}
 use Rattle.runs.specs.{declared.question.Question.Question, Shown.Answers}
 use Rattle.evtext.specs.Script.{script_text}
 use Rattle.reptext.specs.Reports.{impossible_data, line_of, unfound_data}
-use Rattle.commands.specs.{declared.{choices.Search.Search, end.End.End}, Commands.{Input, IsDoneOnTable, Output}}
-use Rattle.report.specs.Questions.{unlabelled}
+use Rattle.commands.specs.{declared.{answer.Answer.Answer, choices.Search.Search}, Commands.IsPlain}
 
 -- what is searched for: that a thread of the one label takes from an object of the other, or changes it in another way
 abbrev pub question_of : Search → ℕ → ℕ → Question
@@ -20,38 +19,42 @@ most_calls sought extent.Full = sought.steps
 most_calls sought extent.Take = if sought.takes then sought.steps else 0
 most_calls sought extent.Nothing = 0
 
--- a script was found, and the text is that of a script whose last call is as the question asks, with status 0; or after at most so many
--- calls none was found, and the text says how far the one label goes with the other, and how many calls were tried, with status 1
-pub data TellsFound (t : Layout) (question : Question) (bound : Extent) (most : ℕ) (text : List ℕ) (status : ℕ) : Type 0 where
-  shown : (script : List Event) → Answers t question script → text ≡ script_text script → status ≡ 0
-      → TellsFound t question bound most text status
-  unfound : (steps : ℕ) → steps ≤ most → text ≡ line_of (unfound_data bound steps) → status ≡ 1
-      → TellsFound t question bound most text status
+-- an answer is this script, of which a listener hears too
+pub record IsScript (script : List Event) (answer : Answer) : Type 0 where
+  pub text : answer.text.items ≡ script_text script
+  pub status : answer.status ≡ 0
+  pub finding : answer.finding ≡ None
+  pub made : answer.made ≡ None
+  pub of : Vec Event Global
+  pub found : answer.script ≡ Some of
+  pub items : of.items ≡ script
+
+-- a script was found whose last call is as the question asks, with status 0; or after at most so many calls none was found, and the
+-- text says how far the one label goes with the other, and how many calls were tried, with status 1
+pub data TellsFound (t : Layout) (question : Question) (bound : Extent) (most : ℕ) (answer : Answer) : Type 0 where
+  shown : (script : List Event) → Answers t question script → IsScript script answer → TellsFound t question bound most answer
+  unfound : (steps : ℕ) → steps ≤ most → IsPlain (line_of (unfound_data bound steps)) 1 answer → TellsFound t question bound most answer
 
 -- where the one label goes so far with the other: a run that is searched for; or that there can't be one, with status 1, just where the
 -- reach excludes that the one does anything to the other
-abbrev pub TellsRun : Layout → Question → Extent → ℕ → List ℕ → ℕ → Type 0
-TellsRun t question extent.Full most text status = TellsFound t question extent.Full most text status
-TellsRun t question extent.Take most text status = TellsFound t question extent.Take most text status
-TellsRun t question extent.Nothing most text status = (text ≡ line_of impossible_data) × (status ≡ 1)
+abbrev pub TellsRun : Layout → Question → Extent → ℕ → Answer → Type 0
+TellsRun t question extent.Full most = TellsFound t question extent.Full most
+TellsRun t question extent.Take most = TellsFound t question extent.Take most
+TellsRun t question extent.Nothing most = IsPlain (line_of impossible_data) 1
 
--- a text tells of a run by how far one label goes with another by the reach of a table: no step of any run goes further
-pub record ShowsRun (sought : Search) (t : Layout) (a l : ℕ) (text : List ℕ) (status : ℕ) : Type 0 where
+-- an answer tells of a run by how far one label goes with another by the reach of a table: no step of any run goes further
+pub record ShowsRun (sought : Search) (t : Layout) (a l : ℕ) (answer : Answer) : Type 0 where
   pub reach : TableReach
   pub is_reach : IsReachOf t reach
   pub bound : Extent
   pub goes : GoesTo (limits_of reach) a l bound
   pub kept : KeepsTo t a l bound
-  pub told : TellsRun t (question_of sought a l) bound (most_calls sought bound) text status
+  pub told : TellsRun t (question_of sought a l) bound (most_calls sought bound) answer
 
 -- the answer to a table that is to show a run of the labels of these names
-pub record Shows (sought : Search) (actor object : List ℕ) (t : Layout) (text : List ℕ) (status : ℕ) : Type 0 where
+pub record Shows (sought : Search) (actor object : List ℕ) (t : Layout) (answer : Answer) : Type 0 where
   pub of_actor : ℕ
   pub of_object : ℕ
   pub actor_named : label_named t actor ≡ Some of_actor
   pub object_named : label_named t object ≡ Some of_object
-  pub shows : ShowsRun sought t of_actor of_object text status
-
--- a run was shown of two labels, or it was told why not
-abbrev pub IsShownTo : {T O : Type 0} → Search → List ℕ → List ℕ → Input T → Output O → End → Type 0
-IsShownTo sought actor object = IsDoneOnTable (λ t. unlabelled t actor object) (Shows sought actor object)
+  pub shows : ShowsRun sought t of_actor of_object answer

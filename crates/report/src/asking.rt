@@ -1,15 +1,23 @@
-//! The commands `why` and `draw`: what a label may do to another, and the drawing of all labels; and `list`.
-ghost use Rattle.std.specs.Prelude.{◌++◌, ◌≡◌, IfErr, IfOk, false};
+//! What is asked of a system alone, and of a system and a policy.
+ghost use Rattle.std.specs.Prelude.{◌++◌, ◌≡◌, IfErr, IfOk, None, false};
 ghost use Rattle.base.specs.Refusals.{out_of_memory};
-ghost use Rattle.captext.specs.PolicyText.{edge_lines};
-ghost use Rattle.commands.specs.Commands.{IsJudged, IsJudgedSo, SystemIsJudged, input, no_label, output};
+ghost use Rattle.captext.specs.{Policies.read_policy_of, PolicyText.edge_lines};
+ghost use Rattle.forms.specs.declared.file.File.TheVariants as file;
+ghost use Rattle.commands.specs.Commands.{IsJudgedSo, Says, SystemIsJudged, WithIsJudged, input, output};
+ghost use Rattle.commands.specs.Hearing.{SystemIsHeard, WithIsHeard};
+ghost use Rattle.commands.specs.Hearing as held;
 ghost use Rattle.reach.specs.Extents.{limits_by};
 ghost use Rattle.report.specs.Questions as questions;
+ghost use Rattle.report.specs.{Summaries.TellsSummary, Systems.{AnswersPolicy, AnswersSystem, IsAsked, IsAskedOfPolicy}};
+ghost use Rattle.report.specs.Systems.{lacking, lacking_of_policy};
 
+use crate::claiming::strongest_text;
+use crate::closing::closed;
+use crate::showing::shown;
 use crate::{Asked, End, Listener, Picture, Sink, Source};
 use base::{Edge, Labels, Refusal};
 use captext::write_edges;
-use commands::{Answer, Stop, System, load_system, load_table, tell};
+use commands::{Answer, Given, OfPolicy, OfSystem, Stop, Taken, With, load_given, load_with, tell};
 use diagram::write_programs;
 use policy::{Policy, Why};
 use reach::Reach;
@@ -17,15 +25,15 @@ use reptext::{write_drawing, write_objects};
 use std::alloc::Global;
 use table::Table;
 
-/// Tells what threads of a label may do to objects of another in runs of a table, and why.
+/// Answers what is asked of a system alone.
 ///
-/// Writes `full`, `take` or `none` in a line of its own, and then the edges of one reason, as the reach of the
-/// table has them, with status 0; or the report of the table's first fault, with status 2.
-pub fn why<T, L, O>(
+/// Writes the answer, whose status is 0 but where `show` shows no run and `--missing` or `--surplus` finds an edge: 1; or the report of the
+/// first fault, with status 2.
+pub fn ask<T, L, O>(
     alloc: Global,
-    table: &mut T,
-    actor: &str,
-    object: &str,
+    asked: OfSystem<'_>,
+    taken: Taken,
+    system: &mut T,
     listener: &mut L,
     out: &mut O,
 ) -> End
@@ -33,36 +41,123 @@ where
     T: Source,
     L: Listener,
     O: Sink,
-    requires table { T.failed table.old ≡ false }
+    requires system { T.failed system.old ≡ false }
     requires out { O.failed out.old ≡ false }
-    ensures { questions.IsTold actor.now object.now (input T.remaining T.failed table.old table.new)
+    ensures asked { IsAsked asked.entry taken (input T.remaining T.failed system.old system.new)
+        (output O.contents O.failed O.is_flushed out.old out.new) result }
+    ensures heard { SystemIsHeard L.Hears taken (lacking asked.entry) (AnswersSystem asked.entry) (T.remaining system.old)
+        listener.old listener.new
         (output O.contents O.failed O.is_flushed out.old out.new) result }
 {
-    let table = load_table(alloc, table, listener);
-    let answer = why_judged(alloc, &table, actor, object);
-    tell(alloc, &table, answer, listener, out)
+    let given = load_given(alloc, taken, system, listener);
+    let answer = answered(alloc, asked, &given);
+    tell(alloc, &given, answer, listener, out)
 }
 
-/// What a label may do to another in runs of a table that was loaded, and why.
-fn why_judged(
+/// The answer to a system that was loaded.
+fn answered(
     alloc: Global,
-    loaded: &Result<Table, Stop>,
-    actor: &str,
-    object: &str,
+    asked: OfSystem<'_>,
+    loaded: &Result<Given, Stop>,
 ) -> Result<Answer, Stop>
-    ensures { IsJudged (λ t. questions.unlabelled t actor.now object.now)
-        (questions.Tells actor.now object.now) loaded.now result }
+    ensures { SystemIsJudged (lacking asked.entry) (AnswersSystem asked.entry) loaded.now result }
 {
     match loaded {
-        Ok(table) => explained(alloc, table, actor, object),
+        Ok(given) => system_answer(alloc, asked, given.table()),
         Err(stop) => Err(*stop),
+    }
+}
+
+/// The answer to the table of a system.
+fn system_answer(alloc: Global, asked: OfSystem<'_>, table: &Table) -> Result<Answer, Stop>
+    ensures { IsJudgedSo (lacking asked.entry table.now) (AnswersSystem asked.entry table.now) result }
+{
+    match asked {
+        OfSystem::Start(rules, on_close) => {
+            Ok(closed(alloc, rules, table, &Policy::new(alloc), on_close)?)
+        }
+        OfSystem::List => Ok(Answer::plain(write_objects(alloc, table)?, 0)),
+        OfSystem::Why { actor, object } => explained(alloc, table, actor, object),
+        OfSystem::Show {
+            search,
+            actor,
+            object,
+        } => shown(alloc, search, table, actor, object),
+        OfSystem::Draw(picture) => { Ok(Answer::plain(reach_picture(alloc, picture, table)?, 0)) }
+        OfSystem::Summary => Ok(Answer::plain(summary_text(alloc, table)?, 0)),
+        OfSystem::Strongest => Ok(Answer::plain(strongest_text(alloc, table)?, 0)),
+    }
+}
+
+/// Answers what is asked of a system and a policy.
+///
+/// Writes the answer, whose status is 0 but where `--missing` or `--surplus` finds an edge: 1; or the report of the first fault, with
+/// status 2.
+pub fn ask_policy<T, P, L, O>(
+    alloc: Global,
+    asked: OfPolicy<'_>,
+    taken: Taken,
+    system: &mut T,
+    policy: &mut P,
+    listener: &mut L,
+    out: &mut O,
+) -> End
+where
+    T: Source,
+    P: Source,
+    L: Listener,
+    O: Sink,
+    requires system { T.failed system.old ≡ false }
+    requires policy { P.failed policy.old ≡ false }
+    requires out { O.failed out.old ≡ false }
+    ensures asked { IsAskedOfPolicy asked.entry taken (input T.remaining T.failed system.old system.new)
+        (input P.remaining P.failed policy.old policy.new)
+        (output O.contents O.failed O.is_flushed out.old out.new) result }
+    ensures heard { WithIsHeard L.Hears held.policy taken file.Policy read_policy_of (lacking_of_policy asked.entry)
+        (AnswersPolicy asked.entry) (T.remaining system.old) (P.remaining policy.old) listener.old listener.new
+        (output O.contents O.failed O.is_flushed out.old out.new) result }
+{
+    let with = load_with::<Policy, T, P, L>(alloc, taken, system, policy, listener);
+    let answer = answered_of_policy(alloc, asked, &with);
+    tell(alloc, &with, answer, listener, out)
+}
+
+/// The answer to a system and a policy that were loaded.
+fn answered_of_policy(
+    alloc: Global,
+    asked: OfPolicy<'_>,
+    loaded: &Result<With<Policy>, Stop>,
+) -> Result<Answer, Stop>
+    ensures { WithIsJudged (lacking_of_policy asked.entry) (AnswersPolicy asked.entry) loaded.now result }
+{
+    match loaded {
+        Ok(with) => policy_answer(alloc, asked, with.system.table(), &with.second),
+        Err(stop) => Err(*stop),
+    }
+}
+
+/// The answer to the table of a system and a policy.
+fn policy_answer(
+    alloc: Global,
+    asked: OfPolicy<'_>,
+    table: &Table,
+    policy: &Policy,
+) -> Result<Answer, Stop>
+    ensures { IsJudgedSo (lacking_of_policy asked.entry table.now) (AnswersPolicy asked.entry table.now policy.now) result }
+{
+    match asked {
+        OfPolicy::Close(rules, on_close) => Ok(closed(alloc, rules, table, policy, on_close)?),
+        OfPolicy::Why { actor, object } => explained_by(alloc, table, policy, actor, object),
+        OfPolicy::Draw(picture) => {
+            Ok(Answer::plain(policy_picture(alloc, picture, table, policy)?, 0))
+        }
     }
 }
 
 /// What a label may do to another, and why; or the first of the two names that is no label of the table.
 fn explained(alloc: Global, table: &Table, actor: &str, object: &str) -> Result<Answer, Stop>
     ensures { IsJudgedSo (questions.unlabelled table.now actor.now object.now)
-        (questions.Tells actor.now object.now table.now) result }
+        (Says (λ text. questions.IsSoByReach table.now (questions.TellsWhy actor.now object.now table.now text))) result }
 {
     let Some(actor) = table.label_named(actor) else {
         return Err(Stop::NoLabel(Asked::Actor));
@@ -75,53 +170,6 @@ fn explained(alloc: Global, table: &Table, actor: &str, object: &str) -> Result<
     Ok(Answer::plain(why_text(alloc, table, &why)?, 0))
 }
 
-/// Tells what a policy allows threads of a label to do to objects of another, and why. Each label counts as one
-/// whose threads make calls, and this holds of no run.
-///
-/// Writes `full`, `take` or `none` in a line of its own, and then the edges of one reason, as the policy has
-/// them, with status 0; or the report of the first fault, with status 2.
-pub fn why_allowed<T, P, L, O>(
-    alloc: Global,
-    table: &mut T,
-    policy: &mut P,
-    actor: &str,
-    object: &str,
-    listener: &mut L,
-    out: &mut O,
-) -> End
-where
-    T: Source,
-    P: Source,
-    L: Listener,
-    O: Sink,
-    requires table { T.failed table.old ≡ false }
-    requires policy { P.failed policy.old ≡ false }
-    requires out { O.failed out.old ≡ false }
-    ensures { questions.IsToldOfPolicy actor.now object.now (input T.remaining T.failed table.old table.new)
-        (input P.remaining P.failed policy.old policy.new)
-        (output O.contents O.failed O.is_flushed out.old out.new) result }
-{
-    let system = load_system(alloc, table, policy, listener);
-    let answer = why_allowed_judged(alloc, &system, actor, object);
-    tell(alloc, &system, answer, listener, out)
-}
-
-/// What a policy that was loaded allows a label to do to another, and why.
-fn why_allowed_judged(
-    alloc: Global,
-    loaded: &Result<System, Stop>,
-    actor: &str,
-    object: &str,
-) -> Result<Answer, Stop>
-    ensures { SystemIsJudged (λ t. questions.unlabelled t actor.now object.now)
-        (questions.TellsOfPolicy actor.now object.now) loaded.now result }
-{
-    match loaded {
-        Ok(System { table, policy }) => explained_by(alloc, table, policy, actor, object),
-        Err(stop) => Err(*stop),
-    }
-}
-
 /// What a policy allows, and why; or the first of the two names that is no label of the table.
 fn explained_by(
     alloc: Global,
@@ -131,7 +179,7 @@ fn explained_by(
     object: &str,
 ) -> Result<Answer, Stop>
     ensures { IsJudgedSo (questions.unlabelled table.now actor.now object.now)
-        (questions.TellsOfPolicy actor.now object.now table.now policy.now) result }
+        (Says (λ text. questions.IsSoByPolicy policy.now (questions.TellsWhy actor.now object.now table.now text))) result }
 {
     let Some(actor) = table.label_named(actor) else {
         return Err(Stop::NoLabel(Asked::Actor));
@@ -166,42 +214,6 @@ fn headed(alloc: Global, line: &str, table: &Table, edges: &[Edge]) -> Result<Ve
     Ok(text)
 }
 
-/// Draws who may change or take from whom in runs of a table, as Graphviz reads it.
-///
-/// Writes the labels, or the programs alone with the memory that they use, and an arrow from each
-/// to each other whose objects it may change or make smaller, with status 0; or the report of the
-/// table's first fault, with status 2.
-pub fn draw<T, L, O>(
-    alloc: Global,
-    table: &mut T,
-    picture: Picture,
-    listener: &mut L,
-    out: &mut O,
-) -> End
-where
-    T: Source,
-    L: Listener,
-    O: Sink,
-    requires table { T.failed table.old ≡ false }
-    requires out { O.failed out.old ≡ false }
-    ensures { questions.IsDrawn picture (input T.remaining T.failed table.old table.new)
-        (output O.contents O.failed O.is_flushed out.old out.new) result }
-{
-    let table = load_table(alloc, table, listener);
-    let answer = drawn(alloc, picture, &table);
-    tell(alloc, &table, answer, listener, out)
-}
-
-/// The drawing of a table that was loaded.
-fn drawn(alloc: Global, picture: Picture, loaded: &Result<Table, Stop>) -> Result<Answer, Stop>
-    ensures { IsJudged no_label (questions.Draws picture) loaded.now result }
-{
-    match loaded {
-        Ok(table) => Ok(Answer::plain(reach_picture(alloc, picture, table)?, 0)),
-        Err(stop) => Err(*stop),
-    }
-}
-
 /// The picture of who may change or take from whom in runs of a table.
 fn reach_picture(alloc: Global, picture: Picture, table: &Table) -> Result<Vec<u8>, Refusal>
     ensures text { IfOk result
@@ -210,52 +222,6 @@ fn reach_picture(alloc: Global, picture: Picture, table: &Table) -> Result<Vec<u
 {
     let reach = Reach::of(alloc, table)?;
     picture_text(alloc, picture, table, reach.policy(), reach.actors())
-}
-
-/// Draws who may change or take from whom as a policy allows it, as Graphviz reads it. Each label counts as
-/// one whose threads make calls, and this holds of no run.
-///
-/// Writes what [`draw`] writes, with status 0; or the report of the first fault, with status 2.
-pub fn draw_allowed<T, P, L, O>(
-    alloc: Global,
-    table: &mut T,
-    policy: &mut P,
-    picture: Picture,
-    listener: &mut L,
-    out: &mut O,
-) -> End
-where
-    T: Source,
-    P: Source,
-    L: Listener,
-    O: Sink,
-    requires table { T.failed table.old ≡ false }
-    requires policy { P.failed policy.old ≡ false }
-    requires out { O.failed out.old ≡ false }
-    ensures { questions.IsDrawnOfPolicy picture (input T.remaining T.failed table.old table.new)
-        (input P.remaining P.failed policy.old policy.new)
-        (output O.contents O.failed O.is_flushed out.old out.new) result }
-{
-    let system = load_system(alloc, table, policy, listener);
-    let answer = draw_allowed_judged(alloc, picture, &system);
-    tell(alloc, &system, answer, listener, out)
-}
-
-/// The drawing of what a policy that was loaded allows.
-fn draw_allowed_judged(
-    alloc: Global,
-    picture: Picture,
-    loaded: &Result<System, Stop>,
-) -> Result<Answer, Stop>
-    ensures { SystemIsJudged no_label (questions.DrawsOfPolicy picture) loaded.now result }
-{
-    match loaded {
-        Ok(System { table, policy }) => Ok(Answer::plain(
-            policy_picture(alloc, picture, table, policy)?,
-            0,
-        )),
-        Err(stop) => Err(*stop),
-    }
 }
 
 /// The picture of who may change or take from whom as a policy allows it.
@@ -289,31 +255,11 @@ fn picture_text(
     }
 }
 
-/// Lists the objects of a table.
-///
-/// Writes the number, kind, name and label of each, in a line of its own, with status 0; or the report of the
-/// table's first fault, with status 2.
-pub fn list<T, L, O>(alloc: Global, table: &mut T, listener: &mut L, out: &mut O) -> End
-where
-    T: Source,
-    L: Listener,
-    O: Sink,
-    requires table { T.failed table.old ≡ false }
-    requires out { O.failed out.old ≡ false }
-    ensures { questions.IsListed (input T.remaining T.failed table.old table.new)
-        (output O.contents O.failed O.is_flushed out.old out.new) result }
+/// The summary of a table.
+fn summary_text(alloc: Global, table: &Table) -> Result<Vec<u8>, Refusal>
+    ensures text { IfOk result (λ text. TellsSummary table.now text.items) }
+    ensures memory { IfErr result (λ refusal. refusal ≡ out_of_memory) }
 {
-    let table = load_table(alloc, table, listener);
-    let answer = listed(alloc, &table);
-    tell(alloc, &table, answer, listener, out)
-}
-
-/// The list of the objects of a table that was loaded.
-fn listed(alloc: Global, loaded: &Result<Table, Stop>) -> Result<Answer, Stop>
-    ensures { IsJudged no_label questions.Lists loaded.now result }
-{
-    match loaded {
-        Ok(table) => Ok(Answer::plain(write_objects(alloc, table)?, 0)),
-        Err(stop) => Err(*stop),
-    }
+    let reach = Reach::of(alloc, table)?;
+    summary::summary(alloc, &reach)
 }

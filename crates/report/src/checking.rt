@@ -1,11 +1,15 @@
 //! The command `check`.
-ghost use Rattle.std.specs.Prelude.{ℕ, ◌<◌, ◌≡◌, ◌≤◌, IfOk, false};
-ghost use Rattle.commands.specs.{Commands.{SystemIsJudged, input, no_label, output}, Ends.status_of};
+ghost use Rattle.std.specs.Prelude.{ℕ, ◌<◌, ◌≡◌, ◌≤◌, IfOk, None, false};
+ghost use Rattle.captext.specs.Policies.{read_policy_of};
+ghost use Rattle.forms.specs.declared.file.File.TheVariants as file;
+ghost use Rattle.commands.specs.declared.choices.Taken.TheVariants as taken;
+ghost use Rattle.commands.specs.{Commands.{IsJudgedSo, WithIsJudged, input, output}, Ends.status_of, Hearing.WithIsHeard};
+ghost use Rattle.commands.specs.Hearing as held;
 ghost use Rattle.report.specs.Answers as answers;
 
 use crate::{End, Gate, Listener, OnAccept, Rules, Sink, Source};
 use base::Refusal;
-use commands::{Answer, Stop, System, denied, load_system, tell};
+use commands::{Answer, Stop, Taken, With, denied, load_with, tell};
 use policy::Policy;
 use reptext::check_report;
 use std::alloc::Global;
@@ -44,32 +48,64 @@ where
     ensures checked { answers.IsChecked rules on_accept (input T.remaining T.failed table.old table.new)
         (input P.remaining P.failed policy.old policy.new)
         (output O.contents O.failed O.is_flushed out.old out.new) result }
+    ensures heard { WithIsHeard L.Hears held.policy taken.Table file.Policy read_policy_of (λ t. None)
+        (answers.Checks rules on_accept) (T.remaining table.old) (P.remaining policy.old) listener.old listener.new
+        (output O.contents O.failed O.is_flushed out.old out.new) result }
     ensures arrived { status_of result ≡ 0 → (worker : ℕ) → worker < workers → G.HasArrived gate.now worker }
 {
-    let system = load_system(alloc, table, policy, listener);
-    let answer = checked(rt, alloc, rules, &system, on_accept, workers, gate);
-    tell(alloc, &system, answer, listener, out)
+    let with = load_with::<Policy, T, P, L>(alloc, Taken::Table, table, policy, listener);
+    let answer = checked(rt, alloc, rules, &with, on_accept, workers, gate);
+    tell(alloc, &with, answer, listener, out)
 }
 
-/// The verdict on a system that was loaded. What is written of an acceptance is made after it.
+/// The verdict on a table and a policy that were loaded.
 fn checked<R: Threads + Sync, G: Gate + Sync>(
     rt: &R,
     alloc: Global,
     rules: Rules,
-    loaded: &Result<System, Stop>,
+    loaded: &Result<With<Policy>, Stop>,
     on_accept: OnAccept,
     workers: usize,
     gate: &G,
 ) -> Result<Answer, Stop>
     requires workers { (1 ≤ workers) × (workers ≤ 16) }
-    ensures judged { SystemIsJudged no_label (answers.Checks rules on_accept) loaded.now result }
+    ensures judged { WithIsJudged (λ t. None) (answers.Checks rules on_accept) loaded.now result }
     ensures arrived { IfOk result (λ answer. answer.status ≡ 0
         → (worker : ℕ) → worker < workers → G.HasArrived gate.now worker) }
 {
-    let System { table, policy } = match loaded {
-        Ok(system) => system,
-        Err(stop) => return Err(*stop),
-    };
+    match loaded {
+        Ok(with) => {
+            verdict_answer(
+                rt,
+                alloc,
+                rules,
+                with.system.table(),
+                &with.second,
+                on_accept,
+                workers,
+                gate,
+            )
+        }
+        Err(stop) => Err(*stop),
+    }
+}
+
+/// The verdict on a table and a policy. What is written of an acceptance is made after it.
+fn verdict_answer<R: Threads + Sync, G: Gate + Sync>(
+    rt: &R,
+    alloc: Global,
+    rules: Rules,
+    table: &Table,
+    policy: &Policy,
+    on_accept: OnAccept,
+    workers: usize,
+    gate: &G,
+) -> Result<Answer, Stop>
+    requires workers { (1 ≤ workers) × (workers ≤ 16) }
+    ensures judged { IsJudgedSo None (answers.Checks rules on_accept table.now policy.now) result }
+    ensures arrived { IfOk result (λ answer. answer.status ≡ 0
+        → (worker : ℕ) → worker < workers → G.HasArrived gate.now worker) }
+{
     match judge_by(rt, alloc, table, policy, rules, workers, gate)? {
         Ok(()) => Ok(Answer::plain(accepted_text(alloc, table, policy, on_accept)?, 0)),
         Err(denial) => Ok(denied(alloc, table, denial)?),

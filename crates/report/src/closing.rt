@@ -1,16 +1,16 @@
 //! The command `close`: the least policy to which a table keeps, and what a policy lacks of it.
-ghost use Rattle.std.specs.Prelude.{[], ℕ, ◌++◌, ◌≡◌, ◌≤◌, IfOk, List, false};
+ghost use Rattle.std.specs.Prelude.{[], ◌++◌, ◌≡◌, ◌≤◌, IfOk, List};
 ghost use Rattle.base.specs.declared.edge.Edge.{Edge};
 ghost use Rattle.machine.specs.Layout.{Layout};
 ghost use Rattle.captext.specs.PolicyText.{edge_lines, policy_text};
 ghost use Rattle.reach.specs.Reach.{IsReach};
-ghost use Rattle.commands.specs.Commands.{IsJudged, SystemIsJudged, input, no_label, output};
+ghost use Rattle.commands.specs.{declared.answer.Answer.{Answer as AnswerOf}, Commands.IsBare};
 ghost use Rattle.report.specs.Closings as closings;
 
-use crate::{End, Listener, OnClose, Rules, Sink, Source};
+use crate::{OnClose, Rules};
 use base::{Edge, Refusal};
 use captext::{write_edges, write_policy};
-use commands::{Answer, Stop, System, load_system, load_table, tell};
+use commands::Answer;
 use kernel::each_table_has_one_boot_state;
 use labels::{authority, boot_authority_joins_labels_of_its_table};
 use policy::Policy;
@@ -20,95 +20,12 @@ use std::alloc::Global;
 use table::Table;
 use verdict::a_verdict_is_on_the_boot_state;
 
-/// Closes a policy over a table, by a set of rules: finds the least policy that has the policy's edges and
-/// to which the table keeps; for [`OnClose::Surplus`] the least one to which it keeps, whatever the policy
-/// has.
+/// Closes a policy over a table, by a set of rules, and returns what is asked for of the least policy that has
+/// the policy's edges and to which the table keeps; for [`OnClose::Surplus`] of the least one to which it keeps,
+/// whatever the policy has.
 ///
-/// By [`Rules::Closed`] it is a closed policy, and by [`Rules::Sharp`] a sharply closed one. Writes what is
-/// asked for; or the report of the first fault, with status 2.
-pub fn close<T, P, L, O>(
-    alloc: Global,
-    rules: Rules,
-    table: &mut T,
-    policy: &mut P,
-    on_close: OnClose,
-    listener: &mut L,
-    out: &mut O,
-) -> End
-where
-    T: Source,
-    P: Source,
-    L: Listener,
-    O: Sink,
-    requires table { T.failed table.old ≡ false }
-    requires policy { P.failed policy.old ≡ false }
-    requires out { O.failed out.old ≡ false }
-    ensures { closings.IsClosedOver rules on_close (input T.remaining T.failed table.old table.new)
-        (input P.remaining P.failed policy.old policy.new)
-        (output O.contents O.failed O.is_flushed out.old out.new) result }
-{
-    let system = load_system(alloc, table, policy, listener);
-    let answer = system_closed(alloc, rules, &system, on_close);
-    tell(alloc, &system, answer, listener, out)
-}
-
-/// What is asked for of the least policy over a policy that was loaded.
-fn system_closed(
-    alloc: Global,
-    rules: Rules,
-    loaded: &Result<System, Stop>,
-    on_close: OnClose,
-) -> Result<Answer, Stop>
-    ensures { SystemIsJudged no_label (closings.Closes rules on_close) loaded.now result }
-{
-    match loaded {
-        Ok(System { table, policy }) => Ok(closed(alloc, rules, table, policy, on_close)?),
-        Err(stop) => Err(*stop),
-    }
-}
-
-/// Makes a policy for a table alone, by a set of rules: closes one without an edge over it.
-///
-/// By [`Rules::Sharp`] it is the reach of the table.
-pub fn start<T, L, O>(
-    alloc: Global,
-    rules: Rules,
-    table: &mut T,
-    on_close: OnClose,
-    listener: &mut L,
-    out: &mut O,
-) -> End
-where
-    T: Source,
-    L: Listener,
-    O: Sink,
-    requires table { T.failed table.old ≡ false }
-    requires out { O.failed out.old ≡ false }
-    ensures { closings.IsStarted rules on_close (input T.remaining T.failed table.old table.new)
-        (output O.contents O.failed O.is_flushed out.old out.new) result }
-{
-    let table = load_table(alloc, table, listener);
-    let answer = table_closed(alloc, rules, &table, on_close);
-    tell(alloc, &table, answer, listener, out)
-}
-
-/// What is asked for of the least policy for a table that was loaded.
-fn table_closed(
-    alloc: Global,
-    rules: Rules,
-    loaded: &Result<Table, Stop>,
-    on_close: OnClose,
-) -> Result<Answer, Stop>
-    ensures { IsJudged no_label (λ t. closings.Closes rules on_close t []) loaded.now result }
-{
-    match loaded {
-        Ok(table) => Ok(closed(alloc, rules, table, &Policy::new(alloc), on_close)?),
-        Err(stop) => Err(*stop),
-    }
-}
-
-/// What is asked for of the least policy.
-fn closed(
+/// By [`Rules::Closed`] it is a closed policy, and by [`Rules::Sharp`] a sharply closed one.
+pub(crate) fn closed(
     alloc: Global,
     rules: Rules,
     table: &Table,
@@ -116,7 +33,7 @@ fn closed(
     on_close: OnClose,
 ) -> Result<Answer, Refusal>
     ensures right { IfOk result
-        (λ answer. closings.Closes rules on_close table.now policy.now answer.text.items answer.status) }
+        (closings.Closes rules on_close table.now policy.now) }
     ensures exit { IfOk result (λ answer. answer.status ≤ 2) }
 {
     match on_close {
@@ -162,7 +79,7 @@ fn whole_answer(
     policy: &Policy,
 ) -> Result<Answer, Refusal>
     ensures right { IfOk result
-        (λ answer. closings.Closes rules OnClose.Policy table.now policy.now answer.text.items answer.status) }
+        (closings.Closes rules OnClose.Policy table.now policy.now) }
     ensures exit { IfOk result (λ answer. answer.status ≤ 2) }
 {
     // Laws about tables and their boot states.
@@ -181,7 +98,7 @@ fn missing_answer(
     policy: &Policy,
 ) -> Result<Answer, Refusal>
     ensures right { IfOk result
-        (λ answer. closings.Closes rules OnClose.Missing table.now policy.now answer.text.items answer.status) }
+        (closings.Closes rules OnClose.Missing table.now policy.now) }
     ensures exit { IfOk result (λ answer. answer.status ≤ 2) }
 {
     // Laws about tables, their boot states, and verdicts on these.
@@ -201,7 +118,7 @@ fn surplus_answer(
     policy: &Policy,
 ) -> Result<Answer, Refusal>
     ensures right { IfOk result
-        (λ answer. closings.Closes rules OnClose.Surplus table.now policy.now answer.text.items answer.status) }
+        (closings.Closes rules OnClose.Surplus table.now policy.now) }
     ensures exit { IfOk result (λ answer. answer.status ≤ 2) }
 {
     // Laws about tables, their boot states, and verdicts on these.
@@ -223,6 +140,7 @@ fn lacked_answer(
         ≡ edge_lines table.now (closings.missing_edges policy.now other.now)) }
     ensures status { IfOk result (λ answer. answer.status
         ≡ closings.missing_status (closings.missing_edges policy.now other.now)) }
+    ensures bare { IfOk result IsBare }
     ensures exit { IfOk result (λ answer. answer.status ≤ 2) }
 {
     let missing = missing_edges(alloc, policy, other)?;
@@ -242,7 +160,7 @@ fn missing_edges(alloc: Global, policy: &Policy, other: &Policy) -> Result<Vec<E
 /// A law: by S1 to S8 the policy that is made for a table alone is the reach of the table, and the text is
 /// that of the reach.
 pub fn the_sharp_policy_for_a_table_is_its_reach()
-    ensures { (t : Layout) (text : List ℕ) (status : ℕ)
-        → closings.Closes Rules.Sharp OnClose.Policy t [] text status
-        → (reach : List Edge) × IsReach t reach × (text ≡ policy_text t reach) }
+    ensures { (t : Layout) (answer : AnswerOf)
+        → closings.Closes Rules.Sharp OnClose.Policy t [] answer
+        → (reach : List Edge) × IsReach t reach × (answer.text.items ≡ policy_text t reach) }
 {}

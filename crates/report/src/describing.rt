@@ -1,17 +1,18 @@
 //! The command `import`.
-ghost use Rattle.std.specs.Prelude.{◌<◌, ◌≡◌, IfErr, IfOk, false, length};
+ghost use Rattle.std.specs.Prelude.{◌<◌, ◌≡◌, IfErr, IfOk, None, false, length};
 ghost use Rattle.base.specs.Refusals.{out_of_memory};
 ghost use Rattle.captext.specs.PolicyText.{label_name};
 ghost use Rattle.microkit.specs.LabelView.{bytes_of};
 ghost use Rattle.separation.specs.Claims.{claims_text};
-ghost use Rattle.commands.specs.Commands.{DescriptionIsJudged, input, output};
+ghost use Rattle.commands.specs.{Commands.{DescriptionIsJudged, Says, input, output}, Files.described_contents};
+ghost use Rattle.commands.specs.Hearing.{IsHeard};
+ghost use Rattle.commands.specs.Hearing as held;
 ghost use Rattle.report.specs.Imports as imports;
 
 use crate::{End, Imported, Listener, OnImport, Sink, Source};
 use base::{Label, Refusal};
 use captext::{label_name, write_table};
 use commands::{Answer, Described, Stop, load_description, tell};
-use importing::Children;
 use separation::write_claims;
 use std::alloc::{AllocError, Global};
 use table::Table;
@@ -33,16 +34,14 @@ where
     O: Sink,
     requires description { D.failed description.old ≡ false }
     requires out { O.failed out.old ≡ false }
-    ensures { imports.IsImported on_import (input D.remaining D.failed description.old description.new)
+    ensures imported { imports.IsImported on_import (input D.remaining D.failed description.old description.new)
+        (output O.contents O.failed O.is_flushed out.old out.new) result }
+    ensures heard { IsHeard L.Hears (λ d. d.table) held.description (λ d. None)
+        (λ d. Says (imports.TellsImport on_import.writes d))
+        (described_contents on_import.minting (D.remaining description.old)) listener.old listener.new
         (output O.contents O.failed O.is_flushed out.old out.new) result }
 {
-    let described = load_description(
-        alloc,
-        on_import.minting,
-        on_import.children,
-        description,
-        listener,
-    );
+    let described = load_description(alloc, on_import.minting, description, listener);
     let answer = imported(alloc, on_import, &described);
     tell(alloc, &described, answer, listener, out)
 }
@@ -53,7 +52,7 @@ fn imported(
     on_import: OnImport,
     loaded: &Result<Described, Stop>,
 ) -> Result<Answer, Stop>
-    ensures { DescriptionIsJudged (imports.Imports on_import) loaded.now result }
+    ensures { DescriptionIsJudged (λ d. Says (imports.TellsImport on_import.writes d)) loaded.now result }
 {
     match loaded {
         Ok(described) => Ok(Answer::plain(import_text(alloc, on_import, described)?, 0)),
@@ -67,24 +66,23 @@ fn import_text(
     on_import: OnImport,
     described: &Described,
 ) -> Result<Vec<u8>, Refusal>
-    ensures told { IfOk result (λ text. imports.TellsImport on_import.writes on_import.children
-        described.now.description described.now.table text.items) }
+    ensures told { IfOk result (λ text. imports.TellsImport on_import.writes described.now text.items) }
     ensures memory { IfErr result (λ refusal. refusal ≡ out_of_memory) }
 {
     match on_import.writes {
         Imported::Table => write_table(alloc, &described.table),
-        Imported::Claims => claims_text(alloc, on_import.children, described),
+        Imported::Claims => claims_text(alloc, described),
     }
 }
 
 /// The text of the claims that a description makes, with the names of its table's labels.
-fn claims_text(alloc: Global, children: Children, described: &Described) -> Result<Vec<u8>, Refusal>
+fn claims_text(alloc: Global, described: &Described) -> Result<Vec<u8>, Refusal>
     ensures told { IfOk result (λ text. text.items
-        ≡ claims_text described.now.table.labels described.now.description children) }
+        ≡ claims_text described.now.table.labels described.now.description) }
     ensures memory { IfErr result (λ refusal. refusal ≡ out_of_memory) }
 {
     let names = label_names(alloc, &described.table)?;
-    let text = write_claims(alloc, &names, &described.description, children)?;
+    let text = write_claims(alloc, &names, &described.description)?;
     Ok(text)
 }
 

@@ -14,16 +14,16 @@ mod replaying;
 mod running;
 mod showing;
 mod splitting;
-mod summing;
 mod verifying;
 
-pub use asking::{draw, draw_allowed, list, why, why_allowed};
+pub use asking::{ask, ask_policy};
 pub use checking::check;
-pub use claiming::{check_claims, write_claims};
-pub use closing::{close, start, the_sharp_policy_for_a_table_is_its_reach};
+pub use claiming::check_claims;
+pub use closing::the_sharp_policy_for_a_table_is_its_reach;
 pub use commands::{
-    Asked, Children, End, Fault, File, Finding, Heard, Imported, Listener, Minting, OnAccept,
-    OnClose, OnImport, Outcomes, Picture, Search, Silence,
+    Answer, Asked, Described, End, Fault, File, Files, Finding, Given, Imported, Listener, Made,
+    Minting, Misuse, OfPolicy, OfSystem, OnAccept, OnClose, OnImport, Picture, Search, Silence,
+    Taken,
 };
 pub use deal::{Gate, Open};
 pub use describing::import;
@@ -31,8 +31,6 @@ pub use devices::{ReadError, Sink, Source, Unopened, Watched, WriteError, open_r
 pub use laws::reports_are_functions_of_the_bytes;
 pub use replaying::{answer_at, replay};
 pub use running::run;
-pub use showing::show;
 pub use splitting::run_split;
-pub use summing::summary;
 pub use verdict::Rules;
 pub use verifying::verify;

@@ -1,7 +1,10 @@
 //! The command `replay`.
-ghost use Rattle.std.specs.Prelude.{◌≡◌, ◌≤◌, IfOk, false};
+ghost use Rattle.std.specs.Prelude.{◌≡◌, ◌≤◌, IfOk, None, false};
 ghost use Rattle.machine.specs.{Boot.IsBoot, WellFormed.IsWellFormed};
-ghost use Rattle.commands.specs.Commands.{ThreeIsJudged, input, output};
+ghost use Rattle.evtext.specs.Log.{read_log_of};
+ghost use Rattle.forms.specs.declared.file.File.TheVariants as file;
+ghost use Rattle.commands.specs.{Commands.{ThreeIsJudged, input, output}, Hearing.ThreeIsHeard};
+ghost use Rattle.commands.specs.Hearing as held;
 ghost use Rattle.report.specs.Answers as answers;
 ghost use Rattle.report.specs.Replays as replays;
 
@@ -40,8 +43,11 @@ where
     requires policy { P.failed policy.old ≡ false }
     requires log { S.failed log.old ≡ false }
     requires out { O.failed out.old ≡ false }
-    ensures { replays.IsReplayed (input T.remaining T.failed table.old table.new)
+    ensures done { replays.IsReplayed (input T.remaining T.failed table.old table.new)
         (input P.remaining P.failed policy.old policy.new) (input S.remaining S.failed log.old log.new)
+        (output O.contents O.failed O.is_flushed out.old out.new) result }
+    ensures heard { ThreeIsHeard L.Hears held.log file.Log (λ t. read_log_of) replays.Replays
+        (T.remaining table.old) (P.remaining policy.old) (S.remaining log.old) listener.old listener.new
         (output O.contents O.failed O.is_flushed out.old out.new) result }
 {
     let three = load_three::<Entries, T, P, S, L>(alloc, table, policy, log, listener);
@@ -62,7 +68,7 @@ fn log_replayed(alloc: Global, loaded: &Result<Three<Entries>, Stop>) -> Result<
 /// The answer to a log: the text and status of what its replay comes to.
 fn replayed(alloc: Global, table: &Table, policy: &Policy, log: &Entries) -> Result<Answer, Refusal>
     ensures right { IfOk result
-        (λ answer. replays.Replays table.now policy.now log.now answer.text.items answer.status) }
+        (replays.Replays table.now policy.now log.now) }
     ensures exit { IfOk result (λ answer. answer.status ≤ 2) }
 {
     let mut state = boot(alloc, table)?;
@@ -82,7 +88,7 @@ fn replayed_from(
     requires boot { IsBoot table.now state.old }
     requires well_formed { IsWellFormed state.old }
     ensures right { IfOk result
-        (λ answer. replays.Replays table.now policy.now entries.now answer.text.items answer.status) }
+        (replays.Replays table.now policy.now entries.now) }
     ensures exit { IfOk result (λ answer. answer.status ≤ 2) }
 {
     if let Some(at) = kernel::replay(state, entries)? {

@@ -1,6 +1,9 @@
 //! The command `run`, where one thread makes the calls.
 ghost use Rattle.std.specs.Prelude.{◌≡◌, IfOk, None, false};
-ghost use Rattle.commands.specs.Commands.{ThreeIsJudged, input, output};
+ghost use Rattle.evtext.specs.Script.{read_script_of};
+ghost use Rattle.forms.specs.declared.file.File.TheVariants as file;
+ghost use Rattle.commands.specs.{Commands.{ThreeIsJudged, input, output}, Hearing.ThreeIsHeard};
+ghost use Rattle.commands.specs.Hearing as held;
 ghost use Rattle.report.specs.Answers as answers;
 
 use crate::{End, Listener, Rules, Sink, Source};
@@ -39,8 +42,11 @@ where
     requires policy { P.failed policy.old ≡ false }
     requires script { S.failed script.old ≡ false }
     requires out { O.failed out.old ≡ false }
-    ensures { answers.IsRun rules (input T.remaining T.failed table.old table.new)
+    ensures done { answers.IsRun rules (input T.remaining T.failed table.old table.new)
         (input P.remaining P.failed policy.old policy.new) (input S.remaining S.failed script.old script.new)
+        (output O.contents O.failed O.is_flushed out.old out.new) result }
+    ensures heard { ThreeIsHeard L.Hears held.script file.Script (λ t. read_script_of) (answers.Runs rules)
+        (T.remaining table.old) (P.remaining policy.old) (S.remaining script.old) listener.old listener.new
         (output O.contents O.failed O.is_flushed out.old out.new) result }
 {
     let three = load_three::<Script, T, P, S, L>(alloc, table, policy, script, listener);
@@ -73,8 +79,7 @@ fn ran<R: Threads + Sync>(
 
 /// The log of a run of the events from the boot state of the table.
 fn run_answer(alloc: Global, table: &Table, script: &Script) -> Result<Answer, Refusal>
-    ensures log { IfOk result (λ answer. answers.IsLogOfRun table.now script.now answer.text.items) }
-    ensures status { IfOk result (λ answer. (answer.status ≡ 0) × (answer.finding ≡ None)) }
+    ensures { IfOk result (answers.IsLogOfRun table.now script.now) }
 {
     let mut state = boot(alloc, table)?;
     let mut outcomes = Vec::new(alloc);

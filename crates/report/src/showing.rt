@@ -1,13 +1,13 @@
 //! The command `show`.
-ghost use Rattle.std.specs.Prelude.{◌≡◌, ◌≤◌, IfErr, IfOk, false};
+ghost use Rattle.std.specs.Prelude.{◌≡◌, ◌≤◌, IfErr, IfOk};
 ghost use Rattle.base.specs.Refusals.{out_of_memory};
-ghost use Rattle.commands.specs.Commands.{IsJudged, IsJudgedSo, input, output};
+ghost use Rattle.commands.specs.Commands.{IsJudgedSo};
 ghost use Rattle.report.specs.Questions.{unlabelled};
 ghost use Rattle.report.specs.Shows as shows;
 
-use crate::{Asked, End, Listener, Search, Sink, Source};
+use crate::{Asked, Search};
 use base::{Label, Refusal};
-use commands::{Answer, Stop, load_table, tell};
+use commands::{Answer, Stop};
 use evtext::write_script;
 use reach::{Extent, Reach};
 use reptext::{impossible_report, unfound_report};
@@ -16,52 +16,9 @@ use search::find;
 use std::alloc::Global;
 use table::Table;
 
-/// Shows a run in which a thread of one label changes an object of another, or takes from it.
-///
-/// Writes the script of the run, with status 0. Writes with status 1 that the reach of the table excludes such
-/// a run, or that none was found; and with status 2 the report of the table's first fault.
-pub fn show<T, L, O>(
-    alloc: Global,
-    sought: Search,
-    table: &mut T,
-    actor: &str,
-    object: &str,
-    listener: &mut L,
-    out: &mut O,
-) -> End
-where
-    T: Source,
-    L: Listener,
-    O: Sink,
-    requires table { T.failed table.old ≡ false }
-    requires out { O.failed out.old ≡ false }
-    ensures { shows.IsShownTo sought actor.now object.now (input T.remaining T.failed table.old table.new)
-        (output O.contents O.failed O.is_flushed out.old out.new) result }
-{
-    let table = load_table(alloc, table, listener);
-    let answer = show_judged(alloc, sought, &table, actor, object);
-    tell(alloc, &table, answer, listener, out)
-}
-
-/// The run that is sought of a table that was loaded, or why none is shown.
-fn show_judged(
-    alloc: Global,
-    sought: Search,
-    loaded: &Result<Table, Stop>,
-    actor: &str,
-    object: &str,
-) -> Result<Answer, Stop>
-    ensures { IsJudged (λ t. unlabelled t actor.now object.now)
-        (shows.Shows sought actor.now object.now) loaded.now result }
-{
-    match loaded {
-        Ok(table) => shown(alloc, sought, table, actor, object),
-        Err(stop) => Err(*stop),
-    }
-}
-
-/// The run that is sought, or why none is shown; or the first of the two names that is no label of the table.
-fn shown(
+/// Returns the run that is sought, or why none is shown; or the first of the two names that is no label of the
+/// table.
+pub(crate) fn shown(
     alloc: Global,
     sought: Search,
     table: &Table,
@@ -89,8 +46,7 @@ fn run_answer(
     actor: Label,
     object: Label,
 ) -> Result<Answer, Refusal>
-    ensures right { IfOk result (λ answer.
-        shows.ShowsRun sought reach.now.table actor object answer.text.items answer.status) }
+    ensures right { IfOk result (shows.ShowsRun sought reach.now.table actor object) }
     ensures exit { IfOk result (λ answer. answer.status ≤ 2) }
     ensures memory { IfErr result (λ refusal. refusal ≡ out_of_memory) }
 {
@@ -130,8 +86,7 @@ fn bounded_answer(
     bound: Extent,
     most: u64,
 ) -> Result<Answer, Refusal>
-    ensures told { IfOk result
-        (λ answer. shows.TellsRun table.now question.now bound most answer.text.items answer.status) }
+    ensures told { IfOk result (shows.TellsRun table.now question.now bound most) }
     ensures exit { IfOk result (λ answer. answer.status ≤ 2) }
     ensures memory { IfErr result (λ refusal. refusal ≡ out_of_memory) }
 {
@@ -149,8 +104,7 @@ fn found_answer(
     bound: Extent,
     most: u64,
 ) -> Result<Answer, Refusal>
-    ensures told { IfOk result
-        (λ answer. shows.TellsFound table.now question.now bound most answer.text.items answer.status) }
+    ensures told { IfOk result (shows.TellsFound table.now question.now bound most) }
     ensures exit { IfOk result (λ answer. answer.status ≤ 2) }
     ensures memory { IfErr result (λ refusal. refusal ≡ out_of_memory) }
 {

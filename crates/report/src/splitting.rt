@@ -1,6 +1,9 @@
 //! The command `run`, where a worker for each core makes the calls.
 ghost use Rattle.std.specs.Prelude.{◌≡◌, IfOk, None, false};
-ghost use Rattle.commands.specs.Commands.{ThreeIsJudged, input, output};
+ghost use Rattle.evtext.specs.Script.{read_script_of};
+ghost use Rattle.forms.specs.declared.file.File.TheVariants as file;
+ghost use Rattle.commands.specs.{Commands.{ThreeIsJudged, input, output}, Hearing.ThreeIsHeard};
+ghost use Rattle.commands.specs.Hearing as held;
 ghost use Rattle.report.specs.Answers as answers;
 
 use crate::{End, Gate, Listener, Open, Sink, Source};
@@ -42,8 +45,11 @@ where
     requires policy { P.failed policy.old ≡ false }
     requires script { S.failed script.old ≡ false }
     requires out { O.failed out.old ≡ false }
-    ensures { answers.IsRunSplit (input T.remaining T.failed table.old table.new)
+    ensures done { answers.IsRunSplit (input T.remaining T.failed table.old table.new)
         (input P.remaining P.failed policy.old policy.new) (input S.remaining S.failed script.old script.new)
+        (output O.contents O.failed O.is_flushed out.old out.new) result }
+    ensures heard { ThreeIsHeard L.Hears held.script file.Script (λ t. read_script_of) answers.RunsSplit
+        (T.remaining table.old) (P.remaining policy.old) (S.remaining script.old) listener.old listener.new
         (output O.contents O.failed O.is_flushed out.old out.new) result }
 {
     let three = load_three::<Script, T, P, S, L>(alloc, table, policy, script, listener);
@@ -86,8 +92,7 @@ fn split_answer<R: Threads + Wait + Sync, G: Gate + Sync>(
     script: &Script,
     gate: &G,
 ) -> Result<Answer, Refusal>
-    ensures log { IfOk result (λ answer. answers.IsLogOfSplit accepted.now.table script.now answer.text.items) }
-    ensures status { IfOk result (λ answer. (answer.status ≡ 0) × (answer.finding ≡ None)) }
+    ensures { IfOk result (answers.IsLogOfSplit accepted.now.table script.now) }
 {
     let log = split(rt, alloc, accepted, &script.events, gate)?;
     Ok(Answer {

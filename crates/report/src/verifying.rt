@@ -1,6 +1,9 @@
 //! The command `verify`.
-ghost use Rattle.std.specs.Prelude.{◌≡◌, false};
-ghost use Rattle.commands.specs.Commands.{ThreeIsJudged, input, output};
+ghost use Rattle.std.specs.Prelude.{◌≡◌, None, false};
+ghost use Rattle.certificate.specs.Reading.{read_certificate_of};
+ghost use Rattle.forms.specs.declared.file.File.TheVariants as file;
+ghost use Rattle.commands.specs.{Commands.{ThreeIsJudged, input, output}, Hearing.ThreeIsHeard};
+ghost use Rattle.commands.specs.Hearing as held;
 ghost use Rattle.report.specs.Answers as answers;
 
 use crate::{End, Listener, Rules, Sink, Source};
@@ -36,8 +39,11 @@ where
     requires policy { P.failed policy.old ≡ false }
     requires certificate { S.failed certificate.old ≡ false }
     requires out { O.failed out.old ≡ false }
-    ensures { answers.IsVerifiedWith rules (input T.remaining T.failed table.old table.new)
+    ensures done { answers.IsVerifiedWith rules (input T.remaining T.failed table.old table.new)
         (input P.remaining P.failed policy.old policy.new) (input S.remaining S.failed certificate.old certificate.new)
+        (output O.contents O.failed O.is_flushed out.old out.new) result }
+    ensures heard { ThreeIsHeard L.Hears (λ t edges x. held.certificate t edges) file.Certificate read_certificate_of (answers.Verifies rules)
+        (T.remaining table.old) (P.remaining policy.old) (S.remaining certificate.old) listener.old listener.new
         (output O.contents O.failed O.is_flushed out.old out.new) result }
 {
     let three = load_three::<Certificate, T, P, S, L>(alloc, table, policy, certificate, listener);

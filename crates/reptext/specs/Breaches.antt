@@ -2,47 +2,47 @@
 use Rattle.std.specs.{List.flat_map, Prelude.{[], ℕ, ◌∷◌, Bool, List, None, Option, Some, codes, false, if◌then◌else◌, true}}
 use Rattle.machine.specs.Layout.{Layout}
 use Rattle.captext.specs.PolicyText.{label_name}
-use Rattle.stated.specs.declared.{breaches.Breach.Breach, claim.{Stated.{Stated, Stated as stated}, Who.Who as who}, deciding.Broken.Broken}
-use Rattle.stated.specs.{declared.deciding.Failure.{Failure, Failure as failure}, Lines.claim_at, Text.stated_text}
+use Rattle.claims.specs.declared.{breaches.Breach.Breach, claim.{Claim.{Claim, Claim as claim}, Who.Who as who}, deciding.Broken.Broken}
+use Rattle.claims.specs.{declared.deciding.Failure.{Failure, Failure as failure}, Lines.claim_at, Text.claim_text}
 use Rattle.reptext.specs.Reports.{extent_word, names_data}
 use Rattle.serde_json.specs.{Data.{Data, array, member, no_members, number, object, string, unsigned}, View.items_of}
 
 -- the claim itself names the two labels that it bounds
-abbrev pub names_both : Stated → Bool
-names_both (stated.AtMost limit (who.One a) (who.One l)) = true
+abbrev pub names_both : Claim → Bool
+names_both (claim.AtMost limit (who.One a) (who.One l)) = true
 names_both _ = false
 
 -- a claim on authority is broken by this much of it; where the claim doesn't name them, the two labels are told too
-abbrev pub pair_data : Layout → Stated → ℕ → Breach → Data
+abbrev pub pair_data : Layout → Claim → ℕ → Breach → Data
 pair_data t claim line breach =
     object (member (codes "authority") (string (extent_word breach.extent))
-    (member (codes "claim") (string (stated_text t claim))
+    (member (codes "claim") (string (claim_text t claim))
     (member (codes "line") (number (unsigned line))
     (if names_both claim then no_members
     else member (codes "pair") (names_data (label_name t breach.actor ∷ label_name t breach.object ∷ [])) no_members))))
 
 -- a claim is broken
-abbrev pub plain_data : Layout → Stated → ℕ → Data
+abbrev pub plain_data : Layout → Claim → ℕ → Data
 plain_data t claim line =
-    object (member (codes "claim") (string (stated_text t claim))
+    object (member (codes "claim") (string (claim_text t claim))
     (member (codes "line") (number (unsigned line)) no_members))
 
 -- what is told of a claim that is broken for this reason
-abbrev pub failure_data : Layout → Stated → ℕ → Failure → Data
+abbrev pub failure_data : Layout → Claim → ℕ → Failure → Data
 failure_data t claim line (failure.Pair breach) = pair_data t claim line breach
 failure_data t claim line failure.Chain = plain_data t claim line
 failure_data t claim line failure.Edge = plain_data t claim line
 
 -- what is told of a line, which is one of the text's claims
-abbrev pub told_of : Layout → Broken → Option Stated → List Data
+abbrev pub told_of : Layout → Broken → Option Claim → List Data
 told_of t broken None = []
 told_of t broken (Some claim) = failure_data t claim broken.line broken.failure ∷ []
 
-abbrev pub told : Layout → List (Option Stated) → Broken → List Data
+abbrev pub told : Layout → List (Option Claim) → Broken → List Data
 told t lines broken = told_of t broken (claim_at lines broken.line)
 
 -- the whole report
-abbrev pub breaches_data : Layout → List (Option Stated) → List Broken → Data
+abbrev pub breaches_data : Layout → List (Option Claim) → List Broken → Data
 breaches_data t lines broken =
     object (member (codes "broken") (array (items_of (flat_map (told t lines) broken)))
     (member (codes "verdict") (string (codes "broken")) no_members))

@@ -91,13 +91,6 @@ extent_word extent.Full = codes "full"
 extent_word extent.Take = codes "take"
 extent_word extent.Nothing = codes "none"
 
--- claims that don't hold: how far the authority goes at the first, from 1, that is broken
-abbrev pub broken_data : Extent → ℕ → Data
-broken_data extent claim =
-    object (member (codes "authority") (string (extent_word extent))
-    (member (codes "claim") (number (unsigned claim))
-    (member (codes "verdict") (string (codes "broken")) no_members)))
-
 -- no run by which one label does something to another: there can't be one
 abbrev pub impossible_data : Data
 impossible_data =

@@ -8,8 +8,8 @@ ghost use Rattle.serde_json.specs.View.{view};
 use crate::places::label_name;
 use crate::reports::{extent_word, line_of};
 use base::Label;
+use claims::{Breach, Broken, Claim, ClaimLines, Failure, Who, claim_text};
 use serde_json::{Value, json};
-use stated::{Breach, Broken, Failure, Stated, StatedLines, Who, claim_text};
 use std::alloc::{AllocError, Global};
 use table::Table;
 
@@ -24,7 +24,7 @@ use table::Table;
 pub fn breaches_report(
     alloc: Global,
     table: &Table,
-    lines: &StatedLines,
+    lines: &ClaimLines,
     broken: &[Broken],
 ) -> Result<Vec<u8>, AllocError>
     ensures { IfOk result (λ report. report.items ≡ line_of (breaches_data table.now lines.now broken.now)) }
@@ -36,7 +36,7 @@ pub fn breaches_report(
 fn breaches_value(
     alloc: Global,
     table: &Table,
-    lines: &StatedLines,
+    lines: &ClaimLines,
     broken: &[Broken],
 ) -> Result<Value, AllocError>
     ensures { IfOk result (λ value. view value ≡ breaches_data table.now lines.now broken.now) }
@@ -49,7 +49,7 @@ fn breaches_value(
 fn values_of(
     alloc: Global,
     table: &Table,
-    lines: &StatedLines,
+    lines: &ClaimLines,
     broken: &[Broken],
 ) -> Result<Vec<Value>, AllocError>
     ensures { IfOk result (λ values. map view values.items ≡ flat_map (told table.now lines.now) broken.now) }
@@ -65,7 +65,7 @@ fn values_of(
 fn push_value(
     alloc: Global,
     table: &Table,
-    lines: &StatedLines,
+    lines: &ClaimLines,
     broken: &Broken,
     values: &mut Vec<Value>,
 ) -> Result<(), AllocError>
@@ -82,7 +82,7 @@ fn push_value(
 fn value_of(
     alloc: Global,
     table: &Table,
-    claim: &Stated,
+    claim: &Claim,
     broken: &Broken,
 ) -> Result<Value, AllocError>
     ensures { IfOk result (λ value. view value ≡ failure_data table.now claim.now broken.now.line broken.now.failure) }
@@ -97,7 +97,7 @@ fn value_of(
 fn plain_value(
     alloc: Global,
     table: &Table,
-    claim: &Stated,
+    claim: &Claim,
     line: usize,
 ) -> Result<Value, AllocError>
     ensures { IfOk result (λ value. view value ≡ plain_data table.now claim.now line) }
@@ -111,7 +111,7 @@ fn plain_value(
 fn pair_value(
     alloc: Global,
     table: &Table,
-    claim: &Stated,
+    claim: &Claim,
     line: usize,
     breach: Breach,
 ) -> Result<Value, AllocError>
@@ -144,11 +144,11 @@ fn labels_value(
 }
 
 // Whether a claim itself names the two labels that it bounds.
-fn names_both(claim: &Stated) -> bool
+fn names_both(claim: &Claim) -> bool
     ensures { result ≡ names_both claim.now }
 {
     match claim {
-        Stated::AtMost(_, Who::One(_), Who::One(_)) => true,
+        Claim::AtMost(_, Who::One(_), Who::One(_)) => true,
         _ => false,
     }
 }

@@ -20,6 +20,6 @@ pub use laws::upgraded_tables_are_reported_alike;
 pub use listing::write_objects;
 pub use places::{KindsOfObjects, place_names};
 pub use reports::{
-    accept_report, broken_report, check_report, denial_text, extent_word, fault_report,
-    hold_report, illegal_report, impossible_report, outside_report, unfound_report, within_report,
+    accept_report, check_report, denial_text, extent_word, fault_report, hold_report,
+    illegal_report, impossible_report, outside_report, unfound_report, within_report,
 };

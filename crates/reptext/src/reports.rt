@@ -129,18 +129,6 @@ pub fn hold_report(alloc: Global, claims: usize) -> Result<Vec<u8>, AllocError>
     line_of(alloc, &hold_value(alloc, claims)?)
 }
 
-/// Returns the report of a claim that doesn't hold: how far the authority goes, and which claim it
-/// is, from 1.
-///
-/// # Errors
-///
-/// [`AllocError`] where memory is refused.
-pub fn broken_report(alloc: Global, extent: Extent, claim: usize) -> Result<Vec<u8>, AllocError>
-    ensures { IfOk result (λ report. report.items ≡ reports.line_of (reports.broken_data extent claim)) }
-{
-    line_of(alloc, &broken_value(alloc, extent, claim)?)
-}
-
 /// Returns the report that one label does nothing to another in any run.
 ///
 /// # Errors
@@ -211,14 +199,6 @@ fn hold_value(alloc: Global, claims: usize) -> Result<Value, AllocError>
 {
     let claims = claims as u64;
     json!(in alloc; {"claims": claims, "verdict": "hold"})
-}
-
-fn broken_value(alloc: Global, extent: Extent, claim: usize) -> Result<Value, AllocError>
-    ensures { IfOk result (λ value. view value ≡ reports.broken_data extent claim) }
-{
-    let authority = extent_word(extent);
-    let claim = claim as u64;
-    json!(in alloc; {"authority": authority, "claim": claim, "verdict": "broken"})
 }
 
 fn impossible_value(alloc: Global) -> Result<Value, AllocError>

@@ -1,15 +1,15 @@
 -- What the words of a command line ask for: each command, with its words and options, and the request that they make (confine's own).
 use Rattle.std.specs.{Borrow.Bor, Prelude.{ℕ, ◌&&◌, List, None, Option, Some, codes, if◌then◌else◌, is_some, nat_le}}
-use Rattle.std.specs.{Prelude.option_and_then, Str.bytes_eq}
+use Rattle.std.specs.{Option.option_map_or, Prelude.option_and_then, Str.bytes_eq}
 use Rattle.words.specs.Number.{dec_of}
-use Rattle.importing.specs.declared.pieces.{Children.{Children, Children as children}, Minting.{Minting, Minting as minting}}
+use Rattle.importing.specs.declared.pieces.Minting.{Minting, Minting as minting}
 use Rattle.commands.specs.declared.choices.{Imported.{Imported, Imported as imported}, OnAccept.OnAccept}
 use Rattle.commands.specs.declared.choices.{OnAccept.OnAccept as on_accept, OnClose.{OnClose, OnClose as on_close}, OnImport.OnImport}
-use Rattle.commands.specs.declared.choices.{Picture.{Picture, Picture as picture}, Search.Search}
+use Rattle.commands.specs.declared.choices.{OfPolicy.{OfPolicy, OfPolicy as by_policy}, OfSystem.{OfSystem, OfSystem as asked}}
+use Rattle.commands.specs.declared.choices.{Picture.{Picture, Picture as picture}, Search.Search, Taken.{Taken, Taken as taken}}
 use Rattle.verdict.specs.declared.rules.Rules.{Rules, Rules as rules}
 use Rattle.requests.specs.declared.request.{CommandLine.{CommandLine, TheVariants.{InTurn, Split}}, Format.{Format, Format as format}}
-use Rattle.requests.specs.declared.request.{OfSystem.{OfSystem, OfSystem as of_system}, OfTable.{OfTable, OfTable as on_table}}
-use Rattle.requests.specs.declared.request.{Manner.Manner, OfThree.{OfThree, OfThree as of_three}, Request.{Request, Request as request}}
+use Rattle.requests.specs.declared.request.{Manner.Manner, OfThree.{OfThree, OfThree as three}, Request.{Request, Request as request}}
 use Rattle.requests.specs.declared.meaning.{Verb.{Verb, Verb as verb}, Words.Words}
 
 infixl 10 ◌>>=◌
@@ -30,12 +30,6 @@ number_to most word = do
 abbrev pub minting_of : List ℕ → Option Minting
 minting_of word =
     if bytes_eq word (codes "least") then Some minting.Least else if bytes_eq word (codes "all") then Some minting.All else None
-
--- what parents get of their children by a word
-abbrev pub children_of : List ℕ → Option Children
-children_of word =
-    if bytes_eq word (codes "control") then Some children.Control
-    else if bytes_eq word (codes "directed") then Some children.Directed else None
 
 -- what `check` writes
 abbrev pub on_accept_of : Words → OnAccept
@@ -76,9 +70,7 @@ abbrev pub on_import_of : Words → Option OnImport
 on_import_of words = do
   rights ← words.rights
   minting ← minting_of rights.now
-  word ← words.children
-  children ← children_of word.now
-  Some (record { minting = minting; children = children; writes = imported_of words })
+  Some (record { minting = minting; writes = imported_of words })
 
 -- how findings are printed by a word
 abbrev pub format_of : List ℕ → Option Format
@@ -95,51 +87,63 @@ manner_of words = do
 
 -- a request that is done in turn
 abbrev pub in_turn : Words → Request Name → Option CommandLine
-in_turn words asked = do
+in_turn words told = do
   manner ← manner_of words
-  Some (InTurn (record { request = asked; manner = manner }))
+  Some (InTurn (record { request = told; manner = manner }))
 
--- .. of a table alone
-abbrev pub of_table : Words → OfTable → Option CommandLine
-of_table words asked = do
-  table ← words.table
-  in_turn words (request.OfTable asked table)
+-- the rights of the capabilities of a description, by a word
+abbrev pub rights_of : List ℕ → Option Taken
+rights_of word = do
+  minting ← minting_of word
+  Some (taken.System (Some minting))
 
--- .. of a table and a policy
-abbrev pub of_two : Words → OfSystem → Option CommandLine
-of_two words asked = do
-  table ← words.table
+-- as what a system is read
+abbrev pub taken_of : Words → Option Taken
+taken_of words = option_map_or (λ word. rights_of word.now) words.rights (Some (taken.System None))
+
+-- .. of a system alone
+abbrev pub of_system : Words → OfSystem → Option CommandLine
+of_system words what = do
+  how ← taken_of words
+  system ← words.system
+  in_turn words (request.OfSystem what how system)
+
+-- .. of a system and a policy
+abbrev pub of_policy : Words → OfPolicy → Option CommandLine
+of_policy words what = do
+  how ← taken_of words
+  system ← words.system
   policy ← words.policy
-  in_turn words (request.OfSystem asked table policy)
+  in_turn words (request.OfPolicy what how system policy)
 
 -- .. of a table, a policy and a third file
-abbrev pub of_all : Words → OfThree → Option Name → Option CommandLine
-of_all words asked file = do
-  table ← words.table
+abbrev pub of_three : Words → OfThree → Option Name → Option CommandLine
+of_three words what file = do
+  table ← words.system
   policy ← words.policy
   third ← file
-  in_turn words (request.OfThree asked table policy third)
+  in_turn words (request.OfThree what table policy third)
 
--- a policy is closed, if there is one; else one is made for the table
+-- a policy is closed, if there is one; else one is made for the system
 abbrev pub closing_of : Words → Rules → Option CommandLine
 closing_of words set =
-    if is_some words.policy then of_two words (of_system.Close set (on_close_of words))
-    else of_table words (on_table.Start set (on_close_of words))
+    if is_some words.policy then of_policy words (by_policy.Close set (on_close_of words))
+    else of_system words (asked.Start set (on_close_of words))
 
 -- what threads of a label may do, by a policy, if there is one; else in runs of the table
 abbrev pub why_of : Words → Name → Name → Option CommandLine
 why_of words actor object =
-    if is_some words.policy then of_two words (of_system.Why actor object) else of_table words (on_table.Why actor object)
+    if is_some words.policy then of_policy words (by_policy.Why actor object) else of_system words (asked.Why actor object)
 
 -- a drawing, by a policy, if there is one; else of the table
 abbrev pub drawing_of : Words → Option CommandLine
 drawing_of words =
-    if is_some words.policy then of_two words (of_system.Draw (picture_of words)) else of_table words (on_table.Draw (picture_of words))
+    if is_some words.policy then of_policy words (by_policy.Draw (picture_of words)) else of_system words (asked.Draw (picture_of words))
 
 -- a run by workers
 abbrev pub split_of : Words → Option CommandLine
 split_of words = do
-  table ← words.table
+  table ← words.system
   policy ← words.policy
   script ← words.script
   manner ← manner_of words
@@ -149,31 +153,38 @@ split_of words = do
 abbrev pub running_of : Words → Option CommandLine
 running_of words = do
   set ← set_of words
-  of_all words (of_three.Run set) words.script
+  of_three words (three.Run set) words.script
 
--- whether claims hold of a table
+-- whether claims hold of a system
 abbrev pub claims_of : Words → Option CommandLine
 claims_of words = do
-  table ← words.table
+  how ← taken_of words
+  system ← words.system
   claims ← words.claims
-  in_turn words (request.OfClaims table claims)
+  in_turn words (request.OfClaims how system claims)
+
+-- a check of a table against a policy
+abbrev pub check_of : Words → Option CommandLine
+check_of words = do
+  set ← set_of words
+  word ← words.workers
+  workers ← number_to 16 word.now
+  table ← words.system
+  policy ← words.policy
+  in_turn words (request.Check (record { rules = set; workers = workers; on_accept = on_accept_of words }) table policy)
 
 -- what each command asks for with these words; nothing, if it lacks one
 abbrev pub asked_by : Verb → Words → Option CommandLine
 asked_by verb.Import words = do
-  asked ← on_import_of words
-  description ← words.description
-  in_turn words (request.OfDescription asked description)
-asked_by verb.Check words = do
-  set ← set_of words
-  word ← words.workers
-  workers ← number_to 16 word.now
-  of_two words (of_system.Check set workers (on_accept_of words))
+  on_import ← on_import_of words
+  description ← words.system
+  in_turn words (request.OfDescription on_import description)
+asked_by verb.Check words = check_of words
 asked_by verb.Verify words = do
   set ← set_of words
-  of_all words (of_three.Verify set) words.certificate
+  of_three words (three.Verify set) words.certificate
 asked_by verb.Run words = if words.split then split_of words else running_of words
-asked_by verb.Replay words = of_all words of_three.Replay words.log
+asked_by verb.Replay words = of_three words three.Replay words.log
 asked_by verb.Close words = do
   set ← set_of words
   closing_of words set
@@ -185,11 +196,11 @@ asked_by verb.Show words = do
   search ← search_of words
   actor ← words.actor
   object ← words.object
-  of_table words (on_table.Show search actor object)
+  of_system words (asked.Show search actor object)
 asked_by verb.Draw words = drawing_of words
-asked_by verb.Summary words = of_table words on_table.Summary
-asked_by verb.Claims words = if words.all then of_table words on_table.Strongest else claims_of words
-asked_by verb.List words = of_table words on_table.List
+asked_by verb.Summary words = of_system words asked.Summary
+asked_by verb.Claims words = if words.all then of_system words asked.Strongest else claims_of words
+asked_by verb.List words = of_system words asked.List
 
 abbrev pub command_line_of : Words → Option CommandLine
 command_line_of words = asked_by words.verb words

@@ -7,6 +7,4 @@ mod meaning;
 mod request;
 
 pub use meaning::{Verb, Words};
-pub use request::{
-    CommandLine, Format, Invocation, Manner, OfSystem, OfTable, OfThree, Request, SplitRun,
-};
+pub use request::{Check, CommandLine, Format, Invocation, Manner, OfThree, Request, SplitRun};

@@ -1,15 +1,16 @@
 //! Which request the words of a command line make.
 ghost use Rattle.std.specs.Prelude.{◌≡◌, ◌≢◌, ◌≤◌, IfNone, IfSome};
-ghost use Rattle.requests.specs.Requests.{HasFewWorkers, IsWithinLimits, OnInTurn};
-ghost use Rattle.requests.specs.Meaning.{children_of, closing_of, command_line_of, drawing_of, format_of, imported_of, in_turn};
-ghost use Rattle.requests.specs.Meaning.{manner_of, minting_of, number_to, of_all, of_table, of_two, on_accept_of};
-ghost use Rattle.requests.specs.Meaning.{on_close_of, on_import_of, picture_of, rules_of, search_of, set_of, split_of, verb_name};
-ghost use Rattle.requests.specs.Meaning.{why_of};
+ghost use Rattle.requests.specs.Requests.{IsWithinLimits, OnInTurn};
+ghost use Rattle.requests.specs.Meaning.{closing_of, command_line_of, drawing_of, format_of, imported_of, in_turn, manner_of};
+ghost use Rattle.requests.specs.Meaning.{minting_of, number_to, of_policy, of_system, of_three, on_accept_of, on_close_of};
+ghost use Rattle.requests.specs.Meaning.{on_import_of, picture_of, rights_of, rules_of, search_of, set_of, split_of, taken_of};
+ghost use Rattle.requests.specs.Meaning.{verb_name, why_of};
 
-use crate::request::{
-    CommandLine, Format, Invocation, Manner, OfSystem, OfTable, OfThree, Request, SplitRun,
+use crate::request::{Check, CommandLine, Format, Invocation, Manner, OfThree, Request, SplitRun};
+use commands::{
+    Imported, Minting, OfPolicy, OfSystem, OnAccept, OnClose, OnImport, Picture, Rules, Search,
+    Taken,
 };
-use commands::{Children, Imported, Minting, OnAccept, OnClose, OnImport, Picture, Rules, Search};
 use words::decimal_of;
 
 /// A command of the program.
@@ -57,8 +58,8 @@ impl Verb {
 #[derive(Clone, Copy)]
 pub struct Words<'a> {
     pub verb: Verb,
-    pub description: Option<&'a str>,
-    pub table: Option<&'a str>,
+    /// The first file: a description, a system or a table.
+    pub system: Option<&'a str>,
     pub policy: Option<&'a str>,
     pub certificate: Option<&'a str>,
     pub script: Option<&'a str>,
@@ -69,7 +70,6 @@ pub struct Words<'a> {
     pub workers: Option<&'a str>,
     pub steps: Option<&'a str>,
     pub rights: Option<&'a str>,
-    pub children: Option<&'a str>,
     pub rules: Option<&'a str>,
     pub format: Option<&'a str>,
     pub explain: bool,
@@ -91,40 +91,42 @@ impl<'a> Words<'a> {
         ensures limits { IfSome result (λ line. OnInTurn line IsWithinLimits) }
     {
         match self.verb {
-            Verb::Import => self.in_turn(Request::OfDescription(
-                self.on_import()?,
-                self.description?,
-            )),
+            Verb::Import => self.in_turn(Request::OfDescription(self.on_import()?, self.system?)),
             Verb::Check => {
                 let rules = self.rules()?;
                 let workers = number_to(16, self.workers?)? as usize;
                 let on_accept = self.on_accept();
-                self.of_two(OfSystem::Check {
+                let check = Check {
                     rules,
                     workers,
                     on_accept,
-                })
+                };
+                self.in_turn(Request::Check(check, self.system?, self.policy?))
             }
-            Verb::Verify => self.of_all(OfThree::Verify(self.rules()?), self.certificate),
+            Verb::Verify => self.of_three(OfThree::Verify(self.rules()?), self.certificate),
             Verb::Run if self.split => self.split_run(),
-            Verb::Run => self.of_all(OfThree::Run(self.rules()?), self.script),
-            Verb::Replay => self.of_all(OfThree::Replay, self.log),
+            Verb::Run => self.of_three(OfThree::Run(self.rules()?), self.script),
+            Verb::Replay => self.of_three(OfThree::Replay, self.log),
             Verb::Close => self.close(self.rules()?),
             Verb::Why => self.why(self.actor?, self.object?),
             Verb::Show => {
                 let search = self.search()?;
                 let (actor, object) = (self.actor?, self.object?);
-                self.of_table(OfTable::Show {
+                self.of_system(OfSystem::Show {
                     search,
                     actor,
                     object,
                 })
             }
             Verb::Draw => self.draw(),
-            Verb::Summary => self.of_table(OfTable::Summary),
-            Verb::Claims if self.all => self.of_table(OfTable::Strongest),
-            Verb::Claims => self.in_turn(Request::OfClaims(self.table?, self.claims?)),
-            Verb::List => self.of_table(OfTable::List),
+            Verb::Summary => self.of_system(OfSystem::Summary),
+            Verb::Claims if self.all => self.of_system(OfSystem::Strongest),
+            Verb::Claims => self.in_turn(Request::OfClaims(
+                self.taken()?,
+                self.system?,
+                self.claims?,
+            )),
+            Verb::List => self.of_system(OfSystem::List),
         }
     }
 
@@ -156,8 +158,8 @@ impl<'a> Words<'a> {
         ensures limits { IfSome result (λ line. OnInTurn line IsWithinLimits) }
     {
         match self.policy {
-            Some(_) => self.of_two(OfSystem::Close(rules, self.on_close())),
-            None => self.of_table(OfTable::Start(rules, self.on_close())),
+            Some(_) => self.of_policy(OfPolicy::Close(rules, self.on_close())),
+            None => self.of_system(OfSystem::Start(rules, self.on_close())),
         }
     }
 
@@ -167,8 +169,8 @@ impl<'a> Words<'a> {
         ensures limits { IfSome result (λ line. OnInTurn line IsWithinLimits) }
     {
         match self.policy {
-            Some(_) => self.of_two(OfSystem::Why { actor, object }),
-            None => self.of_table(OfTable::Why { actor, object }),
+            Some(_) => self.of_policy(OfPolicy::Why { actor, object }),
+            None => self.of_system(OfSystem::Why { actor, object }),
         }
     }
 
@@ -178,33 +180,43 @@ impl<'a> Words<'a> {
         ensures limits { IfSome result (λ line. OnInTurn line IsWithinLimits) }
     {
         match self.policy {
-            Some(_) => self.of_two(OfSystem::Draw(self.picture())),
-            None => self.of_table(OfTable::Draw(self.picture())),
+            Some(_) => self.of_policy(OfPolicy::Draw(self.picture())),
+            None => self.of_system(OfSystem::Draw(self.picture())),
         }
     }
 
-    // A command of a table alone.
-    fn of_table(self, asked: OfTable<'a>) -> Option<CommandLine<'a>>
-        ensures meaning { result ≡ of_table self.entry asked.entry }
+    // A command of a system alone.
+    fn of_system(self, asked: OfSystem<'a>) -> Option<CommandLine<'a>>
+        ensures meaning { result ≡ of_system self.entry asked.entry }
         ensures limits { IfSome result (λ line. OnInTurn line IsWithinLimits) }
     {
-        self.in_turn(Request::OfTable(asked, self.table?))
+        self.in_turn(Request::OfSystem(asked, self.taken()?, self.system?))
     }
 
-    // A command of a table and a policy.
-    fn of_two(self, asked: OfSystem<'a>) -> Option<CommandLine<'a>>
-        ensures meaning { result ≡ of_two self.entry asked.entry }
-        ensures limits { HasFewWorkers asked.entry → IfSome result (λ line. OnInTurn line IsWithinLimits) }
+    // A command of a system and a policy.
+    fn of_policy(self, asked: OfPolicy<'a>) -> Option<CommandLine<'a>>
+        ensures meaning { result ≡ of_policy self.entry asked.entry }
+        ensures limits { IfSome result (λ line. OnInTurn line IsWithinLimits) }
     {
-        self.in_turn(Request::OfSystem(asked, self.table?, self.policy?))
+        self.in_turn(Request::OfPolicy(asked, self.taken()?, self.system?, self.policy?))
     }
 
     // A command of a table, a policy and a third file.
-    fn of_all(self, asked: OfThree, third: Option<&'a str>) -> Option<CommandLine<'a>>
-        ensures meaning { result ≡ of_all self.entry asked third.entry }
+    fn of_three(self, asked: OfThree, third: Option<&'a str>) -> Option<CommandLine<'a>>
+        ensures meaning { result ≡ of_three self.entry asked third.entry }
         ensures limits { IfSome result (λ line. OnInTurn line IsWithinLimits) }
     {
-        self.in_turn(Request::OfThree(asked, self.table?, self.policy?, third?))
+        self.in_turn(Request::OfThree(asked, self.system?, self.policy?, third?))
+    }
+
+    // As what a system is read.
+    fn taken(self) -> Option<Taken>
+        ensures { result ≡ taken_of self.entry }
+    {
+        match self.rights {
+            Some(word) => Some(Taken::System(Some(minting(word)?))),
+            None => Some(Taken::System(None)),
+        }
     }
 
     // A run by workers.
@@ -213,7 +225,7 @@ impl<'a> Words<'a> {
         ensures limits { IfSome result (λ line. OnInTurn line IsWithinLimits) }
     {
         Some(CommandLine::Split(SplitRun {
-            table: self.table?,
+            table: self.system?,
             policy: self.policy?,
             script: self.script?,
             manner: self.manner()?,
@@ -278,7 +290,6 @@ impl<'a> Words<'a> {
     {
         Some(OnImport {
             minting: minting(self.rights?)?,
-            children: children(self.children?)?,
             writes: self.imported(),
         })
     }
@@ -331,19 +342,6 @@ fn minting(word: &str) -> Option<Minting>
         Some(Minting::Least)
     } else if word == "all" {
         Some(Minting::All)
-    } else {
-        None
-    }
-}
-
-// What parents get of their children by this word.
-fn children(word: &str) -> Option<Children>
-    ensures { result ≡ children_of word.now }
-{
-    if word == "control" {
-        Some(Children::Control)
-    } else if word == "directed" {
-        Some(Children::Directed)
     } else {
         None
     }

@@ -2,7 +2,7 @@
 ghost use Rattle.std.specs.Prelude.{◌≡◌, option_copied};
 ghost use Rattle.requests.specs.Requests.{file_name_of, file_of, label_of, names_of};
 
-use commands::{Asked, File, OnAccept, OnClose, OnImport, Picture, Rules, Search};
+use commands::{Asked, File, OfPolicy, OfSystem, OnAccept, OnImport, Rules, Taken};
 
 /// A command line that was read.
 #[derive(Clone, Copy)]
@@ -70,61 +70,25 @@ pub enum Format {
 pub enum Request<'a, N> {
     /// Imports a description.
     OfDescription(OnImport, N),
-    /// A command of a table alone.
-    OfTable(OfTable<'a>, N),
-    /// A command of a table and a policy.
-    OfSystem(OfSystem<'a>, N, N),
-    /// Reports whether claims hold of a table.
-    OfClaims(N, N),
+    /// A command of a system alone.
+    OfSystem(OfSystem<'a>, Taken, N),
+    /// A command of a system and a policy.
+    OfPolicy(OfPolicy<'a>, Taken, N, N),
+    /// Reports whether claims hold of a system.
+    OfClaims(Taken, N, N),
+    /// Checks a table against a policy.
+    Check(Check, N, N),
     /// A command of a table, a policy and a third file.
     OfThree(OfThree, N, N, N),
 }
 
-/// A command of a table alone.
+/// How a table is checked against a policy.
 #[derive(Clone, Copy)]
-pub enum OfTable<'a> {
-    /// Writes the least policy for the table by these rules, or how another differs from it.
-    Start(Rules, OnClose),
-    /// Lists the objects.
-    List,
-    /// Reports what threads of the label `actor` may do to objects of the label `object`, and why.
-    Why {
-        actor: &'a str,
-        object: &'a str,
-    },
-    /// Searches for a run in which a thread of the label `actor` changes an object of the label `object`.
-    Show {
-        search: Search,
-        actor: &'a str,
-        object: &'a str,
-    },
-    /// Draws who may change or take from whom.
-    Draw(Picture),
-    /// Summarises who may change whom, and who uses which memory.
-    Summary,
-    /// Writes the strongest claims that hold.
-    Strongest,
-}
-
-/// A command of a table and a policy.
-#[derive(Clone, Copy)]
-pub enum OfSystem<'a> {
-    /// Checks the table against the policy by these rules, by 1 to 16 workers.
-    Check {
-        rules: Rules,
-        workers: usize,
-        on_accept: OnAccept,
-    },
-    /// Closes the policy over the table by these rules.
-    Close(Rules, OnClose),
-    /// Reports what the policy lets threads of the label `actor` do to objects of the label `object`, and
-    /// why. This says nothing about runs.
-    Why {
-        actor: &'a str,
-        object: &'a str,
-    },
-    /// Draws whom the policy lets change or take from whom.
-    Draw(Picture),
+pub struct Check {
+    pub rules: Rules,
+    /// 1 to 16.
+    pub workers: usize,
+    pub on_accept: OnAccept,
 }
 
 /// A command of a table, a policy and a third file.
@@ -139,22 +103,29 @@ pub enum OfThree {
 }
 
 impl<'a, N> Request<'a, N> {
-    /// Returns the file of this kind, if the command has it. Its third file counts as one of each other kind.
+    /// Returns the file of this kind, if the command has it. A system counts as a table and as a description, and
+    /// a third file as one of each other kind.
     pub fn file(&self, file: File) -> Option<&N>
         ensures { option_copied result ≡ file_of self.now file }
     {
         match (self, file) {
             (Request::OfDescription(_, description), File::Description) => Some(description),
             (
-                Request::OfTable(_, table)
-                | Request::OfSystem(_, table, _)
-                | Request::OfClaims(table, _)
-                | Request::OfThree(_, table, _, _),
-                File::Table,
-            ) => Some(table),
-            (Request::OfSystem(_, _, policy) | Request::OfThree(_, _, policy, _), File::Policy) =>
-                Some(policy),
-            (Request::OfClaims(_, claims), File::Claims) => Some(claims),
+                Request::OfSystem(_, _, system)
+                | Request::OfPolicy(_, _, system, _)
+                | Request::OfClaims(_, system, _),
+                File::Table | File::Description,
+            ) => Some(system),
+            (Request::Check(_, table, _) | Request::OfThree(_, table, _, _), File::Table) => Some(
+                table,
+            ),
+            (
+                Request::OfPolicy(_, _, _, policy)
+                | Request::Check(_, _, policy)
+                | Request::OfThree(_, _, policy, _),
+                File::Policy,
+            ) => Some(policy),
+            (Request::OfClaims(_, _, claims), File::Claims) => Some(claims),
             (Request::OfThree(_, _, _, third), _) => Some(third),
             _ => None,
         }
@@ -167,13 +138,17 @@ impl<'a, N> Request<'a, N> {
         match (asked, self) {
             (
                 Asked::Actor,
-                Request::OfTable(OfTable::Why { actor, .. } | OfTable::Show { actor, .. }, _)
-                | Request::OfSystem(OfSystem::Why { actor, .. }, _, _),
+                Request::OfSystem(OfSystem::Why { actor, .. } | OfSystem::Show { actor, .. }, _, _)
+                | Request::OfPolicy(OfPolicy::Why { actor, .. }, _, _, _),
             ) => actor,
             (
                 Asked::Object,
-                Request::OfTable(OfTable::Why { object, .. } | OfTable::Show { object, .. }, _)
-                | Request::OfSystem(OfSystem::Why { object, .. }, _, _),
+                Request::OfSystem(
+                    OfSystem::Why { object, .. } | OfSystem::Show { object, .. },
+                    _,
+                    _,
+                )
+                | Request::OfPolicy(OfPolicy::Why { object, .. }, _, _, _),
             ) => object,
             _ => "",
         }

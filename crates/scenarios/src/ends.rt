@@ -1,7 +1,7 @@
 //! How a command ends whose devices fail: its message, its status, and what it has written by then.
 use crate::failing::{Given, Page};
 use crate::session::{Command, Ending, Files, ending_of};
-use report::{File, Imported, OnAccept, Picture};
+use report::{File, Imported, OfSystem, OnAccept, Picture, Search};
 use std::alloc::Global;
 use std::io::ErrorKind;
 use std::process::Abort;
@@ -86,22 +86,15 @@ runs tb xb b b
 end
 ";
 
-const CLAIMS: &str = "confine-claims 1\nnone b a\nend\n";
-
 const STRONGEST: &str = "confine-claims 2\nnone b a\nend\n";
 
-/// A label that is claimed to leave alone what it notifies.
-const BROAD: &str = "confine-claims 1\nnone a b\nend\n";
+/// Claims on the label that waits.
+const CLAIMS: &str = "confine-claims 2\n# b waits\nnone b *\nend\n";
 
-/// Claims of version 2 on the label that waits.
-const STATED: &str = "confine-claims 2\n# b waits\nnone b *\nend\n";
-
-/// Claims of version 2, of which the first holds.
+/// Claims of which the first holds.
 const BROADER: &str = "confine-claims 2\nnone b *\ntake * b\nwithout a notify b\nend\n";
 
 const HOLD: &str = "{\"claims\":1,\"verdict\":\"hold\"}\n";
-
-const BROKEN: &str = "{\"authority\":\"full\",\"claim\":1,\"verdict\":\"broken\"}\n";
 
 const BREACHES: &str =
     "{\"broken\":[{\"authority\":\"full\",\"claim\":\"take * b\",\"line\":3,\"pair\":[\"a\",\"b\"]},\
@@ -168,6 +161,15 @@ bind a_main a_time0
 end
 ";
 
+/// The objects of that table.
+const LIST_OF_A_DESCRIPTION: &str = "\
+0 cnode a_space a
+1 tcb a_main a
+2 notification a_bell a
+3 context a_time0 a
+4 frame r_frame r
+";
+
 /// The claims that it makes.
 const INTENDED: &str = "confine-claims 2\nnone a r\nend\n";
 
@@ -210,8 +212,36 @@ const NO_CLAIMS: &str = "confine: cannot read claims";
 
 const NO_DESCRIPTION: &str = "confine: cannot read description";
 
+const WHY: Command = Command::Asked(OfSystem::Why {
+    actor: "a",
+    object: "b",
+});
+
+const SUMMARY: Command = Command::Asked(OfSystem::Summary);
+
+/// A search for a change, of few calls.
+const SHOW: Command = Command::Asked(OfSystem::Show {
+    search: Search {
+        takes: false,
+        steps: 100,
+    },
+    actor: "a",
+    object: "b",
+});
+
+const FOLDED: Command = Command::Asked(OfSystem::Draw(Picture::Programs));
+
+const DRAWN: Command = Command::Asked(OfSystem::Draw(Picture::Labels));
+
+const LIST_OF_OBJECTS: Command = Command::Asked(OfSystem::List);
+
+const LIST_OF_DESCRIPTION: Command = Command::AskedOfDescription(OfSystem::List);
+
+/// The strongest claims.
+const ALL_CLAIMS: Command = Command::Asked(OfSystem::Strongest);
+
 /// The files that each command reads, with what is told where one can't be read.
-const MESSAGES: [(Command, File, &str); 30] = [
+const MESSAGES: [(Command, File, &str); 29] = [
     (Command::Check(OnAccept::Report), File::Table, NO_TABLE),
     (Command::Check(OnAccept::Report), File::Policy, NO_POLICY),
     (Command::Check(OnAccept::Certificate), File::Table, NO_TABLE),
@@ -234,16 +264,15 @@ const MESSAGES: [(Command, File, &str); 30] = [
     (Command::Replay, File::Log, NO_LOG),
     (Command::Close, File::Table, NO_TABLE),
     (Command::Close, File::Policy, NO_POLICY),
-    (Command::Why, File::Table, NO_TABLE),
-    (Command::Summary, File::Table, NO_TABLE),
-    (Command::Show, File::Table, NO_TABLE),
-    (Command::Draw(Picture::Programs), File::Table, NO_TABLE),
-    (Command::Draw(Picture::Labels), File::Table, NO_TABLE),
-    (Command::List, File::Table, NO_TABLE),
+    (WHY, File::Table, NO_TABLE),
+    (SUMMARY, File::Table, NO_TABLE),
+    (SHOW, File::Table, NO_TABLE),
+    (FOLDED, File::Table, NO_TABLE),
+    (DRAWN, File::Table, NO_TABLE),
+    (LIST_OF_OBJECTS, File::Table, NO_TABLE),
     (Command::Claims, File::Table, NO_TABLE),
     (Command::Claims, File::Claims, NO_CLAIMS),
-    (Command::Stated, File::Claims, NO_CLAIMS),
-    (Command::Strongest, File::Table, NO_TABLE),
+    (ALL_CLAIMS, File::Table, NO_TABLE),
     (
         Command::Import(Imported::Table),
         File::Description,
@@ -263,7 +292,6 @@ fn files_for(command: Command) -> Files<'static> {
         Command::Verify => CERTIFICATE,
         Command::Split => POLLS,
         Command::Claims => CLAIMS,
-        Command::Stated => STATED,
         Command::Import(_) => DESCRIPTION,
         _ => SCRIPT,
     };
@@ -361,13 +389,13 @@ fn labels_for(command: Command) -> Files<'static> {
 
 /// Files of each kind of answer of the commands that say who may change whom.
 fn answers_on_changes() -> [Answered; 7] {
-    let to_draw = files_for(Command::Draw(Picture::Labels));
-    let to_fold = labels_for(Command::Draw(Picture::Programs));
+    let to_draw = files_for(DRAWN);
+    let to_fold = labels_for(FOLDED);
     [
-        (files_for(Command::Why), 0, REASON),
-        (labels_for(Command::Summary), 0, NO_THREADS),
-        (files_for(Command::Show), 0, SHOWN),
-        (labels_for(Command::Show), 1, UNSHOWN),
+        (files_for(WHY), 0, REASON),
+        (labels_for(SUMMARY), 0, NO_THREADS),
+        (files_for(SHOW), 0, SHOWN),
+        (labels_for(SHOW), 1, UNSHOWN),
         (to_fold, 0, NO_PROGRAMS),
         (to_draw, 0, DRAWING),
         (to_draw.with(File::Table, faulty()), 2, FAULTY_TABLE),
@@ -391,7 +419,7 @@ fn answers_of_imports() -> [Answered; 3] {
 /// Files of each kind of answer of the other commands.
 fn answers_of_others() -> [Answered; 6] {
     let to_replay = files_for(Command::Replay);
-    let to_list = files_for(Command::List);
+    let to_list = files_for(LIST_OF_OBJECTS);
     [
         (to_close(), 0, LEAST),
         (to_list, 0, LIST),
@@ -403,16 +431,30 @@ fn answers_of_others() -> [Answered; 6] {
 }
 
 /// Files of each kind of answer of `claims`.
-fn answers_of_claims() -> [Answered; 6] {
+fn answers_of_claims() -> [Answered; 4] {
     let files = files_for(Command::Claims);
-    let stated = files_for(Command::Stated);
     [
         (files, 0, HOLD),
-        (files.with(File::Claims, Given::text(BROAD)), 1, BROKEN),
+        (files.with(File::Claims, Given::text(BROADER)), 1, BREACHES),
         (files.with(File::Claims, faulty()), 2, FAULTY_CLAIMS),
-        (stated, 0, HOLD),
-        (stated.with(File::Claims, Given::text(BROADER)), 1, BREACHES),
-        (files_for(Command::Strongest), 0, STRONGEST),
+        (files_for(ALL_CLAIMS), 0, STRONGEST),
+    ]
+}
+
+/// Files of each kind of answer where a description is given in place of a table.
+fn answers_of_descriptions() -> [Answered; 2] {
+    let files = files_for(LIST_OF_DESCRIPTION);
+    [
+        (
+            files.with(File::Table, Given::text(DESCRIPTION)),
+            0,
+            LIST_OF_A_DESCRIPTION,
+        ),
+        (
+            files.with(File::Table, Given::text("<")),
+            2,
+            FAULTY_DESCRIPTION,
+        ),
     ]
 }
 
@@ -620,7 +662,8 @@ fn changes_that_cannot_be_written_are_no_answer(rt: HostRuntime) -> Result<(), F
 
 #[test]
 fn an_import_that_cannot_be_written_is_no_answer(rt: HostRuntime) -> Result<(), Fail> {
-    none_is_written(&rt, &answers_of_imports())
+    none_is_written(&rt, &answers_of_imports())?;
+    none_is_written(&rt, &answers_of_descriptions())
 }
 
 #[test]
@@ -668,6 +711,7 @@ fn how_many_bytes_a_device_moves_changes_no_answer(rt: HostRuntime) -> Result<()
     all_are_given(&rt, &answers_of_splits())?;
     all_are_given(&rt, &answers_on_changes())?;
     all_are_given(&rt, &answers_of_imports())?;
+    all_are_given(&rt, &answers_of_descriptions())?;
     all_are_given(&rt, &answers_of_claims())?;
     all_are_given(&rt, &answers_of_others())
 }

@@ -3,9 +3,9 @@ ghost use Rattle.std.specs.Prelude.{◌≡◌, false};
 
 use crate::failing::{Given, Page};
 use report::{
-    Children, End, File, Imported, Minting, OnAccept, OnClose, OnImport, Open, Picture, Rules,
-    Search, Silence, Sink, Source, Watched, check, check_claims, close, draw, import, list, replay,
-    run, run_split, show, summary, verify, why, write_claims,
+    End, File, Imported, Minting, OfPolicy, OfSystem, OnAccept, OnClose, OnImport, Open, Rules,
+    Silence, Sink, Source, Taken, Watched, ask, ask_policy, check, check_claims, import, replay,
+    run, run_split, verify,
 };
 use std::alloc::AllocGlobal;
 use std::sync::Wait;
@@ -21,16 +21,11 @@ pub enum Command {
     Split,
     Replay,
     Close,
-    Why,
-    Summary,
-    Show,
-    Draw(Picture),
-    List,
+    /// What is asked of a system alone: a table.
+    Asked(OfSystem<'static>),
+    /// The same, of a description, whose capabilities have the least rights.
+    AskedOfDescription(OfSystem<'static>),
     Claims,
-    /// Claims of version 2.
-    Stated,
-    /// The strongest claims.
-    Strongest,
     Import(Imported),
 }
 
@@ -93,17 +88,13 @@ pub struct Ending {
     pub reads: [bool; 3],
 }
 
-/// A search for a change, of few calls.
-const OF_A_CHANGE: Search = Search {
-    takes: false,
-    steps: 100,
-};
+/// A table, or a description without rights.
+const TABLE: Taken = Taken::System(None);
 
 /// An import with the least rights.
 fn with_least(imported: Imported) -> OnImport {
     OnImport {
         minting: Minting::Least,
-        children: Children::Control,
         writes: imported,
     }
 }
@@ -172,24 +163,25 @@ where
             out,
         ),
         Command::Replay => replay(rt.alloc(), table, policy, third, &mut Silence, out),
-        Command::Close => close(
+        Command::Close => ask_policy(
             rt.alloc(),
-            Rules::Closed,
+            OfPolicy::Close(Rules::Closed, OnClose::Policy),
+            TABLE,
             table,
             policy,
-            OnClose::Policy,
             &mut Silence,
             out,
         ),
-        Command::Why => why(rt.alloc(), table, "a", "b", &mut Silence, out),
-        Command::Summary => summary(rt.alloc(), table, &mut Silence, out),
-        Command::Show => show(rt.alloc(), OF_A_CHANGE, table, "a", "b", &mut Silence, out),
-        Command::Draw(picture) => draw(rt.alloc(), table, picture, &mut Silence, out),
-        Command::List => list(rt.alloc(), table, &mut Silence, out),
-        Command::Claims | Command::Stated => {
-            check_claims(rt.alloc(), table, third, &mut Silence, out)
-        }
-        Command::Strongest => write_claims(rt.alloc(), table, &mut Silence, out),
+        Command::Asked(asked) => ask(rt.alloc(), asked, TABLE, table, &mut Silence, out),
+        Command::AskedOfDescription(asked) => ask(
+            rt.alloc(),
+            asked,
+            Taken::System(Some(Minting::Least)),
+            table,
+            &mut Silence,
+            out,
+        ),
+        Command::Claims => check_claims(rt.alloc(), TABLE, table, third, &mut Silence, out),
         Command::Import(imported) => import(
             rt.alloc(),
             with_least(imported),

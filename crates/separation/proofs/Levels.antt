@@ -1,9 +1,8 @@
 -- One level more or less of the domains in which one stands, and one call more.
-use Rattle.std.{specs.Option.option_map_or, proofs.Common.{ℕ, ◌+◌, ◌-◌, ◌<◌, ◌==◌, ◌||◌, ◌∙◌, ◌≡◌, ◌≤◌, Bool, None, Some, add-one, ap}}
+use Rattle.std.{specs.Option.option_map_or, proofs.Common.{[], ℕ, ◌+◌, ◌-◌, ◌<◌, ◌∷◌, ◌==◌, ◌||◌, ◌∙◌, ◌≡◌, ◌≤◌, Bool, None, Some, add-one, ap}}
 use Rattle.std.proofs.{Common.{arith, eq-eqb, false, refl, suc, sym, true, zero}, lemmas.Bool.Decides.nat_tests}
 use Rattle.microkit.specs.Description.{Description}
-use Rattle.importing.specs.declared.pieces.Children.{Children}
-use Rattle.separation.specs.{Lending.{ones_with, runners_by, with_called}, Users.{is_within, parent_of, top_of}}
+use Rattle.separation.specs.{Lending.{runners_by, with_called}, Users.{is_within, parent_of, top_of}}
 
 or_false : (b : Bool) → (b || false) ≡ b
 or_false true = refl
@@ -60,11 +59,10 @@ top_more d (suc levels) n parent some is =
     ap (λ found. option_map_or (top_of d levels) found n) is
     ∙ ap (λ k. top_of d k parent) (let same : levels ≡ suc levels - 1 = omega arith in same)
 
-pub called_none : (d : Description) (children : Children) (n : ℕ) → ones_with d children n ≡ runners_by d children n 0
+pub called_none : (d : Description) (n : ℕ) → n ∷ [] ≡ runners_by d n 0
 unfolding runners_by
-called_none d children n = refl
+called_none d n = refl
 
-pub called_more : (d : Description) (children : Children) (n calls : ℕ)
-    → with_called d children (runners_by d children n calls) ≡ runners_by d children n (calls + 1)
+pub called_more : (d : Description) (n calls : ℕ) → with_called d (runners_by d n calls) ≡ runners_by d n (calls + 1)
 unfolding runners_by
-called_more d children n calls = rw add-one refl
+called_more d n calls = rw add-one refl

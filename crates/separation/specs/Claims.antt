@@ -4,7 +4,7 @@ use Rattle.std.specs.Prelude.{Some, codes, false, filter, length, map, not, opti
 use Rattle.microkit.specs.{declared.{description.User.User, labels.Subject.Subject}, Description.Description}
 use Rattle.microkit.specs.declared.description.User.TheVariants as user
 use Rattle.microkit.specs.declared.labels.Subject.TheVariants as subject
-use Rattle.importing.specs.{declared.pieces.Children.Children, Groups.labelled_of}
+use Rattle.importing.specs.Groups.{labelled_of}
 use Rattle.separation.specs.{declared.claims.Pair.Pair, Joined.is_joined, Lending.all_runners}
 
 -- what has a label, as a user, which has threads
@@ -15,32 +15,32 @@ user_of (subject.Time n) = None
 user_of (subject.Region n) = None
 
 -- a user is kept apart from the label of this number
-unfoldable pub is_apart : Description → Children → List (List ℕ) → List Subject → User → ℕ → Bool
-is_apart d children runners subjects one object =
-    option_map_or (λ subject. not (is_joined d children runners one subject)) (slice_get subjects object) false
+unfoldable pub is_apart : Description → List (List ℕ) → List Subject → User → ℕ → Bool
+is_apart d runners subjects one object =
+    option_map_or (λ subject. not (is_joined d runners one subject)) (slice_get subjects object) false
 
 abbrev pub pair_of : ℕ → ℕ → Pair
 pair_of actor object = record { actor = actor; object = object }
 
 -- the labels that the label of a user is kept apart from
-abbrev pub pairs_with : Description → Children → List (List ℕ) → List Subject → ℕ → User → List Pair
-pairs_with d children runners subjects actor one =
+abbrev pub pairs_with : Description → List (List ℕ) → List Subject → ℕ → User → List Pair
+pairs_with d runners subjects actor one =
     map (pair_of actor)
-    (filter (λ object. not (object == actor) && is_apart d children runners subjects one object)
+    (filter (λ object. not (object == actor) && is_apart d runners subjects one object)
     (range_with_len 0 (length subjects)))
 
-abbrev pub pairs_if : Description → Children → List (List ℕ) → List Subject → ℕ → Option User → List Pair
-pairs_if d children runners subjects actor None = []
-pairs_if d children runners subjects actor (Some one) = pairs_with d children runners subjects actor one
+abbrev pub pairs_if : Description → List (List ℕ) → List Subject → ℕ → Option User → List Pair
+pairs_if d runners subjects actor None = []
+pairs_if d runners subjects actor (Some one) = pairs_with d runners subjects actor one
 
-abbrev pub pairs_at : Description → Children → List (List ℕ) → List Subject → ℕ → List Pair
-pairs_at d children runners subjects actor =
-    pairs_if d children runners subjects actor (option_and_then user_of (slice_get subjects actor))
+abbrev pub pairs_at : Description → List (List ℕ) → List Subject → ℕ → List Pair
+pairs_at d runners subjects actor =
+    pairs_if d runners subjects actor (option_and_then user_of (slice_get subjects actor))
 
 -- all pairs of labels that are kept apart
-abbrev pub pairs_of : Description → Children → List (List ℕ) → List Subject → List Pair
-pairs_of d children runners subjects =
-    flat_map (pairs_at d children runners subjects) (range_with_len 0 (length subjects))
+abbrev pub pairs_of : Description → List (List ℕ) → List Subject → List Pair
+pairs_of d runners subjects =
+    flat_map (pairs_at d runners subjects) (range_with_len 0 (length subjects))
 
 -- the name of the label of this number
 abbrev pub name_at : List (List ℕ) → ℕ → List ℕ
@@ -59,9 +59,9 @@ abbrev pub text_of : List (List ℕ) → List Pair → List ℕ
 text_of names pairs = codes "confine-claims 2\n" ++ (lines_of names pairs ++ codes "end\n")
 
 -- all pairs of labels that a description keeps apart
-abbrev pub all_pairs : Description → Children → List Pair
-all_pairs d children = pairs_of d children (all_runners d children) (labelled_of d)
+abbrev pub all_pairs : Description → List Pair
+all_pairs d = pairs_of d (all_runners d) (labelled_of d)
 
 -- the text of the claims of a description, whose labels have these names
-abbrev pub claims_text : List (List ℕ) → Description → Children → List ℕ
-claims_text names d children = text_of names (all_pairs d children)
+abbrev pub claims_text : List (List ℕ) → Description → List ℕ
+claims_text names d = text_of names (all_pairs d)

@@ -1,49 +1,63 @@
 -- Which labels a description joins to the label of a domain or of a virtual machine (confine's own).
 --
--- A user is joined to whom it may notify, whom it may call, and who may call it; to its children and its parent; to the memory that it
--- maps to be written; to the time of whoever it may run for; and to what they are joined to for whom it acts.
-use Rattle.std.specs.{List.list_any, Option.option_map_or, Prelude.{[], ℕ, ◌&&◌, ◌==◌, ◌||◌, Bool, List, false, slice_get, unwrap_or}}
+-- A user is joined to whom it may notify, whom it may call, and who may call it; to the memory that it maps to be written; and to the time
+-- of whoever it may run for. A parent is joined to all to which what stands in it is joined. Besides, it may take away the capabilities that
+-- what stands in it has. If an endpoint, a notification or a region goes by that, all lose it who wait there or map it.
+use Rattle.std.specs.{List.list_any, Prelude.{[], ℕ, ◌&&◌, ◌==◌, ◌||◌, Bool, List, slice_get, unwrap_or}}
 use Rattle.microkit.specs.declared.{description.{Channel.Channel, End.End, Map.Map, User.User}, labels.Subject.Subject}
 use Rattle.microkit.specs.Description.{Description}
 use Rattle.microkit.specs.declared.description.User.TheVariants as user
 use Rattle.microkit.specs.declared.labels.Subject.TheVariants as subject
-use Rattle.importing.specs.{declared.pieces.Children.Children, Tails.is_user}
-use Rattle.importing.specs.declared.pieces.Children.TheVariants as children
-use Rattle.separation.specs.Users.{acts_for, is_one, parent_of_user}
+use Rattle.separation.specs.Users.{acts_for, controls, is_child_of, may_answer}
 
--- an end and the other end of its channel join two users
-unfoldable pub end_joins : Description → Children → User → User → End → End → Bool
-end_joins d children one other end far =
-    (end.may_notify || (end.may_call || far.may_call))
-    && (acts_for d children one (user.Domain end.id.domain) && is_one d children other (user.Domain far.id.domain))
+-- a user may call a domain by an end, or what stands in it may
+unfoldable pub end_calls : Description → User → ℕ → End → End → Bool
+end_calls d one n end far = (end.may_call && far.id.domain == n) && acts_for d one (user.Domain end.id.domain)
 
-unfoldable pub channel_joins : Description → Children → User → User → Channel → Bool
-channel_joins d children one other channel =
-    end_joins d children one other channel.first channel.second || end_joins d children one other channel.second channel.first
+unfoldable pub channel_calls : Description → User → ℕ → Channel → Bool
+channel_calls d one n channel = end_calls d one n channel.first channel.second || end_calls d one n channel.second channel.first
 
--- a user stands in another one, directly
-unfoldable pub is_parent : Description → User → User → Bool
-is_parent d child other = option_map_or (λ n. is_user (user.Domain n) other) (parent_of_user d child) false
+-- a user may wait at an endpoint or a notification of a domain, to be answered there or to answer
+unfoldable pub may_wait : Description → User → ℕ → Bool
+may_wait d one n = may_answer d one (user.Domain n) || (is_child_of d n one || list_any (channel_calls d one n) d.channels)
 
--- two users are of one family: one acts for the other, or the other is its parent
-unfoldable pub is_kin : Description → Children → User → User → Bool
-is_kin d children one other = acts_for d children one other || is_parent d one other
+-- one may notify the other, or call it, or answer it
+unfoldable pub end_reaches : Description → User → User → End → End → Bool
+end_reaches d one other end far =
+    (end.may_notify && (acts_for d one (user.Domain end.id.domain) && acts_for d other (user.Domain far.id.domain)))
+    || ((end.may_call && (acts_for d one (user.Domain end.id.domain) && may_answer d other (user.Domain far.id.domain)))
+    || (far.may_call && (may_answer d one (user.Domain end.id.domain) && acts_for d other (user.Domain far.id.domain))))
 
-unfoldable pub users_joined : Description → Children → User → User → Bool
-users_joined d children one other = is_kin d children one other || list_any (channel_joins d children one other) d.channels
+-- one may take away from what stands in it where the other may wait
+unfoldable pub end_takes : Description → User → User → End → End → Bool
+end_takes d one other end far =
+    (end.may_notify || end.may_call) && (controls d one (user.Domain end.id.domain) && may_wait d other far.id.domain)
 
--- a user writes to a region, or who it acts for does
-unfoldable pub writes_to : Description → Children → User → ℕ → Bool
-writes_to d children one region =
-    list_any (λ (map : Map). (map.region == region && map.writable) && acts_for d children one map.user) d.maps
+-- an end and the other end of its channel join one user to another
+unfoldable pub end_joins : Description → User → User → End → End → Bool
+end_joins d one other end far = end_reaches d one other end far || end_takes d one other end far
 
--- a user is among those who may run on a time, or acts for one of them
-unfoldable pub runs_on : Description → Children → User → List ℕ → Bool
-runs_on d children one runners = list_any (λ n. acts_for d children one (user.Domain n)) runners
+unfoldable pub channel_joins : Description → User → User → Channel → Bool
+channel_joins d one other channel = end_joins d one other channel.first channel.second || end_joins d one other channel.second channel.first
+
+-- two users are of one family, in which one of them is called, as each parent is by faults
+unfoldable pub is_kin : Description → User → User → Bool
+is_kin d one other = may_answer d one other || may_answer d other one
+
+unfoldable pub users_joined : Description → User → User → Bool
+users_joined d one other = is_kin d one other || list_any (channel_joins d one other) d.channels
+
+-- a map lets a user write to a region, or take it away
+unfoldable pub map_joins : Description → User → ℕ → Map → Bool
+map_joins d one region map = map.region == region && ((map.writable && acts_for d one map.user) || controls d one map.user)
+
+-- a user is among those who may run on a time, or one of them stands in it
+unfoldable pub runs_on : Description → User → List ℕ → Bool
+runs_on d one runners = list_any (λ n. acts_for d one (user.Domain n)) runners
 
 -- a user is joined to what has a label, where these may run on the time of each domain
-unfoldable pub is_joined : Description → Children → List (List ℕ) → User → Subject → Bool
-is_joined d children runners one (subject.Domain n) = users_joined d children one (user.Domain n)
-is_joined d children runners one (subject.Machine n) = users_joined d children one (user.Machine n)
-is_joined d children runners one (subject.Time n) = runs_on d children one (unwrap_or (slice_get runners n) [])
-is_joined d children runners one (subject.Region n) = writes_to d children one n
+unfoldable pub is_joined : Description → List (List ℕ) → User → Subject → Bool
+is_joined d runners one (subject.Domain n) = users_joined d one (user.Domain n)
+is_joined d runners one (subject.Machine n) = users_joined d one (user.Machine n)
+is_joined d runners one (subject.Time n) = runs_on d one (unwrap_or (slice_get runners n) [])
+is_joined d runners one (subject.Region n) = list_any (map_joins d one n) d.maps

@@ -1,10 +1,12 @@
--- Domains and virtual machines, and which of them act for which (confine's own).
-use Rattle.std.specs.{Option.option_map_or, Prelude.{ℕ, ◌==◌, ◌||◌, Bool, Option, Some, false, length, option_and_then, option_map}}
+-- Domains and virtual machines, and which of them stand in which (confine's own).
+--
+-- A parent holds the thread of each child and virtual processor that stands in it. So it may do whatever these may do, at any depth. They
+-- may not do what only their parent may do.
+use Rattle.std.specs.{Option.option_map_or, Prelude.{ℕ, ◌&&◌, ◌==◌, ◌||◌, Bool, Option, Some, false, length, not, option_and_then, option_map}}
 use Rattle.std.specs.Prelude.{slice_get, suc, zero}
 use Rattle.microkit.specs.{declared.description.{Id.Id, User.User}, Description.{Description, Domain, Machine}}
 use Rattle.microkit.specs.declared.description.User.TheVariants as user
-use Rattle.importing.specs.{declared.pieces.Children.Children, Tails.is_user}
-use Rattle.importing.specs.declared.pieces.Children.TheVariants as children
+use Rattle.importing.specs.{Maps.is_user, Pieces.is_called}
 
 -- the domain of a user: for a virtual machine the one in which it stands
 unfoldable pub home_of : Description → User → ℕ
@@ -20,6 +22,10 @@ unfoldable pub parent_of_user : Description → User → Option ℕ
 parent_of_user d (user.Domain n) = parent_of d n
 parent_of_user d (user.Machine n) = Some (home_of d (user.Machine n))
 
+-- a user is a child or a virtual machine of a domain
+unfoldable pub is_child_of : Description → ℕ → User → Bool
+is_child_of d n one = option_map_or (λ (parent : ℕ). parent == n) (parent_of_user d one) false
+
 -- a domain is another one, or stands in it, at most so many levels below
 unfoldable pub is_within : Description → ℕ → ℕ → ℕ → Bool
 is_within d outer zero n = n == outer
@@ -34,17 +40,20 @@ top_of d (suc levels) n = option_map_or (top_of d levels) (parent_of d n) n
 unfoldable pub family_of : Description → User → ℕ
 family_of d one = top_of d (length d.domains) (home_of d one)
 
--- a user stands in a domain, or is it
-unfoldable pub stands_in : Description → ℕ → User → Bool
-stands_in d outer one = is_within d outer (length d.domains) (home_of d one)
+-- a user may do all that another one may do: it is that one, or that one stands in it
+unfoldable pub acts_for : Description → User → User → Bool
+acts_for d (user.Domain n) other = is_within d n (length d.domains) (home_of d other)
+acts_for d (user.Machine n) other = is_user (user.Machine n) other
 
--- two users are one: where parents control their children, a family is one
-unfoldable pub is_one : Description → Children → User → User → Bool
-is_one d children.Control one other = family_of d one == family_of d other
-is_one d children.Directed one other = is_user one other
+-- a user holds the thread of another one, or of one in which that one stands
+unfoldable pub controls : Description → User → User → Bool
+controls d one other = acts_for d one other && not (is_user one other)
 
--- a user has all that another one has: it is that one, or that one stands in it
-unfoldable pub acts_for : Description → Children → User → User → Bool
-acts_for d children.Control one other = family_of d one == family_of d other
-acts_for d children.Directed (user.Domain n) other = stands_in d n other
-acts_for d children.Directed (user.Machine n) other = is_user (user.Machine n) other
+-- somebody calls a user: another domain, or by a fault a child or a virtual machine
+unfoldable pub is_server : Description → User → Bool
+is_server d (user.Domain n) = is_called d n
+is_server d (user.Machine n) = false
+
+-- a user may answer a call to another one: its reply object may be used at that one's endpoint by whoever both stand in
+unfoldable pub may_answer : Description → User → User → Bool
+may_answer d one called = is_server d one && family_of d one == family_of d called

@@ -6,7 +6,7 @@ ghost use Rattle.separation.specs.Claims.{pairs_of, pairs_with, text_of, user_of
 
 use crate::joined::is_joined;
 use crate::lending::all_runners;
-use importing::{Children, labelled_of};
+use importing::labelled_of;
 use microkit::{Description, Subject, User};
 use std::alloc::{AllocError, Global};
 
@@ -29,26 +29,21 @@ pub fn write_claims(
     alloc: Global,
     names: &[Vec<u8>],
     description: &Description,
-    children: Children,
 ) -> Result<Vec<u8>, AllocError>
     ensures { IfOk result (λ text. text.items
-        ≡ claims_text (bytes_of names.now) (description_of description.now) children) }
+        ≡ claims_text (bytes_of names.now) (description_of description.now)) }
 {
-    let pairs = all_pairs(alloc, description, children)?;
+    let pairs = all_pairs(alloc, description)?;
     text_of(alloc, names, &pairs)
 }
 
 // All pairs of labels that a description keeps apart.
-fn all_pairs(
-    alloc: Global,
-    description: &Description,
-    children: Children,
-) -> Result<Vec<Pair>, AllocError>
-    ensures { IfOk result (λ pairs. pairs.items ≡ all_pairs (description_of description.now) children) }
+fn all_pairs(alloc: Global, description: &Description) -> Result<Vec<Pair>, AllocError>
+    ensures { IfOk result (λ pairs. pairs.items ≡ all_pairs (description_of description.now)) }
 {
-    let runners = all_runners(alloc, description, children)?;
+    let runners = all_runners(alloc, description)?;
     let subjects = labelled_of(alloc, description)?;
-    pairs_of(alloc, description, children, &runners, &subjects)
+    pairs_of(alloc, description, &runners, &subjects)
 }
 
 // The text of these claims.
@@ -77,17 +72,16 @@ fn user_of(subject: Subject) -> Option<User>
 #[tactic(auto, unfolding(crate::specs::Claims::is_apart))]
 fn is_apart(
     description: &Description,
-    children: Children,
     runners: &[Vec<usize>],
     subjects: &[Subject],
     one: User,
     object: usize,
 ) -> bool
     ensures { result
-        ≡ is_apart (description_of description.now) children (bytes_of runners.now) subjects.now one object }
+        ≡ is_apart (description_of description.now) (bytes_of runners.now) subjects.now one object }
 {
     match subjects.get(object) {
-        Some(subject) => !is_joined(description, children, runners, one, *subject),
+        Some(subject) => !is_joined(description, runners, one, *subject),
         None => false,
     }
 }
@@ -96,18 +90,17 @@ fn is_apart(
 fn pairs_with(
     alloc: Global,
     description: &Description,
-    children: Children,
     runners: &[Vec<usize>],
     subjects: &[Subject],
     actor: usize,
     one: User,
 ) -> Result<Vec<Pair>, AllocError>
     ensures { IfOk result (λ pairs. pairs.items
-        ≡ pairs_with (description_of description.now) children (bytes_of runners.now) subjects.now actor one) }
+        ≡ pairs_with (description_of description.now) (bytes_of runners.now) subjects.now actor one) }
 {
     (0..subjects.len())
         .filter(|object| {
-            *object != actor && is_apart(description, children, runners, subjects, one, *object)
+            *object != actor && is_apart(description, runners, subjects, one, *object)
         })
         .map(|object| Pair { actor, object })
         .collect(alloc)
@@ -116,20 +109,19 @@ fn pairs_with(
 fn pairs_at(
     alloc: Global,
     description: &Description,
-    children: Children,
     runners: &[Vec<usize>],
     subjects: &[Subject],
     actor: usize,
 ) -> Result<Vec<Pair>, AllocError>
     ensures { IfOk result (λ pairs. pairs.items
-        ≡ pairs_at (description_of description.now) children (bytes_of runners.now) subjects.now actor) }
+        ≡ pairs_at (description_of description.now) (bytes_of runners.now) subjects.now actor) }
 {
     let user = match subjects.get(actor) {
         Some(subject) => user_of(*subject),
         None => None,
     };
     match user {
-        Some(one) => pairs_with(alloc, description, children, runners, subjects, actor, one),
+        Some(one) => pairs_with(alloc, description, runners, subjects, actor, one),
         None => Ok(Vec::new(alloc)),
     }
 }
@@ -139,16 +131,15 @@ fn pairs_at(
 fn pairs_of(
     alloc: Global,
     description: &Description,
-    children: Children,
     runners: &[Vec<usize>],
     subjects: &[Subject],
 ) -> Result<Vec<Pair>, AllocError>
     ensures { IfOk result (λ pairs. pairs.items
-        ≡ pairs_of (description_of description.now) children (bytes_of runners.now) subjects.now) }
+        ≡ pairs_of (description_of description.now) (bytes_of runners.now) subjects.now) }
 {
     let mut pairs = Vec::new(alloc);
     for actor in 0..subjects.len() {
-        let more = pairs_at(alloc, description, children, runners, subjects, actor)?;
+        let more = pairs_at(alloc, description, runners, subjects, actor)?;
         pairs.extend_from_slice(&more)?;
     }
     Ok(pairs)

@@ -1,15 +1,16 @@
-//! Domains and virtual machines, and which of them act for which.
+//! Domains and virtual machines, and which of them stand in which.
 ghost use Rattle.std.specs.Prelude.{◌==◌, ◌≡◌};
-ghost use Rattle.importing.specs.Tails.{is_user};
+ghost use Rattle.importing.specs.Maps.{is_user};
 ghost use Rattle.microkit.specs.View.{description_of};
-ghost use Rattle.separation.specs.Users.{acts_for, family_of, home_of, is_one, is_within, parent_of, parent_of_user};
-ghost use Rattle.separation.specs.Users.{stands_in, top_of};
+ghost use Rattle.microkit.specs.declared.description.User.TheVariants as user;
+ghost use Rattle.separation.specs.Users.{acts_for, controls, family_of, home_of, is_child_of, is_server, is_within};
+ghost use Rattle.separation.specs.Users.{may_answer, parent_of, parent_of_user, top_of};
 
-use importing::Children;
+use importing::is_called;
 use microkit::{Description, User};
 
-/// Whether two users are the same.
-pub(crate) fn is_user(one: User, other: User) -> bool
+// Whether two users are the same.
+fn is_user(one: User, other: User) -> bool
     ensures { result ≡ is_user one other }
 {
     match (one, other) {
@@ -18,9 +19,9 @@ pub(crate) fn is_user(one: User, other: User) -> bool
     }
 }
 
-/// Returns the domain of a user: for a virtual machine the one in which it stands.
+// The domain of a user: for a virtual machine the one in which it stands.
 #[tactic(auto, using(importing::proofs::Items::get_seen), unfolding(crate::specs::Users::home_of))]
-pub(crate) fn home_of(description: &Description, user: User) -> usize
+fn home_of(description: &Description, user: User) -> usize
     ensures { result ≡ home_of (description_of description.now) user }
 {
     match user {
@@ -32,9 +33,9 @@ pub(crate) fn home_of(description: &Description, user: User) -> usize
     }
 }
 
-/// Returns the domain in which a domain stands, if it is a child.
+// The domain in which a domain stands, if it is a child.
 #[tactic(auto, using(importing::proofs::Items::get_seen), unfolding(crate::specs::Users::parent_of))]
-pub(crate) fn parent_of(description: &Description, domain: usize) -> Option<usize>
+fn parent_of(description: &Description, domain: usize) -> Option<usize>
     ensures { result ≡ parent_of (description_of description.now) domain }
 {
     match description.domains.get(domain) {
@@ -46,14 +47,25 @@ pub(crate) fn parent_of(description: &Description, domain: usize) -> Option<usiz
     }
 }
 
-/// Returns the domain in which a user stands, if it stands in one.
+// The domain in which a user stands, if it stands in one.
 #[tactic(auto, unfolding(crate::specs::Users::parent_of_user))]
-pub(crate) fn parent_of_user(description: &Description, user: User) -> Option<usize>
+fn parent_of_user(description: &Description, user: User) -> Option<usize>
     ensures { result ≡ parent_of_user (description_of description.now) user }
 {
     match user {
         User::Domain(n) => parent_of(description, n),
         User::Machine(_) => Some(home_of(description, user)),
+    }
+}
+
+/// Returns whether a user is a child or a virtual machine of a domain.
+#[tactic(auto, unfolding(crate::specs::Users::is_child_of))]
+pub(crate) fn is_child_of(description: &Description, domain: usize, one: User) -> bool
+    ensures { result ≡ is_child_of (description_of description.now) domain one }
+{
+    match parent_of_user(description, one) {
+        Some(parent) => parent == domain,
+        None => false,
     }
 }
 
@@ -92,45 +104,49 @@ fn family_of(description: &Description, user: User) -> usize
     )
 }
 
-#[tactic(auto, unfolding(crate::specs::Users::stands_in))]
-fn stands_in(description: &Description, outer: usize, user: User) -> bool
-    ensures { result ≡ stands_in (description_of description.now) outer user }
+// Whether a user stands in a domain, or is it.
+#[tactic(auto, using(importing::proofs::Items::length_seen), unfolding(crate::specs::Users::acts_for))]
+fn stands_in(description: &Description, outer: usize, one: User) -> bool
+    ensures { result ≡ acts_for (description_of description.now) (user.Domain outer) one }
 {
     let levels = description.domains.len();
-    is_within(description, outer, levels, home_of(description, user))
+    is_within(description, outer, levels, home_of(description, one))
 }
 
-fn is_of_family(description: &Description, one: User, other: User) -> bool
-    ensures { result
-        ≡ (family_of (description_of description.now) one == family_of (description_of description.now) other) }
-{
-    family_of(description, one) == family_of(description, other)
-}
-
-/// Whether two users are one: where parents control their children, a family is one.
-#[tactic(auto, unfolding(crate::specs::Users::is_one))]
-pub(crate) fn is_one(description: &Description, children: Children, one: User, other: User) -> bool
-    ensures { result ≡ is_one (description_of description.now) children one other }
-{
-    match children {
-        Children::Control => is_of_family(description, one, other),
-        Children::Directed => is_user(one, other),
-    }
-}
-
-/// Whether a user has all that another one has.
+/// Returns whether a user may do all that another one may do.
 #[tactic(auto, unfolding(crate::specs::Users::acts_for))]
-pub(crate) fn acts_for(
-    description: &Description,
-    children: Children,
-    one: User,
-    other: User,
-) -> bool
-    ensures { result ≡ acts_for (description_of description.now) children one other }
+pub(crate) fn acts_for(description: &Description, one: User, other: User) -> bool
+    ensures { result ≡ acts_for (description_of description.now) one other }
 {
-    match (children, one) {
-        (Children::Control, _) => is_of_family(description, one, other),
-        (Children::Directed, User::Domain(n)) => stands_in(description, n, other),
-        (Children::Directed, User::Machine(_)) => is_user(one, other),
+    match one {
+        User::Domain(n) => stands_in(description, n, other),
+        User::Machine(_) => is_user(one, other),
     }
+}
+
+/// Returns whether a user holds the thread of another one, or of one in which that one stands.
+#[tactic(auto, unfolding(crate::specs::Users::controls))]
+pub(crate) fn controls(description: &Description, one: User, other: User) -> bool
+    ensures { result ≡ controls (description_of description.now) one other }
+{
+    acts_for(description, one, other) && !is_user(one, other)
+}
+
+// Whether somebody calls a user.
+#[tactic(auto, unfolding(crate::specs::Users::is_server))]
+fn is_server(description: &Description, one: User) -> bool
+    ensures { result ≡ is_server (description_of description.now) one }
+{
+    match one {
+        User::Domain(n) => is_called(description, n),
+        User::Machine(_) => false,
+    }
+}
+
+/// Returns whether a user may answer a call to another one.
+#[tactic(auto, unfolding(crate::specs::Users::may_answer))]
+pub(crate) fn may_answer(description: &Description, one: User, called: User) -> bool
+    ensures { result ≡ may_answer (description_of description.now) one called }
+{
+    is_server(description, one) && family_of(description, one) == family_of(description, called)
 }

@@ -3,10 +3,8 @@ use Rattle.std.specs.{declared.io.Error.Error, Borrow.Bor, Global.Vec, Prelude.{
 use Rattle.devices.specs.{declared.{opened.Unopened.Unopened, watched.Watched.Watched}, Opened.{bytes_left, opened}, Watched.device_of}
 use Rattle.devices.specs.Watched.{failed_of, is_flushed_of}
 use Rattle.commands.specs.{declared.end.End.End, Commands.{Input, Output, input, output}, Ends.status_of}
-use Rattle.report.specs.{Answers.{IsChecked, IsRun, IsRunSplit, IsVerifiedWith}, Claimed.{AreJudged, AreWritten}, Closings.IsClosedOver}
-use Rattle.report.specs.{Closings.IsStarted, Imports.IsImported, Questions.{IsDrawn, IsDrawnOfPolicy, IsListed, IsTold, IsToldOfPolicy}}
-use Rattle.report.specs.{Replays.IsReplayed, Shows.IsShownTo, Summaries.AreSummed}
-use Rattle.requests.specs.declared.request.{OfSystem.{OfSystem, OfSystem as of_system}, OfTable.{OfTable, OfTable as of_table}}
+use Rattle.report.specs.{Answers.{IsChecked, IsRun, IsRunSplit, IsVerifiedWith}, Claimed.AreJudged, Imports.IsImported}
+use Rattle.report.specs.{Replays.IsReplayed, Systems.{IsAsked, IsAskedOfPolicy}}
 use Rattle.requests.specs.declared.request.OfThree.{OfThree, TheVariants.{Replay, Run, Verify}}
 use Rattle.requests.specs.{declared.request.Request.{Request, Request as request}, Requests.OnEach}
 use Rattle.either.specs.declared.Either.{Either}
@@ -37,23 +35,6 @@ AreOpenedBy opens = OnEach (λ name file. IsOpenedBy opens name.now file)
 abbrev pub AreSound : {F : Type 0} → Request (Opened F) → Type 0
 AreSound files = OnEach (λ file also. failed_of file ≡ false) files files
 
--- what is asked of a table was done
-abbrev pub ServesTable : {T O : Type 0} → OfTable → Input T → Output O → End → Type 0
-ServesTable (of_table.Start set on_close) = IsStarted set on_close
-ServesTable of_table.List = IsListed
-ServesTable (of_table.Why actor object) = IsTold actor.now object.now
-ServesTable (of_table.Show search actor object) = IsShownTo search actor.now object.now
-ServesTable (of_table.Draw picture) = IsDrawn picture
-ServesTable of_table.Summary = AreSummed
-ServesTable of_table.Strongest = AreWritten
-
--- what is asked of a table and a policy was done
-abbrev pub ServesSystem : {T P O : Type 0} → OfSystem → Input T → Input P → Output O → End → Type 0
-ServesSystem (of_system.Check set workers on_accept) = IsChecked set on_accept
-ServesSystem (of_system.Close set on_close) = IsClosedOver set on_close
-ServesSystem (of_system.Why actor object) = IsToldOfPolicy actor.now object.now
-ServesSystem (of_system.Draw picture) = IsDrawnOfPolicy picture
-
 -- what is asked of a table, a policy and a third file was done
 abbrev pub ServesThree : {T P S O : Type 0} → OfThree → Input T → Input P → Input S → Output O → End → Type 0
 ServesThree (Verify set) = IsVerifiedWith set
@@ -64,11 +45,14 @@ ServesThree Replay = IsReplayed
 abbrev pub Serves : {F O : Type 0} → (F → Option (List ℕ)) → Output O → Request (Opened F) → Request (Opened F) → End → Type 0
 Serves remaining out (request.OfDescription asked description) (request.OfDescription also d) end =
     IsImported asked (read remaining description d) out end
-Serves remaining out (request.OfTable asked table) (request.OfTable also t) end = ServesTable asked (read remaining table t) out end
-Serves remaining out (request.OfSystem asked table policy) (request.OfSystem also t p) end =
-    ServesSystem asked (read remaining table t) (read remaining policy p) out end
-Serves remaining out (request.OfClaims table claims) (request.OfClaims t c) end =
-    AreJudged (read remaining table t) (read remaining claims c) out end
+Serves remaining out (request.OfSystem asked taken system) (request.OfSystem also how s) end =
+    IsAsked asked taken (read remaining system s) out end
+Serves remaining out (request.OfPolicy asked taken system policy) (request.OfPolicy also how s p) end =
+    IsAskedOfPolicy asked taken (read remaining system s) (read remaining policy p) out end
+Serves remaining out (request.OfClaims taken system claims) (request.OfClaims how s c) end =
+    AreJudged taken (read remaining system s) (read remaining claims c) out end
+Serves remaining out (request.Check asked table policy) (request.Check also t p) end =
+    IsChecked asked.rules asked.on_accept (read remaining table t) (read remaining policy p) out end
 Serves remaining out (request.OfThree asked table policy third) (request.OfThree also t p x) end =
     ServesThree asked (read remaining table t) (read remaining policy p) (read remaining third x) out end
 Serves remaining out _ _ end = ⊥

@@ -2,16 +2,15 @@
 ghost use Rattle.std.specs.Prelude.{◌≡◌, ◌≤◌, false};
 ghost use Rattle.devices.specs.Watched.{failed_of};
 ghost use Rattle.commands.specs.{Commands.{input, output}, Ends.status_of};
-ghost use Rattle.requests.specs.Requests.{HasFewWorkers, HaveArrived, IsWithinLimits, SystemHasArrived};
-ghost use Rattle.serving.specs.Opening.{AreSound, Serves, ServesSystem, ServesTable, ServesThree, written};
+ghost use Rattle.requests.specs.Requests.{HaveArrived, IsWithinLimits};
+ghost use Rattle.serving.specs.Opening.{AreSound, Serves, ServesThree, written};
 
 use crate::opening::Opened;
 use report::{
-    End, Gate, Listener, Sink, Source, Watched, check, check_claims, close, draw, draw_allowed,
-    import, list, replay, run, show, start, summary, verify, why, why_allowed, write_claims,
+    End, Gate, Listener, Sink, Source, Watched, ask, ask_policy, check, check_claims, import,
+    replay, run, verify,
 };
-use requests::{OfSystem, OfTable, OfThree, Request};
-use std::alloc::Global;
+use requests::{OfThree, Request};
 use std::io::{Read, Write};
 use std::thread::Threads;
 
@@ -36,22 +35,38 @@ where
     ensures exit { status_of result.0 ≤ 2 }
     ensures arrived { status_of result.0 ≡ 0 → HaveArrived (G.HasArrived gate.now) files.entry }
 {
+    let alloc = rt.alloc();
     match files {
         Request::OfDescription(asked, mut description) => {
-            let end = import(rt.alloc(), asked, &mut description, listener, out);
+            let end = import(alloc, asked, &mut description, listener, out);
             (end, Request::OfDescription(asked, description))
         }
-        Request::OfTable(asked, mut table) => {
-            let end = serve_table(rt.alloc(), asked, &mut table, listener, out);
-            (end, Request::OfTable(asked, table))
+        Request::OfSystem(asked, taken, mut system) => {
+            let end = ask(alloc, asked, taken, &mut system, listener, out);
+            (end, Request::OfSystem(asked, taken, system))
         }
-        Request::OfSystem(asked, mut table, mut policy) => {
-            let end = serve_system(rt, asked, &mut table, &mut policy, gate, listener, out);
-            (end, Request::OfSystem(asked, table, policy))
+        Request::OfPolicy(asked, taken, mut system, mut policy) => {
+            let end = ask_policy(alloc, asked, taken, &mut system, &mut policy, listener, out);
+            (end, Request::OfPolicy(asked, taken, system, policy))
         }
-        Request::OfClaims(mut table, mut claims) => {
-            let end = check_claims(rt.alloc(), &mut table, &mut claims, listener, out);
-            (end, Request::OfClaims(table, claims))
+        Request::OfClaims(taken, mut system, mut claims) => {
+            let end = check_claims(alloc, taken, &mut system, &mut claims, listener, out);
+            (end, Request::OfClaims(taken, system, claims))
+        }
+        Request::Check(asked, mut table, mut policy) => {
+            let end = check(
+                rt,
+                alloc,
+                asked.rules,
+                &mut table,
+                &mut policy,
+                asked.on_accept,
+                asked.workers,
+                gate,
+                listener,
+                out,
+            );
+            (end, Request::Check(asked, table, policy))
         }
         Request::OfThree(asked, mut table, mut policy, mut third) => {
             let end = serve_three(
@@ -65,81 +80,6 @@ where
             );
             (end, Request::OfThree(asked, table, policy, third))
         }
-    }
-}
-
-/// Does what is asked of a table alone.
-fn serve_table<T: Source, L: Listener, O: Sink>(
-    alloc: Global,
-    asked: OfTable<'_>,
-    table: &mut T,
-    listener: &mut L,
-    out: &mut O,
-) -> End
-    requires table { T.failed table.old ≡ false }
-    requires out { O.failed out.old ≡ false }
-    ensures served { ServesTable asked.entry (input T.remaining T.failed table.old table.new)
-        (output O.contents O.failed O.is_flushed out.old out.new) result }
-    ensures exit { status_of result ≤ 2 }
-{
-    match asked {
-        OfTable::Start(rules, on_close) => start(alloc, rules, table, on_close, listener, out),
-        OfTable::List => list(alloc, table, listener, out),
-        OfTable::Why { actor, object } => why(alloc, table, actor, object, listener, out),
-        OfTable::Show {
-            search,
-            actor,
-            object,
-        } => show(alloc, search, table, actor, object, listener, out),
-        OfTable::Draw(picture) => draw(alloc, table, picture, listener, out),
-        OfTable::Summary => summary(alloc, table, listener, out),
-        OfTable::Strongest => write_claims(alloc, table, listener, out),
-    }
-}
-
-/// Does what is asked of a table and a policy.
-fn serve_system<R, T, P, G, L, O>(
-    rt: &R,
-    asked: OfSystem<'_>,
-    table: &mut T,
-    policy: &mut P,
-    gate: &G,
-    listener: &mut L,
-    out: &mut O,
-) -> End
-where
-    R: AllocGlobal + Threads + Sync,
-    T: Source,
-    P: Source,
-    G: Gate + Sync,
-    L: Listener,
-    O: Sink,
-    requires table { T.failed table.old ≡ false }
-    requires policy { P.failed policy.old ≡ false }
-    requires out { O.failed out.old ≡ false }
-    requires workers { HasFewWorkers asked }
-    ensures served { ServesSystem asked.entry (input T.remaining T.failed table.old table.new)
-        (input P.remaining P.failed policy.old policy.new)
-        (output O.contents O.failed O.is_flushed out.old out.new) result }
-    ensures exit { status_of result ≤ 2 }
-    ensures arrived { status_of result ≡ 0 → SystemHasArrived (G.HasArrived gate.now) asked.entry }
-{
-    let alloc = rt.alloc();
-    match asked {
-        OfSystem::Check {
-            rules,
-            workers,
-            on_accept,
-        } => check(
-            rt, alloc, rules, table, policy, on_accept, workers, gate, listener, out,
-        ),
-        OfSystem::Close(rules, on_close) => {
-            close(alloc, rules, table, policy, on_close, listener, out)
-        }
-        OfSystem::Why { actor, object } => {
-            why_allowed(alloc, table, policy, actor, object, listener, out)
-        }
-        OfSystem::Draw(picture) => draw_allowed(alloc, table, policy, picture, listener, out),
     }
 }
 

@@ -1,28 +1,29 @@
 //! What `--explain` prints on standard error: the sentences on what a command finds.
 use crate::opening::Opened;
+use crate::sheets::Sourced;
 use base::Refusal;
 use breaches::{
-    Judged, breach_lines, explain_breaches, explain_broken, explain_escape, explain_run,
-    explain_shared_memory,
+    Judged, breach_lines, explain_breaches, explain_escape, explain_run, explain_shared_memory,
 };
 use captext::object_name;
 use causes::{Caller, explain_illegal, explain_refusal};
+use claims::{Broken, ClaimLines};
 use explain::{
     Names, explain_closing, explain_denial, explain_outside, explain_unlabelled, explain_why,
     explain_why_allowed,
 };
 use machine::{Event, Outcome};
-use microkit::Description;
 use notes::{explain_changes, explain_notes};
 use policy::Policy;
 use reach::Reach;
 use remarks::{explain_notes as explain_left_out, notes_of};
 use report::{
-    Asked, End, Fault, File, Finding, Heard, Listener, OnClose, Outcomes, Rules, answer_at,
+    Answer, Asked, Described, End, Fault, File, Files, Finding, Given, Listener, Made, OfPolicy,
+    OfSystem, OnClose, Rules, answer_at,
 };
-use requests::{Invocation, OfSystem, OfTable, OfThree, Request};
+use requests::{Invocation, OfThree, Request};
 use slips::explain_fault;
-use stated::Broken;
+use sources::Sheet;
 use std::alloc::AllocError;
 use std::fmt;
 use std::io::ErrorKind;
@@ -71,7 +72,7 @@ impl<'a, R: AllocGlobal + Eprint> Explainer<'a, R> {
 
     /// Tells what an answer on a policy is worth, if that was asked for, whether or not anything is to be explained.
     fn warn(&self) {
-        if let Request::OfSystem(OfSystem::Why { .. } | OfSystem::Draw(_), _, _) = self
+        if let Request::OfPolicy(OfPolicy::Why { .. } | OfPolicy::Draw(_), _, _, _) = self
             .invocation
             .request
         {
@@ -79,8 +80,8 @@ impl<'a, R: AllocGlobal + Eprint> Explainer<'a, R> {
         }
     }
 
-    /// Tells what the table of a description doesn't show; how much that is, if nothing is to be explained.
-    fn tell_left_out(&self, description: &Description, table: &Table) {
+    /// Tells how much the table of a description doesn't show, or all of it if an import is to be explained.
+    fn tell_left_out(&self, Described { description, table }: &Described, is_imported: bool) {
         let alloc = self.rt.alloc();
         let manner = self.invocation.manner;
         if manner.is_quiet {
@@ -88,12 +89,22 @@ impl<'a, R: AllocGlobal + Eprint> Explainer<'a, R> {
         }
         if let Ok(notes) = notes_of(alloc, description, table) {
             let file = self.invocation.request.name_of(File::Description);
-            if manner.explains {
+            if is_imported && manner.explains {
                 self.tell_lines(explain_left_out(alloc, file, &notes));
             } else {
                 let count = notes.len();
+                let (notes, them) = if count == 1 {
+                    ("note", "it")
+                } else {
+                    ("notes", "them")
+                };
+                let by = if is_imported {
+                    "--explain"
+                } else {
+                    "confine import --explain"
+                };
                 self.tell(format!(in alloc;
-                    "{file}: {count} notes on what the table doesn't show. `--explain` prints them."
+                    "{file}: {count} {notes} on what the table doesn't show. `{by}` prints {them}."
                 ));
             }
         }
@@ -114,84 +125,115 @@ impl<'a, R: AllocGlobal + Eprint> Explainer<'a, R> {
     }
 
     /// Tells what is found wrong.
-    fn tell_finding(&self, heard: &Heard<'_>, finding: &Finding) {
-        match finding {
-            Finding::BrokenLines(broken) => {
-                self.tell_lines(self.breaches_told(heard, broken));
+    fn tell_finding(&self, files: Files<'_>, finding: &Finding) {
+        match (finding, files) {
+            (Finding::Broken(broken), Files::Claims(given, lines)) => {
+                self.tell_lines(self.breaches_told(given, lines, broken));
             }
-            _ => self.tell(self.sentence_on(heard, finding)),
+            _ => self.tell(self.sentence_on(files, finding)),
         }
-        if let (Finding::Denied(denial), Some(policy)) = (finding, heard.policy) {
-            self.tell_escape(heard.table, policy, denial);
+        if let (Finding::Denied(denial), Files::Policy(given, policy)) = (finding, files) {
+            if let Ok(system) = self.sourced(given) {
+                self.tell_escape(system.sheet(), policy, denial);
+            }
         }
     }
 
-    /// Returns the sentence on what is found wrong, without a line feed. For claims of version 2 it returns a line for
-    /// each claim that doesn't hold.
-    pub fn sentence_on(&self, heard: &Heard<'_>, finding: &Finding) -> Result<String, Refusal> {
-        let (alloc, table) = (self.rt.alloc(), heard.table);
-        match (finding, heard.policy) {
-            (Finding::Denied(denial), Some(policy)) => {
-                explain_denial(alloc, &self.names(), table, policy, self.rules(), denial)
+    /// Returns the sentence on what is found wrong, without a line feed. For claims it returns a line for each that
+    /// doesn't hold.
+    pub fn sentence_on(&self, files: Files<'_>, finding: &Finding) -> Result<String, Refusal> {
+        let alloc = self.rt.alloc();
+        match (finding, files) {
+            (Finding::Broken(broken), Files::Claims(given, lines)) => {
+                self.broken_told(given, lines, broken)
             }
-            (Finding::Outside(denial), _) => {
-                let log = self.invocation.request.name_of(File::Log);
-                let entries = match heard.outcomes {
-                    Some(Outcomes::OfLog(log)) => log.len(),
-                    _ => 0,
-                };
-                Ok(explain_outside(alloc, log, entries, table, denial)?)
+            (Finding::Illegal(entry), Files::Log(table, _, log)) => {
+                Ok(self.illegal_told(table, log, *entry)?)
             }
-            (Finding::Illegal(entry), _) => Ok(self.illegal_told(heard, *entry)?),
-            (Finding::Broken(broken), _) => {
-                let reach = Reach::of(alloc, table)?;
-                explain_broken(alloc, self.table_name(), &reach, broken)
+            (Finding::Outside(denial), Files::Log(table, _, log)) => {
+                let name = self.invocation.request.name_of(File::Log);
+                Ok(explain_outside(alloc, name, log.len(), table, denial)?)
             }
-            (Finding::BrokenLines(broken), _) => self.broken_told(heard, broken),
-            // Who denies has read a policy.
+            (Finding::Denied(denial), Files::Policy(given, policy)) => {
+                let system = self.sourced(given)?;
+                self.denied_told(system.sheet(), policy, denial)
+            }
+            (
+                Finding::Denied(denial),
+                Files::Certificate(table, policy) | Files::Script(table, policy, _),
+            ) => self.denied_told(self.sheet_of(table), policy, denial),
+            // Nothing else is found of such files.
             _ => Ok(String::new(alloc)),
         }
     }
 
-    /// Returns a line for each claim of version 2 that doesn't hold.
-    fn broken_told(&self, heard: &Heard<'_>, broken: &[Broken]) -> Result<String, Refusal> {
-        let alloc = self.rt.alloc();
-        let reach = Reach::of(alloc, heard.table)?;
-        match self.judged(heard) {
-            Some(judged) => breach_lines(alloc, &reach, &judged, broken),
-            None => Ok(String::new(alloc)),
-        }
+    /// Returns a system with what its table comes from.
+    fn sourced<'b>(&'b self, given: &'b Given) -> Result<Sourced<'b>, AllocError> {
+        let request = self.invocation.request;
+        let file = request.name_of(File::Table);
+        Sourced::of(self.rt.alloc(), &request, file, given)
     }
 
-    /// Returns why claims of version 2 don't hold.
-    fn breaches_told(&self, heard: &Heard<'_>, broken: &[Broken]) -> Result<String, Refusal> {
-        let alloc = self.rt.alloc();
-        let reach = Reach::of(alloc, heard.table)?;
-        match self.judged(heard) {
-            Some(judged) => explain_breaches(alloc, &reach, &judged, broken),
-            None => Ok(String::new(alloc)),
-        }
-    }
-
-    /// The files and the lines of claims of version 2 that were judged, if they were.
-    fn judged(&self, heard: &Heard<'a>) -> Option<Judged<'a>> {
-        Some(Judged {
+    /// Returns a table that was given as one.
+    fn sheet_of<'b>(&'b self, table: &'b Table) -> Sheet<'b> {
+        Sheet {
             file: self.invocation.request.name_of(File::Table),
-            claims: self.invocation.request.name_of(File::Claims),
-            lines: heard.claims?,
-        })
+            table,
+            made: None,
+        }
     }
 
-    /// The name of the file of the table.
-    fn table_name(&self) -> &str {
-        self.invocation.request.name_of(File::Table)
+    /// Returns the sentence on a denial.
+    fn denied_told(
+        &self,
+        sheet: Sheet<'_>,
+        policy: &Policy,
+        denial: &Denial,
+    ) -> Result<String, Refusal> {
+        let alloc = self.rt.alloc();
+        explain_denial(alloc, &self.names(), sheet, policy, self.rules(), denial)
+    }
+
+    /// Returns a line for each claim that doesn't hold.
+    fn broken_told(
+        &self,
+        given: &Given,
+        lines: &ClaimLines,
+        broken: &[Broken],
+    ) -> Result<String, Refusal> {
+        let alloc = self.rt.alloc();
+        let system = self.sourced(given)?;
+        let reach = Reach::of(alloc, given.table())?;
+        breach_lines(alloc, &reach, &self.judged(system.sheet(), lines), broken)
+    }
+
+    /// Returns why claims don't hold.
+    fn breaches_told(
+        &self,
+        given: &Given,
+        lines: &ClaimLines,
+        broken: &[Broken],
+    ) -> Result<String, Refusal> {
+        let alloc = self.rt.alloc();
+        let system = self.sourced(given)?;
+        let reach = Reach::of(alloc, given.table())?;
+        explain_breaches(alloc, &reach, &self.judged(system.sheet(), lines), broken)
+    }
+
+    /// The system and the lines of claims that were judged.
+    fn judged<'b>(&'b self, sheet: Sheet<'b>, lines: &'b ClaimLines) -> Judged<'b> {
+        Judged {
+            sheet,
+            claims: self.invocation.request.name_of(File::Claims),
+            lines,
+        }
     }
 
     /// The rules by which the policy is judged.
     fn rules(&self) -> Rules {
         match self.invocation.request {
-            Request::OfSystem(OfSystem::Check { rules, .. } | OfSystem::Close(rules, _), _, _) =>
-                rules,
+            Request::Check(check, _, _) => check.rules,
+            Request::OfPolicy(OfPolicy::Close(rules, _), _, _, _) => rules,
             Request::OfThree(OfThree::Verify(rules) | OfThree::Run(rules), _, _, _) => rules,
             _ => Rules::Closed,
         }
@@ -214,21 +256,19 @@ impl<'a, R: AllocGlobal + Eprint> Explainer<'a, R> {
     }
 
     /// Tells a run that leaves the policy, if `check` denies it by a rule on policies.
-    fn tell_escape(&self, table: &Table, policy: &Policy, denial: &Denial) {
-        if let (
-            Denial::Policy(_) | Denial::Sharp(_),
-            Request::OfSystem(OfSystem::Check { .. }, _, _),
-        ) = (denial, self.invocation.request)
-        {
-            self.tell_lines(explain_escape(self.rt.alloc(), table, policy));
+    fn tell_escape(&self, sheet: Sheet<'_>, policy: &Policy, denial: &Denial) {
+        if let (Denial::Policy(_) | Denial::Sharp(_), Request::Check(..)) = (
+            denial,
+            self.invocation.request,
+        ) {
+            self.tell_lines(explain_escape(self.rt.alloc(), sheet, policy));
         }
     }
 
-    /// The names of the files that a denial is on.
+    /// The names of the files that a denial is on, beside the table's.
     fn names(&self) -> Names<'a> {
         let request = self.invocation.request;
         Names {
-            table: request.name_of(File::Table),
             policy: request.name_of(File::Policy),
             certificate: request.name_of(File::Certificate),
         }
@@ -236,32 +276,36 @@ impl<'a, R: AllocGlobal + Eprint> Explainer<'a, R> {
 
     /// The sentence on an entry of a log that is no step, and what the kernel answers there, unless
     /// that would take more memory than there is.
-    fn illegal_told(&self, heard: &Heard<'_>, entry: usize) -> Result<String, AllocError> {
-        let (alloc, table) = (self.rt.alloc(), heard.table);
+    fn illegal_told(
+        &self,
+        table: &Table,
+        log: &[(Event, Outcome)],
+        entry: usize,
+    ) -> Result<String, AllocError> {
+        let alloc = self.rt.alloc();
         let name = self.invocation.request.name_of(File::Log);
-        if let Some(Outcomes::OfLog(log)) = heard.outcomes {
-            // Entries are told from 1 on.
-            let at = entry.wrapping_sub(1);
-            let came = answer_at(alloc, table, log, at);
-            if let (Some((event, told)), Ok(Some(came))) = (log.get(at), came) {
-                let caller = caller_of(table, event);
-                return explain_illegal(alloc, caller, name, entry, event, told, &came);
-            }
+        // Entries are told from 1 on.
+        let at = entry.wrapping_sub(1);
+        let came = answer_at(alloc, table, log, at);
+        if let (Some((event, told)), Ok(Some(came))) = (log.get(at), came) {
+            let caller = caller_of(table, event);
+            return explain_illegal(alloc, caller, name, entry, event, told, &came);
         }
         format!(in alloc; "{name}: entry {entry} is not a step of the system")
     }
 
     /// Tells why calls are refused: those of a script by its lines, and those that workers made by
     /// the lines of the log.
-    fn tell_refusals(&self, table: &Table, script: &str, outcomes: Outcomes<'_>) {
-        match outcomes {
-            Outcomes::OfRun(events, outcomes) => {
+    fn tell_refusals(&self, table: &Table, events: &[Event], made: &Made) {
+        match made {
+            Made::InTurn(outcomes) => {
+                let script = self.invocation.request.name_of(File::Script);
                 for (index, (event, outcome)) in events.iter().zip(outcomes).enumerate() {
                     self.tell_refusal(table, script, index, event, outcome);
                 }
             }
-            Outcomes::OfLog(entries) => {
-                for (index, (event, outcome)) in entries.iter().enumerate() {
+            Made::ByWorkers(log) => {
+                for (index, (event, outcome)) in log.iter().enumerate() {
                     self.tell_refusal(table, "log", index, event, outcome);
                 }
             }
@@ -287,36 +331,34 @@ impl<'a, R: AllocGlobal + Eprint> Explainer<'a, R> {
     }
 
     /// Returns notes on memory that claims which hold don't speak of.
-    fn shared_memory_told(&self, heard: &Heard<'_>) -> Result<String, Refusal> {
+    fn shared_memory_told(&self, given: &Given, lines: &ClaimLines) -> Result<String, Refusal> {
         let alloc = self.rt.alloc();
-        let reach = Reach::of(alloc, heard.table)?;
-        match self.judged(heard) {
-            Some(judged) => Ok(explain_shared_memory(alloc, &reach, &judged)?),
-            None => Ok(String::new(alloc)),
-        }
+        let system = self.sourced(given)?;
+        let reach = Reach::of(alloc, given.table())?;
+        Ok(explain_shared_memory(alloc, &reach, &self.judged(system.sheet(), lines))?)
     }
 
-    /// Tells more of a table that isn't wrong.
-    fn tell_of_table(
+    /// Tells more of a system that isn't wrong.
+    fn tell_of_system(
         &self,
         leave: &(impl Threads + Sync),
-        asked: OfTable<'_>,
-        file: &str,
-        heard: &Heard<'_>,
+        asked: OfSystem<'_>,
+        sheet: Sheet<'_>,
+        answer: &Answer,
     ) {
-        let (alloc, table) = (self.rt.alloc(), heard.table);
+        let alloc = self.rt.alloc();
         match asked {
-            OfTable::Start(rules, OnClose::Policy | OnClose::Missing) => {
+            OfSystem::Start(rules, OnClose::Policy | OnClose::Missing) => {
                 let policy = Policy::new(alloc);
-                self.tell_closing(leave, rules, file, table, &policy);
+                self.tell_closing(leave, rules, sheet, &policy);
                 drop(policy);
             }
-            OfTable::Why { actor, object } => {
-                self.tell_lines(self.why_told(file, table, actor, object));
+            OfSystem::Why { actor, object } => {
+                self.tell_lines(self.why_told(sheet, actor, object));
             }
-            OfTable::Show { .. } => {
-                if let Some(script) = heard.script {
-                    self.tell_lines(explain_run(alloc, table, script));
+            OfSystem::Show { .. } => {
+                if let Some(script) = &answer.script {
+                    self.tell_lines(explain_run(alloc, sheet, script));
                 }
             }
             _ => {}
@@ -328,75 +370,77 @@ impl<'a, R: AllocGlobal + Eprint> Explainer<'a, R> {
         &self,
         leave: &(impl Threads + Sync),
         rules: Rules,
-        file: &str,
-        table: &Table,
+        sheet: Sheet<'_>,
         policy: &Policy,
     ) {
         let alloc = self.rt.alloc();
-        self.tell_lines(explain_closing(leave, alloc, rules, file, table, policy));
+        self.tell_lines(explain_closing(leave, alloc, rules, sheet, policy));
     }
 
     /// Returns where the edges of a reason come from, by the reach of the table.
-    fn why_told(
-        &self,
-        file: &str,
-        table: &Table,
-        actor: &str,
-        object: &str,
-    ) -> Result<String, Refusal> {
+    fn why_told(&self, sheet: Sheet<'_>, actor: &str, object: &str) -> Result<String, Refusal> {
         let alloc = self.rt.alloc();
-        let reach = Reach::of(alloc, table)?;
-        explain_why(alloc, file, &reach, actor, object)
+        let reach = Reach::of(alloc, sheet.table)?;
+        explain_why(alloc, sheet, &reach, actor, object)
     }
 
     /// Tells what may not be meant in the table of an accepted system, and whom each label may change.
-    fn tell_accepted(&self, file: &str, table: &Table) {
+    fn tell_accepted(&self, sheet: Sheet<'_>) {
         let alloc = self.rt.alloc();
-        if let Ok(reach) = Reach::of(alloc, table) {
+        if let Ok(reach) = Reach::of(alloc, sheet.table) {
             if !self.invocation.manner.is_quiet {
-                self.tell_lines(explain_notes(alloc, file, &reach));
+                self.tell_lines(explain_notes(alloc, sheet, &reach));
             }
-            self.tell_lines(explain_changes(alloc, file, &reach));
+            self.tell_lines(explain_changes(alloc, sheet.file, &reach));
         }
     }
 
-    /// Tells more of a table and a policy that aren't wrong.
-    fn tell_of_system(
+    /// Tells more of a system and a policy that aren't wrong.
+    fn tell_of_policy(
         &self,
         leave: &(impl Threads + Sync),
-        asked: OfSystem<'_>,
-        file: &str,
-        table: &Table,
+        asked: OfPolicy<'_>,
+        sheet: Sheet<'_>,
         policy: &Policy,
     ) {
         let alloc = self.rt.alloc();
         match asked {
-            OfSystem::Close(rules, OnClose::Policy | OnClose::Missing) => {
-                self.tell_closing(leave, rules, file, table, policy);
+            OfPolicy::Close(rules, OnClose::Policy | OnClose::Missing) => {
+                self.tell_closing(leave, rules, sheet, policy);
             }
-            OfSystem::Check { .. } => self.tell_accepted(file, table),
-            OfSystem::Why { actor, object } => {
-                self.tell_lines(explain_why_allowed(
-                    leave, alloc, file, table, policy, actor, object,
-                ));
+            OfPolicy::Why { actor, object } => {
+                self.tell_lines(explain_why_allowed(leave, alloc, sheet, policy, actor, object));
             }
             _ => {}
         }
     }
 
     /// Tells more of what isn't wrong.
-    fn tell_more(&self, leave: &(impl Threads + Sync), heard: &Heard<'_>) {
-        match (self.invocation.request, heard.policy, heard.outcomes) {
-            (Request::OfTable(asked, file), _, _) => self.tell_of_table(leave, asked, file, heard),
-            (Request::OfSystem(asked, file, _), Some(policy), _) => {
-                self.tell_of_system(leave, asked, file, heard.table, policy);
+    fn tell_more(&self, leave: &(impl Threads + Sync), files: Files<'_>, answer: &Answer) {
+        match (self.invocation.request, files) {
+            (Request::OfSystem(asked, _, _), Files::System(given)) => {
+                if let Ok(system) = self.sourced(given) {
+                    self.tell_of_system(leave, asked, system.sheet(), answer);
+                }
             }
-            (Request::OfThree(OfThree::Run(_), _, _, script), _, Some(outcomes)) => {
-                self.tell_refusals(heard.table, script, outcomes);
+            (Request::OfPolicy(asked, _, _, _), Files::Policy(given, policy)) => {
+                if let Ok(system) = self.sourced(given) {
+                    self.tell_of_policy(leave, asked, system.sheet(), policy);
+                }
             }
-            (Request::OfClaims(..), _, _) => {
+            (Request::Check(..), Files::Policy(given, _)) => {
+                if let Ok(system) = self.sourced(given) {
+                    self.tell_accepted(system.sheet());
+                }
+            }
+            (_, Files::Script(table, _, events)) => {
+                if let Some(made) = &answer.made {
+                    self.tell_refusals(table, events, made);
+                }
+            }
+            (_, Files::Claims(given, lines)) => {
                 if !self.invocation.manner.is_quiet {
-                    self.tell_lines(self.shared_memory_told(heard));
+                    self.tell_lines(self.shared_memory_told(given, lines));
                 }
             }
             _ => {}
@@ -411,16 +455,21 @@ impl<R: AllocGlobal + Eprint + Threads + Sync> Listener for Explainer<'_, R> {
         }
     }
 
-    fn hear_answer(&mut self, heard: &Heard<'_>) {
+    fn hear_answer(&mut self, files: Files<'_>, answer: &Answer) {
         self.warn();
-        if let Some(description) = heard.description {
-            self.tell_left_out(description, heard.table);
+        if let Files::Description(described) = files {
+            self.tell_left_out(described, true);
         }
         if self.invocation.manner.explains {
             let leave = Leave::<R> { of: PhantomData };
-            match heard.finding {
-                Some(finding) => self.tell_finding(heard, finding),
-                None => self.tell_more(&leave, heard),
+            match &answer.finding {
+                Some(finding) => self.tell_finding(files, finding),
+                None => {
+                    self.tell_more(&leave, files, answer);
+                    if let Some(described) = described_of(files) {
+                        self.tell_left_out(described, false);
+                    }
+                }
             }
         }
     }
@@ -458,6 +507,18 @@ impl fmt::Display for Unread {
             kind => return write!(f, "{kind}"),
         };
         f.write_str(words)
+    }
+}
+
+/// The description of which a question is asked, if it is asked of one.
+fn described_of(files: Files<'_>) -> Option<&Described> {
+    let given = match files {
+        Files::System(given) | Files::Policy(given, _) | Files::Claims(given, _) => given,
+        _ => return None,
+    };
+    match given {
+        Given::Description(described) => Some(described),
+        Given::Table(_) => None,
     }
 }
 

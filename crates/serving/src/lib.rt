@@ -7,8 +7,9 @@ mod answering;
 mod engines;
 mod explaining;
 mod opening;
+mod sheets;
 mod short;
 
 pub use answering::{answer, answer_short, answer_split, answer_split_short, tell};
-pub use opening::{MOST_BYTES, Opened, open};
+pub use opening::{FileOrInput, MOST_BYTES, Opened, open};
 pub use report::{End, Open, Watched};

@@ -15,16 +15,25 @@ use std::io;
 /// certificates that aren't right.
 pub const MOST_BYTES: u64 = 1 << 30;
 
-/// Opens a file, of which at most [`MOST_BYTES`] are read.
+/// The name that stands for standard input.
+const STANDARD_INPUT: &str = "-";
+
+/// What a command reads from: a file, or standard input.
+pub type FileOrInput<R> = Either<<R as Files>::File, <R as Input>::Reader>;
+
+/// Opens a file, or standard input if the path is `-`. At most [`MOST_BYTES`] of it are read.
 ///
 /// # Errors
 ///
 /// The system's error, if the file can't be opened.
-pub fn open<R: Files>(rt: &R, path: &str) -> io::Result<Bounded<R::File>>
+pub fn open<R: Files + Input>(rt: &R, path: &str) -> io::Result<Bounded<FileOrInput<R>>>
     ensures limit { IfOk result (λ file. bytes_allowed file ≡ Some MOST_BYTES) }
 {
+    if path == STANDARD_INPUT {
+        return Ok(Bounded::new(Either::Right(rt.reader()), MOST_BYTES));
+    }
     match fs::open(rt, path) {
-        Ok(file) => Ok(Bounded::new(file, MOST_BYTES)),
+        Ok(file) => Ok(Bounded::new(Either::Left(file), MOST_BYTES)),
         Err(error) => Err(error),
     }
 }
@@ -55,13 +64,18 @@ pub(crate) fn open_all<'a, F, O: Fn(&str) -> io::Result<F>>(
         Request::OfDescription(asked, description) => {
             Request::OfDescription(asked, open_by(opener, description))
         }
-        Request::OfTable(asked, table) => Request::OfTable(asked, open_by(opener, table)),
-        Request::OfSystem(asked, table, policy) => {
-            let (table, policy) = (open_by(opener, table), open_by(opener, policy));
-            Request::OfSystem(asked, table, policy)
+        Request::OfSystem(asked, taken, system) => {
+            Request::OfSystem(asked, taken, open_by(opener, system))
         }
-        Request::OfClaims(table, claims) => {
-            Request::OfClaims(open_by(opener, table), open_by(opener, claims))
+        Request::OfPolicy(asked, taken, system, policy) => {
+            let (system, policy) = (open_by(opener, system), open_by(opener, policy));
+            Request::OfPolicy(asked, taken, system, policy)
+        }
+        Request::OfClaims(taken, system, claims) => {
+            Request::OfClaims(taken, open_by(opener, system), open_by(opener, claims))
+        }
+        Request::Check(check, table, policy) => {
+            Request::Check(check, open_by(opener, table), open_by(opener, policy))
         }
         Request::OfThree(asked, table, policy, third) => {
             let (table, policy) = (open_by(opener, table), open_by(opener, policy));

@@ -6,8 +6,8 @@ ghost use Rattle.commands.specs.Ends.{status_of};
 use crate::explaining::Explainer;
 use crate::opening::Opened;
 use base::Refusal;
-use report::{Asked, End, Fault, File, Finding, Heard, Listener, OnAccept, Sink, Watched};
-use requests::{Invocation, OfSystem, OfThree, Request};
+use report::{Answer, Asked, End, Fault, File, Files, Finding, Listener, OnAccept, Sink, Watched};
+use requests::{Check, Invocation, OfThree, Request};
 use std::alloc::{AllocError, Global};
 use std::io::Write;
 use std::thread::Threads;
@@ -77,59 +77,51 @@ impl<'a, R: AllocGlobal + Eprint> Shortener<'a, R> {
     }
 
     /// Returns the line on what is found wrong, or several lines.
-    fn finding_lines(&self, heard: &Heard<'_>, finding: &Finding) -> Result<String, Refusal> {
+    fn finding_lines(&self, files: Files<'_>, finding: &Finding) -> Result<String, Refusal> {
         let alloc = self.alloc;
-        let sentence = self.explainer.sentence_on(heard, finding)?;
+        let sentence = self.explainer.sentence_on(files, finding)?;
         match finding {
-            Finding::BrokenLines(_) => Ok(sentence),
-            Finding::Broken(broken) => {
-                let claims = self.request.name_of(File::Claims);
-                // The header is a line too.
-                let line = broken.number.saturating_add(1);
-                Ok(format!(in alloc; "{claims}:{line}: {sentence}\n")?)
-            }
+            Finding::Broken(_) => Ok(sentence),
             _ => Ok(format!(in alloc; "{sentence}\n")?),
         }
     }
 
     /// Returns the line that says that nothing is found wrong, if the answer is a report.
-    fn accepted_line(&self, heard: &Heard<'_>) -> Option<Result<String, AllocError>> {
+    fn accepted_line(&self, files: Files<'_>) -> Option<Result<String, AllocError>> {
         let alloc = self.alloc;
-        match self.request {
-            Request::OfSystem(
-                OfSystem::Check {
-                    on_accept: OnAccept::Report,
-                    ..
-                },
-                table,
+        match (self.request, files) {
+            (
+                Request::Check(
+                    Check {
+                        on_accept: OnAccept::Report,
+                        ..
+                    },
+                    table,
+                    _,
+                ),
                 _,
             ) => Some(format!(in alloc; "{table}: accepted\n")),
-            Request::OfThree(OfThree::Verify(_), _, _, certificate) => {
+            (Request::OfThree(OfThree::Verify(_), _, _, certificate), _) => {
                 Some(format!(in alloc; "{certificate}: accepted\n"))
             }
-            Request::OfThree(OfThree::Replay, _, _, log) => {
+            (Request::OfThree(OfThree::Replay, _, _, log), _) => {
                 Some(format!(in alloc; "{log}: legal, and ends within the policy\n"))
             }
-            Request::OfClaims(_, claims) => {
-                Some(holding_line(alloc, claims, claim_count(heard)))
+            (Request::OfClaims(_, _, claims), Files::Claims(_, lines)) => {
+                let lines = lines.as_slice();
+                let count = lines.iter().filter(|line| line.is_some()).count();
+                Some(holding_line(alloc, claims, count))
             }
             _ => None,
         }
     }
 }
 
-/// Returns how many claims were read, if they are of version 2.
-fn claim_count(heard: &Heard<'_>) -> Option<usize> {
-    let lines = heard.claims?.as_slice();
-    Some(lines.iter().filter(|line| line.is_some()).count())
-}
-
 /// Returns the line that says that the claims of a file hold.
-fn holding_line(alloc: Global, file: &str, count: Option<usize>) -> Result<String, AllocError> {
+fn holding_line(alloc: Global, file: &str, count: usize) -> Result<String, AllocError> {
     match count {
-        Some(1) => format!(in alloc; "{file}: 1 claim holds\n"),
-        Some(count) => format!(in alloc; "{file}: {count} claims hold\n"),
-        None => format!(in alloc; "{file}: all claims hold\n"),
+        1 => format!(in alloc; "{file}: 1 claim holds\n"),
+        _ => format!(in alloc; "{file}: {count} claims hold\n"),
     }
 }
 
@@ -144,13 +136,13 @@ impl<R: AllocGlobal + Eprint + Threads + Sync> Listener for Shortener<'_, R> {
         self.explainer.hear_fault(file, text, table, fault);
     }
 
-    fn hear_answer(&mut self, heard: &Heard<'_>) {
-        if let Some(finding) = heard.finding {
-            self.printed = Printed::of(self.finding_lines(heard, finding));
-        } else if let Some(line) = self.accepted_line(heard) {
+    fn hear_answer(&mut self, files: Files<'_>, answer: &Answer) {
+        if let Some(finding) = &answer.finding {
+            self.printed = Printed::of(self.finding_lines(files, finding));
+        } else if let Some(line) = self.accepted_line(files) {
             self.printed = Printed::of(line);
         }
-        self.explainer.hear_answer(heard);
+        self.explainer.hear_answer(files, answer);
     }
 
     fn hear_unlabelled(&mut self, table: &Table, asked: Asked) {

@@ -1,51 +1,97 @@
-//! Whether claims of version 1 rise, and are on two labels each: 50.
-use crate::declared::Row;
-use crate::edges::{Numbered, label_of};
-use forms::{File, form_of};
-use table::Table;
+//! Which condition a line of claims doesn't meet.
+use crate::declared::{Declared, Row};
+use crate::flaws::Flaw;
+use crate::names::known_flaw;
+use forms::{Form, Lines, WordFlaw, shape_flaw, text_of};
 
-/// A claim on one label, or one that doesn't come after the one before.
+/// What is wrong with a line whose first word is one of a claim.
 #[derive(Clone, Copy)]
 pub(crate) enum ClaimFlaw<'a> {
     /// The label that stands in both places.
     Itself(&'a str),
-    /// The line that has the same labels.
+    /// `*` in place of a label.
+    Others,
+    /// `*` in place of both ends.
+    OthersTwice,
+    /// The first label of `only` among the others.
+    Among(&'a str),
+    /// A label that `only` has twice.
+    LabelTwice(&'a str),
+    /// The line that has the same claim.
     Twice(u64),
-    /// Labels with their numbers, and the line before.
-    Labels(Numbered<'a>, Numbered<'a>, u64),
 }
 
-/// What is wrong with a claim of labels of the table, in the order of the reader's tests.
+/// Which condition a line of a claim's form doesn't meet, in the order of the reader's tests.
 pub(crate) fn claim_flaw<'a>(
-    table: &Table,
+    text: &[u8],
+    declared: Option<Declared<'a>>,
+    number: u64,
+    form: Form,
     row: Row<'a>,
-    before: Row<'a>,
-) -> Option<ClaimFlaw<'a>> {
-    let line = before.line;
-    let here = label_of(table, row.word(1))?;
-    let last = match form_of(File::Claims, before.text) {
-        Some(_) => label_of(table, before.word(1)),
-        None => None,
+) -> Option<Flaw<'a>> {
+    match number {
+        50 => syntax_flaw(form, row),
+        51 => unknown_flaw(declared, form, row),
+        _ => twice_flaw(text, form, row),
+    }
+}
+
+// Of the form, and of labels that must differ: 50.
+fn syntax_flaw<'a>(form: Form, row: Row<'a>) -> Option<Flaw<'a>> {
+    match shape_flaw(form, row.text) {
+        Some(WordFlaw::Name("*", _)) => return Some(Flaw::Claim(ClaimFlaw::Others)),
+        Some(flaw) => return Some(Flaw::Word(form, flaw)),
+        None => {}
+    }
+    let first = row.word(1);
+    Some(Flaw::Claim(match form {
+        Form::ClaimOnly => ClaimFlaw::Among(first),
+        _ if first == "*" => ClaimFlaw::OthersTwice,
+        _ => ClaimFlaw::Itself(first),
+    }))
+}
+
+// Of names: 51.
+fn unknown_flaw<'a>(declared: Option<Declared<'a>>, form: Form, row: Row<'a>) -> Option<Flaw<'a>> {
+    Some(Flaw::Known(known_flaw(declared?, form, row)?))
+}
+
+// Of what is given twice: 52.
+fn twice_flaw<'a>(text: &[u8], form: Form, row: Row<'a>) -> Option<Flaw<'a>> {
+    let twice = match form {
+        Form::ClaimOnly => label_twice(row.text),
+        _ => None,
     };
-    if let Some(last) = last {
-        if here.number < last.number {
-            return Some(ClaimFlaw::Labels(here, last, line));
+    Some(Flaw::Claim(match twice {
+        Some(label) => ClaimFlaw::LabelTwice(label),
+        None => ClaimFlaw::Twice(same_line(text, row)?),
+    }))
+}
+
+// The first label of a line that stands before in it.
+fn label_twice(line: &str) -> Option<&str> {
+    let mut before = 0usize;
+    for label in line.split(' ').skip(1) {
+        if line
+            .split(' ')
+            .skip(1)
+            .take(before)
+            .any(|other| other == label)
+        {
+            return Some(label);
+        }
+        before = before.saturating_add(1);
+    }
+    None
+}
+
+// The first line that is spelled as this one: so are two lines that have the same claim.
+fn same_line(text: &[u8], row: Row<'_>) -> Option<u64> {
+    let mut lines = Lines::new(text);
+    for number in 1..row.line {
+        if text_of(lines.next_line()?) == row.text {
+            return Some(number);
         }
     }
-    if row.word(1) == row.word(2) {
-        return Some(ClaimFlaw::Itself(row.word(1)));
-    }
-    if here.number != last?.number {
-        return None;
-    }
-    let here = label_of(table, row.word(2))?;
-    let last = label_of(table, before.word(2))?;
-    if here.number == last.number {
-        return Some(ClaimFlaw::Twice(line));
-    }
-    if here.number < last.number {
-        Some(ClaimFlaw::Labels(here, last, line))
-    } else {
-        None
-    }
+    None
 }

@@ -53,7 +53,7 @@ fn fallen<'a>(here: Numbered<'a>, last: Numbered<'a>, flaw: EdgeFlaw<'a>) -> Opt
     }
 }
 
-pub(crate) fn label_of<'a>(table: &Table, word: &'a str) -> Option<Numbered<'a>> {
+fn label_of<'a>(table: &Table, word: &'a str) -> Option<Numbered<'a>> {
     let number = u64::from(table.label_named(word)?.number());
     Some(Numbered { word, number })
 }

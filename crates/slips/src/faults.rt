@@ -7,8 +7,8 @@ use crate::flaws::Flaw;
 use crate::limits::{event_flaw, limit_flaw};
 use crate::memory::placed_flaw;
 use crate::names::{known_flaw, twice_flaw};
+use crate::near::near_flaw;
 use crate::order::order_flaw;
-use crate::stated::stated_flaw;
 use crate::tree::tree_flaw;
 use forms::{
     File, Form, LayoutFlaw, Line, Shown, before_of, bytes_flaw, form_of, formless_flaw,
@@ -46,11 +46,8 @@ pub fn explain_fault(
             let shown = Shown { bytes: line.bytes };
             let declared = declared(file, text, table, fault);
             let before = before_of(line_at(text, number.saturating_sub(1)));
-            let flaw = if number > 1 && file == File::Claims && file.is_later(text) {
-                stated_flaw(text, declared, fault, line, before)
-            } else {
-                flaw_of(file, declared, fault, line, before)
-            };
+            let flaw = flaw_of(file, text, declared, fault, line, before);
+            let flaw = near_flaw(alloc, flaw)?;
             format!(in alloc; "{name}:{number}: `{shown}`: {flaw}")
         }
         None => {
@@ -83,30 +80,31 @@ fn declared<'a>(
 // The condition that a line doesn't meet.
 fn flaw_of<'a>(
     file: File,
+    text: &[u8],
     declared: Option<Declared<'a>>,
     fault: Fault,
     line: Line<'a>,
     before: &'a str,
 ) -> Flaw<'a> {
-    let text = text_of(line.bytes);
+    let row = Row {
+        line: fault.line,
+        text: text_of(line.bytes),
+    };
     if fault.line == 1 {
-        return Flaw::Layout(file, first_flaw(file, text));
+        return Flaw::Layout(file, first_flaw(file, row.text));
     }
     if fault.number == 50 {
-        if let Some(flaw) = bytes_flaw(line, before) {
+        if let Some(flaw) = bytes_flaw(file, line, before) {
             return Flaw::Layout(file, flaw);
         }
     }
-    let Some(form) = form_of(file, text) else {
-        return Flaw::Layout(file, formless_flaw(file, text, before));
+    let Some(form) = form_of(file, row.text) else {
+        return Flaw::Layout(file, formless_flaw(file, row.text, before));
     };
-    let row = Row {
-        line: fault.line,
-        text,
-    };
-    let flaw = match fault.number {
-        50 => syntax_flaw(file, declared, form, row, before),
-        number => meaning_flaw(declared, number, form, row),
+    let flaw = match (file, fault.number) {
+        (File::Claims, number) => claim_flaw(text, declared, number, form, row),
+        (_, 50) => syntax_flaw(file, declared, form, row, before),
+        (_, number) => meaning_flaw(declared, number, form, row),
     };
     match flaw {
         Some(flaw) => flaw,
@@ -153,7 +151,6 @@ fn syntax_flaw<'a>(
     Some(match (file, declared) {
         (File::Log, _) => Flaw::Outcome(outcome_flaw(row.text.split_once(" = ")?.1)?),
         (File::Policy, Some(Declared::Table(table))) => Flaw::Edge(edge_flaw(table, row, above)?),
-        (File::Claims, Some(Declared::Table(table))) => Flaw::Claim(claim_flaw(table, row, above)?),
         (_, Some(Declared::Rows(rows))) => Flaw::Order(order_flaw(rows, form, row)?),
         _ => return None,
     })

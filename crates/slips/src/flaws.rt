@@ -7,7 +7,6 @@ use crate::limits::LimitFlaw;
 use crate::memory::PlacedFlaw;
 use crate::names::{KnownFlaw, TwiceFlaw};
 use crate::order::{OrderFlaw, Ranked};
-use crate::stated::StatedFlaw;
 use crate::tree::TreeFlaw;
 use forms::{File, Form, LayoutFlaw, OfLayout, OutcomeFlaw, WordFlaw};
 use std::fmt::{self, Display};
@@ -23,7 +22,6 @@ pub(crate) enum Flaw<'a> {
     Order(OrderFlaw<'a>),
     Edge(EdgeFlaw<'a>),
     Claim(ClaimFlaw<'a>),
-    Stated(StatedFlaw<'a>),
     Known(KnownFlaw<'a>),
     Twice(TwiceFlaw<'a>),
     Placed(PlacedFlaw<'a>),
@@ -55,7 +53,6 @@ impl fmt::Display for Flaw<'_> {
             Flaw::Order(flaw) => flaw.fmt(f),
             Flaw::Edge(flaw) => flaw.fmt(f),
             Flaw::Claim(flaw) => flaw.fmt(f),
-            Flaw::Stated(flaw) => flaw.fmt(f),
             Flaw::Known(flaw) => flaw.fmt(f),
             Flaw::Twice(flaw) => flaw.fmt(f),
             Flaw::Placed(flaw) => flaw.fmt(f),
@@ -153,28 +150,16 @@ impl fmt::Display for ClaimFlaw<'_> {
                     "a claim needs two different labels, but both are `{label}`"
                 )
             }
-            ClaimFlaw::Twice(line) => write!(f, "line {line} has a claim on the same labels"),
-            ClaimFlaw::Labels(here, before, line) => {
-                f.write_str("claims must be in rising order, but the label ")?;
-                write_numbers(f, here, before, line)
-            }
-        }
-    }
-}
-
-impl fmt::Display for StatedFlaw<'_> {
-    fn fmt<W: fmt::Write>(&self, f: &mut fmt::Formatter<W>) -> fmt::Result {
-        match *self {
-            StatedFlaw::Others => f.write_str("`*` can only stand in a `none` or a `take` line"),
-            StatedFlaw::OthersTwice => f.write_str(
+            ClaimFlaw::Others => f.write_str("`*` can only stand in a `none` or a `take` line"),
+            ClaimFlaw::OthersTwice => f.write_str(
                 "`*` can stand for one of the two labels, but not for both",
             ),
-            StatedFlaw::Among(label) => write!(
+            ClaimFlaw::Among(label) => write!(
                 f,
                 "the first label, `{label}`, can't be among those that follow"
             ),
-            StatedFlaw::LabelTwice(label) => write!(f, "the label `{label}` is given twice"),
-            StatedFlaw::Twice(line) => write!(f, "line {line} has the same claim"),
+            ClaimFlaw::LabelTwice(label) => write!(f, "the label `{label}` is given twice"),
+            ClaimFlaw::Twice(line) => write!(f, "line {line} has the same claim"),
         }
     }
 }
@@ -184,6 +169,14 @@ impl fmt::Display for KnownFlaw<'_> {
         match *self {
             KnownFlaw::NoLabel(name, declared) => write_unknown(f, "label", name, declared),
             KnownFlaw::NoObject(name, declared) => write_unknown(f, "object", name, declared),
+            KnownFlaw::NearLabel(name, declared, near) => {
+                write_unknown(f, "label", name, declared)?;
+                write!(f, ": did you mean `{near}`?")
+            }
+            KnownFlaw::NearObject(name, declared, near) => {
+                write_unknown(f, "object", name, declared)?;
+                write!(f, ": did you mean `{near}`?")
+            }
             KnownFlaw::ObjectForLabel(name, line) => write!(
                 f,
                 "`{name}` is an object (line {line} of the table), but a label is expected here"

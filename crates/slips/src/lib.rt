@@ -12,8 +12,8 @@ mod flaws;
 mod limits;
 mod memory;
 mod names;
+mod near;
 mod order;
-mod stated;
 mod tree;
 
 pub use faults::explain_fault;

@@ -6,9 +6,13 @@ use forms::Form;
 #[derive(Clone, Copy)]
 pub(crate) enum KnownFlaw<'a> {
     NoLabel(&'a str, Declared<'a>),
+    /// A name that no label has, and the nearest one that a label has.
+    NearLabel(&'a str, Declared<'a>, &'a str),
     /// An object's name where a label's is wanted, and the object's line in the table.
     ObjectForLabel(&'a str, u64),
     NoObject(&'a str, Declared<'a>),
+    /// A name that no object has, and the nearest one that an object has.
+    NearObject(&'a str, Declared<'a>, &'a str),
     LabelForObject(&'a str, u64),
 }
 
@@ -28,7 +32,7 @@ pub(crate) fn known_flaw<'a>(
     form: Form,
     row: Row<'a>,
 ) -> Option<KnownFlaw<'a>> {
-    if form == Form::StatedOnly {
+    if form == Form::ClaimOnly {
         return labels_flaw(declared, row.text);
     }
     let mut at = 1u64;
@@ -50,12 +54,8 @@ pub(crate) fn known_flaw<'a>(
 fn roles(form: Form) -> &'static str {
     match form {
         Form::Cap | Form::Child | Form::Bind => "OO",
-        Form::Edge | Form::StatedWithout => "L-L",
-        Form::ClaimNothing
-        | Form::ClaimTake
-        | Form::StatedNothing
-        | Form::StatedTake
-        | Form::StatedApart => "LL",
+        Form::Edge | Form::ClaimWithout => "L-L",
+        Form::ClaimNothing | Form::ClaimTake | Form::ClaimApart => "LL",
         Form::CertifiedCap => "OL-L",
         Form::CertifiedSpace => "OLL",
         Form::CertifiedDerive | Form::CertifiedRuns => "OOLL",

@@ -1,7 +1,7 @@
 //! The summary of an accepted system: a matrix of who may change whom, and the labels without a
 //! thread with those who change and read them.
 //!
-//! `stated`, `diagram` and `report` stand on it. It knows no claim, and no code of the
+//! `claims`, `diagram` and `report` stand on it. It knows no claim, and no code of the
 //! kernel's calls.
 #![tactic(auto)]
 

@@ -1,17 +1,14 @@
--- What is read is what the definition says, and the laws of that.
-use Rattle.words.{specs.Text.lines_of, proofs.{FirstFaults.{faults, refused_for}, ListLaws.{found, only}}}
-use Rattle.claims.{specs.{ClaimsText.claims_header, Reading.{claims_format, read_claims_of}}, proofs.ClaimsLaws.{format, plain_header}}
+-- What isn't read is refused for its first fault.
+use Rattle.words.{specs.Text.lines_of, proofs.FirstFaults.{faults, refused_for}}
+use Rattle.claims.specs.Reading.{read_claims_of, claims_format}
 use Rattle.claims.proofs.reading.read.Goals as goal
 
-pub returns : goal.returns
+pub returns-clause-faults : goal.returns-clause-faults
 unfolding read_claims_of
-returns c =
-    let read = c.claims_of.ensures in
-    let lines = format c.args.table.now c.objects.ensures.lawful in
-    record {
-      exact = read;
-      found = found lines _ claims_header c.args.text.now c.claims_of.result read;
-      only = only lines _ claims_header c.args.text.now c.claims_of.result plain_header read;
-      faults = faults _ (claims_format c.args.table.now) (lines_of c.args.text.now) c.claims_of.result read;
-      refused = refused_for _ (claims_format c.args.table.now) (lines_of c.args.text.now) c.claims_of.result read;
-    }
+returns-clause-faults c =
+    faults _ (claims_format c.args.table.now) (lines_of c.args.text.now) c.body_of.result c.body_of.ensures
+
+pub returns-clause-refused : goal.returns-clause-refused
+unfolding read_claims_of
+returns-clause-refused c =
+    refused_for _ (claims_format c.args.table.now) (lines_of c.args.text.now) c.body_of.result c.body_of.ensures

@@ -6,4 +6,4 @@ use Rattle.importing.proofs.grants.all_domain_grants.Given as goal
 
 abbrev pub invariant-loop-n : goal.invariant-loop-n
 invariant-loop-n l =
-    l.grants.items ≡ flat_map (domain_grants (description_of l.description) l.minting l.children) (range_with_len 0 l.n)
+    l.grants.items ≡ flat_map (domain_grants (description_of l.description) l.minting) (range_with_len 0 l.n)

@@ -1,14 +1,15 @@
 -- What is told is of the reach of the table.
-use Rattle.std.proofs.Common.{◌∙◌, arith, refl, sym}
+use Rattle.std.proofs.Common.{◌∙◌, arith, sym}
 use Rattle.report.proofs.asking.explained.Goals as goal
 
 pub returns : goal.returns
 returns c =
     let of_actor = sym c.label_named.ensures.label ∙ c.in-Some.is in
     let of_object = sym c.label_named-2.ensures.label ∙ c.in-Some-label_named.is in
-    rw (of_actor, of_object, c.plain.ensures.0, c.plain.ensures.1) (
-      (
-        record {
+    let plain = c.plain.ensures.plain in
+    rw (of_actor, of_object) (
+      record {
+        so = rw plain.text (record {
           reach = c.in_ok-reach.reach;
           is_reach = record { of_table = c.in_ok-reach.ensures.table; is = c.in_ok-reach.ensures.reach };
           so = record {
@@ -20,8 +21,9 @@ returns c =
             is_why = c.in_ok-why.ensures.why;
             told = c.in_ok-why_text.ensures.text;
           };
-        },
-        refl,
-      ),
-      omega arith,
+        });
+        status = plain.status;
+        bare = plain.bare;
+      },
+      omega (arith, plain.status),
     )

@@ -7,9 +7,10 @@ pub returns : goal.returns
 returns c =
     let of_actor = sym c.label_named.ensures.label ∙ c.in-Some.is in
     let of_object = sym c.label_named-2.ensures.label ∙ c.in-Some-label_named.is in
-    rw (of_actor, of_object, c.plain.ensures.0, c.plain.ensures.1) (
-      (
-        record {
+    let plain = c.plain.ensures.plain in
+    rw (of_actor, of_object) (
+      record {
+        so = rw plain.text (record {
           limits = limits_by c.args.policy.now c.all.result;
           are_limits = record { test = refl; acts = c.all.ensures };
           so = record {
@@ -21,8 +22,9 @@ returns c =
             is_why = c.in_ok-why.ensures.why;
             told = c.in_ok-why_text.ensures.text;
           };
-        },
-        refl,
-      ),
-      omega arith,
+        });
+        status = plain.status;
+        bare = plain.bare;
+      },
+      omega (arith, plain.status),
     )

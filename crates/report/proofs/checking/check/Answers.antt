@@ -3,8 +3,20 @@ use Rattle.report.proofs.checking.check.Goals as goal
 
 pub returns-clause-checked : goal.returns-clause-checked
 returns-clause-checked g c = record {
-  done = carried_out c.load_system-system.result c.load_system-system.ensures.loaded c.load_system-system.ensures.unread c.load_system-system.ensures.labels c.checked-answer.ensures.judged c.tell.ensures.told;
-  policy_waits = c.load_system-system.ensures.policy_waits;
+  done = carried_out c.load_with-with.result c.load_with-with.ensures.loaded c.load_with-with.ensures.unread c.load_with-with.ensures.labels c.checked-answer.ensures.judged c.tell.ensures.told;
+  second_waits = c.load_with-with.ensures.second_waits;
+}
+
+pub returns-clause-heard : goal.returns-clause-heard
+returns-clause-heard g c = record {
+  loaded = c.load_with-with.result;
+  answer = c.checked-answer.result;
+  between = c.load_with-with.new.listener;
+  gives = c.load_with-with.ensures.loaded;
+  judged = c.checked-answer.ensures.judged;
+  told = c.tell.ensures.told;
+  fault = c.load_with-with.ensures.heard;
+  answered = c.tell.ensures.heard;
 }
 
 pub returns-clause-arrived : goal.returns-clause-arrived

@@ -1,7 +1,11 @@
-use Rattle.report.proofs.Denied.{denied_by}
+use Rattle.std.proofs.Common.{None, subst}
+use Rattle.machine.specs.Layout.{Layout}
+use Rattle.commands.specs.Commands.{IsJudgedSo}
+use Rattle.report.specs.Answers as answers
 use Rattle.report.proofs.checking.checked.Goals as goal
 
-pub returns-in_ok-denied-in-Err-2-clause-judged : goal.returns-in_ok-denied-in-Err-2-clause-judged
-returns-in_ok-denied-in-Err-2-clause-judged g c =
-    let denied = c.in_ok-denied-in-Err-2.ensures in
-    rw c.in-Ok.is (denied_by c.args.rules c.in-Ok.system.table c.in-Ok.system.policy c.in-Err-2.denial (rw c.in-Err-2.is at c.in_ok-judge_by.ensures.verdict) denied.text denied.status)
+pub returns-in-Ok-clause-judged : goal.returns-in-Ok-clause-judged
+returns-in-Ok-clause-judged g c =
+    rw c.in-Ok.is
+    (subst (λ (t : Layout). IsJudgedSo None (answers.Checks c.args.rules c.args.on_accept t c.in-Ok.with.second) c.verdict_answer.result) c.table.ensures
+    c.verdict_answer.ensures.judged)

@@ -1,8 +1,20 @@
 use Rattle.commands.proofs.Carried.{carried_out}
 use Rattle.report.proofs.claiming.check_claims.Goals as goal
 
-pub returns : goal.returns
-returns g c = record {
-  done = carried_out c.load_two-two.result c.load_two-two.ensures.loaded c.load_two-two.ensures.unread c.load_two-two.ensures.labels c.claims_judged-answer.ensures c.tell.ensures.told;
-  second_waits = c.load_two-two.ensures.second_waits;
+pub returns-clause-judged : goal.returns-clause-judged
+returns-clause-judged g c = record {
+  done = carried_out c.load_with-with.result c.load_with-with.ensures.loaded c.load_with-with.ensures.unread c.load_with-with.ensures.labels c.claims_judged-answer.ensures c.tell.ensures.told;
+  second_waits = c.load_with-with.ensures.second_waits;
+}
+
+pub returns-clause-heard : goal.returns-clause-heard
+returns-clause-heard g c = record {
+  loaded = c.load_with-with.result;
+  answer = c.claims_judged-answer.result;
+  between = c.load_with-with.new.listener;
+  gives = c.load_with-with.ensures.loaded;
+  judged = c.claims_judged-answer.ensures;
+  told = c.tell.ensures.told;
+  fault = c.load_with-with.ensures.heard;
+  answered = c.tell.ensures.heard;
 }

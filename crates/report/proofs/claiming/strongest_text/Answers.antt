@@ -1,7 +1,7 @@
 -- The strongest claims are those of the reach, whose labels have their names in the table.
 use Rattle.std.{specs.{declared.alloc.Global.Global, Prelude.Vec}, proofs.Common.{ℕ, ◌≡◌, Err, IfOk, Ok, Result, refl, subst, sym}}
 use Rattle.machine.specs.Layout.{Layout}
-use Rattle.stated.specs.Text.{lines_text}
+use Rattle.claims.specs.Text.{lines_text}
 use Rattle.report.specs.Claimed.{TellsStrongest}
 use Rattle.report.proofs.claiming.strongest_text.Goals as goal
 

@@ -1,6 +1,6 @@
 -- What closing gives is the least policy by each set of rules.
-use Rattle.std.proofs.{Common.{◌++◌, List}, lemmas.Result.IfOk-weaker}
-use Rattle.base.specs.{declared.edge.Edge.Edge, Labels.is_in}
+use Rattle.std.proofs.{Common.{◌++◌}, lemmas.Result.IfOk-weaker}
+use Rattle.base.specs.{Labels.is_in}
 use Rattle.policy.specs.Closing.{IsLeastClosed}
 use Rattle.sharp.specs.Least.{IsLeastSharp}
 use Rattle.verdict.specs.declared.rules.Rules.{Rules as rules}

@@ -9,5 +9,5 @@ pub returns-clause-told : goal.returns-clause-told
 returns-clause-told c =
     let names = ap bytes_of c.deref.ensures.value ∙ c.in_ok-names.ensures in
     c.in_ok-text.ensures
-    ∙ ap (λ labels. claims_text labels (description_of c.described.inside.description) c.args.children) names
-    ∙ ap (λ (d : Described). claims_text d.table.labels d.description c.args.children) c.described.view_is
+    ∙ ap (λ labels. claims_text labels (description_of c.described.inside.description)) names
+    ∙ ap (λ (d : Described). claims_text d.table.labels d.description) c.described.view_is

@@ -17,7 +17,7 @@ returns-clause-right c =
       goes = c.extent-bound.ensures.extent;
       kept = c.extent-bound.ensures.kept;
       told =
-          subst (λ (most : ℕ). shows.TellsRun reach.table question bound most answer.text.items answer.status) c.most_calls.ensures
-          (subst (λ (t : Layout). shows.TellsRun t question bound c.most_calls.result answer.text.items answer.status) c.table.ensures told);
+          subst (λ (most : ℕ). shows.TellsRun reach.table question bound most answer) c.most_calls.ensures
+          (subst (λ (t : Layout). shows.TellsRun t question bound c.most_calls.result answer) c.table.ensures told);
     })
     c.bounded_answer.ensures.told

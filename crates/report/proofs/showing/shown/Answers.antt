@@ -17,8 +17,7 @@ returns c =
         object_named = of_object;
         shows =
             subst
-            (λ (t : Layout). shows.ShowsRun c.args.sought t c.in-Some.actor c.in-Some-label_named.object answer.field-0.text.items
-            answer.field-0.status)
+            (λ (t : Layout). shows.ShowsRun c.args.sought t c.in-Some.actor c.in-Some-label_named.object answer.field-0)
             c.in_ok-reach.ensures.table answer.ensures.right;
       },
       answer.ensures.exit,

@@ -4,5 +4,4 @@ use Rattle.report.proofs.splitting.ran_split.Goals as goal
 
 pub returns-in_ok-denied-in-Err-2 : goal.returns-in_ok-denied-in-Err-2
 returns-in_ok-denied-in-Err-2 g c =
-    let denied = c.in_ok-denied-in-Err-2.ensures in
-    rw c.in-Ok.is (denied_by rules.Closed c.in-Ok.three.table c.in-Ok.three.policy c.in-Err-2.denial (rw c.in-Err-2.is at c.in_ok-accepted.ensures.verdict) denied.text denied.status)
+    rw c.in-Ok.is (denied_by rules.Closed c.in-Ok.three.table c.in-Ok.three.policy c.in-Err-2.denial (rw c.in-Err-2.is at c.in_ok-accepted.ensures.verdict) c.in_ok-denied-in-Err-2.ensures)

@@ -6,4 +6,4 @@ use Rattle.separation.proofs.lending.all_runners.Given as goal
 
 abbrev pub invariant-loop-domain : goal.invariant-loop-domain
 invariant-loop-domain l =
-    bytes_of l.found.items ≡ map (runners_of (description_of l.description) l.children) (range_with_len 0 l.domain)
+    bytes_of l.found.items ≡ map (runners_of (description_of l.description)) (range_with_len 0 l.domain)

@@ -6,4 +6,4 @@ use Rattle.separation.proofs.lending.runners_of.Given as goal
 
 abbrev pub invariant-loop-calls : goal.invariant-loop-calls
 invariant-loop-calls l =
-    l.runners.items ≡ runners_by (description_of l.description) l.children l.domain l._calls
+    l.runners.items ≡ runners_by (description_of l.description) l.domain l._calls

@@ -1,9 +1,9 @@
 -- The status is that of how the request ended, unless the lines can't be written.
-use Rattle.std.{specs.Global.Vec, proofs.Common.{ℕ, ◌∙◌, ◌≡◌, ◌⊎◌, ap, inl, inr, subst, sym}}
+use Rattle.std.{specs.Global.Vec, proofs.Common.{ℕ, ◌<◌, ◌∙◌, ◌≡◌, ◌⊎◌, ap, inl, inr, subst, sym}}
 use Rattle.devices.specs.{declared.watched.Watched.Watched, Watched.device_of}
 use Rattle.commands.specs.{declared.end.End.End, Ends.status_of}
-use Rattle.requests.specs.declared.request.Request.{Request, TheVariants.{OfClaims, OfDescription, OfSystem, OfTable, OfThree}}
-use Rattle.requests.specs.Requests.{HaveArrived, OnEach, SystemHasArrived}
+use Rattle.requests.specs.declared.request.{Check.{Check as CheckOf}, Request.{Request, TheVariants.{Check, OfClaims, OfDescription, OfPolicy, OfSystem, OfThree}}}
+use Rattle.requests.specs.Requests.{HaveArrived, OnEach}
 use Rattle.serving.proofs.answering.answer_short.Goals as goal
 
 status_is :
@@ -16,13 +16,15 @@ has_arrived :
     {N M : Type 0} (R : N → M → Type 0) (arrived : ℕ → Type 0) (names : Request N) (files : Request M) → OnEach R names files
     → HaveArrived arrived files → HaveArrived arrived names
 has_arrived R arrived (OfDescription asked d) files each have = tt
-has_arrived R arrived (OfTable asked t) files each have = tt
-has_arrived R arrived (OfSystem asked t p) (OfSystem also u q) each have = subst (SystemHasArrived arrived) (sym each.0) have
-has_arrived R arrived (OfSystem asked t p) (OfDescription also d) each have = absurd each
-has_arrived R arrived (OfSystem asked t p) (OfTable also u) each have = absurd each
-has_arrived R arrived (OfSystem asked t p) (OfClaims u d) each have = absurd each
-has_arrived R arrived (OfSystem asked t p) (OfThree also u q x) each have = absurd each
-has_arrived R arrived (OfClaims t d) files each have = tt
+has_arrived R arrived (OfSystem asked taken s) files each have = tt
+has_arrived R arrived (OfPolicy asked taken s p) files each have = tt
+has_arrived R arrived (OfClaims taken s c) files each have = tt
+has_arrived R arrived (Check asked t p) (Check also u q) each have = subst (λ (check : CheckOf). (worker : ℕ) → worker < check.workers → arrived worker) (sym each.0) have
+has_arrived R arrived (Check asked t p) (OfDescription also d) each have = absurd each
+has_arrived R arrived (Check asked t p) (OfSystem also taken s) each have = absurd each
+has_arrived R arrived (Check asked t p) (OfPolicy also taken s q) each have = absurd each
+has_arrived R arrived (Check asked t p) (OfClaims taken s c) each have = absurd each
+has_arrived R arrived (Check asked t p) (OfThree also u q x) each have = absurd each
 has_arrived R arrived (OfThree asked t p x) files each have = tt
 
 pub returns-clause-served : goal.returns-clause-served

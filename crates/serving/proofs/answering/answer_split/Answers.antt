@@ -8,6 +8,6 @@ returns-clause-served g c = record {
   files = OfThree (Run Closed) c.open_by-table.result c.open_by-policy.result c.open_by-script.result;
   end = c.run_split-end.result;
   opened = (refl, c.open_by-table.ensures.opened, c.open_by-policy.ensures.opened, c.open_by-script.ensures.opened);
-  done = c.run_split-end.ensures;
+  done = c.run_split-end.ensures.done;
   exit = sym c.tell-status.ensures;
 }

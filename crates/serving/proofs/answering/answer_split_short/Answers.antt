@@ -12,6 +12,6 @@ returns-clause-served g c = record {
   after = c.run_split-end.new.out;
   opened = (refl, c.open_by-table.ensures.opened, c.open_by-policy.ensures.opened, c.open_by-script.ensures.opened);
   empty = ap (λ (d : Watched (Vec ℕ)). (device_of d).items) c.new-kept.ensures ∙ c.new.ensures.items;
-  done = c.run_split-end.ensures;
+  done = c.run_split-end.ensures.done;
   exit = elim c.write-end.ensures [ inl same ↦ inl (c.tell-status.ensures ∙ same) | inr two ↦ inr (c.tell-status.ensures ∙ two) ];
 }

@@ -1,0 +1,63 @@
+-- What claims that hold keep in every run; and that a claim that fails doesn't hold.
+use Rattle.std.{specs.Prelude.IfNone, proofs.{Common.{ℕ, ◌∙◌, ◌≡◌, List, None, Option, Some, inl, inr, subst, sym}, lemmas.Bool.false≢true}}
+use Rattle.machine.specs.Layout.{Layout}
+use Rattle.policy.specs.Policy.{allows}
+use Rattle.integrity.specs.Safe.{IsSafe}
+use Rattle.reach.{specs.{Extents.{Limits, limits_of}, Reach.{IsTableReach, TableReach}}, proofs.Extents.{apart, takes}}
+use Rattle.claims.specs.declared.claim.{Claim.{Claim, Claim as claim}, Most.{Most, Most as most}, Who.Who}
+use Rattle.claims.specs.declared.deciding.Failure.{Failure, Failure as failure}
+use Rattle.claims.specs.Holding.{Fails, FailsOnPair, HasAtMost, Holds, HoldsOnPairs, IsKept, KeepsAtMost}
+use Rattle.claims.proofs.Chains.{no_chain}
+
+module _ (reach : TableReach) (is : IsTableReach reach) (safe : IsSafe reach.table (allows reach.policy)) where
+  abbrev t : Layout
+  t = reach.table
+
+  abbrev limits : Limits
+  limits = limits_of reach
+
+  most_kept : (a l : ℕ) (m : Most) → HasAtMost limits a l m → KeepsAtMost t a l m
+  most_kept a l most.Nothing has = apart reach is safe.narrow a l has.0 has.1
+  most_kept a l most.Take has = takes reach is safe.narrow a l has
+
+  pub claim_kept : (claim : Claim) → Holds t limits claim → IsKept t claim
+  claim_kept (claim.AtMost limit actor object) holds = λ a l bounded. most_kept a l limit (holds a l bounded)
+  claim_kept (claim.Only object actors) holds = λ a l bounded. most_kept a l most.Nothing (holds a l bounded)
+  claim_kept (claim.Apart from to) holds = record {
+    inside = holds.inside;
+    has = holds.has;
+    lacks = holds.lacks;
+    kept = λ a l outside inside.
+        most_kept a l most.Nothing
+        ((λ change. holds.closed a l outside inside (inl change)), (λ shrink. holds.closed a l outside inside (inr shrink)));
+  }
+  claim_kept (claim.Without actor kind object) holds =
+      λ m reached has. false≢true (sym holds ∙ safe.confined m reached actor kind object has)
+
+module _ (t : Layout) (limits : Limits) where
+  pair_breaks : (claim : Claim) (told : Failure) → FailsOnPair t limits claim told → HoldsOnPairs t limits claim → ⊥
+  pair_breaks claim (failure.Pair breach) fails holds = fails.breaks (holds breach.actor breach.object fails.bounded)
+  pair_breaks claim failure.Chain fails holds = fails
+  pair_breaks claim failure.Edge fails holds = fails
+
+  pub fails_breaks : (claim : Claim) (told : Failure) → Fails t limits claim told → ¬ Holds t limits claim
+  fails_breaks (claim.AtMost limit actor object) told fails holds = pair_breaks (claim.AtMost limit actor object) told fails holds
+  fails_breaks (claim.Only object actors) told fails holds = pair_breaks (claim.Only object actors) told fails holds
+  fails_breaks (claim.Apart from to) told fails holds = no_chain limits from to holds fails.1
+  fails_breaks (claim.Without actor kind object) told fails holds = false≢true (sym holds ∙ fails.1)
+
+  -- of a claim on pairs
+
+  pub ends_hold : (one : Claim) (limit : Most) (actor object : Who) → one ≡ claim.AtMost limit actor object
+      → HoldsOnPairs t limits one → Holds t limits one
+  ends_hold one limit actor object is holds =
+      subst (λ c. Holds t limits c) (sym is) (subst (λ c. HoldsOnPairs t limits c) is holds)
+
+  pub only_holds : (one : Claim) (object : ℕ) (actors : List ℕ) → one ≡ claim.Only object actors
+      → HoldsOnPairs t limits one → Holds t limits one
+  only_holds one object actors is holds =
+      subst (λ c. Holds t limits c) (sym is) (subst (λ c. HoldsOnPairs t limits c) is holds)
+
+pub if_none : {X : Type 0} (o : Option X) (P Q : Type 0) → (P → Q) → IfNone o P → IfNone o Q
+if_none None P Q follows is = follows is
+if_none (Some x) P Q follows is = tt

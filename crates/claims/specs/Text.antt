@@ -1,0 +1,36 @@
+-- How claims are spelled (confine's own).
+use Rattle.std.specs.{List.join_with_byte, Prelude.{[], ℕ, ◌∷◌, List, None, Option, Some, codes, map}}
+use Rattle.base.specs.Kinds.{kind_name}
+use Rattle.machine.specs.Layout.{Layout}
+use Rattle.words.specs.{Reading.list_text, Text.words_of}
+use Rattle.captext.specs.PolicyText.{label_name}
+use Rattle.claims.specs.{declared.claim.{Claim.{Claim, Claim as claim}, Who.{Who, Who as who}}, Claims.most_word}
+
+-- an end of a claim
+abbrev pub end_word : Layout → Who → List ℕ
+end_word t (who.One label) = label_name t label
+end_word t who.Others = codes "*"
+
+-- the words of a claim
+abbrev pub claim_words : Layout → Claim → List (List ℕ)
+claim_words t (claim.AtMost limit actor object) = most_word limit ∷ end_word t actor ∷ end_word t object ∷ []
+claim_words t (claim.Only object actors) = codes "only" ∷ label_name t object ∷ map (label_name t) actors
+claim_words t (claim.Apart from to) = codes "apart" ∷ label_name t from ∷ label_name t to ∷ []
+claim_words t (claim.Without actor kind object) =
+    codes "without" ∷ label_name t actor ∷ kind_name kind ∷ label_name t object ∷ []
+
+-- a claim as it is told
+abbrev pub claim_text : Layout → Claim → List ℕ
+claim_text t claim = join_with_byte 32 (claim_words t claim)
+
+-- the words of a line: none where it says nothing
+abbrev pub entry_words : Layout → Option Claim → List (List ℕ)
+entry_words t None = []
+entry_words t (Some claim) = claim_words t claim
+
+abbrev pub claims_header : List (List ℕ)
+claims_header = words_of (codes "confine-claims 2")
+
+-- the text of lines
+abbrev pub lines_text : Layout → List (Option Claim) → List ℕ
+lines_text t = list_text claims_header (entry_words t)

@@ -1,0 +1,114 @@
+//! How claims are written.
+ghost use Rattle.std.specs.{List.join_with_byte, Prelude.{[], ◌++◌, ◌∷◌, ◌≡◌, IfErr, IfOk, OnOk, codes, map, string_bytes}};
+ghost use Rattle.base.specs.Refusals.{out_of_memory};
+ghost use Rattle.captext.specs.PolicyText.{label_name};
+ghost use Rattle.words.specs.Text.{line_text};
+ghost use Rattle.claims.specs.Text.{claim_text, end_word, entry_words, lines_text};
+
+use crate::claim::{Claim, LabelList, Who};
+use crate::lines::ClaimLines;
+use base::{Label, Refusal};
+use captext::label_name;
+use std::alloc::{AllocError, Global};
+use table::Table;
+
+/// The word of an end of a claim.
+fn end_word(table: &Table, who: Who) -> &str
+    ensures { result.now ≡ end_word table.now who }
+{
+    match who {
+        Who::One(label) => label_name(table, label),
+        Who::Others => "*",
+    }
+}
+
+/// The text of `only`.
+fn only_text(
+    alloc: Global,
+    table: &Table,
+    object: Label,
+    actors: &LabelList,
+) -> Result<String, AllocError>
+    ensures { IfOk result (λ text. string_bytes text
+        ≡ join_with_byte 32 (codes "only" ∷ label_name table.now object ∷ map (label_name table.now) actors.now)) }
+{
+    let name = label_name(table, object);
+    let mut text = format!(in alloc; "only {name}")?;
+    for actor in actors.as_slice() {
+        let name = label_name(table, *actor);
+        write!(text, " {name}")?;
+    }
+    Ok(text)
+}
+
+/// Returns a claim as it is told, with the names that its labels have in the table.
+///
+/// # Errors
+///
+/// [`AllocError`] where memory is refused.
+pub fn claim_text(alloc: Global, claim: &Claim, table: &Table) -> Result<String, AllocError>
+    ensures { IfOk result (λ text. string_bytes text ≡ claim_text table.now claim.now) }
+{
+    match claim {
+        Claim::AtMost(most, actor, object) => {
+            let word = most.word();
+            let actor = end_word(table, *actor);
+            let object = end_word(table, *object);
+            format!(in alloc; "{word} {actor} {object}")
+        }
+        Claim::Only(object, actors) => only_text(alloc, table, *object, actors),
+        Claim::Apart(from, to) => {
+            let from = label_name(table, *from);
+            let to = label_name(table, *to);
+            format!(in alloc; "apart {from} {to}")
+        }
+        Claim::Without(actor, kind, object) => {
+            let actor = label_name(table, *actor);
+            let kind = kind.name();
+            let object = label_name(table, *object);
+            format!(in alloc; "without {actor} {kind} {object}")
+        }
+    }
+}
+
+/// Returns the text of lines, with the names that the labels of their claims have in the table.
+///
+/// A line that says nothing is empty.
+///
+/// # Errors
+///
+/// 40 where memory is refused.
+pub fn write(alloc: Global, lines: &ClaimLines, table: &Table) -> Result<Vec<u8>, Refusal>
+    ensures text { IfOk result (λ text. text.items ≡ lines_text table.now lines.now) }
+    ensures memory { IfErr result (λ refusal. refusal ≡ out_of_memory) }
+{
+    Ok(lines_string(alloc, lines.as_slice(), table)?.into_bytes())
+}
+
+#[tactic(auto, using(captext::proofs::Written::line_more))]
+fn lines_string(alloc: Global, lines: &[Option<Claim>], table: &Table) -> Result<String, AllocError>
+    ensures { IfOk result (λ text. string_bytes text ≡ lines_text table.now lines.now) }
+{
+    let mut text = String::from_str(alloc, "confine-claims 2\n")?;
+    for line in lines {
+        write_line(alloc, &mut text, line, table)?;
+    }
+    text.push_str("end\n")?;
+    Ok(text)
+}
+
+/// Writes a line.
+fn write_line(
+    alloc: Global,
+    text: &mut String,
+    line: &Option<Claim>,
+    table: &Table,
+) -> Result<(), AllocError>
+    ensures { OnOk result (string_bytes text.new ≡ string_bytes text.old ++ line_text (entry_words table.now line.now)) }
+{
+    if let Some(claim) = line {
+        let claim = claim_text(alloc, claim, table)?;
+        text.push_str(&claim)?;
+    }
+    text.push_str("\n")
+}

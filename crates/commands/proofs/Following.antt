@@ -1,0 +1,89 @@
+-- What files hold, one after another: that a load gives it, and what is heard of it.
+use Rattle.std.proofs.Common.{ℕ, ◌≡◌, Err, List, None, Ok, Option, Result, subst, sym}
+use Rattle.machine.specs.Layout.{Layout}
+use Rattle.commands.specs.declared.load.Stop.{Stop, Stop as stop}
+use Rattle.commands.specs.{Files.{Contents, Gives, and_then, faulty, misused, unknown, whole}, Hearing.{HearsFault, Hearing}}
+
+-- a stop that is neither a fault nor a misuse says nothing of the files
+abbrev IsFree : Stop → Type 0
+IsFree stop.NoMemory = Unit {0}
+IsFree (stop.CannotRead file) = Unit {0}
+IsFree (stop.NoLabel asked) = Unit {0}
+IsFree (stop.Faulty file fault) = ⊥
+IsFree (stop.Misused told) = ⊥
+
+gives_free : {X : Type 0} (contents : Contents X) (why : Stop) → IsFree why → Gives contents (Err why)
+gives_free (whole x) stop.NoMemory free = tt
+gives_free (whole x) (stop.CannotRead file) free = tt
+gives_free (whole x) (stop.NoLabel asked) free = tt
+gives_free (whole x) (stop.Faulty file fault) free = absurd free
+gives_free (whole x) (stop.Misused told) free = absurd free
+gives_free (faulty file text table fault) stop.NoMemory free = tt
+gives_free (faulty file text table fault) (stop.CannotRead which) free = tt
+gives_free (faulty file text table fault) (stop.NoLabel asked) free = tt
+gives_free (faulty file text table fault) (stop.Faulty which told) free = absurd free
+gives_free (faulty file text table fault) (stop.Misused told) free = absurd free
+gives_free (misused is) stop.NoMemory free = tt
+gives_free (misused is) (stop.CannotRead file) free = tt
+gives_free (misused is) (stop.NoLabel asked) free = tt
+gives_free (misused is) (stop.Faulty file fault) free = absurd free
+gives_free (misused is) (stop.Misused told) free = absurd free
+gives_free unknown why free = tt
+
+module _ {X Y : Type 0} (next : Y → Contents X) where
+  -- the first files stop a load: so do all
+  pub stopped_first : (contents : Contents Y) (why : Stop) → Gives contents (Err why) → Gives (and_then contents next) (Err why)
+  stopped_first (whole y) stop.NoMemory gives = gives_free (next y) stop.NoMemory tt
+  stopped_first (whole y) (stop.CannotRead file) gives = gives_free (next y) (stop.CannotRead file) tt
+  stopped_first (whole y) (stop.NoLabel asked) gives = gives_free (next y) (stop.NoLabel asked) tt
+  stopped_first (whole y) (stop.Faulty file fault) gives = absurd gives
+  stopped_first (whole y) (stop.Misused told) gives = absurd gives
+  stopped_first (faulty file text table fault) stop.NoMemory gives = tt
+  stopped_first (faulty file text table fault) (stop.CannotRead which) gives = tt
+  stopped_first (faulty file text table fault) (stop.NoLabel asked) gives = tt
+  stopped_first (faulty file text table fault) (stop.Faulty which told) gives = gives
+  stopped_first (faulty file text table fault) (stop.Misused told) gives = absurd gives
+  stopped_first (misused is) stop.NoMemory gives = tt
+  stopped_first (misused is) (stop.CannotRead file) gives = tt
+  stopped_first (misused is) (stop.NoLabel asked) gives = tt
+  stopped_first (misused is) (stop.Faulty file fault) gives = absurd gives
+  stopped_first (misused is) (stop.Misused told) gives = gives
+  stopped_first unknown why gives = tt
+
+  -- the first files were loaded: then all give what those after them do
+  pub given_after : (contents : Contents Y) (y : Y) (loaded : Result X Stop) → Gives contents (Ok y) → Gives (next y) loaded
+      → Gives (and_then contents next) loaded
+  given_after (whole z) y loaded first gives = rw first gives
+  given_after (faulty file text table fault) y loaded first gives = absurd first
+  given_after (misused is) y loaded first gives = absurd first
+  given_after unknown y loaded first gives = tt
+
+  module _ {L : Type 0} (Hears : L → Hearing → L → Type 0) (old new : L) where
+    pub heard_first : (contents : Contents Y) (why : Stop) → HearsFault Hears contents (Err why) old new
+        → HearsFault Hears (and_then contents next) (Err why) old new
+    heard_first contents stop.NoMemory heard = heard
+    heard_first contents (stop.CannotRead file) heard = heard
+    heard_first contents (stop.NoLabel asked) heard = heard
+    heard_first contents (stop.Misused told) heard = heard
+    heard_first (whole y) (stop.Faulty file fault) heard = absurd heard
+    heard_first (faulty file text table fault) (stop.Faulty which told) heard = heard
+    heard_first (misused is) (stop.Faulty file fault) heard = absurd heard
+    heard_first unknown (stop.Faulty file fault) heard = heard
+
+    told_as : (contents : Contents X) (why : Stop) → Gives contents (Err why) → HearsFault Hears contents (Err why) old new
+        → HearsFault {X = X} Hears unknown (Err why) old new
+    told_as contents stop.NoMemory gives heard = heard
+    told_as contents (stop.CannotRead file) gives heard = heard
+    told_as contents (stop.NoLabel asked) gives heard = heard
+    told_as contents (stop.Misused told) gives heard = heard
+    told_as (whole x) (stop.Faulty file fault) gives heard = absurd heard
+    told_as (faulty file text table fault) (stop.Faulty which told) gives heard = (text, table, rw (gives.0, gives.1) heard)
+    told_as (misused is) (stop.Faulty file fault) gives heard = absurd heard
+    told_as unknown (stop.Faulty file fault) gives heard = heard
+
+    pub heard_after : (contents : Contents Y) (y : Y) (why : Stop) → Gives contents (Ok y) → Gives (next y) (Err why)
+        → HearsFault Hears (next y) (Err why) old new → HearsFault Hears (and_then contents next) (Err why) old new
+    heard_after (whole z) y why first gives heard = subst (λ (k : Y). HearsFault Hears (next k) (Err why) old new) (sym first) heard
+    heard_after (faulty file text table fault) y why first gives heard = absurd first
+    heard_after (misused is) y why first gives heard = absurd first
+    heard_after unknown y why first gives heard = told_as (next y) why gives heard

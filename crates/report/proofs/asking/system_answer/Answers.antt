@@ -1,0 +1,28 @@
+-- By what is asked.
+use Rattle.std.proofs.Common.{subst}
+use Rattle.report.{specs.Closings.Closes, proofs.Retold.said}
+use Rattle.report.proofs.asking.system_answer.Goals as goal
+
+pub returns-in_ok-closed-in-Start : goal.returns-in_ok-closed-in-Start
+returns-in_ok-closed-in-Start c =
+    let answer = c.in_ok-closed-in-Start in
+    rw c.in-Start.is
+    (subst (λ edges. Closes c.in-Start.rules c.in-Start.on_close c.args.table.now edges answer.field-0) c.new.ensures answer.ensures.right, answer.ensures.exit)
+
+pub returns-in_ok-write_objects-in-List : goal.returns-in_ok-write_objects-in-List
+returns-in_ok-write_objects-in-List c = rw c.in-List.is (said c.in_ok-write_objects-in-List.ensures.text c.plain.ensures.plain)
+
+pub returns-in-Why : goal.returns-in-Why
+returns-in-Why c = rw c.in-Why.is c.explained.ensures
+
+pub returns-in-Show : goal.returns-in-Show
+returns-in-Show c = rw c.in-Show.is c.shown.ensures
+
+pub returns-in_ok-reach_picture-in-Draw : goal.returns-in_ok-reach_picture-in-Draw
+returns-in_ok-reach_picture-in-Draw c = rw c.in-Draw.is (said c.in_ok-reach_picture-in-Draw.ensures.text c.plain-in-Draw.ensures.plain)
+
+pub returns-in_ok-summary_text-in-Summary : goal.returns-in_ok-summary_text-in-Summary
+returns-in_ok-summary_text-in-Summary c = rw c.in-Summary.is (said c.in_ok-summary_text-in-Summary.ensures.text c.plain-in-Summary.ensures.plain)
+
+pub returns-in_ok-strongest_text-in-Strongest : goal.returns-in_ok-strongest_text-in-Strongest
+returns-in_ok-strongest_text-in-Strongest c = rw c.in-Strongest.is (said c.in_ok-strongest_text-in-Strongest.ensures.text c.plain-in-Strongest.ensures.plain)

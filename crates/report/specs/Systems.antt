@@ -1,0 +1,47 @@
+-- What is answered to a system alone, and to a system and a policy (compare the integrity of 'seL4 Enforces Integrity', section 4; the
+-- questions are confine's own).
+use Rattle.std.specs.Prelude.{[], ◌≡◌, List, None, Option}
+use Rattle.base.specs.declared.edge.Edge.{Edge}
+use Rattle.machine.specs.Layout.{Layout}
+use Rattle.captext.specs.Policies.{read_policy_of}
+use Rattle.reptext.specs.Objects.{objects_text}
+use Rattle.forms.specs.declared.file.File.TheVariants as file
+use Rattle.commands.specs.declared.{answer.Answer.Answer, choices.OfPolicy.{OfPolicy, OfPolicy as of_policy}, end.{Asked.Asked, End.End}}
+use Rattle.commands.specs.declared.choices.{OfSystem.{OfSystem, OfSystem as of_system}, Taken.Taken}
+use Rattle.commands.specs.Commands.{Input, IsDoneOnSystem, IsDoneWith, Output, Says}
+use Rattle.report.specs.{Claimed.TellsStrongest, Closings.Closes, Questions.{IsPicture, IsSoByPolicy, IsSoByReach, TellsWhy, unlabelled}}
+use Rattle.report.specs.{Shows.Shows, Summaries.TellsSummary}
+
+-- of the labels that are asked about, the first that the table lacks
+abbrev pub lacking : OfSystem → Layout → Option Asked
+lacking (of_system.Why actor object) t = unlabelled t actor.now object.now
+lacking (of_system.Show search actor object) t = unlabelled t actor.now object.now
+lacking _ t = None
+
+-- the answer to a system
+abbrev pub AnswersSystem : OfSystem → Layout → Answer → Type 0
+AnswersSystem (of_system.Start set written) t = Closes set written t []
+AnswersSystem of_system.List t = Says (λ text. text ≡ objects_text t)
+AnswersSystem (of_system.Why actor object) t = Says (λ text. IsSoByReach t (TellsWhy actor.now object.now t text))
+AnswersSystem (of_system.Show search actor object) t = Shows search actor.now object.now t
+AnswersSystem (of_system.Draw picture) t = Says (λ text. IsSoByReach t (IsPicture picture t text))
+AnswersSystem of_system.Summary t = Says (TellsSummary t)
+AnswersSystem of_system.Strongest t = Says (TellsStrongest t)
+
+-- the answer to a system that is asked this was given
+abbrev pub IsAsked : {T O : Type 0} → OfSystem → Taken → Input T → Output O → End → Type 0
+IsAsked asked taken = IsDoneOnSystem taken (lacking asked) (AnswersSystem asked)
+
+-- .. of a policy too
+
+abbrev pub lacking_of_policy : OfPolicy → Layout → Option Asked
+lacking_of_policy (of_policy.Why actor object) t = unlabelled t actor.now object.now
+lacking_of_policy _ t = None
+
+abbrev pub AnswersPolicy : OfPolicy → Layout → List Edge → Answer → Type 0
+AnswersPolicy (of_policy.Close set written) t edges = Closes set written t edges
+AnswersPolicy (of_policy.Why actor object) t edges = Says (λ text. IsSoByPolicy edges (TellsWhy actor.now object.now t text))
+AnswersPolicy (of_policy.Draw picture) t edges = Says (λ text. IsSoByPolicy edges (IsPicture picture t text))
+
+abbrev pub IsAskedOfPolicy : {T P O : Type 0} → OfPolicy → Taken → Input T → Input P → Output O → End → Type 0
+IsAskedOfPolicy asked taken = IsDoneWith taken file.Policy read_policy_of (lacking_of_policy asked) (AnswersPolicy asked)

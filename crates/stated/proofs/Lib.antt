@@ -1,7 +1,0 @@
-mod Joined
-mod Chains
-mod Kept
-mod Gathered
-mod FirstBreach
-pub mod StrongestLaws
-pub mod OneList

@@ -1,0 +1,111 @@
+"""Claims: their text, as docs/FORMATS.md has it, which of them don't hold, and the strongest that do."""
+import policies
+import texts
+from texts import Fault, ask, kind, name
+
+HEADER = "confine-claims 2"
+
+
+def end(word, table):
+    return None if word == "*" else table.label(word)
+
+
+def named(word):
+    return word if word == "*" else name(word)
+
+
+def claim_of(line, table):
+    """What a line claims; nothing, if it is empty or a comment."""
+    if line == "" or line.startswith("#"):
+        return None
+    word, *words = line.split(" ")
+    if word in ("none", "take"):
+        ask(50, len(words) == 2)
+        a, b = [named(each) for each in words]
+        a, b = end(a, table), end(b, table)
+        ask(50, a != b)
+        return word, a, b
+    if word == "only":
+        ask(50, len(words) >= 2)
+        labels = [name(each) for each in words]
+        labels = [table.label(each) for each in labels]
+        ask(50, labels[0] not in labels[1:])
+        ask(52, len(set(labels)) == len(labels))
+        return word, labels[0], tuple(labels[1:])
+    if word == "apart":
+        ask(50, len(words) == 2)
+        labels = [name(each) for each in words]
+        a, b = [table.label(each) for each in labels]
+        ask(50, a != b)
+        return word, a, b
+    ask(50, word == "without" and len(words) == 3)
+    a, k, b = name(words[0]), kind(words[1]), name(words[2])
+    return word, table.label(a), k, table.label(b)
+
+
+def read(text, table):
+    """The claims with their lines."""
+    claims = []
+
+    def take(line):
+        claim = claim_of(line, table)
+        ask(52, claim is None or claim not in [other for _, other, _ in claims])
+        claims.append((len(claims) + 2, claim, line))
+
+    texts.read_lines(text, HEADER, lambda words: take(" ".join(words)))
+    return [entry for entry in claims if entry[1] is not None]
+
+
+def breach(claim, extents, count):
+    """The first pair of labels that has more than a claim on pairs leaves, with its extent."""
+    for a in range(count):
+        for b in range(count):
+            if a == b:
+                continue
+            if claim[0] == "only":
+                bounded, left = b == claim[1] and a not in claim[2], ("none",)
+            else:
+                bounded = claim[1] in (None, a) and claim[2] in (None, b)
+                left = ("none", claim[0])
+            if bounded and extents[a, b] not in left:
+                return a, b, extents[a, b]
+
+
+def reached(start, extents, count):
+    """The labels to which a chain of changes leads from one."""
+    seen = {start}
+    while more := {b for a in seen for b in range(count) if a != b and extents[a, b] != "none"} - seen:
+        seen |= more
+    return seen
+
+
+def broken(claims, table, policy, acts):
+    """What is told of each claim that doesn't hold."""
+    count = len(table.labels)
+    extents = {(a, b): how for a, b, how in policies.extents(policy, acts, count)}
+    for line, claim, text in claims:
+        told = {"claim": text, "line": line}
+        if claim[0] == "apart":
+            if claim[2] in reached(claim[1], extents, count):
+                yield told
+        elif claim[0] == "without":
+            if claim[1:] in policy:
+                yield told
+        elif found := breach(claim, extents, count):
+            a, b, how = found
+            names_both = claim[0] != "only" and None not in claim
+            pair = {} if names_both else {"pair": [table.labels[a], table.labels[b]]}
+            yield told | {"authority": how} | pair
+
+
+def strongest(table, policy, acts):
+    """The lines of the strongest claims: on pairs of labels with a thread, and for each other label who may change or shrink its objects."""
+    names = table.labels
+    extents = {(a, b): how for a, b, how in policies.extents(policy, acts, len(names))}
+    programs = {item.label for item in table.objects if item.kind == "tcb"}
+    lines = [f"{how} {names[a]} {names[b]}" for (a, b), how in extents.items() if {a, b} <= programs and how != "full"]
+    for b in range(len(names)):
+        if b not in programs:
+            users = [names[a] for a in range(len(names)) if a != b and extents[a, b] != "none"]
+            lines.append(" ".join(["only", names[b], *users]) if users else f"none * {names[b]}")
+    return lines
