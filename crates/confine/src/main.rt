@@ -3,7 +3,8 @@
 //! No crate stands on it. It knows no engine, and no text of a file.
 #![tactic(auto)]
 
-ghost use Rattle.std.specs.Prelude.{◌≡◌, ◌≤◌, IfOk, IsErr, OnErr};
+ghost use Rattle.std.specs.Prelude.{◌≡◌, ◌≤◌, IfOk, IsErr, OnErr, false};
+ghost use Rattle.devices.specs.Watched.{failed_of};
 ghost use Rattle.requests.specs.Requests.{IsWithinLimits, OnInTurn};
 
 use clap::error::ErrorKind;
@@ -14,7 +15,10 @@ use serving::{
 };
 use std::alloc::Global;
 use std::env::Env;
+use std::io::{Read, Write};
 use std::process::ExitCode;
+use std::sync::Wait;
+use std::thread::Threads;
 use std::{env, io};
 
 fn main(rt: HostRuntime) -> ExitCode {
@@ -22,17 +26,33 @@ fn main(rt: HostRuntime) -> ExitCode {
     let words = words(&rt);
     let mut out = Watched::new(io::writer(&rt));
     let status = match asked(rt.alloc(), &words) {
-        Ok(CommandLine::InTurn(invocation)) => match invocation.manner.format {
-            Format::Json => answer(&rt, invocation, &opener, &Open, &mut out).0,
-            Format::Short => answer_short(&rt, invocation, &opener, &Open, &mut out).0,
-        },
-        Ok(CommandLine::Split(run)) => match run.manner.format {
-            Format::Json => answer_split(&rt, run, &opener, &mut out).0,
-            Format::Short => answer_split_short(&rt, run, &opener, &mut out).0,
-        },
+        Ok(line) => serve(&rt, line, &opener, &mut out),
         Err(unasked) => refuse(&rt, unasked),
     };
     ExitCode::from(status)
+}
+
+/// Does what the command line asks for; gives the exit status.
+fn serve<R, F, O, W>(rt: &R, line: CommandLine<'_>, opener: &O, out: &mut Watched<W>) -> u8
+where
+    R: Eprint + AllocGlobal + Threads + Wait + Sync,
+    F: Read + Drop,
+    O: Fn(&str) -> io::Result<F>,
+    W: Write,
+    requires opener { O.IsAlwaysCallable opener.now }
+    requires limits { OnInTurn line IsWithinLimits }
+    requires out { failed_of out.old ≡ false }
+{
+    match line {
+        CommandLine::InTurn(invocation) => match invocation.manner.format {
+            Format::Json => answer(rt, invocation, opener, &Open, out).0,
+            Format::Short => answer_short(rt, invocation, opener, &Open, out).0,
+        },
+        CommandLine::Split(run) => match run.manner.format {
+            Format::Json => answer_split(rt, run, opener, out).0,
+            Format::Short => answer_split_short(rt, run, opener, out).0,
+        },
+    }
 }
 
 /// Why nothing is asked for.
