@@ -1,6 +1,7 @@
 """The commands: what each writes, and its status, as docs/FORMATS.md has them; authority, certificates, verdicts and last states."""
 import copy
 import json
+import pathlib
 from types import SimpleNamespace
 
 import claim_lists
@@ -15,11 +16,8 @@ from policies import AWAIT, CALL, CONTEXT, CONTROL, DERIVE, GRANT, HOLDS, NOTIFY
 from policies import SPACE, WRITE
 from texts import KINDS, Fault
 
-FILES = {
-    "check": ["table", "policy"], "verify": ["table", "policy", "certificate"], "run": ["table", "policy", "script"],
-    "replay": ["table", "policy", "log"], "close": ["table", "policy"], "why": ["table"], "claims": ["table", "claims"],
-    "list": ["table"], "draw": ["table"], "summary": ["table"], "show": ["table"], "import": ["description"],
-}
+COMMANDS = pathlib.Path(__file__).resolve().parent.parent.parent / "examples" / "commands"
+FILES = {name: files for name, *files in map(str.split, COMMANDS.read_text().splitlines())}
 
 
 # What is said on standard error where `--policy` asks of a policy.
