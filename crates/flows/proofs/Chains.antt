@@ -1,9 +1,8 @@
 -- The search for the labels to which a chain of flows leads, label by label.
 use Rattle.std.proofs.Common.{ℕ, ◌&&◌, ◌==◌, ◌||◌, ◌↔◌, ◌∙◌, ◌≡◌, Bool, ap, false, inl, inr, not, refl, subst, sym, true}
 use Rattle.std.proofs.lemmas.Bool.{and_parts, eq-eqb, eqb-true, false≢true, or_cases, or_left, or_right}
-use Rattle.base.specs.{declared.labels.Labels.Labels, Labels.is_in}
 use Rattle.reach.specs.Extents.{Limits}
-use Rattle.flows.specs.{Flowing.{FlowsBeside, GoesOn, Leads, Leads.{goes_on, starts}}}
+use Rattle.flows.specs.Flowing.{FilterTest, FlowsBeside, GoesOn, Leads, Leads.{goes_on, starts}}
 
 pub was_not : (b : Bool) → not b ≡ true → b ≡ false
 was_not true is = sym is
@@ -13,33 +12,33 @@ was : (b : Bool) → not b ≡ false → b ≡ true
 was true is = refl
 was false is = sym is
 
-module _ (filters : Labels) (end : ℕ) where
+module _ (filters : FilterTest) (end : ℕ) where
   -- what is no filter, or the end, doesn't end a chain
-  pub passes : (l : ℕ) (b : Bool) → is_in filters l ≡ b → (is_in filters l && not (l == end)) ≡ false → GoesOn filters end l
+  pub passes : (l : ℕ) (b : Bool) → filters l ≡ b → (filters l && not (l == end)) ≡ false → GoesOn filters end l
   passes l false is free = inr is
   passes l true is free = inl (eqb-true l end (was (l == end) (sym (ap (λ b. b && not (l == end)) is) ∙ free)))
 
   -- another filter does
-  pub stopped : (x : ℕ) → (is_in filters x && not (x == end)) ≡ true → GoesOn filters end x → ⊥
+  pub stopped : (x : ℕ) → (filters x && not (x == end)) ≡ true → GoesOn filters end x → ⊥
   stopped x is (inl same) =
-      let parts = and_parts (is_in filters x) (not (x == end)) is in
+      let parts = and_parts (filters x) (not (x == end)) is in
       false≢true (sym (was_not (x == end) parts.1) ∙ eq-eqb x end same)
-  stopped x is (inr free) = false≢true (sym free ∙ (and_parts (is_in filters x) (not (x == end)) is).0)
+  stopped x is (inr free) = false≢true (sym free ∙ (and_parts (filters x) (not (x == end)) is).0)
 
 -- labels to which a chain leads, with all to which those flow that are done, if a chain goes on from them
-pub record AreReached (limits : Limits) (filters : Labels) (from : ℕ) (done reached : ℕ → Bool) : Type 0 where
+pub record AreReached (limits : Limits) (filters : FilterTest) (from : ℕ) (done reached : ℕ → Bool) : Type 0 where
   pub begins : reached from ≡ true
   pub led : (l : ℕ) → reached l ≡ true → Leads limits filters from l
   pub barred : (l : ℕ) → done l ≡ false → GoesOn filters from l
   pub closed : (x l : ℕ) → done x ≡ true → GoesOn filters from x → FlowsBeside limits filters x l → reached l ≡ true
 
-module _ (limits : Limits) (filters : Labels) (from : ℕ) where
-  pub first_reached : (barred one : ℕ → Bool) → ((l : ℕ) → barred l ≡ (is_in filters l && not (l == from))) → ((l : ℕ) → one l ≡ (l == from))
+module _ (limits : Limits) (filters : FilterTest) (from : ℕ) where
+  pub first_reached : (barred one : ℕ → Bool) → ((l : ℕ) → barred l ≡ (filters l && not (l == from))) → ((l : ℕ) → one l ≡ (l == from))
       → AreReached limits filters from barred one
   first_reached barred one barred_is only = record {
     begins = only from ∙ eq-eqb from from refl;
     led = λ l is. subst (λ n. Leads limits filters from n) (sym (eqb-true l from (sym (only l) ∙ is))) starts;
-    barred = λ l free. passes filters from l (is_in filters l) refl (sym (barred_is l) ∙ free);
+    barred = λ l free. passes filters from l (filters l) refl (sym (barred_is l) ∙ free);
     closed = λ x l done goes flow. absurd (stopped filters from x (sym (barred_is x) ∙ done) goes);
   }
 

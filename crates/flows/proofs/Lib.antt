@@ -4,3 +4,4 @@ pub mod RowByRow
 pub mod FlowSets
 pub mod Chains
 pub mod Leading
+pub mod Searching

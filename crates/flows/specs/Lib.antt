@@ -1,3 +1,4 @@
 pub mod Seeing
 pub mod Flowing
 pub mod Rows
+pub mod Chains

@@ -1,9 +1,9 @@
--- For each label, whose objects it may affect and whose it sees, and the labels that see one of a set (confine's own).
+-- For each label, whose objects it may affect and on whose it depends, and the labels whose row has one of a set (confine's own).
 use Rattle.std.specs.Prelude.{ℕ, ◌<◌, ◌↔◌, ◌≡◌, List, get_or, length, true}
 use Rattle.base.specs.{declared.labels.Labels.Labels, Labels.{is_in, no_labels}}
 use Rattle.base.specs.declared.label.TheConstants.Label as Label
 use Rattle.reach.specs.Extents.{Limits}
-use Rattle.flows.specs.{Flowing.MayAffect, Seeing.Sees}
+use Rattle.flows.specs.Flowing.{DependsOn, MayAffect}
 
 -- the row of a label
 abbrev pub row_at : List Labels → ℕ → Labels
@@ -14,10 +14,10 @@ pub record AreRowsOf (Related : ℕ → ℕ → Type 0) (rows : List Labels) : T
   pub count : length rows ≡ Label.COUNT
   pub each : (a : ℕ) → a < Label.COUNT → (l : ℕ) → (is_in (row_at rows a) l ≡ true) ↔ Related a l
 
--- the rows of what each label affects and sees
-pub record AreFlowRows (limits : Limits) (affected seen : List Labels) : Type 0 where
+-- the rows of what each label affects, and of what it depends on
+pub record AreFlowRows (limits : Limits) (affected needed : List Labels) : Type 0 where
   pub affects : AreRowsOf (MayAffect limits) affected
-  pub sees : AreRowsOf (Sees limits) seen
+  pub depends : AreRowsOf (DependsOn limits) needed
 
 -- a label's row has a label of the set
 pub record Meets (rows : List Labels) (set : Labels) (label : ℕ) : Type 0 where

@@ -2,10 +2,10 @@
 ghost use Rattle.std.specs.Prelude.{ℕ, ◌↔◌, ◌≡◌, IfErr, IfOk, IsTrue, false, true};
 ghost use Rattle.base.specs.{Labels.is_in, Refusals.out_of_memory};
 ghost use Rattle.reach.specs.Extents.{limits_of};
-ghost use Rattle.flows.specs.Flowing.{FlowsBeside, FlowsTo, GoesOn, GoesThrough, IsShielded, Leads, NeverDisturbs};
+ghost use Rattle.flows.specs.Flowing.{FlowsBeside, FlowsBy, FlowsTo, GoesOn, GoesThrough, IsClosedOff, IsShielded, Leads, NeverDisturbs};
 
 use crate::meeting::meeting;
-use crate::rows::{affected_rows, labels_are_few, seen_rows};
+use crate::rows::{affected_rows, labels_are_few, needed_rows};
 use base::{Label, Labels, Refusal};
 use reach::{Reach, runs_keep_labels_apart};
 use std::alloc::Global;
@@ -13,12 +13,13 @@ use std::marker::Model;
 
 /// The flows between the labels of a table, by its reach.
 ///
-/// What a label does flows to another if its threads may change or shrink an object that the other sees.
+/// What a label does flows to another if its threads may change or shrink an object that the other sees, or one
+/// of the other's own. So it also flows to a label that doesn't act, as one of memory, and no further.
 #[derive(Drop)]
 pub struct Flows<'a> {
     reach: &'a Reach<'a>,
     affected: Vec<Labels>,
-    seen: Vec<Labels>,
+    needed: Vec<Labels>,
 }
 
 impl<'a> Model for Flows<'a> {
@@ -29,7 +30,7 @@ impl<'a> Model for Flows<'a> {
 
     ghost view = { λ flows. flows.reach.now };
 
-    ghost invariant = { λ flows. AreFlowRows (limits_of flows.reach.now) flows.affected.items flows.seen.items };
+    ghost invariant = { λ flows. AreFlowRows (limits_of flows.reach.now) flows.affected.items flows.needed.items };
 }
 
 impl<'a> Flows<'a> {
@@ -43,11 +44,11 @@ impl<'a> Flows<'a> {
         ensures memory { IfErr result (λ refusal. refusal ≡ out_of_memory) }
     {
         let affected = affected_rows(alloc, reach)?;
-        let seen = seen_rows(alloc, reach)?;
+        let needed = needed_rows(alloc, reach)?;
         Ok(Flows {
             reach,
             affected,
-            seen,
+            needed,
         })
     }
 
@@ -60,27 +61,38 @@ impl<'a> Flows<'a> {
 
     /// Returns the labels to which what this one does may come at once, but by objects of filters.
     pub fn next_beside(&self, from: Label, filters: Labels) -> Labels
-        ensures { (y : ℕ) → (is_in result y ≡ true) ↔ FlowsBeside (limits_of self.now) filters from y }
+        ensures { (y : ℕ) → (is_in result y ≡ true) ↔ FlowsBeside (limits_of self.now) (is_in filters) from y }
     {
         labels_are_few(self.reach.actors());
         let affected = self.affected[usize::from(from.number())];
-        meeting(&self.seen, affected.difference(filters))
+        labels_are_few(affected);
+        meeting(&self.needed, affected.difference(filters))
     }
 
     /// Returns the labels of which what they do may come to this one at once, but by objects of filters.
     pub fn previous_beside(&self, to: Label, filters: Labels) -> Labels
-        ensures { (x : ℕ) → (is_in result x ≡ true) ↔ FlowsBeside (limits_of self.now) filters x to }
+        ensures { (x : ℕ) → (is_in result x ≡ true) ↔ FlowsBeside (limits_of self.now) (is_in filters) x to }
     {
         labels_are_few(self.reach.actors());
-        let seen = self.seen[usize::from(to.number())];
-        meeting(&self.affected, seen.difference(filters))
+        let needed = self.needed[usize::from(to.number())];
+        meeting(&self.affected, needed.difference(filters))
+    }
+
+    /// Returns the labels that are no filters by whose objects what the one label does may come to the other.
+    pub(crate) fn objects_between(&self, from: Label, to: Label, filters: Labels) -> Labels
+        ensures { (l : ℕ) → (is_in result l ≡ true)
+            ↔ (FlowsBy (limits_of self.now) from l to × (is_in filters l ≡ false)) }
+    {
+        let affected = self.affected[usize::from(from.number())];
+        let needed = self.needed[usize::from(to.number())];
+        affected.intersection(needed).difference(filters)
     }
 
     /// Returns the labels to which a chain of flows leads from this one, and the label itself.
     ///
     /// No label between the ends of the chain is a filter, and no flow of it is by an object of a filter.
     pub fn reached_beside(&self, from: Label, filters: Labels) -> Labels
-        ensures { (l : ℕ) → (is_in result l ≡ true) ↔ Leads (limits_of self.now) filters from l }
+        ensures { (l : ℕ) → (is_in result l ≡ true) ↔ Leads (limits_of self.now) (is_in filters) from l }
     {
         // For the labels of `done`, all to which they flow are in `reached`, unless a chain ends with them.
         let mut done = filters.difference(Labels::only(from));
@@ -98,11 +110,11 @@ impl<'a> Flows<'a> {
     ///
     /// No label between the ends of the chain is a filter, and no flow of it is by an object of a filter.
     /// The filters among them are those through which something comes. In every run, threads of other
-    /// labels never change what the label and those that lead to it see, but for objects of filters.
+    /// labels never change that on which the label and those that lead to it depend, but for objects of filters.
     pub fn leading_to(&self, to: Label, filters: Labels) -> Labels
-        ensures leads { (l : ℕ) → (is_in result l ≡ true) ↔ Leads (limits_of self.now) filters l to }
-        ensures kept { (x y : ℕ) → is_in result x ≡ false → is_in result y ≡ true → GoesOn filters to y
-            → NeverDisturbs self.now.table (limits_of self.now) filters x y }
+        ensures leads { (l : ℕ) → (is_in result l ≡ true) ↔ Leads (limits_of self.now) (is_in filters) l to }
+        ensures kept { (x y : ℕ) → is_in result x ≡ false → is_in result y ≡ true → GoesOn (is_in filters) to y
+            → NeverDisturbs self.now.table (limits_of self.now) (is_in filters) x y }
     {
         runs_keep_labels_apart();
         // What the type keeps of the reach is known once its policy is.
@@ -112,7 +124,7 @@ impl<'a> Flows<'a> {
 
     // The labels from which a chain of flows leads to this one, and the label itself.
     fn sources_of(&self, to: Label, filters: Labels) -> Labels
-        ensures { (l : ℕ) → (is_in result l ≡ true) ↔ Leads (limits_of self.now) filters l to }
+        ensures { (l : ℕ) → (is_in result l ≡ true) ↔ Leads (limits_of self.now) (is_in filters) l to }
     {
         // For the labels of `done`, all that flow to them are in `leading`, unless a chain starts with them.
         let mut done = filters.difference(Labels::only(to));
@@ -130,10 +142,13 @@ impl<'a> Flows<'a> {
     ///
     /// It then passes a filter, or uses an object of one.
     pub fn goes_through(&self, from: Label, to: Label, filters: Labels) -> bool
-        ensures through { IsTrue result ↔ GoesThrough (limits_of self.now) filters from to }
-        ensures kept { IsTrue result → is_in filters to ≡ false
-            → IsShielded self.now.table (limits_of self.now) filters from to }
+        ensures through { IsTrue result ↔ GoesThrough (limits_of self.now) (is_in filters) from to }
+        ensures closed { IsTrue result → IsClosedOff (limits_of self.now) (is_in filters) from to }
+        ensures kept { IsTrue result → IsShielded self.now.table (limits_of self.now) (is_in filters) from to }
     {
-        !self.leading_to(to, filters).has(from)
+        runs_keep_labels_apart();
+        // What the type keeps of the reach is known once its policy is.
+        let _ = self.reach.policy();
+        !self.sources_of(to, filters).has(from)
     }
 }

@@ -5,9 +5,11 @@
 #![tactic(auto)]
 
 mod flowing;
+mod links;
 mod meeting;
 mod rows;
 mod seeing;
 
 pub use flowing::Flows;
+pub use links::Link;
 pub use seeing::sees;

@@ -1,9 +1,9 @@
-//! For each label, whose objects it may affect and whose it sees.
+//! For each label, whose objects it may affect and on whose it depends.
 ghost use Rattle.std.specs.Prelude.{ℕ, ◌<◌, ◌↔◌, ◌≡◌, IfOk, true};
 ghost use Rattle.base.specs.declared.label.TheConstants.Label as Label;
 ghost use Rattle.base.specs.Labels.{is_in};
 ghost use Rattle.reach.specs.Extents.{limits_of};
-ghost use Rattle.flows.specs.{Flowing.MayAffect, Rows.AreRowsOf, Seeing.Sees};
+ghost use Rattle.flows.specs.{Flowing.{DependsOn, MayAffect}, Rows.AreRowsOf};
 
 use crate::seeing::sees;
 use base::{Label, Labels};
@@ -23,14 +23,14 @@ pub(crate) fn affected_rows(alloc: Global, reach: &Reach<'_>) -> Result<Vec<Labe
     Ok(rows)
 }
 
-/// Returns for each label the labels that it sees.
-pub(crate) fn seen_rows(alloc: Global, reach: &Reach<'_>) -> Result<Vec<Labels>, AllocError>
-    ensures { IfOk result (λ rows. AreRowsOf (Sees (limits_of reach.now)) rows.items) }
+/// Returns for each label the labels on whose objects it depends: itself, and those that it sees.
+pub(crate) fn needed_rows(alloc: Global, reach: &Reach<'_>) -> Result<Vec<Labels>, AllocError>
+    ensures { IfOk result (λ rows. AreRowsOf (DependsOn (limits_of reach.now)) rows.items) }
 {
     let mut rows = Vec::with_capacity(alloc, Label::COUNT as usize)?;
     for number in 0..Label::COUNT {
         if let Some(actor) = Label::new(number) {
-            rows.push(sees(reach, actor))?;
+            rows.push(needed(reach, actor))?;
         }
     }
     Ok(rows)
@@ -41,6 +41,13 @@ fn affected(reach: &Reach<'_>, actor: Label) -> Labels
     ensures { (l : ℕ) → (is_in result l ≡ true) ↔ MayAffect (limits_of reach.now) actor l }
 {
     reach.changed_by(actor).union(reach.shrunk_by(actor))
+}
+
+// The labels on whose objects this label depends.
+fn needed(reach: &Reach<'_>, label: Label) -> Labels
+    ensures { (l : ℕ) → (is_in result l ≡ true) ↔ DependsOn (limits_of reach.now) label l }
+{
+    Labels::only(label).union(sees(reach, label))
 }
 
 /// A law, with nothing to run: the labels of a set are some that there can be.

@@ -1,4 +1,4 @@
--- by the rows of what the label affects, and of what the others see
+-- by the rows of what the label affects, and of what the others depend on
 use Rattle.std.proofs.Common.{ℕ, ◌&&◌, ◌<◌, ◌∙◌, ◌≡◌, List, ap, arith, get_or, length, not, subst, true}
 use Rattle.std.proofs.lemmas.List.{get_or_default}
 use Rattle.base.specs.{declared.labels.Labels.Labels, Labels.{is_in, no_labels}}
@@ -10,7 +10,7 @@ use Rattle.flows.proofs.flowing.Flows.next_beside.Goals as goal
 pub returns : goal.returns
 returns c y =
     let affected = c.self.inside.affected.items in
-    let seen = c.self.inside.seen.items in
+    let needed = c.self.inside.needed.items in
     let reach = c.self.inside.reach.now in
     let row = c.index-affected.result.now in
     let filters = c.args.filters in
@@ -19,7 +19,8 @@ returns c y =
     let row_is : row ≡ row_at affected c.args.from =
     c.index-affected.ensures ∙ get_or_default affected c.from.result row no_labels within ∙ ap (λ n. get_or affected n no_labels) at in
     let few = subst (λ (labels : Labels). (l : ℕ) → is_in labels l ≡ true → l < 256) c.actors.ensures.actors c.labels_are_few.ensures in
-    subst (λ (r : TableReach). Tells (is_in c.meeting.result y) (FlowsBeside (limits_of r) filters c.args.from y)) c.self.view_is
-    (flows_told (limits_of reach) affected seen c.self.invariant few c.args.from (omega (arith, c.number.ensures.below, c.number.ensures.value)) filters
+    let row_few = subst (λ (labels : Labels). (l : ℕ) → is_in labels l ≡ true → l < 256) row_is c.labels_are_few-2.ensures in
+    subst (λ (r : TableReach). Tells (is_in c.meeting.result y) (FlowsBeside (limits_of r) (is_in filters) c.args.from y)) c.self.view_is
+    (flows_told (limits_of reach) affected needed c.self.invariant few c.args.from (omega (arith, c.number.ensures.below, c.number.ensures.value)) row_few filters
     c.difference.result (λ l. c.difference.ensures l ∙ ap (λ r. is_in r l && not (is_in filters l)) row_is) y (is_in c.meeting.result y)
     (subst (λ (rows : List Labels). Tells (is_in c.meeting.result y) (Meets rows c.difference.result y)) c.deref.ensures.value (c.meeting.ensures y)))

@@ -6,7 +6,7 @@ use Rattle.flows.proofs.Chains.{AreReached}
 use Rattle.flows.proofs.flowing.Flows.reached_beside.Given as goal
 
 abbrev pub invariant-loop-label : goal.invariant-loop-label
-invariant-loop-label l = AreReached (limits_of l.self) l.filters l.fn.from (is_in l.done) (is_in l.reached)
+invariant-loop-label l = AreReached (limits_of l.self) (is_in l.filters) l.fn.from (is_in l.done) (is_in l.reached)
 
 abbrev pub decreases-loop-label : goal.decreases-loop-label
 decreases-loop-label l = missing_below (is_in l.done) 256

@@ -8,7 +8,7 @@ use Rattle.flows.proofs.flowing.Flows.sources_of.Goals as goal
 
 pub loop-label-init : goal.loop-label-init
 loop-label-init c =
-    first_leading (limits_of c.args.self.now) c.args.filters c.args.to (is_in c.difference-done.result) (is_in c.only-leading.result)
+    first_leading (limits_of c.args.self.now) (is_in c.args.filters) c.args.to (is_in c.difference-done.result) (is_in c.only-leading.result)
     (λ l. c.difference-done.ensures l ∙ ap (λ b. is_in c.args.filters l && not b) (c.only.ensures l)) c.only-leading.ensures
 
 was_false : (b : Bool) → not b ≡ true → b ≡ false
@@ -32,11 +32,11 @@ loop-label-preserved c =
     let label = c.in-Some.label in
     let parts =
     and_parts (is_in c.loop-label.leading label) (not (is_in done label)) (sym (c.difference.ensures label) ∙ c.in-Some.ensures.some.0) in
-    more_leading (limits_of c.args.self.now) c.args.filters c.args.to (is_in done) (is_in c.loop-label.leading) c.loop-label.invariant label
+    more_leading (limits_of c.args.self.now) (is_in c.args.filters) c.args.to (is_in done) (is_in c.loop-label.leading) c.loop-label.invariant label
     (is_in c.previous_beside.result) (is_in c.union-done.result) (is_in c.union-leading.result) parts.0 (was_false (is_in done label) parts.1)
     c.previous_beside.ensures (λ l. c.union-done.ensures l ∙ ap (λ b. is_in done l || b) (c.only-in-Some.ensures l)) c.union-leading.ensures
 
 pub returns : goal.returns
 returns c =
-    all_leading (limits_of c.args.self.now) c.args.filters c.args.to (is_in c.loop-label.done) (is_in c.loop-label.leading) c.loop-label.invariant
+    all_leading (limits_of c.args.self.now) (is_in c.args.filters) c.args.to (is_in c.loop-label.done) (is_in c.loop-label.leading) c.loop-label.invariant
     (λ a. sym (c.difference.ensures a) ∙ c.in_default.ensures.none a)

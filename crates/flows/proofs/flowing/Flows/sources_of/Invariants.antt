@@ -6,7 +6,7 @@ use Rattle.flows.proofs.Leading.{AreLeading}
 use Rattle.flows.proofs.flowing.Flows.sources_of.Given as goal
 
 abbrev pub invariant-loop-label : goal.invariant-loop-label
-invariant-loop-label l = AreLeading (limits_of l.self) l.filters l.fn.to (is_in l.done) (is_in l.leading)
+invariant-loop-label l = AreLeading (limits_of l.self) (is_in l.filters) l.fn.to (is_in l.done) (is_in l.leading)
 
 abbrev pub decreases-loop-label : goal.decreases-loop-label
 decreases-loop-label l = missing_below (is_in l.done) 256

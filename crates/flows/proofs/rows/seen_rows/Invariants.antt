@@ -1,7 +1,0 @@
--- The rows of the labels so far are there.
-use Rattle.reach.specs.Extents.{limits_of}
-use Rattle.flows.{specs.Seeing.Sees, proofs.RowByRow.AreRowsBelow}
-use Rattle.flows.proofs.rows.seen_rows.Given as goal
-
-abbrev pub invariant-loop-number : goal.invariant-loop-number
-invariant-loop-number l = AreRowsBelow (Sees (limits_of l.reach)) l.rows.items l.number
