@@ -8,7 +8,7 @@ pub was_not : (b : Bool) → not b ≡ true → b ≡ false
 was_not true is = sym is
 was_not false is = refl
 
-was : (b : Bool) → not b ≡ false → b ≡ true
+pub was : (b : Bool) → not b ≡ false → b ≡ true
 was true is = refl
 was false is = sym is
 

@@ -143,6 +143,7 @@ impl<'a> Flows<'a> {
     /// It then passes a filter, or uses an object of one.
     pub fn goes_through(&self, from: Label, to: Label, filters: Labels) -> bool
         ensures through { IsTrue result ↔ GoesThrough (limits_of self.now) (is_in filters) from to }
+        ensures leads { result ≡ false → Leads (limits_of self.now) (is_in filters) from to }
         ensures closed { IsTrue result → IsClosedOff (limits_of self.now) (is_in filters) from to }
         ensures kept { IsTrue result → IsShielded self.now.table (limits_of self.now) (is_in filters) from to }
     {

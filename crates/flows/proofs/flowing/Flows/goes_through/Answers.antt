@@ -2,8 +2,11 @@
 use Rattle.std.proofs.Common.{◌∙◌, inl, inr, subst, sym}
 use Rattle.base.specs.Labels.{is_in}
 use Rattle.reach.{specs.{Extents.limits_of, Reach.{IsTableReach, TableReach}}, proofs.LeastReach.actors_told}
-use Rattle.flows.proofs.{Chains.was_not, Leading.{closed_off, shielded}}
+use Rattle.flows.proofs.{Chains.{was, was_not}, Leading.{closed_off, shielded}}
 use Rattle.flows.proofs.flowing.Flows.goes_through.Goals as goal
+
+pub returns-clause-leads : goal.returns-clause-leads
+returns-clause-leads c is = (c.sources_of.ensures c.args.from).0 (sym c.has.ensures ∙ was c.has.result is)
 
 pub returns-clause-closed : goal.returns-clause-closed
 returns-clause-closed c is =
