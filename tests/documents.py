@@ -7,12 +7,12 @@
   alone that `replay` is asked about;
 - one that begins with `confine-cert 1` is what `check --cert` prints of them, and the certificate from here on;
 - one that begins with `{"` is the report on them, with the change that `<!-- change: .. -->` tells, or several of these;
-- one that begins with `full`, `take` or `none` is what `why` prints of the labels that `<!-- why: A B -->` tells, and one that
-  begins with `edge` what `close --missing` does, with that change;
+- one that begins with `full`, `take` or `none` is what `why` prints of the labels that `<!-- why: A B -->` tells, one that begins with
+  `{"actor"` what it prints with `--format json`, and one that begins with `edge` what `close --missing` does, with that change;
 - one that begins with `<?xml` is the file description from here on; one that begins with a header after `<!-- import: RIGHTS .. -->` is what
   `import` prints of it, with `--rights RIGHTS` and the options that follow, and that file from here on;
-- one that begins with `who may change whom` is what `summary` prints of the files, and one that begins with `{"bound"` what `show` does, of
-  the labels that `<!-- show: A B -->` tells;
+- one that begins with `who may change whom` is what `summary` prints of the files, one that begins with `{"cells"` what it prints with
+  `--format json`, and one that begins with `{"bound"` what `show` does, of the labels that `<!-- show: A B -->` tells;
 - one that begins with `confine-policy 1` after `<!-- close: of the table -->` is what `close` prints of the table alone, with the options that
   follow these words, and one that begins with `confine-claims 2` after `<!-- claims: all -->` what `claims --all` prints of the files;
 - a row of a table whose last cell is a report, or 'accepted', is the answer to these files with the
@@ -254,6 +254,10 @@ def commands_of(answer, asked):
         return [["import", "description", "--rights", "least"]]
     if answer.startswith("who may change whom"):
         return [["summary", "table"]]
+    if answer.startswith('{"cells"'):
+        return [["summary", "table", "--format", "json"]]
+    if answer.startswith('{"actor"'):
+        return [["why", "table", *asked, "--format", "json"]]
     if answer.startswith('{"bound"'):
         return [["show", "table", *asked]]
     if re.match("full\n|take\n|none\n", answer):

@@ -32,12 +32,13 @@ def claim_of(line, table):
         ask(50, labels[0] not in labels[1:])
         ask(52, len(set(labels)) == len(labels))
         return word, labels[0], tuple(labels[1:])
-    if word == "apart":
-        ask(50, len(words) == 2)
+    if word in ("apart", "through"):
+        ask(50, len(words) == 2 if word == "apart" else len(words) >= 2)
         labels = [name(each) for each in words]
-        a, b = [table.label(each) for each in labels]
-        ask(50, a != b)
-        return word, a, b
+        a, b, *filters = [table.label(each) for each in labels]
+        ask(50, a != b and a not in filters and b not in filters)
+        ask(52, len(set(filters)) == len(filters))
+        return "through", a, b, tuple(filters)
     ask(50, word == "without" and len(words) == 3)
     a, k, b = name(words[0]), kind(words[1]), name(words[2])
     return word, table.label(a), k, table.label(b)
@@ -71,22 +72,27 @@ def breach(claim, extents, count):
                 return a, b, extents[a, b]
 
 
-def reached(start, extents, count):
-    """The labels to which a chain of changes leads from one."""
-    seen = {start}
-    while more := {b for a in seen for b in range(count) if a != b and extents[a, b] != "none"} - seen:
-        seen |= more
-    return seen
+def reached(start, filters, affected, needed):
+    """The labels to which a chain of flows leads from one, past no filter, and by no object of a filter."""
+    there, done = {start}, set()
+    while more := {a for a in there - done if a == start or a not in filters}:
+        done |= more
+        there |= {b for b, needs in needed.items() if any(affected[a] & needs - filters for a in more)}
+    return there
 
 
 def broken(claims, table, policy, acts):
     """What is told of each claim that doesn't hold."""
     count = len(table.labels)
     extents = {(a, b): how for a, b, how in policies.extents(policy, acts, count)}
+    affected = {a: {b for b in range(count) if a == b and a in acts or a != b and extents[a, b] != "none"} for a in range(count)}
+    needed = {b: {b} | policies.seen(policy, acts, b) for b in range(count)}
     for line, claim, text in claims:
         told = {"claim": text, "line": line}
-        if claim[0] == "apart":
-            if claim[2] in reached(claim[1], extents, count):
+        if claim[0] == "through":
+            if not claim[3]:
+                told["claim"] = text.replace("through", "apart", 1)
+            if claim[2] in reached(claim[1], {*claim[3]}, affected, needed):
                 yield told
         elif claim[0] == "without":
             if claim[1:] in policy:

@@ -1,4 +1,4 @@
-"""Policies: the rules P1 to P8, the least closed policy, full and cut authority, what a label may change or make smaller, and reasons, as
+"""Policies: the rules P1 to P8, the least closed policy, full and cut authority, what a label may change or make smaller, what it sees, and reasons, as
 docs/RULES.md and docs/WRITING_POLICIES.md have them. A policy is a set of edges (label, kind, label), all by number; `count` is how many
 labels there are, and `acts` are those whose threads make calls."""
 from texts import KINDS
@@ -168,6 +168,22 @@ a control c, c reset e, l await e; l acts
 a control c, c reset e, b receive e, b reply l; b acts
 """)
 
+# How calls of threads of a depend on objects of l.
+SEE = ways_in("""\
+a await l
+a read l
+a runs l
+a send l
+a receive l
+a reply l
+a space l
+a receive e, l send e; l acts
+a call e, l receive e; l acts
+a reply r, r holds l; b reply r, b acts, b receive e, l call e, l acts
+a context l, a control t
+a control l, a context x
+""")
+
 
 def matches(edges_at, acts, needs, labels):
     """Each choice of labels for the names in what is needed, with those that have their label already."""
@@ -212,6 +228,14 @@ def shrink_ways(policy, acts, a):
     """Each way in which objects of a label may shrink by what a does; none where no thread of a makes calls."""
     if a in acts:
         yield from ways_from(policy, acts, a, SHRINK)
+
+
+def seen(policy, acts, a):
+    """The labels on whose objects the calls of threads of a depend: its own too, and a notification that it signals where two may wait."""
+    if a not in acts:
+        return set()
+    contested = {l for _, k, l in policy if k == AWAIT and len([b for b in acts if (b, AWAIT, l) in policy]) > 1}
+    return {a} | {l for l, _ in ways_from(policy, acts, a, SEE)} | {l for l in contested if (a, NOTIFY, l) in policy}
 
 
 def extents(policy, acts, count):

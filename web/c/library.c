@@ -150,6 +150,8 @@ int open(const char *name, int flags, ...) {
 long read(int file, void *to, size room) { return host_read(file, to, room); }
 /* The page has no standard input, so no place in it either. */
 long lseek(int file, long offset, int from) { return fail(NOT_HERE); }
+/* Nor a clock: there searches end by the number of calls alone. */
+int clock_gettime(int clock, void *time) { return fail(NOT_HERE); }
 long write(int file, const void *from, size length) { return host_write(file, from, length); }
 int close(int file) { return host_close(file); }
 

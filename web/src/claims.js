@@ -48,7 +48,7 @@ async function tellClaims(turn, given, isFaulty) {
 async function brokenClaims(given, report) {
   const claimed = claimLines(given.claims);
   if (report.verdict === "hold") return { claimed, broken: [] };
-  const told = await program.answer(["claims", "table", "claims", "--explain"], given);
+  const told = await program.answer(["claims", "table", "claims"], given);
   if (!told) return null;
   const sentences = decoded(told.error).split("\n");
   const reason = (line) => reasonOf(sentences.find((sentence) => sentence.startsWith(`claims:${line}: `)) ?? "");

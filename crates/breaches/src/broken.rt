@@ -4,6 +4,7 @@ use base::{Edge, Label, Labels, Refusal};
 use captext::label_name;
 use claims::{Breach, Broken, Claim, ClaimLines, Failure, claim_text};
 use explain::{EdgeLine, EdgeList, Origins, OtherWays};
+use flows::{Flows, Link};
 use policy::Why;
 use reach::{Extent, Reach};
 use runs::Question;
@@ -15,13 +16,6 @@ use table::Table;
 /// How many calls a search for a run tries.
 const STEPS: u64 = 1_000;
 
-/// For how many of the broken claims, the first ones, a run is searched.
-const SEARCHES: usize = 10;
-
-/// What is said in place of a run of a later claim.
-const NOT_SEARCHED: &str =
-    "no run was looked for: that is done for the first 10 broken claims. `confine show` looks for one.\n";
-
 /// A system of which claims were judged, and the claims.
 #[derive(Clone, Copy)]
 pub struct Judged<'a> {
@@ -31,8 +25,17 @@ pub struct Judged<'a> {
     pub lines: &'a ClaimLines,
 }
 
-/// Returns why claims don't hold, and what may be done: for each its line, where each edge of the reason comes
-/// from, and a run that shows it, if one is found. A run is looked for where the claim is one of the first ten.
+/// What the lines on a broken claim begin with.
+#[derive(Clone, Copy, PartialEq, Eq, Debug)]
+pub enum Lead {
+    /// The sentence on the claim, as [`breach_lines`] has it.
+    Sentence,
+    /// The place of the claim: its sentence is told elsewhere.
+    Place,
+}
+
+/// Returns why claims don't hold, and what may be done: for each its sentence or its place, and where each edge of the
+/// reason comes from.
 ///
 /// # Errors
 ///
@@ -42,16 +45,17 @@ pub fn explain_breaches(
     reach: &Reach<'_>,
     judged: &Judged<'_>,
     broken: &[Broken],
+    lead: Lead,
 ) -> Result<String, Refusal> {
     let mut lines = String::new(alloc);
     let origins = Origins::of(alloc, judged.sheet, reach)?;
-    for (number, one) in broken.iter().enumerate() {
-        push_claim(alloc, &mut lines, reach, judged, &origins, number, one)?;
+    for one in broken {
+        push_claim(alloc, &mut lines, reach, judged, &origins, one, lead)?;
     }
     Ok(lines)
 }
 
-/// Returns a line for each claim that doesn't hold: the first of those that [`explain_breaches`] has for the claim.
+/// Returns the sentence on each claim that doesn't hold, a line each.
 ///
 /// # Errors
 ///
@@ -70,25 +74,69 @@ pub fn breach_lines(
     Ok(lines)
 }
 
-/// Adds all lines on the broken claim of this number, from 0.
+/// Returns the calls of a run that shows that a claim on a pair of labels doesn't hold, or that no such run was found.
+///
+/// # Errors
+///
+/// 40 where memory is refused.
+pub fn explain_breach(
+    alloc: Global,
+    judged: &Judged<'_>,
+    line: usize,
+    breach: Breach,
+) -> Result<String, Refusal> {
+    let mut lines = String::new(alloc);
+    let question = Question {
+        actor: breach.actor,
+        object: breach.object,
+        taking: breach.extent == Extent::Take,
+    };
+    let found = find(alloc, judged.sheet.table, &question, STEPS)?;
+    push_place(&mut lines, judged, line)?;
+    match &found.script {
+        Some(script) => {
+            lines.push_str("a run that shows it:\n")?;
+            push_run(alloc, &mut lines, judged.sheet, script)?;
+        }
+        None => {
+            let steps = found.steps;
+            writeln!(
+                lines,
+                "no run that shows it was found ({steps} calls tried). The claim is broken all the same: the \
+                 table's bound doesn't exclude such a run."
+            )?;
+        }
+    }
+    Ok(lines)
+}
+
+/// Adds all lines on a broken claim but those on a run.
 fn push_claim(
     alloc: Global,
     lines: &mut String,
     reach: &Reach<'_>,
     judged: &Judged<'_>,
     origins: &Origins<'_>,
-    number: usize,
     broken: &Broken,
+    lead: Lead,
 ) -> Result<(), Refusal> {
-    let mut edges = push_line(alloc, lines, reach, judged, origins, broken)?;
-    origins.push_lines(alloc, lines, &mut edges)?;
-    match broken.failure {
-        Failure::Pair(breach) if number < SEARCHES => {
-            push_shown(alloc, lines, judged.sheet, breach)
+    let mut sentence = String::new(alloc);
+    let mut edges = push_line(alloc, &mut sentence, reach, judged, origins, broken)?;
+    match lead {
+        Lead::Sentence => lines.push_str(&sentence)?,
+        Lead::Place if edges.is_empty() => {}
+        Lead::Place => {
+            push_place(lines, judged, broken.line)?;
+            lines.push_str("the reason:\n")?;
         }
-        Failure::Pair(_) => Ok(lines.push_str(NOT_SEARCHED)?),
-        Failure::Chain | Failure::Edge => Ok(()),
     }
+    origins.push_lines(alloc, lines, &mut edges)
+}
+
+/// Adds the place of a claim, before what is said of it.
+fn push_place(lines: &mut String, judged: &Judged<'_>, line: usize) -> Result<(), AllocError> {
+    let file = judged.claims;
+    write!(lines, "{file}:{line}: ")
 }
 
 /// Adds the line on a broken claim, and gives the edges of the reason.
@@ -118,9 +166,9 @@ fn push_start(
     claim: &Claim,
     line: usize,
 ) -> Result<(), AllocError> {
-    let file = judged.claims;
     let text = claim_text(alloc, claim, reach.table())?;
-    write!(lines, "{file}:{line}: `{text}` doesn't hold: ")
+    push_place(lines, judged, line)?;
+    write!(lines, "`{text}` doesn't hold: ")
 }
 
 /// Adds why a claim doesn't hold, and gives the edges of the reason.
@@ -135,8 +183,8 @@ fn push_failure(
 ) -> Result<Vec<Edge>, Refusal> {
     match (failure, claim) {
         (Failure::Pair(breach), _) => push_breach(alloc, lines, reach, judged, origins, breach),
-        (Failure::Chain, Claim::Apart(from, to)) => {
-            push_chain(lines, reach, *from, *to)?;
+        (Failure::Chain, Claim::Through(from, to, filters)) => {
+            push_chain(alloc, lines, reach, *from, *to, filters.set())?;
             Ok(Vec::new(alloc))
         }
         (Failure::Edge, Claim::Without(actor, kind, object)) => {
@@ -164,11 +212,12 @@ fn push_breach(
     breach: Breach,
 ) -> Result<Vec<Edge>, Refusal> {
     let why = reach.why(alloc, breach.actor, breach.object)?;
-    let (does, edges) = match why {
-        Why::Full(edges) => ("may change objects of", edges),
-        Why::Take(edges) => ("may take from", edges),
-        Why::Nothing => ("has no authority on", Vec::new(alloc)),
+    let does = match &why {
+        Why::Full(_) => "may change objects of",
+        Why::Take(_) => "may take from",
+        Why::Nothing => "has no authority on",
     };
+    let edges = edges_of(alloc, why);
     let table = reach.table();
     let places = origins.places(alloc, &edges)?;
     let ways = OtherWays {
@@ -177,6 +226,14 @@ fn push_breach(
     };
     push_deed(lines, table, breach, does, &edges, &ways)?;
     Ok(edges)
+}
+
+/// The edges by which a label may do something to another.
+fn edges_of(alloc: Global, why: Why) -> Vec<Edge> {
+    match why {
+        Why::Full(edges) | Why::Take(edges) => edges,
+        Why::Nothing => Vec::new(alloc),
+    }
 }
 
 /// Adds what a label may do to another, by these edges, and what may be changed.
@@ -244,96 +301,41 @@ fn push_had(
     )
 }
 
-/// Adds the labels on a chain of changes from one label to another, a shortest one.
+/// Adds the flows of a shortest chain from one label to another that goes through no filter.
 fn push_chain(
+    alloc: Global,
     lines: &mut String,
     reach: &Reach<'_>,
     from: Label,
     to: Label,
-) -> Result<(), AllocError> {
-    let table = reach.table();
-    let mut here = from;
+    filters: Labels,
+) -> Result<(), Refusal> {
+    let flows = Flows::of(alloc, reach)?;
     let mut separator = "";
-    for _ in 0..Label::COUNT {
-        match next_on_chain(reach, here, to) {
-            Some(next) => {
-                let (actor, object) = (label_name(table, here), label_name(table, next));
-                write!(
-                    lines,
-                    "{separator}`{actor}` may change objects of `{object}` or take from them"
-                )?;
-                separator = ", ";
-                here = next;
-            }
-            None => break,
+    if let Some(links) = flows.chain(alloc, from, to, filters)? {
+        for link in &links {
+            lines.push_str(separator)?;
+            push_link(lines, reach.table(), *link)?;
+            separator = ", ";
         }
     }
-    lines.push_str(
+    Ok(lines.push_str(
         ". Change the claim, or change what makes one of these steps possible. \
          `confine why` prints the edges of a step.\n",
-    )
+    )?)
 }
 
-/// The label after this one on a shortest chain to another, if this isn't that other one.
-fn next_on_chain(reach: &Reach<'_>, here: Label, to: Label) -> Option<Label> {
-    if here == to {
-        return None;
+/// Adds by whose objects what a label does may come to another.
+fn push_link(lines: &mut String, table: &Table, link: Link) -> Result<(), AllocError> {
+    let from = label_name(table, link.from);
+    let object = label_name(table, link.object);
+    write!(
+        lines,
+        "`{from}` may change objects of `{object}` or take from them"
+    )?;
+    if link.object != link.to {
+        let to = label_name(table, link.to);
+        write!(lines, ", which `{to}` sees")?;
     }
-    // Labels from which the chain to the last is shorter and shorter; the first that the first label affects.
-    let reached = affected(reach, here);
-    let mut near = Labels::only(to);
-    for _ in 0..Label::COUNT {
-        let next = reached.intersection(near);
-        if let Some(label) = next.first() {
-            return Some(label);
-        }
-        near = near.union(affecting(reach, near));
-    }
-    None
-}
-
-/// The labels that a label affects.
-fn affected(reach: &Reach<'_>, actor: Label) -> Labels {
-    reach.changed_by(actor).union(reach.shrunk_by(actor))
-}
-
-/// The labels that affect one of these.
-fn affecting(reach: &Reach<'_>, objects: Labels) -> Labels {
-    let mut labels = Labels::none();
-    for label in Labels::all().iter() {
-        if affected(reach, label).intersection(objects) != Labels::none() {
-            labels = labels.union(Labels::only(label));
-        }
-    }
-    labels
-}
-
-/// Adds the calls of a run that shows a breach, or that none was found.
-fn push_shown(
-    alloc: Global,
-    lines: &mut String,
-    sheet: Sheet<'_>,
-    breach: Breach,
-) -> Result<(), Refusal> {
-    let question = Question {
-        actor: breach.actor,
-        object: breach.object,
-        taking: breach.extent == Extent::Take,
-    };
-    let found = find(alloc, sheet.table, &question, STEPS)?;
-    match &found.script {
-        Some(script) => {
-            lines.push_str("a run that shows it:\n")?;
-            push_run(alloc, lines, sheet, script)
-        }
-        None => {
-            let steps = found.steps;
-            writeln!(
-                lines,
-                "no run that shows it was found ({steps} calls tried). The claim is broken all the same: the \
-                 table's bound doesn't exclude such a run."
-            )?;
-            Ok(())
-        }
-    }
+    Ok(())
 }

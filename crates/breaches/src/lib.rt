@@ -8,7 +8,7 @@ mod escapes;
 mod scripts;
 mod shared_memory;
 
-pub use broken::{Judged, breach_lines, explain_breaches};
+pub use broken::{Judged, Lead, breach_lines, explain_breach, explain_breaches};
 pub use escapes::explain_escape;
 pub use scripts::explain_run;
 pub use shared_memory::explain_shared_memory;

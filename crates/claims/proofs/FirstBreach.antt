@@ -1,12 +1,12 @@
 -- The search for the first breach of a claim: which pairs it bounds, and which have more.
-use Rattle.std.{specs.List.{Contains, list_any, slice_get}, proofs.Common.{[], ℕ, ◌++◌, ◌+◌, ◌<◌, ◌==◌, ◌||◌, ◌↔◌, ◌∙◌, ◌∷◌, ◌≡◌, ◌≢◌}}
+use Rattle.std.{specs.List.{Contains, list_any, slice_get}, proofs.Common.{[], ℕ, ◌++◌, ◌<◌, ◌==◌, ◌||◌, ◌↔◌, ◌∙◌, ◌∷◌, ◌≡◌, ◌≢◌}}
 use Rattle.std.proofs.{Common.{Bool, List, Some, ap, arith, inl, inr, length, subst, sym, true}, lemmas.Bool.{cases_order, eqb-true}}
 use Rattle.std.proofs.lemmas.{Bool.{or_cases, or_left, or_right}, List.{get_or_append_left, get_or_push, length_push}}
 use Rattle.std.proofs.lemmas.{Map.Views.Contains-from_any, Option.{get_or_from_slice_get, slice_get-get_or, slice_get_within}}
 use Rattle.machine.specs.Layout.{Layout}
 use Rattle.reach.specs.Extents.{GoesTo, MayChangeIn, MayShrinkIn, Limits}
 use Rattle.claims.specs.declared.{breaches.Breach.Breach, claim.{Claim.{Claim, Claim as claim}, Most.Most as most}, rows.Row.Row}
-use Rattle.claims.specs.{Breaches.{HoldsOf, IsFirstBreachBy}, Holding.{Bounds, ComesBefore, HasAtMost, IsFirstBreach, MayAffect, most_of}}
+use Rattle.claims.specs.{Breaches.{HoldsOf, IsFirstBreachBy}, Holding.{Bounds, ComesBefore, HasAtMost, IsFirstBreach, most_of}}
 use Rattle.claims.specs.Rows.{IsRow}
 
 -- a row has more than a claim leaves
@@ -14,15 +14,6 @@ use Rattle.claims.specs.Rows.{IsRow}
 module _ (limits : Limits) (a l : ℕ) (changed shrunk : Bool) (changes : (changed ≡ true) ↔ MayChangeIn limits a l)
     (shrinks : (shrunk ≡ true) ↔ MayShrinkIn limits a l)
   where
-    pub affects : ((changed || shrunk) ≡ true → MayAffect limits a l) × (MayAffect limits a l → (changed || shrunk) ≡ true)
-    affects = (forth, back) where
-      forth : (changed || shrunk) ≡ true → MayAffect limits a l
-      forth is = elim (or_cases changed shrunk is) [ inl change ↦ inl (changes.0 change) | inr shrink ↦ inr (shrinks.0 shrink) ]
-
-      back : MayAffect limits a l → (changed || shrunk) ≡ true
-      back (inl change) = or_left changed shrunk (changes.1 change)
-      back (inr shrink) = or_right changed shrunk (shrinks.1 shrink)
-
     pub nothing_excess : ((changed || shrunk) ≡ true → ¬ HasAtMost limits a l most.Nothing)
         × ((changed || shrunk) ≢ true → HasAtMost limits a l most.Nothing)
     nothing_excess = (
@@ -86,5 +77,5 @@ module _ (limits : Limits) (rows : List Row) (row : Row) (n : ℕ) (count : leng
 pub bounded_within : (t : Layout) (claim : Claim) (a l : ℕ) → Bounds t claim a l → a < length t.labels
 bounded_within t (claim.AtMost limit actor object) a l bounded = bounded.0.0
 bounded_within t (claim.Only object actors) a l bounded = bounded.0.0
-bounded_within t (claim.Apart from to) a l bounded = absurd bounded
+bounded_within t (claim.Through from to filters) a l bounded = absurd bounded
 bounded_within t (claim.Without actor kind object) a l bounded = absurd bounded

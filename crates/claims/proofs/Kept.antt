@@ -6,8 +6,9 @@ use Rattle.integrity.specs.Safe.{IsSafe}
 use Rattle.reach.{specs.{Extents.{Limits, limits_of}, Reach.{IsTableReach, TableReach}}, proofs.Extents.{apart, takes}}
 use Rattle.claims.specs.declared.claim.{Claim.{Claim, Claim as claim}, Most.{Most, Most as most}, Who.Who}
 use Rattle.claims.specs.declared.deciding.Failure.{Failure, Failure as failure}
+use Rattle.flows.proofs.Leading.{no_chain, shielded}
+use Rattle.claims.specs.Claims.{is_one_of}
 use Rattle.claims.specs.Holding.{Fails, FailsOnPair, HasAtMost, Holds, HoldsOnPairs, IsKept, KeepsAtMost}
-use Rattle.claims.proofs.Chains.{no_chain}
 
 module _ (reach : TableReach) (is : IsTableReach reach) (safe : IsSafe reach.table (allows reach.policy)) where
   abbrev t : Layout
@@ -20,17 +21,11 @@ module _ (reach : TableReach) (is : IsTableReach reach) (safe : IsSafe reach.tab
   most_kept a l most.Nothing has = apart reach is safe.narrow a l has.0 has.1
   most_kept a l most.Take has = takes reach is safe.narrow a l has
 
-  pub claim_kept : (claim : Claim) → Holds t limits claim → IsKept t claim
+  pub claim_kept : (claim : Claim) → Holds t limits claim → IsKept t limits claim
   claim_kept (claim.AtMost limit actor object) holds = λ a l bounded. most_kept a l limit (holds a l bounded)
   claim_kept (claim.Only object actors) holds = λ a l bounded. most_kept a l most.Nothing (holds a l bounded)
-  claim_kept (claim.Apart from to) holds = record {
-    inside = holds.inside;
-    has = holds.has;
-    lacks = holds.lacks;
-    kept = λ a l outside inside.
-        most_kept a l most.Nothing
-        ((λ change. holds.closed a l outside inside (inl change)), (λ shrink. holds.closed a l outside inside (inr shrink)));
-  }
+  claim_kept (claim.Through from to filters) holds =
+      shielded t limits (is_one_of filters) (λ a l never. most_kept a l most.Nothing ((λ may. never (inl may)), (λ may. never (inr may)))) from to holds
   claim_kept (claim.Without actor kind object) holds =
       λ m reached has. false≢true (sym holds ∙ safe.confined m reached actor kind object has)
 
@@ -43,7 +38,7 @@ module _ (t : Layout) (limits : Limits) where
   pub fails_breaks : (claim : Claim) (told : Failure) → Fails t limits claim told → ¬ Holds t limits claim
   fails_breaks (claim.AtMost limit actor object) told fails holds = pair_breaks (claim.AtMost limit actor object) told fails holds
   fails_breaks (claim.Only object actors) told fails holds = pair_breaks (claim.Only object actors) told fails holds
-  fails_breaks (claim.Apart from to) told fails holds = no_chain limits from to holds fails.1
+  fails_breaks (claim.Through from to filters) told fails holds = no_chain limits (is_one_of filters) from to holds fails.1
   fails_breaks (claim.Without actor kind object) told fails holds = false≢true (sym holds ∙ fails.1)
 
   -- of a claim on pairs

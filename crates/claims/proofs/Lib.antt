@@ -1,5 +1,4 @@
 mod Joined
-mod Chains
 mod Kept
 mod Gathered
 mod FirstBreach

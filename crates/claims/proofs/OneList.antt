@@ -53,7 +53,7 @@ module _ (t : Layout) (limits : Limits) where
   fails_once : (claim : Claim) (one other : Failure) → Fails t limits claim one → Fails t limits claim other → one ≡ other
   fails_once (claim.AtMost most actor object) one other is also = on_pair_once (claim.AtMost most actor object) one other is also
   fails_once (claim.Only object actors) one other is also = on_pair_once (claim.Only object actors) one other is also
-  fails_once (claim.Apart from to) one other is also = is.0 ∙ sym also.0
+  fails_once (claim.Through from to filters) one other is also = is.0 ∙ sym also.0
   fails_once (claim.Without actor kind object) one other is also = is.0 ∙ sym also.0
 
   one_broken : (line : ℕ) (claim : Claim) (one other : Broken) → IsBroken t limits line claim one → IsBroken t limits line claim other → one ≡ other

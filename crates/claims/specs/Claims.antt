@@ -1,7 +1,11 @@
 -- The words of claims, and when two claims are the same, word by word (confine's own).
-use Rattle.std.specs.{Cmp.Lexicographic.pointwise, Prelude.{ℕ, ◌&&◌, ◌==◌, Bool, List, codes, false, true}}
+use Rattle.std.specs.{Cmp.Lexicographic.pointwise, List.list_any, Prelude.{ℕ, ◌&&◌, ◌==◌, Bool, List, codes, false, true}}
 use Rattle.base.specs.Kinds.{kind_number}
 use Rattle.claims.specs.declared.claim.{Claim.{Claim, Claim as claim}, Most.{Most, Most as most}, Who.{Who, Who as who}}
+
+-- whether a label is one of these
+abbrev pub is_one_of : List ℕ → ℕ → Bool
+is_one_of labels label = list_any (λ other. other == label) labels
 
 -- the word of what a claim leaves
 abbrev pub most_word : Most → List ℕ
@@ -22,7 +26,8 @@ abbrev pub same_claim : Claim → Claim → Bool
 same_claim (claim.AtMost limit actor object) (claim.AtMost least agent thing) =
     same_most limit least && (same_who actor agent && same_who object thing)
 same_claim (claim.Only object actors) (claim.Only thing agents) = (object == thing) && pointwise ◌==◌ actors agents
-same_claim (claim.Apart from to) (claim.Apart start end) = (from == start) && (to == end)
+same_claim (claim.Through from to filters) (claim.Through start end others) =
+    (from == start) && ((to == end) && pointwise ◌==◌ filters others)
 same_claim (claim.Without actor kind object) (claim.Without agent sort thing) =
     (actor == agent) && ((kind_number kind == kind_number sort) && (object == thing))
 same_claim _ _ = false

@@ -1,10 +1,12 @@
 -- When claims hold, what is then kept in every run from a table's boot state, and which of the claims of a text don't
 -- hold (the authority and what is kept are those of 'seL4 Enforces Integrity', sections 4 and 5, restated; claims are confine's own).
-use Rattle.std.specs.{List.Contains, Prelude.{[], ℕ, ◌+◌, ◌<◌, ◌∷◌, ◌≡◌, ◌≢◌, ◌⊎◌, Bool, List, None, Option, Some, false, length, true}}
+use Rattle.std.specs.{List.Contains, Prelude.{[], ℕ, ◌+◌, ◌<◌, ◌∷◌, ◌≡◌, ◌≢◌, ◌⊎◌, List, None, Option, Some, false, length, true}}
 use Rattle.base.specs.declared.kind.Kind.{Kind}
 use Rattle.machine.specs.{Authority.HasAuthority, Layout.Layout, Machine.Machine}
 use Rattle.integrity.specs.{Apart.{NeverChanges, OnlyTakes}, Safe.IsReached}
 use Rattle.reach.specs.Extents.{GoesTo, MayChangeIn, MayShrinkIn, Limits}
+use Rattle.flows.specs.Flowing.{IsClosedOff, IsShielded, Leads}
+use Rattle.claims.specs.Claims.{is_one_of}
 use Rattle.claims.specs.declared.{breaches.Breach.Breach, claim.{Claim.{Claim, Claim as claim}, Most.{Most, Most as most}, Who.{Who, Who as who}}}
 use Rattle.claims.specs.declared.deciding.{Broken.Broken, Failure.{Failure, Failure as failure}}
 
@@ -23,7 +25,7 @@ AreTwo t a l = (a < length t.labels) × (l < length t.labels) × (a ≢ l)
 abbrev pub Bounds : Layout → Claim → ℕ → ℕ → Type 0
 Bounds t (claim.AtMost _ actor object) a l = AreTwo t a l × IsNamed actor a × IsNamed object l
 Bounds t (claim.Only object actors) a l = AreTwo t a l × (l ≡ object) × (¬ Contains actors a)
-Bounds t (claim.Apart _ _) a l = ⊥
+Bounds t (claim.Through _ _ _) a l = ⊥
 Bounds t (claim.Without _ _ _) a l = ⊥
 
 -- and this is what it leaves them
@@ -31,28 +33,13 @@ abbrev pub most_of : Claim → Most
 most_of (claim.AtMost limit _ _) = limit
 most_of _ = most.Nothing
 
--- when it holds
+-- when it holds: for labels that are kept apart, but for filters, if a set of labels is closed off. Then no chain of flows leads from the one to the
+-- other, and where a claim fails, one does
 
 -- a label has no more authority on another than this
 abbrev pub HasAtMost : Limits → ℕ → ℕ → Most → Type 0
 HasAtMost limits a l most.Nothing = (¬ MayChangeIn limits a l) × (¬ MayShrinkIn limits a l)
 HasAtMost limits a l most.Take = ¬ MayChangeIn limits a l
-
--- threads of a label may change objects of another, or make them smaller
-abbrev pub MayAffect : Limits → ℕ → ℕ → Type 0
-MayAffect limits a l = MayChangeIn limits a l ⊎ MayShrinkIn limits a l
-
--- a chain of labels, each of which may so affect the next
-pub data Leads (limits : Limits) (from : ℕ) : ℕ → Type 0 where
-  starts : Leads limits from from
-  goes_on : {a l : ℕ} → Leads limits from a → MayAffect limits a l → Leads limits from l
-
--- a set of labels that has the second and not the first: no label outside it may affect one in it
-pub record AreApart (limits : Limits) (from to : ℕ) : Type 0 where
-  pub inside : ℕ → Bool
-  pub has : inside to ≡ true
-  pub lacks : inside from ≡ false
-  pub closed : (a l : ℕ) → inside a ≡ false → inside l ≡ true → ¬ MayAffect limits a l
 
 -- no label has more authority on another than the claim leaves it
 abbrev pub HoldsOnPairs : Layout → Limits → Claim → Type 0
@@ -61,7 +48,7 @@ HoldsOnPairs t limits claim = (a l : ℕ) → Bounds t claim a l → HasAtMost l
 abbrev pub Holds : Layout → Limits → Claim → Type 0
 Holds t limits (claim.AtMost limit actor object) = HoldsOnPairs t limits (claim.AtMost limit actor object)
 Holds t limits (claim.Only object actors) = HoldsOnPairs t limits (claim.Only object actors)
-Holds t limits (claim.Apart from to) = AreApart limits from to
+Holds t limits (claim.Through from to filters) = IsClosedOff limits (is_one_of filters) from to
 Holds t limits (claim.Without actor kind object) = limits.test actor kind object ≡ false
 
 -- what is kept in every run
@@ -72,13 +59,6 @@ abbrev pub KeepsAtMost : Layout → ℕ → ℕ → Most → Type 0
 KeepsAtMost t a l most.Nothing = NeverChanges t a l
 KeepsAtMost t a l most.Take = OnlyTakes t a l
 
--- a set of labels that has the second and not the first: threads of labels outside it never change objects of labels in it
-pub record StaysApart (t : Layout) (from to : ℕ) : Type 0 where
-  pub inside : ℕ → Bool
-  pub has : inside to ≡ true
-  pub lacks : inside from ≡ false
-  pub kept : (a l : ℕ) → inside a ≡ false → inside l ≡ true → NeverChanges t a l
-
 -- no state gives the one label this kind of authority on the other
 abbrev pub NeverHas : Layout → ℕ → Kind → ℕ → Type 0
 NeverHas t a kind l = (m : Machine) → IsReached t m → ¬ HasAuthority t m a kind l
@@ -87,11 +67,11 @@ abbrev pub KeepsPairs : Layout → Claim → Type 0
 KeepsPairs t claim = (a l : ℕ) → Bounds t claim a l → KeepsAtMost t a l (most_of claim)
 
 -- what is claimed is kept in every run from the table's boot state
-abbrev pub IsKept : Layout → Claim → Type 0
-IsKept t (claim.AtMost limit actor object) = KeepsPairs t (claim.AtMost limit actor object)
-IsKept t (claim.Only object actors) = KeepsPairs t (claim.Only object actors)
-IsKept t (claim.Apart from to) = StaysApart t from to
-IsKept t (claim.Without actor kind object) = NeverHas t actor kind object
+abbrev pub IsKept : Layout → Limits → Claim → Type 0
+IsKept t limits (claim.AtMost limit actor object) = KeepsPairs t (claim.AtMost limit actor object)
+IsKept t limits (claim.Only object actors) = KeepsPairs t (claim.Only object actors)
+IsKept t limits (claim.Through from to filters) = IsShielded t limits (is_one_of filters) from to
+IsKept t limits (claim.Without actor kind object) = NeverHas t actor kind object
 
 -- where it doesn't hold
 
@@ -116,7 +96,7 @@ FailsOnPair t limits claim failure.Edge = ⊥
 abbrev pub Fails : Layout → Limits → Claim → Failure → Type 0
 Fails t limits (claim.AtMost limit actor object) told = FailsOnPair t limits (claim.AtMost limit actor object) told
 Fails t limits (claim.Only object actors) told = FailsOnPair t limits (claim.Only object actors) told
-Fails t limits (claim.Apart from to) told = (told ≡ failure.Chain) × Leads limits from to
+Fails t limits (claim.Through from to filters) told = (told ≡ failure.Chain) × Leads limits (is_one_of filters) from to
 Fails t limits (claim.Without actor kind object) told = (told ≡ failure.Edge) × (limits.test actor kind object ≡ true)
 
 -- the claim of a line doesn't hold

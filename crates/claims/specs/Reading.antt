@@ -1,5 +1,5 @@
 -- The text of claims, line by line: each line adds a claim, or nothing where it is empty or a comment, or is faulty (confine's own).
-use Rattle.std.specs.{List.list_any, Prelude.{[], ℕ, ◌&&◌, ◌++◌, ◌==◌, ◌∷◌, Bool, Err, List, None, Ok, Option, Result, Some, bytes_eq}}
+use Rattle.std.specs.{List.list_any, Prelude.{[], ℕ, ◌&&◌, ◌++◌, ◌==◌, ◌||◌, ◌∷◌, Bool, Err, List, None, Ok, Option, Result, Some, bytes_eq}}
 use Rattle.std.specs.Prelude.{codes, false, if◌then◌else◌, not, true}
 use Rattle.words.specs.{declared.faults.{Fault.Fault, Wrong.{Wrong, Wrong as wrong}}, Name.{name_at, name_of}, Parts.PartReader}
 use Rattle.words.specs.{Reading.{◌>>=◌, Format, ended_at, list_format, or_syntax, read_format, word_at}, Text.{line_is, lines_of, words_of}}
@@ -7,7 +7,7 @@ use Rattle.machine.specs.Layout.{Layout}
 use Rattle.table.specs.Names.{label_named}
 use Rattle.captext.specs.{Policies.kind_at, Tables.{demand, is_nil, value_or}}
 use Rattle.claims.specs.declared.claim.{Claim.{Claim, Claim as claim}, Most.{Most, Most as most}, Who.{Who, Who as who}}
-use Rattle.claims.specs.Claims.{same_claim}
+use Rattle.claims.specs.Claims.{is_one_of, same_claim}
 
 -- the names of labels
 
@@ -53,13 +53,10 @@ labels_named t labels (name ∷ names) = do
   label ← label_at t name
   labels_named t (labels ++ label ∷ []) names
 
-abbrev pub is_among : List ℕ → ℕ → Bool
-is_among labels label = list_any (λ other. other == label) labels
-
 -- whether no label comes twice, after these
 abbrev pub are_distinct : List ℕ → List ℕ → Bool
 are_distinct before [] = true
-are_distinct before (label ∷ labels) = not (is_among before label) && are_distinct (before ++ label ∷ []) labels
+are_distinct before (label ∷ labels) = not (is_one_of before label) && are_distinct (before ++ label ∷ []) labels
 
 -- the claims, by what follows their first word: the form of the whole line comes first, then each label from left to right
 
@@ -82,7 +79,7 @@ only_claim t words = do
   _ ← demand (not (is_nil names)) wrong.Syntax
   label ← label_at t object.0
   actors ← labels_named t [] names
-  _ ← demand (not (is_among actors label)) wrong.Syntax
+  _ ← demand (not (is_one_of actors label)) wrong.Syntax
   _ ← demand (are_distinct [] actors) wrong.Double
   Ok (claim.Only label actors)
 
@@ -95,7 +92,21 @@ apart_claim t words = do
   one ← label_at t from.0
   other ← label_at t to.0
   _ ← demand (not (one == other)) wrong.Syntax
-  Ok (claim.Apart one other)
+  Ok (claim.Through one other [])
+
+-- LABEL LABEL LABEL ..
+unfoldable pub through_claim : Layout → List (List ℕ) → Result Claim Wrong
+through_claim t words = do
+  from ← name_at words
+  to ← name_at from.1
+  names ← names_after [] to.1
+  one ← label_at t from.0
+  other ← label_at t to.0
+  filters ← labels_named t [] names
+  _ ← demand (not (one == other)) wrong.Syntax
+  _ ← demand (not (is_one_of filters one || is_one_of filters other)) wrong.Syntax
+  _ ← demand (are_distinct [] filters) wrong.Double
+  Ok (claim.Through one other filters)
 
 -- LABEL KIND LABEL
 unfoldable pub without_claim : Layout → List (List ℕ) → Result Claim Wrong
@@ -115,8 +126,9 @@ claim_by t word words =
     (if bytes_eq word (codes "take") then at_most_claim t most.Take words else
     (if bytes_eq word (codes "only") then only_claim t words else
     (if bytes_eq word (codes "apart") then apart_claim t words else
+    (if bytes_eq word (codes "through") then through_claim t words else
     (if bytes_eq word (codes "without") then without_claim t words else
-    Err wrong.Syntax))))
+    Err wrong.Syntax)))))
 
 -- lines
 

@@ -11,11 +11,17 @@ abbrev pub end_word : Layout → Who → List ℕ
 end_word t (who.One label) = label_name t label
 end_word t who.Others = codes "*"
 
+-- the words of a claim that keeps labels apart, but for filters
+abbrev pub through_words : Layout → ℕ → ℕ → List ℕ → List (List ℕ)
+through_words t from to [] = codes "apart" ∷ label_name t from ∷ label_name t to ∷ []
+through_words t from to (filter ∷ filters) =
+    codes "through" ∷ label_name t from ∷ label_name t to ∷ map (label_name t) (filter ∷ filters)
+
 -- the words of a claim
 abbrev pub claim_words : Layout → Claim → List (List ℕ)
 claim_words t (claim.AtMost limit actor object) = most_word limit ∷ end_word t actor ∷ end_word t object ∷ []
 claim_words t (claim.Only object actors) = codes "only" ∷ label_name t object ∷ map (label_name t) actors
-claim_words t (claim.Apart from to) = codes "apart" ∷ label_name t from ∷ label_name t to ∷ []
+claim_words t (claim.Through from to filters) = through_words t from to filters
 claim_words t (claim.Without actor kind object) =
     codes "without" ∷ label_name t actor ∷ kind_name kind ∷ label_name t object ∷ []
 

@@ -83,7 +83,7 @@ fn objects_of(claim: &Claim, labels: Labels, actor: Label) -> Labels
     match claim {
         Claim::AtMost(_, actors, objects) => objects_of_ends(*actors, *objects, others, actor),
         Claim::Only(object, actors) => objects_of_only(*object, actors, others, actor),
-        Claim::Apart(_, _) => Labels::none(),
+        Claim::Through(_, _, _) => Labels::none(),
         Claim::Without(_, _, _) => Labels::none(),
     }
 }

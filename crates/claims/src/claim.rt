@@ -1,8 +1,9 @@
 //! Claims, each on labels of a table.
-ghost use Rattle.std.specs.{Cmp.Lexicographic.pointwise, Prelude.{[], ◌++◌, ◌==◌, ◌∷◌, ◌≡◌, OnErr, OnOk}};
-ghost use Rattle.claims.specs.Claims.{most_word, same_claim, same_most, same_who};
+ghost use Rattle.std.specs.{Cmp.Lexicographic.pointwise, Prelude.{[], ℕ, ◌++◌, ◌==◌, ◌∷◌, ◌≡◌, OnErr, OnOk}};
+ghost use Rattle.base.specs.Labels.{is_in};
+ghost use Rattle.claims.specs.Claims.{is_one_of, most_word, same_claim, same_most, same_who};
 
-use base::{Kind, Label};
+use base::{Kind, Label, Labels};
 use std::alloc::{AllocError, Global};
 use std::marker::Model;
 
@@ -67,6 +68,17 @@ impl LabelList {
         self.labels.as_slice()
     }
 
+    /// Returns the set of the labels.
+    pub fn set(&self) -> Labels
+        ensures { (label : ℕ) → is_in result label ≡ is_one_of self.now label }
+    {
+        let mut set = Labels::none();
+        for label in self.as_slice() {
+            set = set.union(Labels::only(*label));
+        }
+        set
+    }
+
     /// Adds a label behind the others.
     ///
     /// # Errors
@@ -88,8 +100,9 @@ pub enum Claim {
     AtMost(Most, Who, Who),
     /// `only`: objects of the label are changed by threads of its own and of these labels alone.
     Only(Label, LabelList),
-    /// `apart`: no chain of changes leads from the first label to the second.
-    Apart(Label, Label),
+    /// `apart`, and with filters `through`: no chain of flows leads from the first label to the second, but
+    /// through these filters.
+    Through(Label, Label, LabelList),
     /// `without`: the first label never has this kind of authority on the second.
     Without(Label, Kind, Label),
 }
@@ -132,8 +145,13 @@ impl Claim {
             (Claim::Only(object, actors), Claim::Only(other_object, other_actors)) => {
                 object.number() == other_object.number() && are_same_labels(actors, other_actors)
             }
-            (Claim::Apart(from, to), Claim::Apart(other_from, other_to)) => {
-                from.number() == other_from.number() && to.number() == other_to.number()
+            (
+                Claim::Through(from, to, filters),
+                Claim::Through(other_from, other_to, other_filters),
+            ) => {
+                from.number() == other_from.number()
+                    && to.number() == other_to.number()
+                    && are_same_labels(filters, other_filters)
             }
             (
                 Claim::Without(actor, kind, object),

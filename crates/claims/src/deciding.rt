@@ -4,18 +4,20 @@ ghost use Rattle.base.specs.Refusals.{out_of_memory};
 ghost use Rattle.machine.specs.Layout.{Layout};
 ghost use Rattle.table.specs.Names.{AreLabelsOf};
 ghost use Rattle.reach.specs.Extents.{Limits, limits_of};
+ghost use Rattle.flows.specs.Flowing.{IsClosedOff, Leads};
+ghost use Rattle.claims.specs.Claims.{is_one_of};
 ghost use Rattle.claims.specs.{declared.claim.Claim.Claim as ClaimOf, Holding.AreBroken};
 ghost use Rattle.claims.specs.{Holding.{Fails, FailsOnPair, Holds, HoldsOnPairs, IsKept}, Rows.AreRows};
 ghost use Rattle.claims.specs.declared.lines.TheConstants.ClaimLines as ClaimLines;
 
 use crate::breaches::{Breach, first_breach};
-use crate::claim::Claim;
+use crate::claim::{Claim, LabelList};
 use crate::lines::ClaimLines;
-use crate::reaching::reached;
 use crate::rows::Rows;
-use base::{Edge, Labels, Refusal};
+use base::{Edge, Label, Labels, Refusal};
+use flows::Flows;
 use reach::Reach;
-use std::alloc::{AllocError, Global};
+use std::alloc::Global;
 
 /// Why a claim doesn't hold.
 #[derive(Clone, Copy, PartialEq, Eq, Debug)]
@@ -23,7 +25,7 @@ pub enum Failure {
     /// The first pair of labels of which the one has more authority on the other than `none`, `take` or
     /// `only` leaves it.
     Pair(Breach),
-    /// A chain of changes leads from the one label of `apart` to the other.
+    /// A chain of flows leads from the one label of `apart` or `through` to the other, beside all filters.
     Chain,
     /// The reach has the edge that `without` excludes.
     Edge,
@@ -53,13 +55,14 @@ pub fn all_broken(
         AreBroken reach.now.table (limits_of reach.now) ClaimLines.FIRST lines.now broken.items) }
 
     // `none A B`: in every run from the table's boot state no step of a thread of A changes an object of B; nor,
-    // for `take A B`, other than by shrinking it. `only B A`: no step of a thread of another label does. `apart A
-    // B`: there is a set of labels with B and without A, whose objects threads of other labels never change.
-    // `without A KIND B`: no state gives A this authority on B.
+    // for `take A B`, other than by shrinking it. `only B A`: no step of a thread of another label does. `through
+    // A B F ..`, and `apart A B` without an F: there is a set of labels with B and without A and each F. Threads
+    // of labels outside it, but for each F, never change an object of a label in it, or one that a label in it
+    // sees, but for objects of each F. `without A KIND B`: no state gives A this authority on B.
     ensures kept { (claim : ClaimOf) → Holds reach.now.table (limits_of reach.now) claim
-        → IsKept reach.now.table claim }
+        → IsKept reach.now.table (limits_of reach.now) claim }
     ensures all_kept { IfOk result (λ broken. broken.items ≡ []
-        → (claim : ClaimOf) → Contains lines.now (Some claim) → IsKept reach.now.table claim) }
+        → (claim : ClaimOf) → Contains lines.now (Some claim) → IsKept reach.now.table (limits_of reach.now) claim) }
     ensures memory { IfErr result (λ refusal. refusal ≡ out_of_memory) }
 {
     // That every run keeps to it, a reach tells with its policy.
@@ -73,16 +76,18 @@ fn broken_by(
     alloc: Global,
     reach: &Reach<'_>,
     lines: &[Option<Claim>],
-) -> Result<Vec<Broken>, AllocError>
-    ensures { IfOk result (λ broken.
+) -> Result<Vec<Broken>, Refusal>
+    ensures broken { IfOk result (λ broken.
         AreBroken reach.now.table (limits_of reach.now) ClaimLines.FIRST lines.now broken.items) }
+    ensures memory { IfErr result (λ refusal. refusal ≡ out_of_memory) }
 {
     let rows = Rows::of(alloc, reach)?;
+    let flows = Flows::of(alloc, reach)?;
     let labels = reach.table().labels();
     let mut broken = Vec::new(alloc);
     for (index, entry) in lines.iter().enumerate() {
         if let Some(claim) = entry {
-            if let Some(failure) = failure_of(reach, &rows, labels, claim) {
+            if let Some(failure) = failure_of(reach, &rows, &flows, labels, claim) {
                 broken.push(Broken {
                     line: ClaimLines::FIRST + index,
                     failure,
@@ -106,8 +111,32 @@ fn pair_failure(rows: &Rows, labels: Labels, claim: &Claim) -> Option<Failure>
     }
 }
 
+/// Why a claim that keeps labels apart, but for filters, doesn't hold, if it doesn't.
+fn through_failure(
+    flows: &Flows<'_>,
+    from: Label,
+    to: Label,
+    filters: &LabelList,
+) -> Option<Failure>
+    ensures some { IfSome result (λ told. (told ≡ Failure.Chain)
+        × Leads (limits_of flows.now) (is_one_of filters.now) from to) }
+    ensures none { IfNone result (IsClosedOff (limits_of flows.now) (is_one_of filters.now) from to) }
+{
+    if flows.goes_through(from, to, filters.set()) {
+        return None;
+    }
+    Some(Failure::Chain)
+}
+
 /// Why a claim doesn't hold, if it doesn't.
-fn failure_of(reach: &Reach<'_>, rows: &Rows, labels: Labels, claim: &Claim) -> Option<Failure>
+fn failure_of(
+    reach: &Reach<'_>,
+    rows: &Rows,
+    flows: &Flows<'_>,
+    labels: Labels,
+    claim: &Claim,
+) -> Option<Failure>
+    requires flows { flows.now ≡ reach.now }
     requires labels { AreLabelsOf reach.now.table labels }
     requires rows { AreRows (limits_of reach.now) rows.now }
     ensures some { IfSome result (Fails reach.now.table (limits_of reach.now) claim.now) }
@@ -116,12 +145,7 @@ fn failure_of(reach: &Reach<'_>, rows: &Rows, labels: Labels, claim: &Claim) -> 
     match claim {
         Claim::AtMost(_, _, _) => pair_failure(rows, labels, claim),
         Claim::Only(_, _) => pair_failure(rows, labels, claim),
-        Claim::Apart(from, to) => {
-            if reached(rows, *from).has(*to) {
-                return Some(Failure::Chain);
-            }
-            None
-        }
+        Claim::Through(from, to, filters) => through_failure(flows, *from, *to, filters),
         Claim::Without(actor, kind, object) => {
             let edge = Edge {
                 from: *actor,

@@ -33,7 +33,7 @@ pub fn strongest(alloc: Global, reach: &Reach<'_>) -> Result<ClaimLines, Refusal
     ensures hold { IfOk result (λ lines.
         AreBroken reach.now.table (limits_of reach.now) ClaimLines.FIRST lines []) }
     ensures kept { IfOk result (λ lines.
-        (claim : ClaimOf) → Contains lines (Some claim) → IsKept reach.now.table claim) }
+        (claim : ClaimOf) → Contains lines (Some claim) → IsKept reach.now.table (limits_of reach.now) claim) }
     ensures memory { IfErr result (λ refusal. refusal ≡ out_of_memory) }
 {
     // That every run keeps to it, a reach tells with its policy.

@@ -8,7 +8,6 @@ mod claim;
 mod deciding;
 mod gathering;
 mod lines;
-mod reaching;
 mod reading;
 mod rows;
 mod writing;

@@ -5,6 +5,7 @@ ghost use Rattle.words.specs.{FirstFault.TellsFirst, Reading.{Gives, GivesOrStop
 ghost use Rattle.machine.specs.Layout.{Layout};
 ghost use Rattle.captext.specs.Policies.{kind_at};
 ghost use Rattle.claims.specs.declared.claim.Claim.{Claim as ClaimOf};
+ghost use Rattle.claims.specs.Claims.{is_one_of};
 ghost use Rattle.claims.specs.Reading as reading;
 
 use crate::claim::{Claim, LabelList, Most, Who};
@@ -115,9 +116,9 @@ fn labels(alloc: Global, table: &Table, names: &[&str]) -> Result<LabelList, Lin
     Ok(labels)
 }
 
-/// Whether the label is among these.
-fn is_among(labels: &LabelList, label: Label) -> bool
-    ensures { result ≡ reading.is_among labels.now label }
+/// Whether the label is one of these.
+fn is_one_of(labels: &LabelList, label: Label) -> bool
+    ensures { result ≡ is_one_of labels.now label }
 {
     labels
         .as_slice()
@@ -151,7 +152,7 @@ fn only(alloc: Global, table: &Table, words: &mut Words<'_>) -> Result<Claim, Li
     }
     let object = label(table, object)?;
     let actors = labels(alloc, table, &names)?;
-    if is_among(&actors, object) {
+    if is_one_of(&actors, object) {
         return Err(LineError::Text(Wrong::Syntax));
     }
     if !are_distinct(&actors) {
@@ -162,7 +163,7 @@ fn only(alloc: Global, table: &Table, words: &mut Words<'_>) -> Result<Claim, Li
 
 /// Reads what follows `apart`: two labels.
 #[tactic(auto, unfolding(crate::specs::Reading::apart_claim, words::specs::Reading::bind))]
-fn apart(table: &Table, words: &mut Words<'_>) -> Result<Claim, Wrong>
+fn apart(alloc: Global, table: &Table, words: &mut Words<'_>) -> Result<Claim, Wrong>
     ensures { result ≡ reading.apart_claim table.now words.old }
 {
     let from = words.name()?;
@@ -173,7 +174,30 @@ fn apart(table: &Table, words: &mut Words<'_>) -> Result<Claim, Wrong>
     if from.number() == to.number() {
         return Err(Wrong::Syntax);
     }
-    Ok(Claim::Apart(from, to))
+    Ok(Claim::Through(from, to, LabelList::new(alloc)))
+}
+
+/// Reads what follows `through`: two labels, and others.
+#[tactic(auto, unfolding(crate::specs::Reading::through_claim, words::specs::Reading::bind))]
+fn through(alloc: Global, table: &Table, words: &mut Words<'_>) -> Result<Claim, LineError>
+    ensures { GivesOrStops (λ claim. claim) result (reading.through_claim table.now words.old) }
+{
+    let from = words.name()?;
+    let to = words.name()?;
+    let names = names(alloc, words)?;
+    let from = label(table, from)?;
+    let to = label(table, to)?;
+    let filters = labels(alloc, table, &names)?;
+    if from.number() == to.number() {
+        return Err(LineError::Text(Wrong::Syntax));
+    }
+    if is_one_of(&filters, from) || is_one_of(&filters, to) {
+        return Err(LineError::Text(Wrong::Syntax));
+    }
+    if !are_distinct(&filters) {
+        return Err(LineError::Text(Wrong::Double));
+    }
+    Ok(Claim::Through(from, to, filters))
 }
 
 /// Reads what follows `without`: a label, a kind of authority, and a label.
@@ -210,7 +234,10 @@ fn claim_by(
         return only(alloc, table, words);
     }
     if word == b"apart".as_slice() {
-        return Ok(apart(table, words)?);
+        return Ok(apart(alloc, table, words)?);
+    }
+    if word == b"through".as_slice() {
+        return through(alloc, table, words);
     }
     if word == b"without".as_slice() {
         return Ok(without(table, words)?);

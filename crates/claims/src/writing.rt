@@ -1,9 +1,9 @@
 //! How claims are written.
-ghost use Rattle.std.specs.{List.join_with_byte, Prelude.{[], ◌++◌, ◌∷◌, ◌≡◌, IfErr, IfOk, OnOk, codes, map, string_bytes}};
+ghost use Rattle.std.specs.{List.join_with_byte, Prelude.{[], ℕ, ◌++◌, ◌∷◌, ◌≡◌, IfErr, IfOk, List, OnOk, codes, map, string_bytes}};
 ghost use Rattle.base.specs.Refusals.{out_of_memory};
 ghost use Rattle.captext.specs.PolicyText.{label_name};
 ghost use Rattle.words.specs.Text.{line_text};
-ghost use Rattle.claims.specs.Text.{claim_text, end_word, entry_words, lines_text};
+ghost use Rattle.claims.specs.Text.{claim_text, end_word, entry_words, lines_text, through_words};
 
 use crate::claim::{Claim, LabelList, Who};
 use crate::lines::ClaimLines;
@@ -22,6 +22,18 @@ fn end_word(table: &Table, who: Who) -> &str
     }
 }
 
+/// Adds the names of labels to words.
+fn push_names(text: &mut String, table: &Table, labels: &LabelList) -> Result<(), AllocError>
+    ensures { OnOk result ((word : List ℕ) (words : List (List ℕ)) → string_bytes text.old ≡ join_with_byte 32 (word ∷ words)
+        → string_bytes text.new ≡ join_with_byte 32 (word ∷ (words ++ map (label_name table.now) labels.now))) }
+{
+    for label in labels.as_slice() {
+        let name = label_name(table, *label);
+        write!(text, " {name}")?;
+    }
+    Ok(())
+}
+
 /// The text of `only`.
 fn only_text(
     alloc: Global,
@@ -34,10 +46,27 @@ fn only_text(
 {
     let name = label_name(table, object);
     let mut text = format!(in alloc; "only {name}")?;
-    for actor in actors.as_slice() {
-        let name = label_name(table, *actor);
-        write!(text, " {name}")?;
+    push_names(&mut text, table, actors)?;
+    Ok(text)
+}
+
+/// The text of `through`, or of `apart` where there are no filters.
+fn through_text(
+    alloc: Global,
+    table: &Table,
+    from: Label,
+    to: Label,
+    filters: &LabelList,
+) -> Result<String, AllocError>
+    ensures { IfOk result (λ text. string_bytes text ≡ join_with_byte 32 (through_words table.now from to filters.now)) }
+{
+    let from = label_name(table, from);
+    let to = label_name(table, to);
+    if filters.as_slice().is_empty() {
+        return format!(in alloc; "apart {from} {to}");
     }
+    let mut text = format!(in alloc; "through {from} {to}")?;
+    push_names(&mut text, table, filters)?;
     Ok(text)
 }
 
@@ -57,11 +86,7 @@ pub fn claim_text(alloc: Global, claim: &Claim, table: &Table) -> Result<String,
             format!(in alloc; "{word} {actor} {object}")
         }
         Claim::Only(object, actors) => only_text(alloc, table, *object, actors),
-        Claim::Apart(from, to) => {
-            let from = label_name(table, *from);
-            let to = label_name(table, *to);
-            format!(in alloc; "apart {from} {to}")
-        }
+        Claim::Through(from, to, filters) => through_text(alloc, table, *from, *to, filters),
         Claim::Without(actor, kind, object) => {
             let actor = label_name(table, *actor);
             let kind = kind.name();

@@ -50,6 +50,15 @@ pub enum Picture {
     Labels,
 }
 
+/// In which form `why` and `summary` answer.
+#[derive(Clone, Copy, PartialEq, Eq, Debug)]
+pub enum Form {
+    /// As text.
+    Text,
+    /// As one JSON object on a line.
+    Json,
+}
+
 /// What `show` looks for, and how long.
 #[derive(Clone, Copy, PartialEq, Eq, Debug)]
 pub struct Search {
@@ -77,6 +86,7 @@ pub enum OfSystem<'a> {
     List,
     /// Reports what threads of the label `actor` may do to objects of the label `object`, and why.
     Why {
+        form: Form,
         actor: &'a str,
         object: &'a str,
     },
@@ -89,7 +99,7 @@ pub enum OfSystem<'a> {
     /// Draws who may change or take from whom.
     Draw(Picture),
     /// Summarises who may change whom, and who uses which memory.
-    Summary,
+    Summary(Form),
     /// Writes the strongest claims that hold.
     Strongest,
 }
@@ -101,7 +111,11 @@ pub enum OfPolicy<'a> {
     Close(Rules, OnClose),
     /// Reports what the policy lets threads of the label `actor` do to objects of the label `object`, and
     /// why. This says nothing about runs.
-    Why { actor: &'a str, object: &'a str },
+    Why {
+        form: Form,
+        actor: &'a str,
+        object: &'a str,
+    },
     /// Draws whom the policy lets change or take from whom.
     Draw(Picture),
 }

@@ -18,7 +18,7 @@ mod telling;
 pub use answer::{Answer, Made, denied};
 pub use captext::Fault;
 pub use choices::{
-    Imported, OfPolicy, OfSystem, OnAccept, OnClose, OnImport, Picture, Search, Taken,
+    Form, Imported, OfPolicy, OfSystem, OnAccept, OnClose, OnImport, Picture, Search, Taken,
 };
 pub use devices::{ReadError, Sink, Source};
 pub use end::{Asked, End, Misuse};

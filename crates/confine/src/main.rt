@@ -17,6 +17,7 @@ use std::alloc::Global;
 use std::env::Env;
 use std::io::{Read, Write};
 use std::process::ExitCode;
+use std::rt::Clock;
 use std::sync::Wait;
 use std::thread::Threads;
 use std::{env, io};
@@ -35,7 +36,7 @@ fn main(rt: HostRuntime) -> ExitCode {
 /// Does what the command line asks for; gives the exit status.
 fn serve<R, F, O, W>(rt: &R, line: CommandLine<'_>, opener: &O, out: &mut Watched<W>) -> u8
 where
-    R: Eprint + AllocGlobal + Threads + Wait + Sync,
+    R: Eprint + AllocGlobal + Clock + Threads + Wait + Sync,
     F: Read + Drop,
     O: Fn(&str) -> io::Result<F>,
     W: Write,

@@ -61,12 +61,13 @@ pub enum Form {
     ClaimTake,
     ClaimOnly,
     ClaimApart,
+    ClaimThrough,
     ClaimWithout,
 }
 
 impl Form {
     /// All forms, those of a file in the order in which its lines may come.
-    pub const ALL: [Form; 46] = [
+    pub const ALL: [Form; 47] = [
         Form::Label,
         Form::Untyped,
         Form::CNode,
@@ -112,6 +113,7 @@ impl Form {
         Form::ClaimTake,
         Form::ClaimOnly,
         Form::ClaimApart,
+        Form::ClaimThrough,
         Form::ClaimWithout,
     ];
 
@@ -123,6 +125,7 @@ impl Form {
             | Form::ClaimTake
             | Form::ClaimOnly
             | Form::ClaimApart
+            | Form::ClaimThrough
             | Form::ClaimWithout => File::Claims,
             Form::CertifiedCap
             | Form::CertifiedSpace
@@ -201,6 +204,7 @@ impl Form {
             Form::ClaimTake => "take",
             Form::ClaimOnly => "only",
             Form::ClaimApart => "apart",
+            Form::ClaimThrough => "through",
             Form::ClaimWithout => "without",
         }
     }
@@ -257,6 +261,7 @@ impl Form {
             Form::ClaimTake => "`take LABEL LABEL`, with `*` for at most one LABEL",
             Form::ClaimOnly => "`only LABEL LABEL ..`",
             Form::ClaimApart => "`apart LABEL LABEL`",
+            Form::ClaimThrough => "`through LABEL LABEL ..`",
             Form::ClaimWithout => "`without LABEL KIND LABEL`",
         }
     }

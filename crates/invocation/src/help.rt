@@ -161,7 +161,9 @@ says nothing:
   none A B           threads of label A never change an object of label B
   take A B           .. other than by shrinking it; `*` for A or B: each other label
   only B A A ..      threads of B and of these labels alone change an object of B
-  apart A B          no chain of such changes leads from A to B
+  apart A B          nothing A does flows to B: no chain of labels leads from A to B,
+                     of which each may change objects that the next one has or sees
+  through A B F ..   .. but through these labels
   without A KIND B   A never has authority of this kind on B, as in an edge of a policy";
 
 pub const DESCRIPTION: &str = "\
@@ -171,17 +173,25 @@ docs/IMPORT.md says what each element becomes.";
 
 pub const VERSION: &str = "0.20.0";
 
-pub const EXPLAIN: &str = "Explains on standard error what is denied or faulty, and what to do";
+pub const EXPLAIN: &str = "Adds reasons, runs and notes to what standard error says";
 
-pub const QUIET: &str = "Leaves out notes on standard error";
+pub const QUIET: &str = "Leaves out sentences on standard error; with --explain, only the notes";
 
 pub const FORMAT: &str = "Prints reports as `json` or `short`: FILE:LINE: message";
 
 pub const WRONG_FORMAT: &str = "'--format <F>' takes 'json' or 'short'";
 
+pub const FORM: &str = "Prints the answer as `json`, on one line, or as `text`";
+
+pub const WRONG_FORM: &str = "'--format <F>' takes 'json' or 'text'";
+
 pub const WORKERS: &str = "Threads that check the slots at the same time, 1 to 16";
 
 pub const WRONG_WORKERS: &str = "'--workers <N>' takes a decimal number from 1 to 16";
+
+pub const SECONDS: &str = "Seconds for which `--explain` looks for runs; 0: without a bound";
+
+pub const WRONG_SECONDS: &str = "'--seconds <N>' takes a decimal number from 0 to 86400";
 
 pub const CERT: &str = "Writes the certificate of an accepted table instead of the report";
 
@@ -333,14 +343,14 @@ edge a derive a
 edge a runs a
 end
 .
-confine check table policy --explain
+confine check table policy
 
 It prints the rule that is broken and the place, and ends with status 1:
 
 {\"place\":[\"space.0\",\"await\",\"b\"],\"rule\":\"A1\",\"verdict\":\"deny\"}
 
-By rule A1 each capability keeps to the policy. With `--explain` standard error says, in one line,
-which capability doesn't, in which line it is, and what may be done:
+By rule A1 each capability keeps to the policy. Standard error says, in one line, which capability
+doesn't, in which line it is, and what may be done:
 
 table:8: denied by A1: slot 0 of `space` lets `a` await `b`, but the policy has no such edge. Give
 the capability fewer rights, or add `edge a await b`. `confine close table policy` adds the edge
@@ -385,6 +395,12 @@ It prints the first line that is wrong, missing or too many, where the header is
 ends with status 1:
 
 {\"place\":[\"1\"],\"rule\":\"C1\",\"verdict\":\"deny\"}
+
+Standard error says, in one line, which line of the file that is, and what to do:
+
+certificate:2: denied by C1: line 1 after the certificate's header differs from what the table
+gives, is missing, or is one line too many. Write the certificate again with
+`confine check --cert`.
 "
 );
 
@@ -418,9 +434,14 @@ Without the edge `await` no call is made:
 sed -i '/await/d' policy
 confine run table policy script
 
-It prints the broken rule and the place, and ends with status 1:
+It prints the broken rule and the place, and ends with status 1. Standard error says the same in
+words:
 
 {\"place\":[\"space.0\",\"await\",\"b\"],\"rule\":\"A1\",\"verdict\":\"deny\"}
+
+table:8: denied by A1: slot 0 of `space` lets `a` await `b`, but the policy has no such edge. Give
+the capability fewer rights, or add `edge a await b`. `confine close table policy` adds the edge
+for you.
 
 A table that ends after its second line has a fault in its third:
 
@@ -430,6 +451,8 @@ confine run short policy script
 It prints the number of the fault, and ends with status 2:
 
 {\"fault\":50,\"file\":\"table\",\"line\":3}
+
+short:3: the line is missing: the text ends without the line `end`
 "
 );
 
@@ -458,6 +481,11 @@ It prints the first entry that the system can't have made, counted from 1, and e
 
 {\"entry\":2,\"verdict\":\"illegal\"}
 
+Standard error says what the system would have answered:
+
+log:3: entry 2 is not a step of the system: the kernel answers `done word 1` to `0 1 poll 0` there,
+not `done word 2`
+
 A legal log may end outside a policy, as here without the edge `await`:
 
 sed -i '/await/d' policy
@@ -467,6 +495,9 @@ confine replay table policy log
 It prints the rule that is broken at the log's end and the place, and ends with status 1:
 
 {\"entries\":2,\"place\":[\"space.0\",\"await\",\"b\"],\"rule\":\"A1\",\"state\":\"outside\",\"verdict\":\"legal\"}
+
+log:3: outside by A1: after the last entry, slot 0 of `space` lets `a` await `b`, but the policy has
+no `edge a await b`
 "
 );
 
@@ -561,14 +592,15 @@ It prints the claims that don't hold and what authority there is, and ends with 
 
 {\"broken\":[{\"authority\":\"full\",\"claim\":\"take a b\",\"line\":3}],\"verdict\":\"broken\"}
 
-With `--explain` standard error says by which edges, where each is from, and which calls show it:
+Standard error says by which edges. With `--explain` it says too where each edge is from, and which
+calls show it:
 
 claims:3: `take a b` doesn't hold: `a` may change objects of `b`, by `edge a notify b`. Change the
 claim, or give `a` fewer rights at table:8.
 
 `edge a notify b` comes from table:8: slot 0 of `space` lets `a` notify `b`
 
-a run that shows it:
+claims:3: a run that shows it:
 
 `0 1 signal 0`: `main` of `a` changes `ring` of `b`
 "
@@ -612,7 +644,12 @@ No thread of `b` changes an object of `a` in any run: `b` has no thread. `take` 
 of A can at most take something away: objects of B may vanish, or lose capabilities or links. If
 there are several reasons, `why` prints one with the fewest edges. It ends with status 0 whatever
 the answer is; to make a build fail, use `confine claims`. The answer is about the table, whatever a
-policy allows; what a policy allows, `--policy POLICY` asks.
+policy allows; what a policy allows, `--policy POLICY` asks. For a script there is JSON. It also
+comes with status 0:
+
+confine why table a b --format json
+
+{\"actor\":\"a\",\"authority\":\"full\",\"edges\":[[\"a\",\"notify\",\"b\"]],\"object\":\"b\"}
 "
 );
 
@@ -635,6 +672,7 @@ Here one label has a thread, and `b` has none. In the row of a label stands what
 to objects of the label at the head of the column: C they call, A they answer, S they signal, F they
 may change them for another reason, t they may only take away; m is memory that one writes and the
 other has. A `.` says that they never change one, in any run: it is `none`, as `confine why` tells.
+With `--format json` it is one JSON object on a line, which has no cell with a `.`.
 "
 );
 

@@ -7,7 +7,7 @@ ghost use Rattle.invocation.specs.Found.{AreFound, IsAskedIn, IsRead};
 use crate::help;
 use clap::error::ErrorKind;
 use clap::{Arg, ArgAction, ArgMatches, Command, Error};
-use requests::{CommandLine, Format, Verb, Words};
+use requests::{CommandLine, Verb, Words};
 use std::alloc::{AllocError, Global};
 use std::fmt;
 
@@ -61,11 +61,13 @@ fn misuse_of(alloc: Global, matches: &ArgMatches<'_>) -> Result<(ErrorKind, Stri
         return Ok((ErrorKind::TooManyValues, message));
     }
     let message = match name {
-        _ if !has_format(found) => help::WRONG_FORMAT,
+        "why" | "summary" if !has_format(name, found) => help::WRONG_FORM,
+        _ if !has_format(name, found) => help::WRONG_FORMAT,
         _ if !has_rules(found) => help::WRONG_RULES,
         _ if !has_rights(found) => help::WRONG_RIGHTS,
         "import" => help::WRONG_RIGHTS,
         "show" => help::WRONG_STEPS,
+        "claims" => help::WRONG_SECONDS,
         _ => help::WRONG_WORKERS,
     };
     Ok((ErrorKind::InvalidValue, String::from_str(alloc, message)?))
@@ -168,11 +170,11 @@ fn has_rights(found: &ArgMatches<'_>) -> bool {
     }
 }
 
-// Whether the word for the format is one.
-fn has_format(found: &ArgMatches<'_>) -> bool {
-    match found.get_str("format") {
-        Some(word) => Format::from_name(word).is_some(),
-        None => false,
+// Whether the word for the format is one of the command's.
+fn has_format(name: &str, found: &ArgMatches<'_>) -> bool {
+    match (Verb::from_name(name), found.get_str("format")) {
+        (Some(verb), Some(word)) => verb.format(word).is_some(),
+        _ => false,
     }
 }
 
@@ -205,6 +207,7 @@ fn words_of<'a>(verb: Verb, found: &ArgMatches<'a>) -> Words<'a>
         object: found.get_str("object"),
         workers: found.get_str("workers"),
         steps: found.get_str("steps"),
+        seconds: found.get_str("seconds"),
         rights: found.get_str("rights"),
         rules: found.get_str("rules"),
         format: found.get_str("format"),
@@ -356,6 +359,7 @@ fn claims_command<'a>(alloc: Global) -> Result<Command<'a>, AllocError> {
     let claims = word(alloc, "claims", "CLAIMS", help::CLAIMS).required(false);
     let command = taking(command, claims.required_unless_present("all"));
     let command = taking(command, Ok(one_word_more(alloc)));
+    let command = taking(command, Ok(seconds(alloc)));
     taking(command, Ok(flag(alloc, "all", help::ALL)))
 }
 
@@ -402,8 +406,15 @@ fn telling<'a>(
         .after_help(example)
         .arg(flag(alloc, "explain", help::EXPLAIN));
     let command = taking(command, Ok(flag(alloc, "quiet", help::QUIET)));
-    let format = option(alloc, "format", "F", help::FORMAT);
-    taking(command, Ok(format.default_value("json")))
+    taking(command, Ok(format(alloc, name)))
+}
+
+// The option for the format of a command's reports, or of its answer where that has two forms.
+fn format<'a>(alloc: Global, name: &str) -> Arg<'a> {
+    match name {
+        "why" | "summary" => option(alloc, "format", "F", help::FORM).default_value("text"),
+        _ => option(alloc, "format", "F", help::FORMAT).default_value("json"),
+    }
 }
 
 // The option for the rules by which a policy is judged.
@@ -426,6 +437,11 @@ fn one_word_more<'a>(alloc: Global) -> Arg<'a> {
 // The option for the number of workers.
 fn workers<'a>(alloc: Global) -> Arg<'a> {
     option(alloc, "workers", "N", help::WORKERS).default_value("1")
+}
+
+// The option for how long runs are looked for that sentences show.
+fn seconds<'a>(alloc: Global) -> Arg<'a> {
+    option(alloc, "seconds", "N", help::SECONDS).default_value("10")
 }
 
 // An option with a value.

@@ -5,9 +5,9 @@ use crate::bell::{CERTIFICATE, LOG, POLICY, SCRIPT, TABLE};
 use crate::memory::{Stopped, Wrong, are, holds, prepared, spend};
 use crate::retypes::{self, LOG_WITHOUT_MEMORY};
 use report::{
-    End, Imported, Minting, OfPolicy, OfSystem, OnAccept, OnClose, OnImport, Open, Picture, Rules,
-    Search, Silence, Sink, Source, Taken, Watched, ask, ask_policy, check, check_claims, import,
-    replay, run, run_split, verify,
+    End, Form, Imported, Minting, OfPolicy, OfSystem, OnAccept, OnClose, OnImport, Open, Picture,
+    Rules, Search, Silence, Sink, Source, Taken, Watched, ask, ask_policy, check, check_claims,
+    import, replay, run, run_split, verify,
 };
 use std::sync::Wait;
 use std::thread::Threads;
@@ -150,6 +150,7 @@ pub const CALLS: [EngineCall; 35] = [
     EngineCall {
         name: "engine_why",
         engine: Engine::Asked(OfSystem::Why {
+            form: Form::Text,
             actor: "a",
             object: "a",
         }),
@@ -162,6 +163,7 @@ pub const CALLS: [EngineCall; 35] = [
     EngineCall {
         name: "engine_why_allowed",
         engine: Engine::AskedOfPolicy(OfPolicy::Why {
+            form: Form::Text,
             actor: "a",
             object: "b",
         }),
@@ -191,7 +193,7 @@ pub const CALLS: [EngineCall; 35] = [
     },
     EngineCall {
         name: "engine_summary",
-        engine: Engine::Asked(OfSystem::Summary),
+        engine: Engine::Asked(OfSystem::Summary(Form::Text)),
         table: TABLE,
         policy: "",
         third: "",

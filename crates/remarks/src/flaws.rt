@@ -81,19 +81,23 @@ impl fmt::Display for Flaw<'_> {
             Flaw::Missing(name) => write!(f, "{name} is missing"),
             Flaw::NoRegion(name) => write!(
                 f,
-                "there is no memory region {}",
+                "there is no memory region `{}`",
                 Shown { bytes: name }
             ),
             Flaw::NoDomain(name) => write!(
                 f,
-                "there is no protection domain {}",
+                "there is no protection domain `{}`",
                 Shown { bytes: name }
             ),
             Flaw::NearAttribute(name, near) => tell_near(f, "attribute", name, near),
             Flaw::NearRegion(name, near) => tell_near(f, "memory region", name, near),
             Flaw::NearDomain(name, near) => tell_near(f, "protection domain", name, near),
             Flaw::Name(line) => write!(f, "line {line} has the same name"),
-            Flaw::Id(domain) => write!(f, "this id is given twice in {}", Shown { bytes: domain }),
+            Flaw::Id(domain) => write!(
+                f,
+                "this id is given twice in `{}`",
+                Shown { bytes: domain }
+            ),
             Flaw::Interrupt(line) => write!(f, "line {line} has the same interrupt"),
             Flaw::SecondMachine(line) => write!(
                 f,
@@ -139,7 +143,7 @@ fn tell_attribute<W: fmt::Write>(
     name: &[u8],
     kind: Kind,
 ) -> fmt::Result {
-    write!(f, "there is no attribute {}", Shown { bytes: name })?;
+    write!(f, "there is no attribute `{}`", Shown { bytes: name })?;
     let mut separator = ", but ";
     for rule in rules_of(kind) {
         write!(f, "{separator}{}", rule.0)?;

@@ -24,11 +24,11 @@ AreFound broken found = (v : Vec Broken Global) × (found ≡ finding.Broken v) 
 -- all that don't hold
 pub data Judges (t : Layout) (lines : List (Option Claim)) (answer : Answer) : Type 0 where
   all_hold : (reach : TableReach) → IsReachOf t reach → AreBroken t (limits_of reach) ClaimLines.FIRST lines []
-      → ((claim : Claim) → Contains lines (Some claim) → IsKept t claim) → IsPlain (line_of (hold_data (claim_count lines))) 0 answer
+      → ((claim : Claim) → Contains lines (Some claim) → IsKept t (limits_of reach) claim) → IsPlain (line_of (hold_data (claim_count lines))) 0 answer
       → Judges t lines answer
   some_broken : (reach : TableReach) → IsReachOf t reach → (first : Broken) (more : List Broken)
       → AreBroken t (limits_of reach) ClaimLines.FIRST lines (first ∷ more)
-      → ((claim : Claim) → Holds t (limits_of reach) claim → IsKept t claim)
+      → ((claim : Claim) → Holds t (limits_of reach) claim → IsKept t (limits_of reach) claim)
       → Finds (line_of (breaches_data t lines (first ∷ more))) (AreFound (first ∷ more)) answer → Judges t lines answer
 
 -- claims were judged on a system
@@ -42,5 +42,5 @@ pub record TellsStrongest (t : Layout) (text : List ℕ) : Type 0 where
   pub lines : List (Option Claim)
   pub strongest : AreStrongest t (limits_of reach) lines
   pub none_broken : AreBroken t (limits_of reach) ClaimLines.FIRST lines []
-  pub kept : (claim : Claim) → Contains lines (Some claim) → IsKept t claim
+  pub kept : (claim : Claim) → Contains lines (Some claim) → IsKept t (limits_of reach) claim
   pub told : text ≡ lines_text t lines

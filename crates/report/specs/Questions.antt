@@ -9,8 +9,8 @@ use Rattle.policy.specs.{declared.why.Why.{Why, Why as why}, ActorReasons.IsWhyA
 use Rattle.reach.specs.{Extents.{Limits, limits_of}, Reach.{IsReachOf, TableReach}}
 use Rattle.captext.specs.PolicyText.{edge_lines}
 use Rattle.diagram.specs.Folded.{IsFoldedDrawing}
-use Rattle.reptext.specs.Drawing.{IsDrawing}
-use Rattle.commands.specs.declared.{choices.Picture.{Picture, Picture as picture}, end.Asked.{Asked, Asked as asked}}
+use Rattle.reptext.specs.{Drawing.IsDrawing, Reasons.why_data, Reports.line_of}
+use Rattle.commands.specs.declared.{choices.{Form.{Form, Form as form}, Picture.{Picture, Picture as picture}}, end.Asked.{Asked, Asked as asked}}
 
 -- of two labels that may be there, the first that isn't
 abbrev pub first_absent : Option ℕ → Option ℕ → Option Asked
@@ -45,15 +45,20 @@ why_text t (why.Full edges) = codes "full\n" ++ edge_lines t edges.items
 why_text t (why.Take edges) = codes "take\n" ++ edge_lines t edges.items
 why_text t why.Nothing = codes "none\n"
 
+-- .. in a form
+abbrev pub told_in : Form → Layout → ℕ → ℕ → Why → List ℕ
+told_in form.Text t a l authority = why_text t authority
+told_in form.Json t a l authority = line_of (why_data t a l authority)
+
 -- a text tells what threads of the label of one name may do to objects of the label of another within limits, and the first reason for it
-pub record TellsWhy (actor object : List ℕ) (t : Layout) (text : List ℕ) (limits : Limits) : Type 0 where
+pub record TellsWhy (written : Form) (actor object : List ℕ) (t : Layout) (text : List ℕ) (limits : Limits) : Type 0 where
   pub of_actor : ℕ
   pub of_object : ℕ
   pub actor_named : label_named t actor ≡ Some of_actor
   pub object_named : label_named t object ≡ Some of_object
   pub authority : Why
   pub is_why : IsWhyAmong limits.test limits.acts of_actor of_object authority
-  pub told : text ≡ why_text t authority
+  pub told : text ≡ told_in written t of_actor of_object authority
 
 -- a text is this picture of who may change or take from whom within limits
 abbrev pub IsPicture : Picture → Layout → List ℕ → Limits → Type 0

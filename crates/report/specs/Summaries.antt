@@ -3,9 +3,16 @@ use Rattle.std.specs.Prelude.{ℕ, List}
 use Rattle.machine.specs.Layout.{Layout}
 use Rattle.reach.specs.Reach.{IsReachOf, TableReach}
 use Rattle.summary.specs.Whole.{IsSummary}
+use Rattle.reptext.specs.Summaries.{IsSummaryReport}
+use Rattle.commands.specs.declared.choices.Form.{Form, Form as form}
 
--- a text is the summary of the reach of a table
-pub record TellsSummary (t : Layout) (text : List ℕ) : Type 0 where
+-- a text is the summary of a reach, in a form
+abbrev pub IsSummaryIn : Form → TableReach → List ℕ → Type 0
+IsSummaryIn form.Text reach text = IsSummary reach text
+IsSummaryIn form.Json reach text = IsSummaryReport reach text
+
+-- a text is the summary of the reach of a table, in a form
+pub record TellsSummary (written : Form) (t : Layout) (text : List ℕ) : Type 0 where
   pub reach : TableReach
   pub is_reach : IsReachOf t reach
-  pub sums : IsSummary reach text
+  pub sums : IsSummaryIn written reach text

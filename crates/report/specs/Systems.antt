@@ -14,7 +14,7 @@ use Rattle.report.specs.{Shows.Shows, Summaries.TellsSummary}
 
 -- of the labels that are asked about, the first that the table lacks
 abbrev pub lacking : OfSystem → Layout → Option Asked
-lacking (of_system.Why actor object) t = unlabelled t actor.now object.now
+lacking (of_system.Why form actor object) t = unlabelled t actor.now object.now
 lacking (of_system.Show search actor object) t = unlabelled t actor.now object.now
 lacking _ t = None
 
@@ -22,10 +22,10 @@ lacking _ t = None
 abbrev pub AnswersSystem : OfSystem → Layout → Answer → Type 0
 AnswersSystem (of_system.Start set written) t = Closes set written t []
 AnswersSystem of_system.List t = Says (λ text. text ≡ objects_text t)
-AnswersSystem (of_system.Why actor object) t = Says (λ text. IsSoByReach t (TellsWhy actor.now object.now t text))
+AnswersSystem (of_system.Why form actor object) t = Says (λ text. IsSoByReach t (TellsWhy form actor.now object.now t text))
 AnswersSystem (of_system.Show search actor object) t = Shows search actor.now object.now t
 AnswersSystem (of_system.Draw picture) t = Says (λ text. IsSoByReach t (IsPicture picture t text))
-AnswersSystem of_system.Summary t = Says (TellsSummary t)
+AnswersSystem (of_system.Summary form) t = Says (TellsSummary form t)
 AnswersSystem of_system.Strongest t = Says (TellsStrongest t)
 
 -- the answer to a system that is asked this was given
@@ -35,12 +35,12 @@ IsAsked asked taken = IsDoneOnSystem taken (lacking asked) (AnswersSystem asked)
 -- .. of a policy too
 
 abbrev pub lacking_of_policy : OfPolicy → Layout → Option Asked
-lacking_of_policy (of_policy.Why actor object) t = unlabelled t actor.now object.now
+lacking_of_policy (of_policy.Why form actor object) t = unlabelled t actor.now object.now
 lacking_of_policy _ t = None
 
 abbrev pub AnswersPolicy : OfPolicy → Layout → List Edge → Answer → Type 0
 AnswersPolicy (of_policy.Close set written) t edges = Closes set written t edges
-AnswersPolicy (of_policy.Why actor object) t edges = Says (λ text. IsSoByPolicy edges (TellsWhy actor.now object.now t text))
+AnswersPolicy (of_policy.Why form actor object) t edges = Says (λ text. IsSoByPolicy edges (TellsWhy form actor.now object.now t text))
 AnswersPolicy (of_policy.Draw picture) t edges = Says (λ text. IsSoByPolicy edges (IsPicture picture t text))
 
 abbrev pub IsAskedOfPolicy : {T P O : Type 0} → OfPolicy → Taken → Input T → Input P → Output O → End → Type 0

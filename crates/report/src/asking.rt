@@ -8,20 +8,20 @@ ghost use Rattle.commands.specs.Hearing.{SystemIsHeard, WithIsHeard};
 ghost use Rattle.commands.specs.Hearing as held;
 ghost use Rattle.reach.specs.Extents.{limits_by};
 ghost use Rattle.report.specs.Questions as questions;
-ghost use Rattle.report.specs.{Summaries.TellsSummary, Systems.{AnswersPolicy, AnswersSystem, IsAsked, IsAskedOfPolicy}};
+ghost use Rattle.report.specs.{Summaries.{IsSummaryIn, TellsSummary}, Systems.{AnswersPolicy, AnswersSystem, IsAsked, IsAskedOfPolicy}};
 ghost use Rattle.report.specs.Systems.{lacking, lacking_of_policy};
 
 use crate::claiming::strongest_text;
 use crate::closing::closed;
 use crate::showing::shown;
-use crate::{Asked, End, Listener, Picture, Sink, Source};
-use base::{Edge, Labels, Refusal};
+use crate::{Asked, End, Form, Listener, Picture, Sink, Source};
+use base::{Edge, Label, Labels, Refusal};
 use captext::write_edges;
 use commands::{Answer, Given, OfPolicy, OfSystem, Stop, Taken, With, load_given, load_with, tell};
 use diagram::write_programs;
 use policy::{Policy, Why};
 use reach::Reach;
-use reptext::{write_drawing, write_objects};
+use reptext::{summary_report, why_report, write_drawing, write_objects};
 use std::alloc::Global;
 use table::Table;
 
@@ -77,14 +77,18 @@ fn system_answer(alloc: Global, asked: OfSystem<'_>, table: &Table) -> Result<An
             Ok(closed(alloc, rules, table, &Policy::new(alloc), on_close)?)
         }
         OfSystem::List => Ok(Answer::plain(write_objects(alloc, table)?, 0)),
-        OfSystem::Why { actor, object } => explained(alloc, table, actor, object),
+        OfSystem::Why {
+            form,
+            actor,
+            object,
+        } => explained(alloc, form, table, actor, object),
         OfSystem::Show {
             search,
             actor,
             object,
         } => shown(alloc, search, table, actor, object),
         OfSystem::Draw(picture) => { Ok(Answer::plain(reach_picture(alloc, picture, table)?, 0)) }
-        OfSystem::Summary => Ok(Answer::plain(summary_text(alloc, table)?, 0)),
+        OfSystem::Summary(form) => Ok(Answer::plain(summary_text(alloc, form, table)?, 0)),
         OfSystem::Strongest => Ok(Answer::plain(strongest_text(alloc, table)?, 0)),
     }
 }
@@ -147,7 +151,11 @@ fn policy_answer(
 {
     match asked {
         OfPolicy::Close(rules, on_close) => Ok(closed(alloc, rules, table, policy, on_close)?),
-        OfPolicy::Why { actor, object } => explained_by(alloc, table, policy, actor, object),
+        OfPolicy::Why {
+            form,
+            actor,
+            object,
+        } => explained_by(alloc, form, table, policy, actor, object),
         OfPolicy::Draw(picture) => {
             Ok(Answer::plain(policy_picture(alloc, picture, table, policy)?, 0))
         }
@@ -155,9 +163,15 @@ fn policy_answer(
 }
 
 /// What a label may do to another, and why; or the first of the two names that is no label of the table.
-fn explained(alloc: Global, table: &Table, actor: &str, object: &str) -> Result<Answer, Stop>
+fn explained(
+    alloc: Global,
+    form: Form,
+    table: &Table,
+    actor: &str,
+    object: &str,
+) -> Result<Answer, Stop>
     ensures { IsJudgedSo (questions.unlabelled table.now actor.now object.now)
-        (Says (λ text. questions.IsSoByReach table.now (questions.TellsWhy actor.now object.now table.now text))) result }
+        (Says (λ text. questions.IsSoByReach table.now (questions.TellsWhy form actor.now object.now table.now text))) result }
 {
     let Some(actor) = table.label_named(actor) else {
         return Err(Stop::NoLabel(Asked::Actor));
@@ -167,19 +181,20 @@ fn explained(alloc: Global, table: &Table, actor: &str, object: &str) -> Result<
     };
     let reach = Reach::of(alloc, table)?;
     let why = reach.why(alloc, actor, object)?;
-    Ok(Answer::plain(why_text(alloc, table, &why)?, 0))
+    Ok(Answer::plain(told(alloc, form, table, actor, object, &why)?, 0))
 }
 
 /// What a policy allows, and why; or the first of the two names that is no label of the table.
 fn explained_by(
     alloc: Global,
+    form: Form,
     table: &Table,
     policy: &Policy,
     actor: &str,
     object: &str,
 ) -> Result<Answer, Stop>
     ensures { IsJudgedSo (questions.unlabelled table.now actor.now object.now)
-        (Says (λ text. questions.IsSoByPolicy policy.now (questions.TellsWhy actor.now object.now table.now text))) result }
+        (Says (λ text. questions.IsSoByPolicy policy.now (questions.TellsWhy form actor.now object.now table.now text))) result }
 {
     let Some(actor) = table.label_named(actor) else {
         return Err(Stop::NoLabel(Asked::Actor));
@@ -188,10 +203,28 @@ fn explained_by(
         return Err(Stop::NoLabel(Asked::Object));
     };
     let why = policy.why_among(alloc, Labels::all(), actor, object)?;
-    Ok(Answer::plain(why_text(alloc, table, &why)?, 0))
+    Ok(Answer::plain(told(alloc, form, table, actor, object, &why)?, 0))
 }
 
-/// What is told of what a label may do.
+/// What is told of what a label may do to another, in a form.
+fn told(
+    alloc: Global,
+    form: Form,
+    table: &Table,
+    actor: Label,
+    object: Label,
+    why: &Why,
+) -> Result<Vec<u8>, Refusal>
+    ensures text { IfOk result (λ text. text.items ≡ questions.told_in form table.now actor object why.now) }
+    ensures memory { IfErr result (λ refusal. refusal ≡ out_of_memory) }
+{
+    match form {
+        Form::Text => why_text(alloc, table, why),
+        Form::Json => why_report(alloc, table, actor, object, why),
+    }
+}
+
+/// The lines on what a label may do.
 fn why_text(alloc: Global, table: &Table, why: &Why) -> Result<Vec<u8>, Refusal>
     ensures text { IfOk result (λ text. text.items ≡ questions.why_text table.now why.now) }
     ensures memory { IfErr result (λ refusal. refusal ≡ out_of_memory) }
@@ -255,11 +288,22 @@ fn picture_text(
     }
 }
 
-/// The summary of a table.
-fn summary_text(alloc: Global, table: &Table) -> Result<Vec<u8>, Refusal>
-    ensures text { IfOk result (λ text. TellsSummary table.now text.items) }
+/// The summary of a table, in a form.
+fn summary_text(alloc: Global, form: Form, table: &Table) -> Result<Vec<u8>, Refusal>
+    ensures text { IfOk result (λ text. TellsSummary form table.now text.items) }
     ensures memory { IfErr result (λ refusal. refusal ≡ out_of_memory) }
 {
     let reach = Reach::of(alloc, table)?;
-    summary::summary(alloc, &reach)
+    summary_in(alloc, form, &reach)
+}
+
+/// The summary of the reach of a table, in a form.
+fn summary_in(alloc: Global, form: Form, reach: &Reach<'_>) -> Result<Vec<u8>, Refusal>
+    ensures text { IfOk result (λ text. IsSummaryIn form reach.now text.items) }
+    ensures memory { IfErr result (λ refusal. refusal ≡ out_of_memory) }
+{
+    match form {
+        Form::Text => summary::summary(alloc, reach),
+        Form::Json => summary_report(alloc, reach),
+    }
 }

@@ -21,9 +21,9 @@ pub use checking::check;
 pub use claiming::check_claims;
 pub use closing::the_sharp_policy_for_a_table_is_its_reach;
 pub use commands::{
-    Answer, Asked, Described, End, Fault, File, Files, Finding, Given, Imported, Listener, Made,
-    Minting, Misuse, OfPolicy, OfSystem, OnAccept, OnClose, OnImport, Picture, Search, Silence,
-    Taken,
+    Answer, Asked, Described, End, Fault, File, Files, Finding, Form, Given, Imported, Listener,
+    Made, Minting, Misuse, OfPolicy, OfSystem, OnAccept, OnClose, OnImport, Picture, Search,
+    Silence, Taken,
 };
 pub use deal::{Gate, Open};
 pub use describing::import;

@@ -14,8 +14,8 @@ use Rattle.reach.specs.Extents.{MayChangeIn, MayShrinkIn, Limits}
 use Rattle.reptext.specs.Drawing.{AddsArrows, Draws, IsArrow, arrow_line, pairs_with, IsArrow.{dashed, itself, nothing, solid}}
 use mathlib.Core.Bool.{false≢true}
 
--- one text more, for the next of some values
-pub piece_more : {X : Type 0} (f : X → List ℕ) (xs : List X) (i : ℕ) (d : X) (before text longer : List ℕ) → i < length xs
+-- one piece more, for the next of some values
+pub piece_more : {X Y : Type 0} (f : X → List Y) (xs : List X) (i : ℕ) (d : X) (before text longer : List Y) → i < length xs
     → text ≡ before ++ flat_map f (take i xs) → longer ≡ text ++ f (get_or xs i d) → longer ≡ before ++ flat_map f (take (i + 1) xs)
 piece_more f xs i d before text longer within so_far grown =
     grown

@@ -1,8 +1,15 @@
--- The report of claims that don't hold has no number with a fraction.
-use Rattle.std.{specs.List.flat_map, proofs.Common.{[], ℕ, ◌++◌, ◌∷◌, ◌≡◌, Bool, List, None, Option, Some, false, refl, true}}
+-- The report of claims that don't hold, what a label may do, and the summary have no number with a fraction.
+use Rattle.std.{specs.{List.flat_map, Prelude.codes, Str.bytes_eq}, proofs.Common.{[], ℕ, ◌++◌, ◌==◌, ◌∷◌, ◌≡◌, Bool, List, None, Option, Some}}
+use Rattle.std.{specs.Prelude.if◌then◌else◌, proofs.Common.{false, map, refl, true}}
+use Rattle.base.specs.declared.edge.Edge.{Edge}
 use Rattle.machine.specs.Layout.{Layout}
+use Rattle.policy.specs.declared.why.Why.{Why, Why as why}
+use Rattle.captext.specs.PolicyText.{label_name}
+use Rattle.summary.specs.{declared.rows.Row.Row, Labelled.{others_of, programs_of}, Matrix.marks, Regions.{changers, readers, takers}}
 use Rattle.claims.specs.{Lines.claim_at, declared.{claim.Claim.Claim, deciding.{Broken.Broken, Failure.{Failure, Failure as failure}}}}
-use Rattle.reptext.specs.Breaches.{breaches_data, failure_data, names_both, told, told_of}
+use Rattle.reptext.specs.{Breaches.{breaches_data, failure_data, names_both, told, told_of}, Reasons.{edge_data, why_data}}
+use Rattle.reptext.specs.Summaries.{cell_data, cells_of, region_data, summary_data, told_cell}
+use Rattle.reptext.proofs.Names.{names_have_no_float, neither}
 use Rattle.serde_json.specs.{Data.Data, View.items_of, Written.{has_float, items_have_float}}
 
 one : (t : Layout) (claim : Claim) (line : ℕ) (why : Failure) → has_float (failure_data t claim line why) ≡ false
@@ -24,3 +31,50 @@ all t lines (first ∷ more) = after t first (claim_at lines first.line) (flat_m
 
 pub breaches_have_no_float : (t : Layout) (lines : List (Option Claim)) (broken : List Broken) → has_float (breaches_data t lines broken) ≡ false
 breaches_have_no_float t lines broken = rw (all t lines broken) refl
+
+-- what a label may do
+
+edges_have_no_float : (t : Layout) (edges : List Edge) → items_have_float (items_of (map (edge_data t) edges)) ≡ false
+edges_have_no_float t [] = refl
+edges_have_no_float t (edge ∷ edges) = edges_have_no_float t edges
+
+pub why_has_no_float : (t : Layout) (a l : ℕ) (answer : Why) → has_float (why_data t a l answer) ≡ false
+why_has_no_float t a l (why.Full edges) = rw (edges_have_no_float t edges.items) refl
+why_has_no_float t a l (why.Take edges) = rw (edges_have_no_float t edges.items) refl
+why_has_no_float t a l why.Nothing = refl
+
+-- a summary
+
+both : (first second : List Data) → items_have_float (items_of first) ≡ false → items_have_float (items_of second) ≡ false
+    → items_have_float (items_of (first ++ second)) ≡ false
+both [] second p q = q
+both (x ∷ first) second p q =
+    let parts = neither (has_float x) (items_have_float (items_of first)) p in
+    rw parts.0 (both first second parts.1 q)
+
+each_of : {X : Type 0} (f : X → List Data) → ((x : X) → items_have_float (items_of (f x)) ≡ false) → (xs : List X)
+    → items_have_float (items_of (flat_map f xs)) ≡ false
+each_of f none [] = refl
+each_of f none (x ∷ xs) = both (f x) (flat_map f xs) (none x) (each_of f none xs)
+
+cell : (t : Layout) (row other : Row) → items_have_float (items_of (told_cell t row other)) ≡ false
+cell t row other = by (row.label == other.label) (bytes_eq (marks row other.label) (codes ".")) where
+  by : (same dot : Bool)
+      → items_have_float (items_of (if same then [] else (if dot then [] else cell_data t row other ∷ []))) ≡ false
+  by true dot = refl
+  by false true = refl
+  by false false = refl
+
+cells : (t : Layout) (rows some : List Row) → items_have_float (items_of (flat_map (cells_of t rows) some)) ≡ false
+cells t rows some = each_of (cells_of t rows) (λ row. each_of (told_cell t row) (cell t row) rows) some
+
+regions : (t : Layout) (rows : List Row) (labels : List ℕ) → items_have_float (items_of (map (region_data t rows) labels)) ≡ false
+regions t rows [] = refl
+regions t rows (l ∷ labels) =
+    rw (names_have_no_float (map (label_name t) (changers rows l)))
+    (rw (names_have_no_float (map (label_name t) (readers rows l)))
+    (rw (names_have_no_float (map (label_name t) (takers rows l))) (regions t rows labels)))
+
+pub summary_has_no_float : (t : Layout) (rows : List Row) → has_float (summary_data t rows) ≡ false
+summary_has_no_float t rows =
+    rw (cells t rows rows) (rw (regions t rows (others_of t)) (rw (names_have_no_float (map (label_name t) (programs_of t))) refl))

@@ -12,7 +12,7 @@ pub names_have_no_float : (names : List (List ℕ)) → items_have_float (items_
 names_have_no_float [] = refl
 names_have_no_float (name ∷ names) = names_have_no_float names
 
-neither : (a b : Bool) → (a || b) ≡ false → (a ≡ false) × (b ≡ false)
+pub neither : (a b : Bool) → (a || b) ≡ false → (a ≡ false) × (b ≡ false)
 neither false b h = (refl, h)
 neither true b h = cc
 

@@ -4,3 +4,5 @@ pub mod Reports
 pub mod Objects
 pub mod Drawing
 pub mod Breaches
+pub mod Reasons
+pub mod Summaries

@@ -1,6 +1,6 @@
 //! The texts that the program writes besides tables, policies, certificates and logs: reports, each
-//! one JSON object on a line, and the names at the place that it tells; the list of a table's
-//! objects; and the drawing of who may change or take from whom.
+//! one JSON object on a line, and the names at the place that it tells; the summary, and what a label
+//! may do, as JSON; the list of a table's objects; and the drawing of who may change or take from whom.
 //!
 //! `commands` and `report` stand on it. It knows no device, and no code of the kernel's calls.
 #![tactic(auto)]
@@ -10,8 +10,10 @@ mod drawing;
 mod laws;
 mod listing;
 mod places;
+mod reasons;
 mod relations;
 mod reports;
+mod summaries;
 
 pub use breaches::breaches_report;
 pub use drawing::write_drawing;
@@ -19,7 +21,9 @@ pub use forms::File;
 pub use laws::upgraded_tables_are_reported_alike;
 pub use listing::write_objects;
 pub use places::{KindsOfObjects, place_names};
+pub use reasons::why_report;
 pub use reports::{
     accept_report, check_report, denial_text, extent_word, fault_report, hold_report,
     illegal_report, impossible_report, outside_report, unfound_report, within_report,
 };
+pub use summaries::summary_report;

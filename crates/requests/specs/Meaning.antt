@@ -3,7 +3,7 @@ use Rattle.std.specs.{Borrow.Bor, Prelude.{ℕ, ◌&&◌, List, None, Option, So
 use Rattle.std.specs.{Option.option_map_or, Prelude.option_and_then, Str.bytes_eq}
 use Rattle.words.specs.Number.{dec_of}
 use Rattle.importing.specs.declared.pieces.Minting.{Minting, Minting as minting}
-use Rattle.commands.specs.declared.choices.{Imported.{Imported, Imported as imported}, OnAccept.OnAccept}
+use Rattle.commands.specs.declared.choices.{Form.{Form, Form as form}, Imported.{Imported, Imported as imported}, OnAccept.OnAccept}
 use Rattle.commands.specs.declared.choices.{OnAccept.OnAccept as on_accept, OnClose.{OnClose, OnClose as on_close}, OnImport.OnImport}
 use Rattle.commands.specs.declared.choices.{OfPolicy.{OfPolicy, OfPolicy as by_policy}, OfSystem.{OfSystem, OfSystem as asked}}
 use Rattle.commands.specs.declared.choices.{Picture.{Picture, Picture as picture}, Search.Search, Taken.{Taken, Taken as taken}}
@@ -20,11 +20,11 @@ value >>= next = option_and_then next value
 abbrev pub Name : Type 0
 Name = Bor (List ℕ)
 
--- the number from 1 to a limit that a word spells in decimal
-abbrev pub number_to : ℕ → List ℕ → Option ℕ
-number_to most word = do
+-- the number within these limits that a word spells in decimal
+abbrev pub number_in : ℕ → ℕ → List ℕ → Option ℕ
+number_in least most word = do
   number ← dec_of word
-  if nat_le 1 number && nat_le number most then Some number else None
+  if nat_le least number && nat_le number most then Some number else None
 
 -- which rights capabilities get by a word
 abbrev pub minting_of : List ℕ → Option Minting
@@ -58,7 +58,7 @@ picture_of words = if words.all then picture.Labels else picture.Programs
 abbrev pub search_of : Words → Option Search
 search_of words = do
   word ← words.steps
-  steps ← number_to 1000000 word.now
+  steps ← number_in 1 1000000 word.now
   Some (record { takes = words.take; steps = steps })
 
 -- what `import` writes
@@ -72,18 +72,39 @@ on_import_of words = do
   minting ← minting_of rights.now
   Some (record { minting = minting; writes = imported_of words })
 
--- how findings are printed by a word
+-- how reports are printed by a word
 abbrev pub format_of : List ℕ → Option Format
 format_of word =
     if bytes_eq word (codes "json") then Some format.Json
     else if bytes_eq word (codes "short") then Some format.Short else None
 
+-- .. of a command that has its answer in two forms: with text too they are JSON
+abbrev pub format_beside : List ℕ → Option Format
+format_beside word = if bytes_eq word (codes "text") then Some format.Json else format_of word
+
+-- .. of each command
+abbrev pub format_for : Verb → List ℕ → Option Format
+format_for verb.Why = format_beside
+format_for verb.Summary = format_beside
+format_for _ = format_of
+
+-- in which form an answer is written: as text, but where the word is for JSON
+abbrev pub form_of : Words → Option Form
+form_of words = do
+  word ← words.format
+  Some (if bytes_eq word.now (codes "json") then form.Json else form.Text)
+
+-- for how many seconds runs are looked for that sentences show, up to a day: 10, if the command has no word for it
+abbrev pub seconds_of : Words → Option ℕ
+seconds_of words = option_map_or (λ word. number_in 0 86400 word.now) words.seconds (Some 10)
+
 -- how a command tells what it finds
 abbrev pub manner_of : Words → Option Manner
 manner_of words = do
   word ← words.format
-  format ← format_of word.now
-  Some (record { explains = words.explain; is_quiet = words.quiet; format = format })
+  format ← format_for words.verb word.now
+  seconds ← seconds_of words
+  Some (record { explains = words.explain; is_quiet = words.quiet; format = format; seconds = seconds })
 
 -- a request that is done in turn
 abbrev pub in_turn : Words → Request Name → Option CommandLine
@@ -131,9 +152,9 @@ closing_of words set =
     else of_system words (asked.Start set (on_close_of words))
 
 -- what threads of a label may do, by a policy, if there is one; else in runs of the table
-abbrev pub why_of : Words → Name → Name → Option CommandLine
-why_of words actor object =
-    if is_some words.policy then of_policy words (by_policy.Why actor object) else of_system words (asked.Why actor object)
+abbrev pub why_of : Words → Form → Name → Name → Option CommandLine
+why_of words written actor object =
+    if is_some words.policy then of_policy words (by_policy.Why written actor object) else of_system words (asked.Why written actor object)
 
 -- a drawing, by a policy, if there is one; else of the table
 abbrev pub drawing_of : Words → Option CommandLine
@@ -168,7 +189,7 @@ abbrev pub check_of : Words → Option CommandLine
 check_of words = do
   set ← set_of words
   word ← words.workers
-  workers ← number_to 16 word.now
+  workers ← number_in 1 16 word.now
   table ← words.system
   policy ← words.policy
   in_turn words (request.Check (record { rules = set; workers = workers; on_accept = on_accept_of words }) table policy)
@@ -189,16 +210,19 @@ asked_by verb.Close words = do
   set ← set_of words
   closing_of words set
 asked_by verb.Why words = do
+  written ← form_of words
   actor ← words.actor
   object ← words.object
-  why_of words actor object
+  why_of words written actor object
 asked_by verb.Show words = do
   search ← search_of words
   actor ← words.actor
   object ← words.object
   of_system words (asked.Show search actor object)
 asked_by verb.Draw words = drawing_of words
-asked_by verb.Summary words = of_system words asked.Summary
+asked_by verb.Summary words = do
+  written ← form_of words
+  of_system words (asked.Summary written)
 asked_by verb.Claims words = if words.all then of_system words asked.Strongest else claims_of words
 asked_by verb.List words = of_system words asked.List
 

@@ -58,12 +58,12 @@ file_name_of names kind = option_map_or (λ name. name.now) (file_of names kind)
 
 -- the label that a request asks about, or an empty one
 abbrev pub label_of : {N : Type 0} → Request N → Asked → List ℕ
-label_of (request.OfSystem (Why actor object) taken system) label.Actor = actor.now
-label_of (request.OfSystem (Why actor object) taken system) label.Object = object.now
+label_of (request.OfSystem (Why form actor object) taken system) label.Actor = actor.now
+label_of (request.OfSystem (Why form actor object) taken system) label.Object = object.now
 label_of (request.OfSystem (Show search actor object) taken system) label.Actor = actor.now
 label_of (request.OfSystem (Show search actor object) taken system) label.Object = object.now
-label_of (request.OfPolicy (WhyAllowed actor object) taken system policy) label.Actor = actor.now
-label_of (request.OfPolicy (WhyAllowed actor object) taken system policy) label.Object = object.now
+label_of (request.OfPolicy (WhyAllowed form actor object) taken system policy) label.Actor = actor.now
+label_of (request.OfPolicy (WhyAllowed form actor object) taken system policy) label.Object = object.now
 label_of _ _ = []
 
 -- all workers that a check has have arrived

@@ -1,15 +1,15 @@
 //! Which request the words of a command line make.
 ghost use Rattle.std.specs.Prelude.{◌≡◌, ◌≢◌, ◌≤◌, IfNone, IfSome};
 ghost use Rattle.requests.specs.Requests.{IsWithinLimits, OnInTurn};
-ghost use Rattle.requests.specs.Meaning.{closing_of, command_line_of, drawing_of, format_of, imported_of, in_turn, manner_of};
-ghost use Rattle.requests.specs.Meaning.{minting_of, number_to, of_policy, of_system, of_three, on_accept_of, on_close_of};
-ghost use Rattle.requests.specs.Meaning.{on_import_of, picture_of, rights_of, rules_of, search_of, set_of, split_of, taken_of};
-ghost use Rattle.requests.specs.Meaning.{verb_name, why_of};
+ghost use Rattle.requests.specs.Meaning.{closing_of, command_line_of, drawing_of, form_of, format_beside, format_for, format_of};
+ghost use Rattle.requests.specs.Meaning.{imported_of, in_turn, manner_of, minting_of, number_in, of_policy, of_system, of_three};
+ghost use Rattle.requests.specs.Meaning.{on_accept_of, on_close_of, on_import_of, picture_of, rights_of, rules_of, search_of};
+ghost use Rattle.requests.specs.Meaning.{seconds_of, set_of, split_of, taken_of, verb_name, why_of};
 
 use crate::request::{Check, CommandLine, Format, Invocation, Manner, OfThree, Request, SplitRun};
 use commands::{
-    Imported, Minting, OfPolicy, OfSystem, OnAccept, OnClose, OnImport, Picture, Rules, Search,
-    Taken,
+    Form, Imported, Minting, OfPolicy, OfSystem, OnAccept, OnClose, OnImport, Picture, Rules,
+    Search, Taken,
 };
 use words::decimal_of;
 
@@ -52,6 +52,16 @@ impl Verb {
             _ => None,
         }
     }
+
+    /// Returns how the command prints reports by this word, if it is one for that.
+    pub fn format(self, word: &str) -> Option<Format>
+        ensures { result ≡ format_for self word.now }
+    {
+        match self {
+            Verb::Why | Verb::Summary => Format::beside(word),
+            _ => Format::from_name(word),
+        }
+    }
 }
 
 /// The words and options of a command line, each by the id that the program's command has for it.
@@ -69,6 +79,7 @@ pub struct Words<'a> {
     pub object: Option<&'a str>,
     pub workers: Option<&'a str>,
     pub steps: Option<&'a str>,
+    pub seconds: Option<&'a str>,
     pub rights: Option<&'a str>,
     pub rules: Option<&'a str>,
     pub format: Option<&'a str>,
@@ -94,7 +105,7 @@ impl<'a> Words<'a> {
             Verb::Import => self.in_turn(Request::OfDescription(self.on_import()?, self.system?)),
             Verb::Check => {
                 let rules = self.rules()?;
-                let workers = number_to(16, self.workers?)? as usize;
+                let workers = number_in(1, 16, self.workers?)? as usize;
                 let on_accept = self.on_accept();
                 let check = Check {
                     rules,
@@ -108,7 +119,7 @@ impl<'a> Words<'a> {
             Verb::Run => self.of_three(OfThree::Run(self.rules()?), self.script),
             Verb::Replay => self.of_three(OfThree::Replay, self.log),
             Verb::Close => self.close(self.rules()?),
-            Verb::Why => self.why(self.actor?, self.object?),
+            Verb::Why => self.why(self.form()?, self.actor?, self.object?),
             Verb::Show => {
                 let search = self.search()?;
                 let (actor, object) = (self.actor?, self.object?);
@@ -119,7 +130,7 @@ impl<'a> Words<'a> {
                 })
             }
             Verb::Draw => self.draw(),
-            Verb::Summary => self.of_system(OfSystem::Summary),
+            Verb::Summary => self.of_system(OfSystem::Summary(self.form()?)),
             Verb::Claims if self.all => self.of_system(OfSystem::Strongest),
             Verb::Claims => self.in_turn(Request::OfClaims(
                 self.taken()?,
@@ -148,8 +159,30 @@ impl<'a> Words<'a> {
         Some(Manner {
             explains: self.explain,
             is_quiet: self.quiet,
-            format: Format::from_name(self.format?)?,
+            format: self.verb.format(self.format?)?,
+            seconds: self.seconds()?,
         })
+    }
+
+    // For how many seconds runs are looked for that sentences show.
+    fn seconds(self) -> Option<u64>
+        ensures { result ≡ seconds_of self.entry }
+    {
+        match self.seconds {
+            Some(word) => number_in(0, 86_400, word),
+            None => Some(10),
+        }
+    }
+
+    // In which form the answer is written.
+    fn form(self) -> Option<Form>
+        ensures { result ≡ form_of self.entry }
+    {
+        if self.format? == "json" {
+            Some(Form::Json)
+        } else {
+            Some(Form::Text)
+        }
     }
 
     // What a policy is closed over, if there is one; else a policy for the table.
@@ -164,13 +197,21 @@ impl<'a> Words<'a> {
     }
 
     // What threads of a label may do, in runs of the table or by a policy.
-    fn why(self, actor: &'a str, object: &'a str) -> Option<CommandLine<'a>>
-        ensures meaning { result ≡ why_of self.entry actor.entry object.entry }
+    fn why(self, form: Form, actor: &'a str, object: &'a str) -> Option<CommandLine<'a>>
+        ensures meaning { result ≡ why_of self.entry form actor.entry object.entry }
         ensures limits { IfSome result (λ line. OnInTurn line IsWithinLimits) }
     {
         match self.policy {
-            Some(_) => self.of_policy(OfPolicy::Why { actor, object }),
-            None => self.of_system(OfSystem::Why { actor, object }),
+            Some(_) => self.of_policy(OfPolicy::Why {
+                form,
+                actor,
+                object,
+            }),
+            None => self.of_system(OfSystem::Why {
+                form,
+                actor,
+                object,
+            }),
         }
     }
 
@@ -280,7 +321,7 @@ impl<'a> Words<'a> {
     {
         Some(Search {
             takes: self.take,
-            steps: number_to(1_000_000, self.steps?)?,
+            steps: number_in(1, 1_000_000, self.steps?)?,
         })
     }
 
@@ -308,7 +349,7 @@ impl<'a> Words<'a> {
 
 impl Format {
     /// Returns the format of this name, if there is one.
-    pub fn from_name(name: &str) -> Option<Format>
+    fn from_name(name: &str) -> Option<Format>
         ensures { result ≡ format_of name.now }
     {
         if name == "json" {
@@ -317,6 +358,17 @@ impl Format {
             Some(Format::Short)
         } else {
             None
+        }
+    }
+
+    // The format of reports by this word, of a command that has its answer in two forms.
+    fn beside(word: &str) -> Option<Format>
+        ensures { result ≡ format_beside word.now }
+    {
+        if word == "text" {
+            Some(Format::Json)
+        } else {
+            Format::from_name(word)
         }
     }
 }
@@ -347,13 +399,13 @@ fn minting(word: &str) -> Option<Minting>
     }
 }
 
-// The number from 1 to this limit that a word spells in decimal.
-fn number_to(most: u64, word: &str) -> Option<u64>
-    ensures meaning { result ≡ number_to most word.now }
-    ensures limits { IfSome result (λ number. (1 ≤ number) × (number ≤ most)) }
+// The number within these limits that a word spells in decimal.
+fn number_in(least: u64, most: u64, word: &str) -> Option<u64>
+    ensures meaning { result ≡ number_in least most word.now }
+    ensures limits { IfSome result (λ number. (least ≤ number) × (number ≤ most)) }
 {
     let number = decimal_of(word.as_bytes())?;
-    if 1 <= number && number <= most {
+    if least <= number && number <= most {
         Some(number)
     } else {
         None

@@ -49,11 +49,13 @@ pub struct Invocation<'a> {
 /// How a person is told what a command finds.
 #[derive(Clone, Copy)]
 pub struct Manner {
-    /// Whether `--explain` was given: findings are then also told in sentences, on standard error.
+    /// Whether `--explain` was given: reasons, runs and notes are then told too, on standard error.
     pub explains: bool,
-    /// Whether `--quiet` was given: notes are then left out.
+    /// Whether `--quiet` was given: sentences that weren't asked for are then left out, and notes.
     pub is_quiet: bool,
     pub format: Format,
+    /// For how many seconds runs are looked for that sentences on standard error show; 0 is no bound.
+    pub seconds: u64,
 }
 
 /// How reports are printed on standard output.

@@ -1,7 +1,7 @@
 //! How a command ends whose devices fail: its message, its status, and what it has written by then.
 use crate::failing::{Given, Page};
 use crate::session::{Command, Ending, Files, ending_of};
-use report::{File, Imported, OfSystem, OnAccept, Picture, Search};
+use report::{File, Form, Imported, OfSystem, OnAccept, Picture, Search};
 use std::alloc::Global;
 use std::io::ErrorKind;
 use std::process::Abort;
@@ -213,11 +213,12 @@ const NO_CLAIMS: &str = "confine: cannot read claims";
 const NO_DESCRIPTION: &str = "confine: cannot read description";
 
 const WHY: Command = Command::Asked(OfSystem::Why {
+    form: Form::Text,
     actor: "a",
     object: "b",
 });
 
-const SUMMARY: Command = Command::Asked(OfSystem::Summary);
+const SUMMARY: Command = Command::Asked(OfSystem::Summary(Form::Text));
 
 /// A search for a change, of few calls.
 const SHOW: Command = Command::Asked(OfSystem::Show {

@@ -12,6 +12,7 @@ use crate::short::Shortener;
 use report::{End, Gate, Open, Rules, Watched, run_split};
 use requests::{Invocation, OfThree, Request, SplitRun};
 use std::io::{self, Read, Write};
+use std::rt::Clock;
 use std::sync::Wait;
 use std::thread::Threads;
 
@@ -27,7 +28,7 @@ pub fn answer<'a, R, F, O, G, W>(
     out: &mut Watched<W>,
 ) -> (u8, Request<'a, Opened<F>>)
 where
-    R: Eprint + AllocGlobal + Threads + Sync,
+    R: Eprint + AllocGlobal + Clock + Threads + Sync,
     F: Read + Drop,
     O: Fn(&str) -> io::Result<F>,
     G: Gate + Sync,
@@ -58,7 +59,7 @@ pub fn answer_short<'a, R, F, O, G, W>(
     out: &mut Watched<W>,
 ) -> (u8, Request<'a, Opened<F>>)
 where
-    R: Eprint + AllocGlobal + Threads + Sync,
+    R: Eprint + AllocGlobal + Clock + Threads + Sync,
     F: Read + Drop,
     O: Fn(&str) -> io::Result<F>,
     G: Gate + Sync,
@@ -92,7 +93,7 @@ pub fn answer_split<'a, R, F, O, W>(
     out: &mut Watched<W>,
 ) -> (u8, Request<'a, Opened<F>>)
 where
-    R: Eprint + AllocGlobal + Threads + Wait + Sync,
+    R: Eprint + AllocGlobal + Clock + Threads + Wait + Sync,
     F: Read + Drop,
     O: Fn(&str) -> io::Result<F>,
     W: Write,
@@ -131,7 +132,7 @@ pub fn answer_split_short<'a, R, F, O, W>(
     out: &mut Watched<W>,
 ) -> (u8, Request<'a, Opened<F>>)
 where
-    R: Eprint + AllocGlobal + Threads + Wait + Sync,
+    R: Eprint + AllocGlobal + Clock + Threads + Wait + Sync,
     F: Read + Drop,
     O: Fn(&str) -> io::Result<F>,
     W: Write,

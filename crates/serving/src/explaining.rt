@@ -1,13 +1,14 @@
-//! What `--explain` prints on standard error: the sentences on what a command finds.
+//! What a person is told on standard error: the sentences on what a command finds, and with `--explain` the reasons, runs and notes.
 use crate::opening::Opened;
 use crate::sheets::Sourced;
 use base::Refusal;
 use breaches::{
-    Judged, breach_lines, explain_breaches, explain_escape, explain_run, explain_shared_memory,
+    Judged, Lead, breach_lines, explain_breach, explain_breaches, explain_escape, explain_run,
+    explain_shared_memory,
 };
 use captext::object_name;
 use causes::{Caller, explain_illegal, explain_refusal};
-use claims::{Broken, ClaimLines};
+use claims::{Broken, ClaimLines, Failure};
 use explain::{
     Names, explain_closing, explain_denial, explain_outside, explain_unlabelled, explain_why,
     explain_why_allowed,
@@ -19,41 +20,61 @@ use reach::Reach;
 use remarks::{explain_notes as explain_left_out, notes_of};
 use report::{
     Answer, Asked, Described, End, Fault, File, Files, Finding, Given, Listener, Made, OfPolicy,
-    OfSystem, OnClose, Rules, answer_at,
+    OfSystem, OnClose, Open, Rules, answer_at,
 };
-use requests::{Invocation, OfThree, Request};
+use requests::{Format, Invocation, OfThree, Request};
 use slips::explain_fault;
 use sources::Sheet;
-use std::alloc::AllocError;
+use std::alloc::{AllocError, Global};
 use std::fmt;
-use std::io::ErrorKind;
+use std::io::{self, ErrorKind};
 use std::marker::PhantomData;
+use std::rt::Clock;
 use std::thread::Threads;
+use std::time::Instant;
 use table::Table;
-use verdict::Denial;
+use verdict::{Denial, judge_by};
 
 /// What an answer on a policy is worth.
 const BY_POLICY_ALONE: &str =
     "confine: this is what the policy allows: each label counts as one whose threads make calls, \
 so the answer says nothing about runs";
 
-/// Tells a person on standard error what a command finds, if that was asked for. That standard error can't
-/// be written to, or that memory is refused to a sentence, changes nothing.
+/// What is said of a denial by P1 to P8 of a policy that the sharp rules accept.
+const NEEDLESSLY_STRICT: &str =
+    "no run leaves the policy, so the rule is stricter than this system needs: `check --rules sharp` accepts it.";
+
+/// For how many of the broken claims on pairs of labels, the first ones, a run is searched.
+const SEARCHES: usize = 10;
+
+/// Tells a person on standard error what a command finds. That standard error can't be written to, or that memory is
+/// refused to a sentence, changes nothing.
 #[derive(Drop)]
 pub struct Explainer<'a, R> {
     rt: &'a R,
     invocation: Invocation<'a>,
 }
 
-impl<'a, R: AllocGlobal + Eprint> Explainer<'a, R> {
+impl<'a, R: AllocGlobal + Clock + Eprint> Explainer<'a, R> {
     /// Returns what explains this invocation, with the runtime to do so.
     pub fn new(rt: &'a R, invocation: Invocation<'a>) -> Explainer<'a, R> {
         Explainer { rt, invocation }
     }
 
+    /// Returns whether sentences are told: without `--quiet`, or if they were asked for.
+    fn tells(&self) -> bool {
+        let manner = self.invocation.manner;
+        manner.explains || !manner.is_quiet
+    }
+
+    /// Returns whether the sentence on a finding or a fault is told here. With `--format short` it is in the answer.
+    fn tells_findings(&self) -> bool {
+        self.tells() && self.invocation.manner.format != Format::Short
+    }
+
     /// Tells which file couldn't be read, if one couldn't, and why.
     pub fn hear_end<F>(&self, end: End, files: &Request<'_, Opened<F>>) {
-        if let (true, End::CannotRead(file)) = (self.invocation.manner.explains, end) {
+        if let (true, End::CannotRead(file)) = (self.tells(), end) {
             let name = self.invocation.request.name_of(file);
             let alloc = self.rt.alloc();
             let why = match files.file(file) {
@@ -124,18 +145,103 @@ impl<'a, R: AllocGlobal + Eprint> Explainer<'a, R> {
         }
     }
 
-    /// Tells what is found wrong.
-    fn tell_finding(&self, files: Files<'_>, finding: &Finding) {
+    /// Tells what is found wrong, and, if that was asked for, the reasons and runs.
+    fn tell_finding(&self, leave: &(impl Threads + Sync), files: Files<'_>, finding: &Finding) {
         match (finding, files) {
             (Finding::Broken(broken), Files::Claims(given, lines)) => {
-                self.tell_lines(self.breaches_told(given, lines, broken));
+                let _ = self.tell_broken(given, lines, broken);
             }
-            _ => self.tell(self.sentence_on(files, finding)),
+            _ if self.tells_findings() => self.tell(self.sentence_on(files, finding)),
+            _ => {}
         }
-        if let (Finding::Denied(denial), Files::Policy(given, policy)) = (finding, files) {
+        if let (true, Finding::Denied(denial), Files::Policy(given, policy)) = (
+            self.invocation.manner.explains,
+            finding,
+            files,
+        ) {
             if let Ok(system) = self.sourced(given) {
-                self.tell_escape(system.sheet(), policy, denial);
+                self.tell_escape(leave, system.sheet(), policy, denial);
             }
+        }
+    }
+
+    /// Tells which claims don't hold, and, if that was asked for, the reasons and runs.
+    fn tell_broken(
+        &self,
+        given: &Given,
+        lines: &ClaimLines,
+        broken: &[Broken],
+    ) -> Result<(), Refusal> {
+        if self.invocation.manner.explains {
+            let alloc = self.rt.alloc();
+            let system = self.sourced(given)?;
+            let reach = Reach::of(alloc, given.table())?;
+            self.tell_reasons(&reach, &self.judged(system.sheet(), lines), broken);
+        } else if self.tells_findings() {
+            self.tell_lines(self.broken_told(given, lines, broken));
+        }
+        Ok(())
+    }
+
+    /// Tells the reasons why claims don't hold, and then runs, each as it is found.
+    fn tell_reasons(&self, reach: &Reach<'_>, judged: &Judged<'_>, broken: &[Broken]) {
+        let lead = if self.tells_findings() {
+            Lead::Sentence
+        } else {
+            Lead::Place
+        };
+        let alloc = self.rt.alloc();
+        self.tell_lines(explain_breaches(alloc, reach, judged, broken, lead));
+        self.tell_runs(judged, broken);
+    }
+
+    /// Tells a run for each of the first broken claims on a pair of labels, as it is found, as long as there is time.
+    fn tell_runs(&self, judged: &Judged<'_>, broken: &[Broken]) {
+        let alloc = self.rt.alloc();
+        let begun = Instant::now(self.rt);
+        let mut searched: usize = 0;
+        let mut left: usize = 0;
+        for one in broken {
+            if let Failure::Pair(breach) = one.failure {
+                if searched < SEARCHES && !self.is_late(&begun) {
+                    self.tell_lines(explain_breach(alloc, judged, one.line, breach));
+                    searched = searched.saturating_add(1);
+                } else {
+                    left = left.saturating_add(1);
+                }
+            }
+        }
+        if left > 0 {
+            self.tell_unsearched(judged.claims, left, searched);
+        }
+    }
+
+    /// Tells for how many broken claims no run was looked for, and why, after a number of searches.
+    fn tell_unsearched(&self, claims: &str, left: usize, searched: usize) {
+        let alloc = self.rt.alloc();
+        let seconds = self.invocation.manner.seconds;
+        self.tell(if searched < SEARCHES {
+            format!(in alloc;
+                "{claims}: for {left} of the broken claims no run was looked for: `--seconds {seconds}` was over. \
+                 `confine show` looks for one."
+            )
+        } else {
+            format!(in alloc;
+                "{claims}: for {left} of the broken claims no run was looked for: that is done for the first {SEARCHES}. \
+                 `confine show` looks for one."
+            )
+        });
+    }
+
+    /// Returns whether the time is over for which runs are looked for. If there is no clock, it isn't.
+    fn is_late(&self, begun: &io::Result<Instant>) -> bool {
+        let seconds = self.invocation.manner.seconds;
+        match begun {
+            Ok(begun) => match begun.elapsed(self.rt) {
+                Ok(elapsed) => seconds > 0 && elapsed.as_secs() >= seconds,
+                Err(_) => false,
+            },
+            Err(_) => false,
         }
     }
 
@@ -207,19 +313,6 @@ impl<'a, R: AllocGlobal + Eprint> Explainer<'a, R> {
         breach_lines(alloc, &reach, &self.judged(system.sheet(), lines), broken)
     }
 
-    /// Returns why claims don't hold.
-    fn breaches_told(
-        &self,
-        given: &Given,
-        lines: &ClaimLines,
-        broken: &[Broken],
-    ) -> Result<String, Refusal> {
-        let alloc = self.rt.alloc();
-        let system = self.sourced(given)?;
-        let reach = Reach::of(alloc, given.table())?;
-        explain_breaches(alloc, &reach, &self.judged(system.sheet(), lines), broken)
-    }
-
     /// The system and the lines of claims that were judged.
     fn judged<'b>(&'b self, sheet: Sheet<'b>, lines: &'b ClaimLines) -> Judged<'b> {
         Judged {
@@ -255,13 +348,24 @@ impl<'a, R: AllocGlobal + Eprint> Explainer<'a, R> {
         }
     }
 
-    /// Tells a run that leaves the policy, if `check` denies it by a rule on policies.
-    fn tell_escape(&self, sheet: Sheet<'_>, policy: &Policy, denial: &Denial) {
-        if let (Denial::Policy(_) | Denial::Sharp(_), Request::Check(..)) = (
-            denial,
-            self.invocation.request,
-        ) {
-            self.tell_lines(explain_escape(self.rt.alloc(), sheet, policy));
+    /// Tells a run that leaves the policy, if `check` denies it by a rule on policies; or that there is none, if the sharp
+    /// rules accept it.
+    fn tell_escape(
+        &self,
+        leave: &(impl Threads + Sync),
+        sheet: Sheet<'_>,
+        policy: &Policy,
+        denial: &Denial,
+    ) {
+        let alloc = self.rt.alloc();
+        match (denial, self.invocation.request) {
+            (Denial::Policy(_), Request::Check(..)) if is_sharp(leave, alloc, sheet, policy) => {
+                self.tell(String::from_str(alloc, NEEDLESSLY_STRICT));
+            }
+            (Denial::Policy(_) | Denial::Sharp(_), Request::Check(..)) => {
+                self.tell_lines(explain_escape(alloc, sheet, policy));
+            }
+            _ => {}
         }
     }
 
@@ -353,7 +457,7 @@ impl<'a, R: AllocGlobal + Eprint> Explainer<'a, R> {
                 self.tell_closing(leave, rules, sheet, &policy);
                 drop(policy);
             }
-            OfSystem::Why { actor, object } => {
+            OfSystem::Why { actor, object, .. } => {
                 self.tell_lines(self.why_told(sheet, actor, object));
             }
             OfSystem::Show { .. } => {
@@ -408,7 +512,7 @@ impl<'a, R: AllocGlobal + Eprint> Explainer<'a, R> {
             OfPolicy::Close(rules, OnClose::Policy | OnClose::Missing) => {
                 self.tell_closing(leave, rules, sheet, policy);
             }
-            OfPolicy::Why { actor, object } => {
+            OfPolicy::Why { actor, object, .. } => {
                 self.tell_lines(explain_why_allowed(leave, alloc, sheet, policy, actor, object));
             }
             _ => {}
@@ -448,9 +552,9 @@ impl<'a, R: AllocGlobal + Eprint> Explainer<'a, R> {
     }
 }
 
-impl<R: AllocGlobal + Eprint + Threads + Sync> Listener for Explainer<'_, R> {
+impl<R: AllocGlobal + Clock + Eprint + Threads + Sync> Listener for Explainer<'_, R> {
     fn hear_fault(&mut self, file: File, text: &[u8], table: Option<&Table>, fault: Fault) {
-        if self.invocation.manner.explains {
+        if self.tells_findings() {
             self.tell(self.fault_told(file, text, table, fault));
         }
     }
@@ -460,22 +564,21 @@ impl<R: AllocGlobal + Eprint + Threads + Sync> Listener for Explainer<'_, R> {
         if let Files::Description(described) = files {
             self.tell_left_out(described, true);
         }
-        if self.invocation.manner.explains {
-            let leave = Leave::<R> { of: PhantomData };
-            match &answer.finding {
-                Some(finding) => self.tell_finding(files, finding),
-                None => {
-                    self.tell_more(&leave, files, answer);
-                    if let Some(described) = described_of(files) {
-                        self.tell_left_out(described, false);
-                    }
+        let leave = Leave::<R> { of: PhantomData };
+        match &answer.finding {
+            Some(finding) => self.tell_finding(&leave, files, finding),
+            None if self.invocation.manner.explains => {
+                self.tell_more(&leave, files, answer);
+                if let Some(described) = described_of(files) {
+                    self.tell_left_out(described, false);
                 }
             }
+            None => {}
         }
     }
 
     fn hear_unlabelled(&mut self, table: &Table, asked: Asked) {
-        if self.invocation.manner.explains {
+        if self.tells() {
             let word = self.invocation.request.word_of(asked);
             self.tell(explain_unlabelled(self.rt.alloc(), table, word));
         }
@@ -508,6 +611,17 @@ impl fmt::Display for Unread {
         };
         f.write_str(words)
     }
+}
+
+/// Whether a policy is accepted by the sharp rules. If memory is refused to that, it counts as not accepted.
+fn is_sharp(
+    leave: &(impl Threads + Sync),
+    alloc: Global,
+    sheet: Sheet<'_>,
+    policy: &Policy,
+) -> bool {
+    let answer = judge_by(leave, alloc, sheet.table, policy, Rules::Sharp, 1, &Open);
+    matches!(&answer, Ok(Ok(())))
 }
 
 /// The description of which a question is asked, if it is asked of one.

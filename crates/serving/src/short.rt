@@ -10,6 +10,7 @@ use report::{Answer, Asked, End, Fault, File, Files, Finding, Listener, OnAccept
 use requests::{Check, Invocation, OfThree, Request};
 use std::alloc::{AllocError, Global};
 use std::io::Write;
+use std::rt::Clock;
 use std::thread::Threads;
 use table::Table;
 
@@ -43,7 +44,7 @@ impl Printed {
     }
 }
 
-impl<'a, R: AllocGlobal + Eprint> Shortener<'a, R> {
+impl<'a, R: AllocGlobal + Clock + Eprint> Shortener<'a, R> {
     pub fn new(rt: &'a R, invocation: Invocation<'a>) -> Shortener<'a, R> {
         Shortener {
             explainer: Explainer::new(rt, invocation),
@@ -125,7 +126,7 @@ fn holding_line(alloc: Global, file: &str, count: usize) -> Result<String, Alloc
     }
 }
 
-impl<R: AllocGlobal + Eprint + Threads + Sync> Listener for Shortener<'_, R> {
+impl<R: AllocGlobal + Clock + Eprint + Threads + Sync> Listener for Shortener<'_, R> {
     fn hear_fault(&mut self, file: File, text: &[u8], table: Option<&Table>, fault: Fault) {
         let alloc = self.alloc;
         let told = self.explainer.fault_told(file, text, table, fault);
@@ -133,7 +134,6 @@ impl<R: AllocGlobal + Eprint + Threads + Sync> Listener for Shortener<'_, R> {
             Ok(sentence) => format!(in alloc; "{sentence}\n"),
             Err(error) => Err(error),
         });
-        self.explainer.hear_fault(file, text, table, fault);
     }
 
     fn hear_answer(&mut self, files: Files<'_>, answer: &Answer) {

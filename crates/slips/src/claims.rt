@@ -15,7 +15,9 @@ pub(crate) enum ClaimFlaw<'a> {
     OthersTwice,
     /// The first label of `only` among the others.
     Among(&'a str),
-    /// A label that `only` has twice.
+    /// An end of `through` among the labels that follow.
+    End(&'a str),
+    /// A label that `only` or `through` has twice.
     LabelTwice(&'a str),
     /// The line that has the same claim.
     Twice(u64),
@@ -46,9 +48,20 @@ fn syntax_flaw<'a>(form: Form, row: Row<'a>) -> Option<Flaw<'a>> {
     let first = row.word(1);
     Some(Flaw::Claim(match form {
         Form::ClaimOnly => ClaimFlaw::Among(first),
+        Form::ClaimThrough if first != row.word(2) => ClaimFlaw::End(end_among(row)),
         _ if first == "*" => ClaimFlaw::OthersTwice,
         _ => ClaimFlaw::Itself(first),
     }))
+}
+
+// The end of a line of `through` that is among the labels that follow.
+fn end_among<'a>(row: Row<'a>) -> &'a str {
+    let first = row.word(1);
+    if row.text.split(' ').skip(3).any(|label| label == first) {
+        first
+    } else {
+        row.word(2)
+    }
 }
 
 // Of names: 51.
@@ -59,7 +72,7 @@ fn unknown_flaw<'a>(declared: Option<Declared<'a>>, form: Form, row: Row<'a>) ->
 // Of what is given twice: 52.
 fn twice_flaw<'a>(text: &[u8], form: Form, row: Row<'a>) -> Option<Flaw<'a>> {
     let twice = match form {
-        Form::ClaimOnly => label_twice(row.text),
+        Form::ClaimOnly | Form::ClaimThrough => label_twice(row.text),
         _ => None,
     };
     Some(Flaw::Claim(match twice {
@@ -85,13 +98,26 @@ fn label_twice(line: &str) -> Option<&str> {
     None
 }
 
-// The first line that is spelled as this one: so are two lines that have the same claim.
+// The first line that has the same claim: it is spelled as this one, but that `apart` is `through` without
+// other labels.
 fn same_line(text: &[u8], row: Row<'_>) -> Option<u64> {
     let mut lines = Lines::new(text);
     for number in 1..row.line {
-        if text_of(lines.next_line()?) == row.text {
+        if is_same(text_of(lines.next_line()?), row.text) {
             return Some(number);
         }
     }
     None
+}
+
+fn is_same(one: &str, other: &str) -> bool {
+    one == other || (kept_apart(one).is_some() && kept_apart(one) == kept_apart(other))
+}
+
+// The labels of a line of `apart` or `through`.
+fn kept_apart(line: &str) -> Option<&str> {
+    match line.strip_prefix("apart ") {
+        Some(labels) => Some(labels),
+        None => line.strip_prefix("through "),
+    }
 }

@@ -52,8 +52,6 @@ pub(crate) struct Row<'a> {
 #[derive(Clone, Copy)]
 pub(crate) struct Object {
     pub form: Form,
-    /// The number of its line.
-    pub line: u64,
     /// How many slots it has.
     pub slots: u64,
 }
@@ -85,10 +83,8 @@ impl Declared<'_> {
             Declared::Table(table) => {
                 let id = table.object_named(name)?;
                 let object = &table.objects().get(id.0 as usize)?.object;
-                let above = table.label_count() as u64 + 2;
                 Some(Object {
                     form: form_of_kind(object.kind()),
-                    line: id.0.saturating_add(above),
                     slots: object.slot_count(),
                 })
             }
@@ -149,7 +145,6 @@ impl<'a> Rows<'a> {
         let row = self.row(Sought::Object(name))?;
         Some(Object {
             form: form_of(File::Table, row.text)?,
-            line: row.line,
             slots: slots_of(row.text),
         })
     }

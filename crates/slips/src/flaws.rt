@@ -158,6 +158,10 @@ impl fmt::Display for ClaimFlaw<'_> {
                 f,
                 "the first label, `{label}`, can't be among those that follow"
             ),
+            ClaimFlaw::End(label) => write!(
+                f,
+                "`{label}`, one of the first two labels, can't be among those that follow"
+            ),
             ClaimFlaw::LabelTwice(label) => write!(f, "the label `{label}` is given twice"),
             ClaimFlaw::Twice(line) => write!(f, "line {line} has the same claim"),
         }
@@ -177,9 +181,9 @@ impl fmt::Display for KnownFlaw<'_> {
                 write_unknown(f, "object", name, declared)?;
                 write!(f, ": did you mean `{near}`?")
             }
-            KnownFlaw::ObjectForLabel(name, line) => write!(
+            KnownFlaw::ObjectForLabel(name) => write!(
                 f,
-                "`{name}` is an object (line {line} of the table), but a label is expected here"
+                "`{name}` is an object, but a label is expected here"
             ),
             KnownFlaw::LabelForObject(name, line) => write!(
                 f,

@@ -8,8 +8,8 @@ pub(crate) enum KnownFlaw<'a> {
     NoLabel(&'a str, Declared<'a>),
     /// A name that no label has, and the nearest one that a label has.
     NearLabel(&'a str, Declared<'a>, &'a str),
-    /// An object's name where a label's is wanted, and the object's line in the table.
-    ObjectForLabel(&'a str, u64),
+    /// An object's name where a label's is wanted. Its line isn't told: the table may be one of a description.
+    ObjectForLabel(&'a str),
     NoObject(&'a str, Declared<'a>),
     /// A name that no object has, and the nearest one that an object has.
     NearObject(&'a str, Declared<'a>, &'a str),
@@ -32,7 +32,7 @@ pub(crate) fn known_flaw<'a>(
     form: Form,
     row: Row<'a>,
 ) -> Option<KnownFlaw<'a>> {
-    if form == Form::ClaimOnly {
+    if form == Form::ClaimOnly || form == Form::ClaimThrough {
         return labels_flaw(declared, row.text);
     }
     let mut at = 1u64;
@@ -80,7 +80,7 @@ fn label_flaw<'a>(declared: Declared<'a>, name: &'a str) -> Option<KnownFlaw<'a>
         return None;
     }
     match declared.object(name) {
-        Some(object) => Some(KnownFlaw::ObjectForLabel(name, object.line)),
+        Some(_) => Some(KnownFlaw::ObjectForLabel(name)),
         None => Some(KnownFlaw::NoLabel(name, declared)),
     }
 }

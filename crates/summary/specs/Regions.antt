@@ -19,6 +19,10 @@ changers rows l = map (λ row. row.label) (filter (λ row. is_in row.changes l) 
 abbrev pub readers : List Row → ℕ → List ℕ
 readers rows l = map (λ row. row.label) (filter (λ row. is_in row.reads l) rows)
 
+-- the labels with a thread that may take from a label, and not change it otherwise
+abbrev pub takers : List Row → ℕ → List ℕ
+takers rows l = map (λ row. row.label) (filter (λ row. is_in row.shrinks l && not (is_in row.changes l)) rows)
+
 -- two labels are changed and read by the same labels with a thread
 abbrev pub has_same_users : List Row → ℕ → ℕ → Bool
 has_same_users rows k l =

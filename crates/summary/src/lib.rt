@@ -1,7 +1,7 @@
 //! The summary of an accepted system: a matrix of who may change whom, and the labels without a
 //! thread with those who change and read them.
 //!
-//! `claims`, `diagram` and `report` stand on it. It knows no claim, and no code of the
+//! `claims`, `diagram`, `reptext` and `report` stand on it. It knows no claim, and no code of the
 //! kernel's calls.
 #![tactic(auto)]
 
@@ -20,6 +20,7 @@ mod writing;
 
 pub use labelled::{others, programs};
 pub use laws::each_change_has_a_letter;
-pub use regions::write_names;
+pub use matrix::marks;
+pub use regions::{changers, readers, takers, write_names};
 pub use rows::{Row, rows_of};
 pub use writing::summary;

@@ -140,8 +140,12 @@ fn write_cell(alloc: Global, text: &mut String, row: &Row, other: &Row) -> Resul
     push_at_right(text, &marks, 6)
 }
 
-// What a cell says.
-fn marks(alloc: Global, row: &Row, label: Label) -> Result<String, AllocError>
+/// Returns what the cell of a row and another label says.
+///
+/// # Errors
+///
+/// An error where memory is refused.
+pub fn marks(alloc: Global, row: &Row, label: Label) -> Result<String, AllocError>
     ensures { IfOk result (λ text. string_bytes text ≡ marks row.now label) }
 {
     let mut text = String::new(alloc);

@@ -1,7 +1,7 @@
 //! The labels without a thread, with those who change and read them.
 ghost use Rattle.std.specs.{List.{flat_map, list_any}, Prelude.{◌++◌, ◌≡◌, IfOk, OnOk, string_bytes}};
 ghost use Rattle.summary.specs.Regions.{also_text, changers, group_of, group_text, has_same_users, is_leader, is_nil};
-ghost use Rattle.summary.specs.Regions.{leads, more_name, names_text, readers, readers_text, regions_text, users_text};
+ghost use Rattle.summary.specs.Regions.{leads, more_name, names_text, readers, readers_text, regions_text, takers, users_text};
 
 use crate::rows::Row;
 use base::Label;
@@ -98,9 +98,13 @@ fn group_of(
     Ok(group)
 }
 
-// The labels with a thread that may change a label.
+/// Returns the labels with a thread that may change a label.
+///
+/// # Errors
+///
+/// An error where memory is refused.
 #[tactic(auto, using(crate::proofs::Pieces::item_passes, crate::proofs::Pieces::item_fails))]
-fn changers(alloc: Global, rows: &[Row], label: Label) -> Result<Vec<Label>, AllocError>
+pub fn changers(alloc: Global, rows: &[Row], label: Label) -> Result<Vec<Label>, AllocError>
     ensures { IfOk result (λ labels. labels.items ≡ changers rows.now label) }
 {
     let mut found = Vec::new(alloc);
@@ -112,14 +116,36 @@ fn changers(alloc: Global, rows: &[Row], label: Label) -> Result<Vec<Label>, All
     Ok(found)
 }
 
-// The labels with a thread that read a label.
+/// Returns the labels with a thread that read a label.
+///
+/// # Errors
+///
+/// An error where memory is refused.
 #[tactic(auto, using(crate::proofs::Pieces::item_passes, crate::proofs::Pieces::item_fails))]
-fn readers(alloc: Global, rows: &[Row], label: Label) -> Result<Vec<Label>, AllocError>
+pub fn readers(alloc: Global, rows: &[Row], label: Label) -> Result<Vec<Label>, AllocError>
     ensures { IfOk result (λ labels. labels.items ≡ readers rows.now label) }
 {
     let mut found = Vec::new(alloc);
     for row in rows {
         if row.reads.has(label) {
+            found.push(row.label)?;
+        }
+    }
+    Ok(found)
+}
+
+/// Returns the labels with a thread that may take from a label, and not change it otherwise.
+///
+/// # Errors
+///
+/// An error where memory is refused.
+#[tactic(auto, using(crate::proofs::Pieces::item_passes, crate::proofs::Pieces::item_fails))]
+pub fn takers(alloc: Global, rows: &[Row], label: Label) -> Result<Vec<Label>, AllocError>
+    ensures { IfOk result (λ labels. labels.items ≡ takers rows.now label) }
+{
+    let mut found = Vec::new(alloc);
+    for row in rows {
+        if row.shrinks.has(label) && !row.changes.has(label) {
             found.push(row.label)?;
         }
     }

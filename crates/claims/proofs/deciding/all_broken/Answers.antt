@@ -8,7 +8,7 @@ use Rattle.claims.specs.declared.lines.TheConstants.ClaimLines as ClaimLines
 pub returns-clause-broken : goal.returns-clause-broken
 returns-clause-broken c =
     subst (λ entries. AreBroken c.args.reach.now.table (limits_of c.args.reach.now) ClaimLines.FIRST entries c.in_ok-broken.broken.items)
-    c.as_slice.ensures c.in_ok-broken.ensures
+    c.as_slice.ensures c.in_ok-broken.ensures.broken
 
 pub returns-clause-kept : goal.returns-clause-kept
 returns-clause-kept c = claim_kept c.args.reach.now c.policy.ensures.reach c.policy.ensures.safe

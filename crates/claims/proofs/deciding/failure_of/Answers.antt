@@ -1,11 +1,9 @@
 -- Where no failure is told, the claim holds.
-use Rattle.std.proofs.Common.{◌∙◌, subst, sym}
-use Rattle.base.specs.Labels.{is_in}
 use Rattle.machine.specs.Layout.{Layout}
 use Rattle.table.specs.Names.{AreLabelsOf}
 use Rattle.reach.specs.Extents.{Limits, limits_of}
 use Rattle.claims.specs.{Holding.{Holds, HoldsOnPairs}, Rows.AreRows}
-use Rattle.claims.proofs.{Chains.apart_from_unreached, Kept.{ends_hold, if_none, only_holds}}
+use Rattle.claims.proofs.Kept.{ends_hold, if_none, only_holds}
 use Rattle.claims.proofs.deciding.failure_of.Goals as goal
 
 pub returns-in-AtMost-clause-none : goal.returns-in-AtMost-clause-none
@@ -27,10 +25,3 @@ returns-in-Only-clause-none c =
     ((t : Layout) (limits : Limits) → AreLabelsOf t c.args.labels → AreRows limits c.args.rows.now → HoldsOnPairs t limits claim)
     (Holds table its claim) (λ holds. only_holds table its claim _ _ c.in-Only.is (holds table its c.requires.labels c.requires.rows))
     c.pair_failure-in-Only.ensures.none
-
-pub returns-else-has-clause-none : goal.returns-else-has-clause-none
-returns-else-has-clause-none c =
-    let table = c.args.reach.now.table in
-    let its = limits_of c.args.reach.now in
-    subst (λ claim. Holds table its claim) (sym c.in-Apart.is)
-    (apart_from_unreached its _ _ (is_in c.reached.result) (c.reached.ensures its c.requires.rows) (sym c.has.ensures ∙ c.if-has.false))

@@ -19,7 +19,7 @@ returns c =
             object_named = of_object;
             authority = c.in_ok-why.why;
             is_why = c.in_ok-why.ensures.why;
-            told = c.in_ok-why_text.ensures.text;
+            told = c.in_ok-told.ensures.text;
           };
         });
         status = plain.status;

@@ -4,10 +4,10 @@ use Rattle.report.proofs.asking.summary_text.Goals as goal
 
 pub returns-clause-text : goal.returns-clause-text
 returns-clause-text c =
-    IfOk-weaker c.summary.result _ _
+    IfOk-weaker c.summary_in.result _ _
     (λ text sums. record {
       reach = c.in_ok-reach.reach;
       is_reach = record { of_table = c.in_ok-reach.ensures.table; is = c.in_ok-reach.ensures.reach };
       sums = sums;
     })
-    c.summary.ensures.text
+    c.summary_in.ensures.text

@@ -15,7 +15,7 @@ use Rattle.report.specs.Claimed as claimed
 -- some claims are broken
 some : (t : Layout) (lines : List (Option Claim)) (reach : TableReach) → IsReachOf t reach → (v : Vec Broken Global) → (all : List Broken)
     → v.items ≡ all → AreBroken t (limits_of reach) ClaimLines.FIRST lines all → (all ≡ [] → ⊥)
-    → ((claim : Claim) → Holds t (limits_of reach) claim → IsKept t claim)
+    → ((claim : Claim) → Holds t (limits_of reach) claim → IsKept t (limits_of reach) claim)
     → (answer : Answer) → Finds (line_of (breaches_data t lines all)) (λ told. told ≡ finding.Broken v) answer → claimed.Judges t lines answer
 some t lines reach is_reach v [] same are has kept answer finds = absurd (has refl)
 some t lines reach is_reach v (first ∷ more) same are has kept answer finds =

@@ -1,0 +1,7 @@
+use Rattle.report.proofs.asking.told.Goals as goal
+
+pub returns-in-Text-clause-text : goal.returns-in-Text-clause-text
+returns-in-Text-clause-text c = rw c.in-Text.is c.why_text.ensures.text
+
+pub returns-in-Json-clause-text : goal.returns-in-Json-clause-text
+returns-in-Json-clause-text c = rw c.in-Json.is c.why_report.ensures.text

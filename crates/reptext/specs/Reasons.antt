@@ -1,0 +1,28 @@
+-- What a label may do to another, as JSON: how far that goes, and the edges of a reason for it (confine's own).
+use Rattle.std.specs.Prelude.{[], ℕ, List, codes, map}
+use Rattle.base.specs.declared.edge.Edge.{Edge}
+use Rattle.machine.specs.Layout.{Layout}
+use Rattle.policy.specs.declared.why.Why.{Why, Why as why}
+use Rattle.captext.specs.PolicyText.{label_name}
+use Rattle.reach.specs.declared.extent.Extent.{Extent}
+use Rattle.reach.specs.declared.extent.Extent.TheVariants as extent
+use Rattle.reptext.specs.{Places.edge_names, Reports.{extent_word, names_data}}
+use Rattle.serde_json.specs.{Data.{Data, array, member, no_members, object, string}, View.items_of}
+
+-- an edge is its three words
+abbrev pub edge_data : Layout → Edge → Data
+edge_data t edge = names_data (edge_names t edge.from edge.kind edge.to)
+
+-- one label goes this far with another, for a reason with these edges
+abbrev pub reason_data : Layout → ℕ → ℕ → Extent → List Edge → Data
+reason_data t a l far edges =
+    object (member (codes "actor") (string (label_name t a))
+    (member (codes "authority") (string (extent_word far))
+    (member (codes "edges") (array (items_of (map (edge_data t) edges)))
+    (member (codes "object") (string (label_name t l)) no_members))))
+
+-- what one label may do to another
+abbrev pub why_data : Layout → ℕ → ℕ → Why → Data
+why_data t a l (why.Full edges) = reason_data t a l extent.Full edges.items
+why_data t a l (why.Take edges) = reason_data t a l extent.Take edges.items
+why_data t a l why.Nothing = reason_data t a l extent.Nothing []

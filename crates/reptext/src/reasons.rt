@@ -1,0 +1,100 @@
+//! What a label may do to another, as JSON.
+ghost use Rattle.std.specs.Prelude.{◌≡◌, IfErr, IfOk, map};
+ghost use Rattle.serde_json.specs.View.{view};
+ghost use Rattle.base.specs.Refusals.{out_of_memory};
+ghost use Rattle.reptext.specs.{Reasons.{edge_data, reason_data, why_data}, Reports.line_of};
+
+use crate::places::label_name;
+use crate::reports::{extent_word, line_of};
+use base::{Edge, Label, Refusal};
+use policy::Why;
+use reach::Extent;
+use serde_json::{Value, json};
+use std::alloc::{AllocError, Global};
+use table::Table;
+
+/// Returns what a label may do to another, as one JSON object on a line: how far that goes, and the edges of a
+/// reason for it.
+///
+/// # Errors
+///
+/// 40 where memory is refused.
+pub fn why_report(
+    alloc: Global,
+    table: &Table,
+    actor: Label,
+    object: Label,
+    why: &Why,
+) -> Result<Vec<u8>, Refusal>
+    ensures text { IfOk result (λ text. text.items ≡ line_of (why_data table.now actor object why.now)) }
+    ensures memory { IfErr result (λ refusal. refusal ≡ out_of_memory) }
+{
+    Ok(why_line(alloc, table, actor, object, why)?)
+}
+
+#[tactic(auto, using(crate::proofs::Fractions::why_has_no_float))]
+fn why_line(
+    alloc: Global,
+    table: &Table,
+    actor: Label,
+    object: Label,
+    why: &Why,
+) -> Result<Vec<u8>, AllocError>
+    ensures { IfOk result (λ line. line.items ≡ line_of (why_data table.now actor object why.now)) }
+{
+    let value = why_value(alloc, table, actor, object, why)?;
+    line_of(alloc, &value)
+}
+
+fn why_value(
+    alloc: Global,
+    table: &Table,
+    actor: Label,
+    object: Label,
+    why: &Why,
+) -> Result<Value, AllocError>
+    ensures { IfOk result (λ value. view value ≡ why_data table.now actor object why.now) }
+{
+    match why {
+        Why::Full(edges) => reason_value(alloc, table, actor, object, Extent::Full, edges),
+        Why::Take(edges) => reason_value(alloc, table, actor, object, Extent::Take, edges),
+        Why::Nothing => reason_value(alloc, table, actor, object, Extent::Nothing, &[]),
+    }
+}
+
+// How far a label goes with another, and the edges of a reason.
+fn reason_value(
+    alloc: Global,
+    table: &Table,
+    actor: Label,
+    object: Label,
+    extent: Extent,
+    edges: &[Edge],
+) -> Result<Value, AllocError>
+    ensures { IfOk result (λ value. view value ≡ reason_data table.now actor object extent edges.now) }
+{
+    let authority = extent_word(extent);
+    let edges = Value::Array(edge_values(alloc, table, edges)?);
+    let actor = Value::String(label_name(alloc, table, actor)?);
+    let object = Value::String(label_name(alloc, table, object)?);
+    json!(in alloc; {"actor": actor, "authority": authority, "edges": edges, "object": object})
+}
+
+fn edge_values(alloc: Global, table: &Table, edges: &[Edge]) -> Result<Vec<Value>, AllocError>
+    ensures { IfOk result (λ values. map view values.items ≡ map (edge_data table.now) edges.now) }
+{
+    let mut values = Vec::with_capacity(alloc, edges.len())?;
+    for edge in edges {
+        values.push(edge_value(alloc, table, *edge)?)?;
+    }
+    Ok(values)
+}
+
+// The three words of an edge.
+fn edge_value(alloc: Global, table: &Table, edge: Edge) -> Result<Value, AllocError>
+    ensures { IfOk result (λ value. view value ≡ edge_data table.now edge) }
+{
+    let from = Value::String(label_name(alloc, table, edge.from)?);
+    let to = Value::String(label_name(alloc, table, edge.to)?);
+    json!(in alloc; [from, edge.kind.name(), to])
+}
