@@ -1,0 +1,4 @@
+pub mod Ways
+pub mod Sets
+pub mod Smallest
+pub mod Stages
