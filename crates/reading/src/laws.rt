@@ -1,0 +1,32 @@
+//! The law on reading.
+ghost use Rattle.std.specs.Prelude.{ℕ, ◌≡◌, List, false};
+ghost use Rattle.base.specs.declared.{edge.Edge.Edge, kind.Kind.Kind};
+ghost use Rattle.machine.specs.Layout.{Layout};
+ghost use Rattle.policy.specs.{Domain.EdgeTest, Policy.allows};
+ghost use Rattle.table.specs.Rules.{IsLawful};
+ghost use Rattle.integrity.specs.{Confined.IsConfined, Keeping.IsSharp};
+ghost use Rattle.reach.specs.Reach.{HasBootAuthority, IsReach};
+ghost use Rattle.reading.specs.Reading.{NeverReads};
+
+use table::boot_states_are_well_formed;
+
+/// A law: in every run of a table, threads of a label read only from objects of labels to which the label has the edge.
+///
+/// Without an edge `read` no read of a frame is ever done. Without an edge `await` no poll or wait is done or waits,
+/// and without an edge `receive` no receive. A call that is refused reads nothing. This is so for the reach of the
+/// table, and for each sharply closed policy that has all authority of the boot state.
+pub fn runs_read_within_reach()
+    ensures reach { (t : Layout) (edges : List Edge) (a : ℕ) (by : Kind) (l : ℕ)
+        → IsLawful t
+        → IsReach t edges
+        → allows edges a by l ≡ false
+        → NeverReads t a by l }
+    ensures policy { (t : Layout) (allowed : EdgeTest) (a : ℕ) (by : Kind) (l : ℕ)
+        → IsLawful t
+        → IsSharp t allowed
+        → HasBootAuthority t allowed
+        → allowed a by l ≡ false
+        → NeverReads t a by l }
+{
+    boot_states_are_well_formed();
+}

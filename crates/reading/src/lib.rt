@@ -1,0 +1,8 @@
+//! A law on what threads read, in every run of a table.
+//!
+//! It decides nothing, and knows no code of the kernel.
+#![tactic(auto)]
+
+mod laws;
+
+pub use laws::runs_read_within_reach;
