@@ -1,0 +1,22 @@
+//! Searches that first try what the edges of a reason name: for runs by which a label changes an object of
+//! another, and for runs that lead out of a policy.
+//!
+//! The first are scripts whose last call, by a thread of the one label, changes an object of the
+//! other. Each script that is found is shown to be such a run.
+//!
+//! A call that is tried costs what it can touch, not the size of the system. It knows no text, and what a run
+//! shows only by `runs`. No crate stands on it yet: `breaches` and `report` call `search`.
+#![tactic(auto)]
+
+mod atoms;
+mod escaping;
+mod finding;
+mod guided;
+mod origin;
+mod spaces;
+mod touching;
+mod trying;
+
+pub use escaping::find_escape;
+pub use finding::{Found, find};
+pub use guided::edges_of;

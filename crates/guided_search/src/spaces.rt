@@ -1,0 +1,203 @@
+//! What a thread finds in its capability space, and by which addresses.
+use base::{ObjId, SlotRef};
+use machine::{CNode, Cap, Detail, Guard, Object, SlotAddress};
+use objects::State;
+use std::alloc::{AllocError, Global};
+
+/// The number of CNodes, on different ways, that a space is searched for.
+const MOST_NODES: usize = 64;
+
+/// A capability that a thread finds at an address.
+#[derive(Clone, Copy, PartialEq, Eq, Debug)]
+pub struct Entry {
+    pub address: u64,
+    pub cap: Cap,
+}
+
+/// A filled slot as a thread's calls name it.
+#[derive(Clone, Copy, PartialEq, Eq, Debug)]
+pub struct Place {
+    pub slot: SlotAddress,
+    pub at: SlotRef,
+    pub cap: Cap,
+}
+
+/// An empty slot, the lowest of a CNode, as a thread's calls name it.
+#[derive(Clone, Copy, PartialEq, Eq, Debug)]
+pub struct Gap {
+    pub slot: SlotAddress,
+    pub at: SlotRef,
+}
+
+/// The capabilities, slots and gaps that a thread finds in its capability space.
+#[derive(Drop)]
+pub struct Space {
+    /// One for each object and rights.
+    pub entries: Vec<Entry>,
+    pub places: Vec<Place>,
+    pub gaps: Vec<Gap>,
+}
+
+/// A CNode to which the first bits of an address lead.
+#[derive(Clone, Copy, PartialEq, Eq, Debug)]
+struct Way {
+    node: ObjId,
+    guard: Guard,
+    /// The address so far, and how many bits of it are still to come.
+    prefix: u64,
+    left: u32,
+}
+
+/// Returns what a thread finds in its capability space.
+///
+/// # Errors
+///
+/// [`AllocError`] where memory is refused.
+pub fn space_of(alloc: Global, state: &State, thread: ObjId) -> Result<Space, AllocError> {
+    let mut space = Space {
+        entries: Vec::new(alloc),
+        places: Vec::new(alloc),
+        gaps: Vec::new(alloc),
+    };
+    let mut ways = Vec::new(alloc);
+    if let Some(cap) = state.root(thread) {
+        if let Detail::CNode(guard) = cap.detail {
+            let first = Way {
+                node: cap.object,
+                guard,
+                prefix: 0,
+                left: 64,
+            };
+            ways.push(first)?;
+        }
+    }
+    for number in 0..MOST_NODES {
+        let Some(&way) = ways.get(number) else {
+            break;
+        };
+        visit(state, &way, &mut ways, &mut space)?;
+    }
+    for number in 0..space.entries.len() {
+        if let Some(&entry) = space.entries.get(number) {
+            list_slots(state, &entry, &mut space)?;
+        }
+    }
+    Ok(space)
+}
+
+// Goes through the slots of a CNode on the way.
+fn visit(
+    state: &State,
+    way: &Way,
+    ways: &mut Vec<Way>,
+    space: &mut Space,
+) -> Result<(), AllocError> {
+    let Some(&Object::CNode(node)) = state.object(way.node) else {
+        return Ok(());
+    };
+    let bits = u32::from(way.guard.size) + u32::from(node.radix.bits());
+    let Some(left) = way.left.checked_sub(bits) else {
+        return Ok(());
+    };
+    let stem = joined(
+        joined(way.prefix, u32::from(way.guard.size), way.guard.value),
+        u32::from(node.radix.bits()),
+        0,
+    );
+    for index in 0..node.radix.slots() {
+        let slot = SlotRef {
+            holder: way.node,
+            index,
+        };
+        if let Some(cap) = state.cap(slot) {
+            pass(&cap, stem | index, left, ways, space)?;
+        }
+    }
+    Ok(())
+}
+
+// Notes the capability in a slot on the way, or the CNode that it leads to.
+fn pass(
+    cap: &Cap,
+    address: u64,
+    left: u32,
+    ways: &mut Vec<Way>,
+    space: &mut Space,
+) -> Result<(), AllocError> {
+    match cap.detail {
+        Detail::CNode(guard) if left > 0 => ways.push(Way {
+            node: cap.object,
+            guard,
+            prefix: address,
+            left,
+        })?,
+        _ => {
+            let entry = Entry {
+                address: joined(address, left, 0),
+                cap: *cap,
+            };
+            if !is_listed(&space.entries, cap) {
+                space.entries.push(entry)?;
+            }
+        }
+    }
+    Ok(())
+}
+
+// Whether a capability for the same object with the same rights is listed.
+fn is_listed(entries: &[Entry], cap: &Cap) -> bool {
+    for entry in entries {
+        if entry.cap.object == cap.object && entry.cap.detail == cap.detail {
+            return true;
+        }
+    }
+    false
+}
+
+// Lists the slots of the CNode that an entry is for.
+fn list_slots(state: &State, entry: &Entry, space: &mut Space) -> Result<(), AllocError> {
+    let Detail::CNode(guard) = entry.cap.detail else {
+        return Ok(());
+    };
+    let Some(&Object::CNode(node)) = state.object(entry.cap.object) else {
+        return Ok(());
+    };
+    let mut full = true;
+    for index in 0..node.radix.slots() {
+        let slot = SlotRef {
+            holder: entry.cap.object,
+            index,
+        };
+        let named = name_of(entry, guard, &node, index);
+        match state.cap(slot) {
+            Some(cap) => space.places.push(Place {
+                slot: named,
+                at: slot,
+                cap,
+            })?,
+            None if full => {
+                full = false;
+                space.gaps.push(Gap {
+                    slot: named,
+                    at: slot,
+                })?;
+            }
+            None => {}
+        }
+    }
+    Ok(())
+}
+
+// A slot of a CNode as calls name it, through the capability at an address.
+fn name_of(entry: &Entry, guard: Guard, node: &CNode, index: u64) -> SlotAddress {
+    SlotAddress {
+        root: entry.address,
+        index: joined(guard.value, u32::from(node.radix.bits()), index),
+        depth: u64::from(guard.size) + u64::from(node.radix.bits()),
+    }
+}
+
+// A word with further bits behind it.
+fn joined(word: u64, bits: u32, further: u64) -> u64 {
+    word.checked_shl(bits).unwrap_or(0) | further
+}

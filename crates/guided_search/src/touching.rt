@@ -1,0 +1,273 @@
+//! Which objects a call can change, so that only these are compared; what it seems to have changed of them; and which call
+//! takes it back.
+use base::{ObjId, SlotRef};
+use cspace::find_cap;
+use machine::{Call, Event, Object, ReplyState, RunState, SlotAddress};
+use objects::State;
+use std::alloc::{AllocError, Global};
+
+/// The number of objects whose links are followed.
+const MOST_FOLLOWED: usize = 16;
+
+/// Returns the objects that a call can change, from the state in which it is made to the next.
+///
+/// These are the caller, the objects that its addresses lead to, those that hang together with them, and what is made.
+/// A call that removes capabilities can change all objects.
+///
+/// # Errors
+///
+/// [`AllocError`] where memory is refused.
+pub fn touched(
+    alloc: Global,
+    old: &State,
+    new: &State,
+    event: &Event,
+) -> Result<Vec<ObjId>, AllocError> {
+    let mut ids = Vec::new(alloc);
+    if let Call::Delete { .. } | Call::Revoke { .. } = event.call {
+        push_from(&mut ids, 0, new)?;
+        return Ok(ids);
+    }
+    push(&mut ids, event.thread)?;
+    push_named(&mut ids, old, event)?;
+    for number in 0..MOST_FOLLOWED {
+        let Some(&id) = ids.get(number) else {
+            break;
+        };
+        push_linked(&mut ids, old, id)?;
+    }
+    push_from(&mut ids, old.next_id(), new)?;
+    Ok(ids)
+}
+
+/// Returns those among some objects that seem to differ between two states, and those at which threads of them wait.
+///
+/// # Errors
+///
+/// [`AllocError`] where memory is refused.
+pub fn changes(
+    alloc: Global,
+    old: &State,
+    new: &State,
+    among: &[ObjId],
+) -> Result<Vec<ObjId>, AllocError> {
+    let mut ids = Vec::new(alloc);
+    for id in among {
+        if seems_changed(old, new, *id) {
+            ids.push(*id)?;
+            if let Some(Object::Tcb(tcb)) = new.object(*id) {
+                push_place(&mut ids, &tcb.state)?;
+            }
+        }
+    }
+    Ok(ids)
+}
+
+// Adds the object at which a thread waits in a queue.
+fn push_place(ids: &mut Vec<ObjId>, waits: &RunState) -> Result<(), AllocError> {
+    match waits {
+        RunState::Sending(sending) => ids.push(sending.endpoint)?,
+        RunState::Receiving(receiving) => ids.push(receiving.endpoint)?,
+        RunState::Waiting(notification) => ids.push(*notification)?,
+        _ => {}
+    }
+    Ok(())
+}
+
+// Whether an object differs in its content, in who waits first at it, in its first word or in its slots.
+fn seems_changed(old: &State, new: &State, id: ObjId) -> bool {
+    let Some(object) = old.object(id) else {
+        return new.object(id).is_some();
+    };
+    if Some(object) != new.object(id) {
+        return true;
+    }
+    match object {
+        Object::Endpoint(_) | Object::Notification(_) => {
+            old.first_waiting(id) != new.first_waiting(id)
+        }
+        Object::Frame(_) => old.word(id, 0) != new.word(id, 0),
+        _ => holds_other(old, new, id, object.slot_count()),
+    }
+}
+
+// Whether one of the slots of an object holds something else.
+fn holds_other(old: &State, new: &State, id: ObjId, count: u64) -> bool {
+    for index in 0..count {
+        let slot = SlotRef { holder: id, index };
+        if old.held(slot) != new.held(slot) {
+            return true;
+        }
+    }
+    false
+}
+
+/// Returns a call that may lead back to the state before a call.
+pub fn reverse(old: &State, event: &Event) -> Option<Event> {
+    let call = match event.call {
+        Call::Copy { to, .. } | Call::Mint { to, .. } => Call::Delete { slot: to },
+        Call::Move { to, from } => Call::Move { to: from, from: to },
+        Call::Signal { address } => Call::Poll { address },
+        Call::Write { address, index, .. } => Call::Write {
+            address,
+            index,
+            word: word_at(old, event.thread, address, index)?,
+        },
+        Call::Bind { context, .. } => Call::Unbind { context },
+        Call::SetSpace { thread, .. } => Call::ClearSpace { thread },
+        Call::Suspend { thread } => Call::Resume { thread },
+        Call::Resume { thread } => Call::Suspend { thread },
+        _ => return None,
+    };
+    Some(Event {
+        core: event.core,
+        thread: event.thread,
+        call,
+    })
+}
+
+// The word of the frame at an address.
+fn word_at(state: &State, thread: ObjId, address: u64, index: u64) -> Option<u64> {
+    let id = object_at(state, thread, address)?;
+    state.word(id, index)
+}
+
+// The object whose capability a thread finds at an address.
+fn object_at(state: &State, thread: ObjId, address: u64) -> Option<ObjId> {
+    match find_cap(state, thread, address) {
+        Ok((_, cap)) => Some(cap.object),
+        Err(_) => None,
+    }
+}
+
+// Adds an object, if it isn't there.
+fn push(ids: &mut Vec<ObjId>, id: ObjId) -> Result<(), AllocError> {
+    if !ids.contains(&id) {
+        ids.push(id)?;
+    }
+    Ok(())
+}
+
+// Adds an object, if there is one.
+fn push_if(ids: &mut Vec<ObjId>, id: Option<ObjId>) -> Result<(), AllocError> {
+    match id {
+        Some(id) => push(ids, id),
+        None => Ok(()),
+    }
+}
+
+// Adds all objects of a state from a number on.
+fn push_from(ids: &mut Vec<ObjId>, first: u64, state: &State) -> Result<(), AllocError> {
+    for number in first..state.next_id() {
+        ids.push(ObjId(number))?;
+    }
+    Ok(())
+}
+
+// Adds the objects that the addresses of a call lead to.
+fn push_named(ids: &mut Vec<ObjId>, state: &State, event: &Event) -> Result<(), AllocError> {
+    let (one, other) = addresses(&event.call);
+    if let Some(address) = one {
+        push_if(ids, object_at(state, event.thread, address))?;
+    }
+    if let Some(address) = other {
+        push_if(ids, object_at(state, event.thread, address))?;
+    }
+    match event.call {
+        Call::Receive { slot, .. } => push_node(ids, state, event.thread, slot),
+        _ => Ok(()),
+    }
+}
+
+// Adds the CNode of a slot that a thread names.
+fn push_node(
+    ids: &mut Vec<ObjId>,
+    state: &State,
+    thread: ObjId,
+    slot: Option<SlotAddress>,
+) -> Result<(), AllocError> {
+    match slot {
+        Some(slot) => push_if(ids, object_at(state, thread, slot.root)),
+        None => Ok(()),
+    }
+}
+
+// The addresses of a call.
+fn addresses(call: &Call) -> (Option<u64>, Option<u64>) {
+    match *call {
+        Call::Signal { address }
+        | Call::Poll { address }
+        | Call::Wait { address }
+        | Call::Send { address, .. }
+        | Call::Call { address, .. }
+        | Call::Reply { address, .. }
+        | Call::Read { address, .. }
+        | Call::Write { address, .. } => (Some(address), None),
+        Call::Receive { address, reply, .. } => (Some(address), reply),
+        Call::Copy { to, from, .. } | Call::Mint { to, from, .. } | Call::Move { to, from } => {
+            (Some(to.root), Some(from.root))
+        }
+        Call::Delete { slot } | Call::Revoke { slot } => (Some(slot.root), None),
+        Call::Retype { untyped, to, .. } => (Some(untyped), Some(to)),
+        Call::SetSpace { thread, space } => (Some(thread), Some(space)),
+        Call::ClearSpace { thread } | Call::Suspend { thread } | Call::Resume { thread } => {
+            (Some(thread), None)
+        }
+        Call::Configure {
+            control,
+            context,
+            ..
+        } => (Some(control), Some(context)),
+        Call::Bind { context, thread } => (Some(context), Some(thread)),
+        Call::Unbind { context } => (Some(context), None),
+        Call::Fetch => (None, None),
+    }
+}
+
+// Adds the objects that an object names, and the thread that waits first at it.
+fn push_linked(ids: &mut Vec<ObjId>, state: &State, id: ObjId) -> Result<(), AllocError> {
+    match state.object(id) {
+        Some(Object::Tcb(tcb)) => {
+            push_if(ids, tcb.context)?;
+            push_waits(ids, state, id, &tcb.state)
+        }
+        Some(Object::Endpoint(_)) | Some(Object::Notification(_)) => {
+            push_if(ids, state.first_waiting(id))
+        }
+        Some(Object::Reply(reply)) => match reply.state {
+            ReplyState::Free => Ok(()),
+            ReplyState::Waiting(thread) | ReplyState::Called(thread) => push(ids, thread),
+        },
+        Some(Object::Context(context)) => push_if(ids, context.thread),
+        _ => Ok(()),
+    }
+}
+
+// Adds the objects that a thread waits at, or through.
+fn push_waits(
+    ids: &mut Vec<ObjId>,
+    state: &State,
+    thread: ObjId,
+    waits: &RunState,
+) -> Result<(), AllocError> {
+    match waits {
+        RunState::Inactive | RunState::Ready => Ok(()),
+        RunState::Sending(sending) => push(ids, sending.endpoint),
+        RunState::Receiving(receiving) => {
+            push(ids, receiving.endpoint)?;
+            push_if(ids, receiving.reply)?;
+            push_node(ids, state, thread, receiving.slot)
+        }
+        RunState::Waiting(notification) => push(ids, *notification),
+        RunState::Called(calling) => {
+            push(ids, calling.reply)?;
+            match calling.lent {
+                Some(lent) => {
+                    push(ids, lent.context)?;
+                    push(ids, lent.borrower)
+                }
+                None => Ok(()),
+            }
+        }
+    }
+}
