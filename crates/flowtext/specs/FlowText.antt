@@ -1,0 +1,45 @@
+-- The text on what one label does and that comes to another: through which programs all of it goes, and a chain of flows (confine's own).
+use Rattle.std.specs.{List.flat_map, Prelude.{[], ℕ, ◌++◌, ◌∷◌, ◌≡◌, List, codes, false, if◌then◌else◌}}
+use Rattle.base.specs.{declared.labels.Labels.Labels, Labels.{is_in, members_of}}
+use Rattle.machine.specs.Layout.{Layout}
+use Rattle.captext.specs.PolicyText.{label_name}
+use Rattle.reach.specs.{Extents.limits_of, Reach.TableReach}
+use Rattle.flows.specs.{Chains.IsChain, Flowing.GoesThrough, declared.links.Link.Link}
+use Rattle.filters.specs.{Smallest.{IsFilterSet, IsSmallest}, declared.smallest.{Sets.Sets, Smallest.{Smallest, Smallest as smallest}}}
+use Rattle.flowtext.specs.declared.flow.TheConstants.{MOST_SETS}
+
+-- a label's name, behind a space
+abbrev pub spaced : Layout → ℕ → List ℕ
+spaced t label = 32 ∷ label_name t label
+
+-- the line of a set of programs
+abbrev pub set_line : Layout → Labels → List ℕ
+set_line t set = codes "through" ++ (flat_map (spaced t) (members_of set) ++ codes "\n")
+
+-- the line of a flow
+abbrev pub link_line : Layout → Link → List ℕ
+link_line t link = codes "link" ++ (spaced t link.from ++ (spaced t link.object ++ (spaced t link.to ++ codes "\n")))
+
+-- whether there are other sets
+abbrev pub rest_line : Sets → List ℕ
+rest_line sets = if sets.all then [] else codes "and more\n"
+
+-- the lines on the smallest sets
+abbrev pub smallest_text : Layout → Smallest → List ℕ
+smallest_text t smallest.Direct = codes "direct\n"
+smallest_text t smallest.Larger = codes "more than 5\n"
+smallest_text t (smallest.Fewest sets) = flat_map (set_line t) sets.sets.items ++ rest_line sets
+
+-- the text where something comes from the one label to the other: the smallest sets, and a chain
+abbrev pub reached_text : Layout → Smallest → List Link → List ℕ
+reached_text t sets links = smallest_text t sets ++ flat_map (link_line t) links
+
+-- it says that nothing comes from the one label to the other, which is so; or what is so of what does
+pub data IsFlowText (reach : TableReach) (from to : ℕ) (text : List ℕ) : Type 0 where
+  none :
+      (nobody : Labels) → ((l : ℕ) → is_in nobody l ≡ false) → GoesThrough (limits_of reach) (is_in nobody) from to → text ≡ codes "none\n"
+      → IsFlowText reach from to text
+  some :
+      (nobody : Labels) (links : List Link) (sets : Smallest) → ((l : ℕ) → is_in nobody l ≡ false)
+      → IsChain (limits_of reach) (is_in nobody) from links to → IsSmallest (IsFilterSet (limits_of reach) from to) MOST_SETS sets
+      → text ≡ reached_text reach.table sets links → IsFlowText reach from to text

@@ -1,0 +1,56 @@
+//! The text on two labels.
+ghost use Rattle.std.specs.Prelude.{◌≡◌, IfErr, IfOk, string_bytes};
+ghost use Rattle.base.specs.Refusals.{out_of_memory};
+ghost use Rattle.flowtext.specs.FlowText.{IsFlowText, reached_text};
+
+use crate::lines::{write_links, write_smallest};
+use base::{Label, Labels, Refusal};
+use filters::{FlowGraph, Smallest};
+use flows::{Flows, Link};
+use reach::Reach;
+use std::alloc::{AllocError, Global};
+use table::Table;
+
+/// The most sets of programs that a text names.
+pub const MOST_SETS: usize = 10;
+
+/// Returns the text on what the label `from` does and that comes to the label `to`.
+///
+/// It is `none` if nothing does. Else it has a line for each of the smallest sets of programs through which all of
+/// it goes, of at most [`MOST_SETS`], or `direct` if no set of programs is one, and then a chain of flows.
+///
+/// # Errors
+///
+/// 40 where memory is refused.
+pub fn flow_text(
+    alloc: Global,
+    reach: &Reach<'_>,
+    from: Label,
+    to: Label,
+) -> Result<Vec<u8>, Refusal>
+    ensures text { IfOk result (λ text. IsFlowText reach.now from to text.items) }
+    ensures memory { IfErr result (λ refusal. refusal ≡ out_of_memory) }
+{
+    let flows = Flows::of(alloc, reach)?;
+    let Some(links) = flows.chain(alloc, from, to, Labels::none())? else {
+        return Ok(String::from_str(alloc, "none\n")?.into_bytes());
+    };
+    let graph = FlowGraph::of(alloc, reach)?;
+    let smallest = graph.smallest_filters(alloc, from, to, MOST_SETS)?;
+    Ok(reached_string(alloc, reach.table(), &smallest, &links)?.into_bytes())
+}
+
+// The text where something comes from the one label to the other.
+fn reached_string(
+    alloc: Global,
+    table: &Table,
+    smallest: &Smallest,
+    links: &[Link],
+) -> Result<String, AllocError>
+    ensures { IfOk result (λ text. string_bytes text ≡ reached_text table.now smallest.now links.now) }
+{
+    let mut text = String::new(alloc);
+    write_smallest(alloc, &mut text, table, smallest)?;
+    write_links(&mut text, table, links)?;
+    Ok(text)
+}
