@@ -8,7 +8,7 @@ use flows::{Flows, Link};
 use policy::Why;
 use reach::{Extent, Reach};
 use runs::Question;
-use search::find;
+use search::{edges_of, find};
 use sources::{Sheet, Start};
 use std::alloc::{AllocError, Global};
 use table::Table;
@@ -81,6 +81,7 @@ pub fn breach_lines(
 /// 40 where memory is refused.
 pub fn explain_breach(
     alloc: Global,
+    reach: &Reach<'_>,
     judged: &Judged<'_>,
     line: usize,
     breach: Breach,
@@ -91,7 +92,8 @@ pub fn explain_breach(
         object: breach.object,
         taking: breach.extent == Extent::Take,
     };
-    let found = find(alloc, judged.sheet.table, &question, STEPS)?;
+    let reason = edges_of(alloc, reach.why(alloc, breach.actor, breach.object)?);
+    let found = find(alloc, judged.sheet.table, &question, &reason, STEPS)?;
     push_place(&mut lines, judged, line)?;
     match &found.script {
         Some(script) => {
@@ -226,14 +228,6 @@ fn push_breach(
     };
     push_deed(lines, table, breach, does, &edges, &ways)?;
     Ok(edges)
-}
-
-/// The edges by which a label may do something to another.
-fn edges_of(alloc: Global, why: Why) -> Vec<Edge> {
-    match why {
-        Why::Full(edges) | Why::Take(edges) => edges,
-        Why::Nothing => Vec::new(alloc),
-    }
 }
 
 /// Adds what a label may do to another, by these edges, and what may be changed.

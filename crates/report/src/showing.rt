@@ -6,13 +6,13 @@ ghost use Rattle.report.specs.Questions.{unlabelled};
 ghost use Rattle.report.specs.Shows as shows;
 
 use crate::{Asked, Search};
-use base::{Label, Refusal};
+use base::{Edge, Label, Refusal};
 use commands::{Answer, Stop};
 use evtext::write_script;
 use reach::{Extent, Reach};
 use reptext::{impossible_report, unfound_report};
 use runs::Question;
-use search::find;
+use search::{edges_of, find};
 use std::alloc::Global;
 use table::Table;
 
@@ -58,10 +58,12 @@ fn run_answer(
         object,
         taking: sought.takes,
     };
+    let reason = edges_of(alloc, reach.why(alloc, actor, object)?);
     bounded_answer(
         alloc,
         reach.table(),
         &question,
+        &reason,
         bound,
         most_calls(sought, bound),
     )
@@ -83,6 +85,7 @@ fn bounded_answer(
     alloc: Global,
     table: &Table,
     question: &Question,
+    reason: &[Edge],
     bound: Extent,
     most: u64,
 ) -> Result<Answer, Refusal>
@@ -92,7 +95,7 @@ fn bounded_answer(
 {
     match bound {
         Extent::Nothing => Ok(Answer::plain(impossible_report(alloc)?, 1)),
-        Extent::Full | Extent::Take => found_answer(alloc, table, question, bound, most),
+        Extent::Full | Extent::Take => found_answer(alloc, table, question, reason, bound, most),
     }
 }
 
@@ -101,6 +104,7 @@ fn found_answer(
     alloc: Global,
     table: &Table,
     question: &Question,
+    reason: &[Edge],
     bound: Extent,
     most: u64,
 ) -> Result<Answer, Refusal>
@@ -111,7 +115,7 @@ fn found_answer(
     if most == 0 {
         return Ok(Answer::plain(unfound_report(alloc, bound, 0)?, 1));
     }
-    let found = find(alloc, table, question, most)?;
+    let found = find(alloc, table, question, reason, most)?;
     match found.script {
         Some(script) => {
             let text = write_script(alloc, &script)?;

@@ -4,10 +4,12 @@ use bitflags::Flags;
 use labels::label_of;
 use machine::{Cap, Detail, Inbox, Object, ObjectKind, ReplyState, RunState, Tcb};
 use objects::State;
-use runs::changes;
 use std::alloc::{AllocError, Global};
 use std::collections::{BTreeMap, BTreeSet};
 use table::Table;
+
+/// The number of pairs of atoms after which no more are noted.
+const MOST_TWOS: usize = 1_000_000;
 
 /// The kind of an atom.
 #[derive(Clone, Copy, PartialEq, Eq, PartialOrd, Ord, Debug)]
@@ -137,30 +139,29 @@ impl<'a> Known<'a> {
 
     /// Notes the atoms of those objects of a state that a call changed, and returns whether it is new.
     ///
+    /// Of the other objects those in which the state may differ from the boot state are `earlier`.
+    ///
     /// # Errors
     ///
     /// [`AllocError`] where memory is refused.
     pub fn note(
         &mut self,
         alloc: Global,
-        boot: &State,
         state: &State,
         changes: &[ObjId],
+        earlier: &[ObjId],
     ) -> Result<bool, AllocError> {
-        let mut found = Vec::new(alloc);
-        for id in changes {
-            self.list(state, *id, &mut found)?;
-        }
         let before = self.atoms.len();
-        let numbers = self.numbers(alloc, &found)?;
+        let numbers = self.numbers(alloc, state, changes)?;
         let is_new = self.atoms.len() != before;
-        match self.news {
-            News::Atom => Ok(is_new),
-            News::Two => {
-                let has_two = self.note_twos(alloc, boot, state, &numbers)?;
-                Ok(is_new || has_two)
-            }
+        if self.news == News::Atom || self.twos.len() >= MOST_TWOS {
+            return Ok(is_new);
         }
+        let others = self.numbers(alloc, state, earlier)?;
+        let known = self.twos.len();
+        self.note_twos(&numbers, &numbers)?;
+        self.note_twos(&numbers, &others)?;
+        Ok(is_new || self.twos.len() != known)
     }
 
     // The number of an atom, which is known then.
@@ -175,10 +176,19 @@ impl<'a> Known<'a> {
         }
     }
 
-    // The numbers of those atoms that the boot state doesn't have.
-    fn numbers(&mut self, alloc: Global, found: &[Atom]) -> Result<Vec<usize>, AllocError> {
+    // The numbers of those atoms of some objects that the boot state doesn't have.
+    fn numbers(
+        &mut self,
+        alloc: Global,
+        state: &State,
+        ids: &[ObjId],
+    ) -> Result<Vec<usize>, AllocError> {
+        let mut found = Vec::new(alloc);
+        for id in ids {
+            self.list(state, *id, &mut found)?;
+        }
         let mut numbers = Vec::new(alloc);
-        for atom in found {
+        for atom in &found {
             let number = self.number(atom)?;
             if number >= self.first {
                 numbers.push(number)?;
@@ -187,23 +197,10 @@ impl<'a> Known<'a> {
         Ok(numbers)
     }
 
-    // Notes the atoms of these numbers each with those in which a state differs from the boot state, and returns
-    // whether two weren't known.
-    fn note_twos(
-        &mut self,
-        alloc: Global,
-        boot: &State,
-        state: &State,
-        numbers: &[usize],
-    ) -> Result<bool, AllocError> {
-        let mut found = Vec::new(alloc);
-        for id in &changes(alloc, boot, state)? {
-            self.list(state, *id, &mut found)?;
-        }
-        let others = self.numbers(alloc, &found)?;
-        let before = self.twos.len();
+    // Notes each atom of some numbers with each of others.
+    fn note_twos(&mut self, numbers: &[usize], others: &[usize]) -> Result<(), AllocError> {
         for one in numbers {
-            for other in &others {
+            for other in others {
                 let two = Two {
                     one: (*one).min(*other),
                     other: (*one).max(*other),
@@ -211,7 +208,7 @@ impl<'a> Known<'a> {
                 self.twos.insert(two)?;
             }
         }
-        Ok(self.twos.len() != before)
+        Ok(())
     }
 
     // Lists the atoms of an object.

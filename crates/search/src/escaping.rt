@@ -1,24 +1,26 @@
 //! The search for a run that leaves a policy: one that ends in a state whose authority lies outside of it.
 ghost use Rattle.std.specs.Prelude.{◌≡◌, ◌≤◌, IfErr, IfOk, IfSome};
 ghost use Rattle.base.specs.Refusals.{plain};
+ghost use Rattle.machine.specs.WellFormed.{IsWellFormed};
 ghost use Rattle.policy.specs.Policy.{allows};
 ghost use Rattle.runs.specs.Escapes.{Leaves};
 
 use crate::atoms::{Known, News};
-use crate::finding::{Found, copied, longer, made_after, within};
-use crate::trying::{Callers, Choice, calls_in};
-use base::Refusal;
+use crate::finding::{Found, copied, longer, unfound};
+use crate::origin::{Origin, settle};
+use crate::touching::{changes, touched};
+use crate::trying::{Breadth, Callers, Choice, calls_in};
+use base::{ObjId, Refusal};
 use machine::Event;
 use objects::State;
 use policy::Policy;
-use runs::{MOST_CALLS, changes, leaves, lies_outside, reach};
+use runs::{MOST_CALLS, leaves, lies_outside, makes, reach};
 use std::alloc::{AllocError, Global};
 use table::Table;
 
 /// The scripts after which calls are tried, in this order, and what the search has seen.
 #[derive(Drop)]
 struct Queue<'a> {
-    boot: State,
     known: Known<'a>,
     scripts: Vec<Vec<Event>>,
 }
@@ -44,10 +46,7 @@ pub fn find_escape(
 {
     let mut spent = 0;
     let Some(mut queue) = begin(alloc, table)? else {
-        return Ok(Found {
-            script: None,
-            steps: 0,
-        });
+        return Ok(unfound(0));
     };
     for number in 0..usize::MAX {
         let Some(script) = script_at(alloc, &queue.scripts, number)? else {
@@ -65,10 +64,7 @@ pub fn find_escape(
             break;
         }
     }
-    Ok(Found {
-        script: None,
-        steps: spent,
-    })
+    Ok(unfound(spent))
 }
 
 // A search that has tried nothing.
@@ -81,11 +77,7 @@ fn begin<'a>(alloc: Global, table: &'a Table) -> Result<Option<Queue<'a>>, Refus
     let known = Known::new(alloc, table, News::Atom, &boot)?;
     let mut scripts = Vec::new(alloc);
     scripts.push(Vec::new(alloc))?;
-    Ok(Some(Queue {
-        boot,
-        known,
-        scripts,
-    }))
+    Ok(Some(Queue { known, scripts }))
 }
 
 // The script of that number, if there is one.
@@ -116,17 +108,27 @@ fn try_after(
     ensures refused { IfErr result (λ refusal. refusal ≡ plain 40) }
 {
     let Some(from) = reach(alloc, table, script)? else {
-        return Ok(Found {
-            script: None,
-            steps: 0,
-        });
+        return Ok(unfound(0));
     };
     let choice = Choice {
         callers: Callers::All,
-        wide: false,
+        breadth: Breadth::Narrow,
+        reason: &[],
     };
     let calls = calls_in(alloc, table, &from, &choice)?;
-    try_all(alloc, table, policy, script, &from, &calls, most, queue)
+    try_all(
+        alloc,
+        table,
+        policy,
+        &Origin {
+            script,
+            changed: &[],
+            state: &from,
+        },
+        &calls,
+        most,
+        queue,
+    )
 }
 
 // Tries calls after a script, at most `most` of them.
@@ -134,8 +136,7 @@ fn try_all(
     alloc: Global,
     table: &Table,
     policy: &Policy,
-    script: &[Event],
-    from: &State,
+    origin: &Origin<'_>,
     calls: &[Event],
     most: u64,
     queue: &mut Queue<'_>,
@@ -145,52 +146,83 @@ fn try_all(
     ensures bounded { IfOk result (λ found. found.steps ≤ most) }
     ensures refused { IfErr result (λ refusal. refusal ≡ plain 40) }
 {
-    let mut at = 0;
-    for _ in 0..calls.len() {
-        let Some((index, state)) = made_after(alloc, table, script, calls, at, most)? else {
-            at = calls.len();
+    if calls.is_empty() {
+        return Ok(unfound(0));
+    }
+    let Some(mut ground) = reach(alloc, table, origin.script)? else {
+        return Ok(unfound(0));
+    };
+    let mut tried = 0;
+    for call in calls {
+        if tried == most {
             break;
-        };
-        at = index + 1;
-        if let Some(last) = calls.get(index) {
-            let found = judge(alloc, table, policy, script, *last, from, &state, queue)?;
-            if let Some(script) = found {
-                return Ok(Found {
-                    script: Some(script),
-                    steps: within(at, most),
-                });
-            }
+        }
+        tried += 1;
+        let answer = try_one(alloc, table, policy, origin, *call, &mut ground, queue)?;
+        if let Some(script) = answer {
+            return Ok(Found {
+                script: Some(script),
+                steps: tried,
+            });
         }
     }
-    Ok(Found {
-        script: None,
-        steps: within(at, most),
-    })
+    Ok(unfound(tried))
 }
 
-// Judges a call that leads from a script's state to another: the script with the call, if it leaves the policy.
+// Tries a call in a copy of the origin's state, which afterwards is one again: the script with the call, if it
+// leaves the policy. It is kept if it leads to something new, and may have a further call.
+fn try_one(
+    alloc: Global,
+    table: &Table,
+    policy: &Policy,
+    origin: &Origin<'_>,
+    call: Event,
+    ground: &mut State,
+    queue: &mut Queue<'_>,
+) -> Result<Option<Vec<Event>>, Refusal>
+    requires { IsWellFormed ground.old }
+    ensures found { IfOk result (λ found. IfSome found
+        (λ script. Leaves table.now (allows policy.now) script.items)) }
+    ensures well_formed { IsWellFormed ground.new }
+    ensures refused { IfErr result (λ refusal. refusal ≡ plain 40) }
+{
+    if !makes(ground, call) {
+        return Ok(None);
+    }
+    let touched = touched(alloc, origin.state, ground, &call)?;
+    let changes = changes(alloc, origin.state, ground, &touched)?;
+    if changes.is_empty() {
+        return Ok(None);
+    }
+    let found = judge(alloc, table, policy, origin, ground, &changes, call, queue)?;
+    if found.is_none() {
+        settle(alloc, table, origin, call, &touched, ground)?;
+    }
+    Ok(found)
+}
+
+// Judges a call that leads from the origin's state to another: the script with the call, if it leaves the policy.
 // It is kept if it leads to something new, and may have a further call.
 fn judge(
     alloc: Global,
     table: &Table,
     policy: &Policy,
-    script: &[Event],
-    last: Event,
-    from: &State,
+    origin: &Origin<'_>,
     to: &State,
+    changes: &[ObjId],
+    last: Event,
     queue: &mut Queue<'_>,
 ) -> Result<Option<Vec<Event>>, Refusal>
     ensures found { IfOk result (λ found. IfSome found
         (λ script. Leaves table.now (allows policy.now) script.items)) }
     ensures refused { IfErr result (λ refusal. refusal ≡ plain 40) }
 {
-    let longer = longer(alloc, script, last)?;
+    let longer = longer(alloc, origin.script, last)?;
     // The state is but a first look: what counts is where the whole script leads.
     if lies_outside(table, policy, to) && leaves(alloc, table, policy, &longer)? {
         return Ok(Some(longer));
     }
-    let changes = changes(alloc, from, to)?;
-    if longer.len() < MOST_CALLS && queue.known.note(alloc, &queue.boot, to, &changes)? {
+    if longer.len() < MOST_CALLS && queue.known.note(alloc, to, changes, &[])? {
         queue.scripts.push(longer)?;
     }
     Ok(None)

@@ -1,17 +1,25 @@
 //! The search for a script that answers a question.
-ghost use Rattle.std.specs.Prelude.{[], ◌++◌, ◌<◌, ◌∷◌, ◌≡◌, ◌≤◌, IfErr, IfOk, IfSome, length};
+ghost use Rattle.std.specs.Prelude.{[], ◌++◌, ◌<◌, ◌∷◌, ◌≡◌, ◌≤◌, IfErr, IfOk, IfSome, None};
 ghost use Rattle.base.specs.Refusals.{plain};
 ghost use Rattle.machine.specs.WellFormed.{IsWellFormed};
 ghost use Rattle.runs.specs.Shown.{Answers};
 
 use crate::atoms::{Known, News};
-use crate::trying::{Callers, Choice, calls_in};
-use base::{Label, Refusal};
+use crate::origin::{Origin, settle};
+use crate::touching::{changes, touched};
+use crate::trying::{Breadth, Callers, Choice, calls_in};
+use base::{Edge, Label, ObjId, Refusal};
 use machine::Event;
 use objects::State;
-use runs::{Question, answering, changes, is_near, makes, reach, shows};
+use runs::{Question, answering, is_near, makes, reach, shows};
 use std::alloc::{AllocError, Global};
 use table::Table;
+
+/// The most calls that are tried of those that the edges of a reason name.
+const MOST_NAMED: u64 = 5_000;
+
+/// The number of scripts after which no more are kept.
+const MOST_KEPT: usize = 50_000;
 
 /// The end of a search.
 #[derive(Debug, Drop)]
@@ -25,7 +33,6 @@ pub struct Found {
 /// The scripts that lead to states from which a search continues, and what it has seen.
 #[derive(Drop)]
 struct Front<'a> {
-    boot: State,
     known: Known<'a>,
     kept: Vec<Kept>,
     /// The number of kept scripts after which the actor's calls were tried.
@@ -40,6 +47,8 @@ struct Front<'a> {
 #[derive(Drop)]
 struct Kept {
     script: Vec<Event>,
+    /// The objects in which its state may differ from the boot state.
+    changed: Vec<ObjId>,
     /// Whether its last call changed an object of one of the labels that are asked about.
     is_near: bool,
     /// Whether the others' calls were tried after it.
@@ -48,45 +57,98 @@ struct Kept {
 
 /// Searches for a script that answers a question, and tries at most `steps` calls.
 ///
-/// A script that is found answers the question. That none is found says nothing.
+/// The calls that the edges of `reason` name are tried first: it is why the question's actor may do
+/// something to the object. A script that is found answers the question. That none is found says nothing.
 ///
 /// # Errors
 ///
 /// 40 where memory is refused.
-pub fn find(alloc: Global, table: &Table, question: &Question, steps: u64) -> Result<Found, Refusal>
+pub fn find(
+    alloc: Global,
+    table: &Table,
+    question: &Question,
+    reason: &[Edge],
+    steps: u64,
+) -> Result<Found, Refusal>
     ensures found { IfOk result (λ found. IfSome found.script (λ script. Answers table.now question.now script.items)) }
     ensures bounded { IfOk result (λ found. found.steps ≤ steps) }
     ensures refused { IfErr result (λ refusal. refusal ≡ plain 40) }
 {
-    let first = pass(alloc, table, question, steps - steps / 3, News::Atom)?;
+    let most = steps.min(MOST_NAMED);
+    let named = pass(alloc, table, question, Breadth::Named, reason, most)?;
+    if named.script.is_some() {
+        return Ok(named);
+    }
+    let found = find_unnamed(alloc, table, question, steps - named.steps)?;
+    Ok(Found {
+        script: found.script,
+        steps: named.steps + found.steps,
+    })
+}
+
+// Searches with at most a number of calls, whatever they are.
+fn find_unnamed(
+    alloc: Global,
+    table: &Table,
+    question: &Question,
+    steps: u64,
+) -> Result<Found, Refusal>
+    ensures found { IfOk result (λ found. IfSome found.script (λ script. Answers table.now question.now script.items)) }
+    ensures bounded { IfOk result (λ found. found.steps ≤ steps) }
+    ensures refused { IfErr result (λ refusal. refusal ≡ plain 40) }
+{
+    let first = pass(
+        alloc,
+        table,
+        question,
+        Breadth::Narrow,
+        &[],
+        steps - steps / 3,
+    )?;
     if first.script.is_some() {
         return Ok(first);
     }
-    let second = pass(alloc, table, question, steps - first.steps, News::Two)?;
+    let second = pass(
+        alloc,
+        table,
+        question,
+        Breadth::Wide,
+        &[],
+        steps - first.steps,
+    )?;
     Ok(Found {
         script: second.script,
         steps: first.steps + second.steps,
     })
 }
 
-// Searches with at most a number of calls, from states that are new in this sense.
+/// Returns the end of a search that has found nothing with a number of calls.
+pub fn unfound(steps: u64) -> Found
+    ensures steps { result.steps ≡ steps }
+    ensures none { result.script ≡ None }
+{
+    Found {
+        script: None,
+        steps,
+    }
+}
+
+// Searches with at most a number of calls of such a breadth.
 fn pass(
     alloc: Global,
     table: &Table,
     question: &Question,
+    breadth: Breadth,
+    reason: &[Edge],
     steps: u64,
-    news: News,
 ) -> Result<Found, Refusal>
     ensures found { IfOk result (λ found. IfSome found.script (λ script. Answers table.now question.now script.items)) }
     ensures bounded { IfOk result (λ found. found.steps ≤ steps) }
     ensures refused { IfErr result (λ refusal. refusal ≡ plain 40) }
 {
     let mut spent = 0;
-    let Some(mut front) = begin(alloc, table, news)? else {
-        return Ok(Found {
-            script: None,
-            steps: 0,
-        });
+    let Some(mut front) = begin(alloc, table, news_of(breadth))? else {
+        return Ok(unfound(0));
     };
     for turn in 0..usize::MAX {
         let Some((number, own)) = next(&mut front, turn) else {
@@ -94,7 +156,8 @@ fn pass(
         };
         let choice = Choice {
             callers: callers(question.actor, own),
-            wide: news == News::Two,
+            breadth,
+            reason,
         };
         let found = follow(
             alloc,
@@ -116,10 +179,15 @@ fn pass(
             break;
         }
     }
-    Ok(Found {
-        script: None,
-        steps: spent,
-    })
+    Ok(unfound(spent))
+}
+
+// What is new to a search of such a breadth.
+fn news_of(breadth: Breadth) -> News {
+    match breadth {
+        Breadth::Narrow => News::Atom,
+        Breadth::Named | Breadth::Wide => News::Two,
+    }
 }
 
 // The threads of a label, or all others.
@@ -142,11 +210,11 @@ fn begin<'a>(alloc: Global, table: &'a Table, news: News) -> Result<Option<Front
     let mut kept = Vec::new(alloc);
     kept.push(Kept {
         script: Vec::new(alloc),
+        changed: Vec::new(alloc),
         is_near: true,
         is_done: false,
     })?;
     Ok(Some(Front {
-        boot,
         known,
         kept,
         own: 0,
@@ -199,12 +267,19 @@ fn finish(kept: &mut [Kept], number: usize) {
     }
 }
 
-// The kept script of that number, if there is one.
-fn kept_at(alloc: Global, kept: &[Kept], number: usize) -> Result<Option<Vec<Event>>, AllocError> {
-    match kept.get(number) {
-        Some(kept) => Ok(Some(copied(alloc, &kept.script)?)),
-        None => Ok(None),
+// The kept script of that number, and the objects in which its state may differ from the boot state.
+fn kept_at(
+    alloc: Global,
+    kept: &[Kept],
+    number: usize,
+) -> Result<(Vec<Event>, Vec<ObjId>), AllocError> {
+    let mut script = Vec::new(alloc);
+    let mut changed = Vec::new(alloc);
+    if let Some(kept) = kept.get(number) {
+        script.extend_from_slice(&kept.script)?;
+        changed.extend_from_slice(&kept.changed)?;
     }
+    Ok((script, changed))
 }
 
 /// Returns the same script.
@@ -224,7 +299,7 @@ fn follow(
     alloc: Global,
     table: &Table,
     question: &Question,
-    choice: &Choice,
+    choice: &Choice<'_>,
     number: usize,
     most: u64,
     front: &mut Front<'_>,
@@ -233,20 +308,24 @@ fn follow(
     ensures bounded { IfOk result (λ found. found.steps ≤ most) }
     ensures refused { IfErr result (λ refusal. refusal ≡ plain 40) }
 {
-    let Some(script) = kept_at(alloc, &front.kept, number)? else {
-        return Ok(Found {
-            script: None,
-            steps: 0,
-        });
-    };
+    let (script, changed) = kept_at(alloc, &front.kept, number)?;
     let Some(from) = reach(alloc, table, &script)? else {
-        return Ok(Found {
-            script: None,
-            steps: 0,
-        });
+        return Ok(unfound(0));
     };
     let calls = calls_in(alloc, table, &from, choice)?;
-    try_all(alloc, table, question, &script, &from, &calls, most, front)
+    try_all(
+        alloc,
+        table,
+        question,
+        &Origin {
+            script: &script,
+            changed: &changed,
+            state: &from,
+        },
+        &calls,
+        most,
+        front,
+    )
 }
 
 // Tries calls after a script, at most `most` of them.
@@ -254,8 +333,7 @@ fn try_all(
     alloc: Global,
     table: &Table,
     question: &Question,
-    script: &[Event],
-    from: &State,
+    origin: &Origin<'_>,
     calls: &[Event],
     most: u64,
     front: &mut Front<'_>,
@@ -264,107 +342,104 @@ fn try_all(
     ensures bounded { IfOk result (λ found. found.steps ≤ most) }
     ensures refused { IfErr result (λ refusal. refusal ≡ plain 40) }
 {
-    let mut at = 0;
-    for _ in 0..calls.len() {
-        let Some((index, state)) = made_after(alloc, table, script, calls, at, most)? else {
-            at = calls.len();
+    if calls.is_empty() {
+        return Ok(unfound(0));
+    }
+    let Some(mut ground) = reach(alloc, table, origin.script)? else {
+        return Ok(unfound(0));
+    };
+    let mut tried = 0;
+    for call in calls {
+        if tried == most {
             break;
-        };
-        at = index + 1;
-        let answer = judge(
-            alloc, table, question, script, from, &state, calls, index, front,
-        )?;
+        }
+        tried += 1;
+        let answer = try_one(alloc, table, question, origin, *call, &mut ground, front)?;
         if let Some(script) = answer {
             return Ok(Found {
                 script: Some(script),
-                steps: within(at, most),
+                steps: tried,
             });
         }
     }
-    Ok(Found {
-        script: None,
-        steps: within(at, most),
-    })
+    Ok(unfound(tried))
 }
 
-/// Returns the first call, from an index on, that isn't refused after a script, and the state that it leads to.
-///
-/// # Errors
-///
-/// 40 where memory is refused.
-pub fn made_after(
+// Tries a call in a copy of the origin's state, which afterwards is one again: the script with the call, where
+// that answers the question. It is kept if it leads to something new.
+fn try_one(
     alloc: Global,
     table: &Table,
-    script: &[Event],
-    calls: &[Event],
-    at: usize,
-    most: u64,
-) -> Result<Option<(usize, State)>, Refusal>
-    ensures within { IfOk result (λ made. IfSome made (λ pair. pair.0 < length calls.now)) }
+    question: &Question,
+    origin: &Origin<'_>,
+    call: Event,
+    ground: &mut State,
+    front: &mut Front<'_>,
+) -> Result<Option<Vec<Event>>, Refusal>
+    requires { IsWellFormed ground.old }
+    ensures found { IfOk result (λ answer. IfSome answer (λ script. Answers table.now question.now script.items)) }
+    ensures well_formed { IsWellFormed ground.new }
     ensures refused { IfErr result (λ refusal. refusal ≡ plain 40) }
 {
-    let Some(mut state) = reach(alloc, table, script)? else {
+    if !makes(ground, call) {
         return Ok(None);
-    };
-    match first_made(&mut state, calls, at, most) {
-        Some(index) => Ok(Some((index, state))),
-        None => Ok(None),
     }
+    let touched = touched(alloc, origin.state, ground, &call)?;
+    let changes = changes(alloc, origin.state, ground, &touched)?;
+    if changes.is_empty() {
+        return Ok(None);
+    }
+    let answer = judge(
+        alloc, table, question, origin, ground, &changes, call, front,
+    )?;
+    if answer.is_none() {
+        settle(alloc, table, origin, call, &touched, ground)?;
+    }
+    Ok(answer)
 }
 
-// Judges a call that leads from a script's state to another: the script with the call, where that answers the
+// Judges a call that leads from the origin's state to another: the script with the call, where that answers the
 // question. It is kept if it leads to something new.
 fn judge(
     alloc: Global,
     table: &Table,
     question: &Question,
-    script: &[Event],
-    from: &State,
+    origin: &Origin<'_>,
     to: &State,
-    calls: &[Event],
-    index: usize,
+    changes: &[ObjId],
+    last: Event,
     front: &mut Front<'_>,
 ) -> Result<Option<Vec<Event>>, Refusal>
     ensures found { IfOk result (λ answer. IfSome answer (λ script. Answers table.now question.now script.items)) }
     ensures refused { IfErr result (λ refusal. refusal ≡ plain 40) }
 {
-    let Some(last) = calls.get(index) else {
-        return Ok(None);
-    };
-    let changes = changes(alloc, from, to)?;
-    if let Some(id) = answering(table, from, to, &changes, last.thread, question) {
-        if shows(alloc, table, script, *last, question, id)? {
-            return Ok(Some(longer(alloc, script, *last)?));
+    let from = origin.state;
+    if let Some(id) = answering(table, from, to, changes, last.thread, question) {
+        if shows(alloc, table, origin.script, last, question, id)? {
+            return Ok(Some(longer(alloc, origin.script, last)?));
         }
     }
-    if front.known.note(alloc, &front.boot, to, &changes)? {
+    if front.known.note(alloc, to, changes, origin.changed)? && front.kept.len() < MOST_KEPT {
         front.kept.push(Kept {
-            script: longer(alloc, script, *last)?,
-            is_near: is_near(table, from, to, &changes, question),
+            script: longer(alloc, origin.script, last)?,
+            changed: joined(alloc, origin.changed, changes)?,
+            is_near: is_near(table, from, to, changes, question),
             is_done: false,
         })?;
     }
     Ok(None)
 }
 
-/// Returns a number, or the most that it may be.
-pub fn within(number: usize, most: u64) -> u64
-    ensures { result ≤ most }
-{
-    (number as u64).min(most)
-}
-
-// The index of the first call, from an index on, that isn't refused; the number of those tried is bounded.
-fn first_made(state: &mut State, calls: &[Event], from: usize, most: u64) -> Option<usize>
-    requires { IsWellFormed state.old }
-    ensures { IfSome result (λ index. index < length calls.now) }
-{
-    for (index, event) in calls.iter().enumerate() {
-        if index >= from && (index as u64) < most && makes(state, *event) {
-            return Some(index);
+// The objects of two lists, each once.
+fn joined(alloc: Global, ids: &[ObjId], others: &[ObjId]) -> Result<Vec<ObjId>, AllocError> {
+    let mut all = Vec::new(alloc);
+    all.extend_from_slice(ids)?;
+    for id in others {
+        if !ids.contains(id) {
+            all.push(*id)?;
         }
     }
-    None
+    Ok(all)
 }
 
 /// Returns a script with one more event.

@@ -3,14 +3,19 @@
 //! The first are scripts whose last call, by a thread of the one label, changes an object of the
 //! other. Each script that is found is shown to be such a run.
 //!
-//! `breaches` and `report` stand on it. It knows no text, and what a run shows only by `runs`.
+//! What the edges of a reason name is tried first. A call that is tried costs what it can touch, not the size of
+//! the system. It knows no text, and what a run shows only by `runs`.
 #![tactic(auto)]
 
 mod atoms;
 mod escaping;
 mod finding;
+mod guided;
+mod origin;
 mod spaces;
+mod touching;
 mod trying;
 
 pub use escaping::find_escape;
 pub use finding::{Found, find};
+pub use guided::edges_of;

@@ -1,6 +1,7 @@
 //! Which calls a search tries in a state: one row for each kind of call.
+use crate::guided::{has, is_of, joins, names};
 use crate::spaces::{Entry, Gap, Place, Space, space_of};
-use base::{CoreNo, Label, ObjId, Rights, SlotRef};
+use base::{CoreNo, Edge, Kind, Label, ObjId, Rights, SlotRef};
 use bitflags::Flags;
 use labels::label_of;
 use machine::{
@@ -35,20 +36,67 @@ pub enum Callers {
     NotOf(Label),
 }
 
-/// The choice of the threads whose calls are tried, and of how many kinds of calls.
+/// Which calls of a thread are tried.
 #[derive(Clone, Copy, PartialEq, Eq, Debug)]
-pub struct Choice {
-    pub callers: Callers,
-    /// Whether calls are tried that seldom lead further.
-    pub wide: bool,
+pub enum Breadth {
+    /// Those at objects that the edges of a reason name.
+    Named,
+    /// Those that often lead further.
+    Narrow,
+    /// Also those that seldom lead further.
+    Wide,
 }
 
-/// A state in which calls are tried.
+/// The choice of the threads whose calls are tried, and of which calls.
 #[derive(Clone, Copy)]
-struct Scene<'a> {
-    table: &'a Table,
-    state: &'a State,
-    wide: bool,
+pub struct Choice<'a> {
+    pub callers: Callers,
+    pub breadth: Breadth,
+    /// The edges by which a label may do something to another.
+    pub reason: &'a [Edge],
+}
+
+/// A state in which calls of a thread are tried.
+#[derive(Clone, Copy)]
+struct Scene<'t, 's, 'r> {
+    table: &'t Table,
+    state: &'s State,
+    breadth: Breadth,
+    reason: &'r [Edge],
+    /// The label of the thread.
+    caller: Option<Label>,
+}
+
+impl Scene<'_, '_, '_> {
+    // Whether calls are tried that need authority of a kind over an object.
+    fn allows(&self, kind: Kind, object: ObjId) -> bool {
+        match self.breadth {
+            Breadth::Named => names(self.reason, self.caller, kind, self.label(object)),
+            _ => true,
+        }
+    }
+
+    // Whether capabilities are lent along with messages.
+    fn passes_caps(&self) -> bool {
+        self.breadth != Breadth::Named || has(self.reason, Kind::Grant)
+    }
+
+    // Whether calls are tried that empty a place.
+    fn empties(&self, place: &Place) -> bool {
+        if self.allows(Kind::Control, place.at.holder) {
+            return true;
+        }
+        self.label(place.at.holder) == self.caller
+            && joins(self.reason, self.caller, self.label(place.cap.object))
+    }
+
+    fn is_wide(&self) -> bool {
+        self.breadth == Breadth::Wide
+    }
+
+    fn label(&self, object: ObjId) -> Option<Label> {
+        label_of(self.table, self.state, object)
+    }
 }
 
 /// Returns the calls to be tried in a state.
@@ -60,18 +108,20 @@ pub fn calls_in(
     alloc: Global,
     table: &Table,
     state: &State,
-    choice: &Choice,
+    choice: &Choice<'_>,
 ) -> Result<Vec<Event>, AllocError> {
     let mut events = Vec::new(alloc);
-    let scene = Scene {
-        table,
-        state,
-        wide: choice.wide,
-    };
     for number in 0..state.next_id() {
         let thread = ObjId(number);
         if let Some(core) = core_of(state, thread) {
-            if calls(table, state, thread, choice.callers) {
+            let scene = Scene {
+                table,
+                state,
+                breadth: choice.breadth,
+                reason: choice.reason,
+                caller: label_of(table, state, thread),
+            };
+            if is_caller(choice, scene.caller) {
                 list_events(alloc, &scene, thread, core, &mut events)?;
             }
         }
@@ -79,19 +129,22 @@ pub fn calls_in(
     Ok(events)
 }
 
-// Whether a thread is one of those whose calls are tried.
-fn calls(table: &Table, state: &State, thread: ObjId, callers: Callers) -> bool {
-    match callers {
+// Whether calls of threads of a label are tried.
+fn is_caller(choice: &Choice<'_>, caller: Option<Label>) -> bool {
+    if choice.breadth == Breadth::Named && !is_of(choice.reason, caller) {
+        return false;
+    }
+    match choice.callers {
         Callers::All => true,
-        Callers::Of(label) => label_of(table, state, thread) == Some(label),
-        Callers::NotOf(label) => label_of(table, state, thread) != Some(label),
+        Callers::Of(label) => caller == Some(label),
+        Callers::NotOf(label) => caller != Some(label),
     }
 }
 
 // Lists the events of a thread that runs.
 fn list_events(
     alloc: Global,
-    scene: &Scene<'_>,
+    scene: &Scene<'_, '_, '_>,
     thread: ObjId,
     core: CoreNo,
     events: &mut Vec<Event>,
@@ -122,7 +175,11 @@ fn core_of(state: &State, thread: ObjId) -> Option<CoreNo> {
 }
 
 // Lists the calls of a thread.
-fn list_calls(alloc: Global, scene: &Scene<'_>, thread: ObjId) -> Result<Vec<Call>, AllocError> {
+fn list_calls(
+    alloc: Global,
+    scene: &Scene<'_, '_, '_>,
+    thread: ObjId,
+) -> Result<Vec<Call>, AllocError> {
     let mut calls = Vec::new(alloc);
     let space = space_of(alloc, scene.state, thread)?;
     for entry in &space.entries {
@@ -145,13 +202,13 @@ fn add(calls: &mut Vec<Call>, call: Call) -> Result<(), AllocError> {
 
 // Lists the calls that empty the places of CNodes that are full, or of those that aren't.
 fn list_removals(
-    scene: &Scene<'_>,
+    scene: &Scene<'_, '_, '_>,
     space: &Space,
     full: bool,
     calls: &mut Vec<Call>,
 ) -> Result<(), AllocError> {
     for place in &space.places {
-        if has_gap(space, place.at.holder) != full {
+        if has_gap(space, place.at.holder) != full && scene.empties(place) {
             add(calls, Call::Delete { slot: place.slot })?;
             if scene.state.first_child(place.at).is_some() {
                 add(calls, Call::Revoke { slot: place.slot })?;
@@ -173,13 +230,16 @@ fn has_gap(space: &Space, node: ObjId) -> bool {
 
 // Lists the calls that fill a gap, each with a capability of which the CNode has none yet.
 fn list_fillings(
-    scene: &Scene<'_>,
+    scene: &Scene<'_, '_, '_>,
     gap: &Gap,
     places: &[Place],
     calls: &mut Vec<Call>,
 ) -> Result<(), AllocError> {
+    if !scene.allows(Kind::Control, gap.at.holder) {
+        return Ok(());
+    }
     for place in places {
-        if scene.wide {
+        if scene.is_wide() {
             list_copies(gap, place, calls)?;
         } else if !holds(scene.state, gap.at.holder, place) {
             list_copy(gap, place, Rights::all(), calls)?;
@@ -209,31 +269,51 @@ fn holds(state: &State, node: ObjId, place: &Place) -> bool {
 
 // Lists the calls that use a capability.
 fn list_uses(
-    scene: &Scene<'_>,
+    scene: &Scene<'_, '_, '_>,
     space: &Space,
     entry: &Entry,
     calls: &mut Vec<Call>,
 ) -> Result<(), AllocError> {
     let address = entry.address;
+    let object = entry.cap.object;
     match entry.cap.detail {
-        Detail::Notification(end) => list_signals(address, end, calls),
-        Detail::Endpoint(end) => list_messages(scene.state, space, entry, end, calls),
-        Detail::Reply => list_answers(scene.state, entry, calls),
-        Detail::Frame(rights) => list_writes(address, rights, calls),
-        Detail::Tcb => list_controls(scene.state, space, entry, calls),
-        Detail::Context => list_bindings(scene.state, space, entry, calls),
-        Detail::Control => list_shares(space, address, calls),
-        Detail::Untyped => list_makings(scene, space, entry, calls),
-        Detail::CNode(_) => Ok(()),
+        Detail::Notification(end) => list_signals(scene, entry, end, calls),
+        Detail::Endpoint(end) => list_messages(scene, space, entry, end, calls),
+        Detail::Reply if scene.allows(Kind::Reply, object) => {
+            list_answers(scene.state, entry, calls)
+        }
+        Detail::Frame(rights) if scene.allows(Kind::Write, object) => {
+            list_writes(address, rights, calls)
+        }
+        Detail::Tcb if scene.allows(Kind::Control, object) => {
+            list_controls(scene.state, space, entry, calls)
+        }
+        Detail::Context if scene.allows(Kind::Context, object) => {
+            list_bindings(scene.state, space, entry, calls)
+        }
+        Detail::Control if scene.allows(Kind::SchedControl, object) => {
+            list_shares(space, address, calls)
+        }
+        Detail::Untyped if scene.allows(Kind::Control, object) => {
+            list_makings(scene, space, entry, calls)
+        }
+        _ => Ok(()),
     }
 }
 
 // Lists the calls at a notification.
-fn list_signals(address: u64, end: Badged, calls: &mut Vec<Call>) -> Result<(), AllocError> {
-    if end.rights.contains(Rights::WRITE) {
+fn list_signals(
+    scene: &Scene<'_, '_, '_>,
+    entry: &Entry,
+    end: Badged,
+    calls: &mut Vec<Call>,
+) -> Result<(), AllocError> {
+    let address = entry.address;
+    let object = entry.cap.object;
+    if end.rights.contains(Rights::WRITE) && scene.allows(Kind::Notify, object) {
         add(calls, Call::Signal { address })?;
     }
-    if end.rights.contains(Rights::READ) {
+    if end.rights.contains(Rights::READ) && scene.allows(Kind::Await, object) {
         add(calls, Call::Poll { address })?;
         add(calls, Call::Wait { address })?;
     }
@@ -320,26 +400,31 @@ fn list_shares(space: &Space, control: u64, calls: &mut Vec<Call>) -> Result<(),
 
 // Lists the calls at an endpoint.
 fn list_messages(
-    state: &State,
+    scene: &Scene<'_, '_, '_>,
     space: &Space,
     entry: &Entry,
     end: Badged,
     calls: &mut Vec<Call>,
 ) -> Result<(), AllocError> {
     let address = entry.address;
-    if end.rights.contains(Rights::WRITE) {
+    let object = entry.cap.object;
+    let sends = scene.allows(Kind::Send, object)
+        || scene.allows(Kind::Call, object)
+        || scene.allows(Kind::Grant, object);
+    if end.rights.contains(Rights::WRITE) && sends {
         list_sends(address, None, calls)?;
-        if takes_caps(state, entry.cap.object) {
+        if scene.passes_caps() && takes_caps(scene.state, object) {
             for other in &space.entries {
                 list_sends(address, Some(other.address), calls)?;
             }
         }
     }
-    if end.rights.contains(Rights::READ) {
-        list_receives(space, address, None, calls)?;
+    if end.rights.contains(Rights::READ) && scene.allows(Kind::Receive, object) {
+        let slots = scene.passes_caps();
+        list_receives(space, address, None, slots, calls)?;
         for other in &space.entries {
             if let Detail::Reply = other.cap.detail {
-                list_receives(space, address, Some(other.address), calls)?;
+                list_receives(space, address, Some(other.address), slots, calls)?;
             }
         }
     }
@@ -384,11 +469,12 @@ fn list_sends(
     )
 }
 
-// Lists the receives at an address with a reply or none.
+// Lists the receives at an address with a reply or none, and with slots for a capability or without.
 fn list_receives(
     space: &Space,
     address: u64,
     reply: Option<u64>,
+    slots: bool,
     calls: &mut Vec<Call>,
 ) -> Result<(), AllocError> {
     add(
@@ -399,6 +485,9 @@ fn list_receives(
             slot: None,
         },
     )?;
+    if !slots {
+        return Ok(());
+    }
     for gap in &space.gaps {
         add(
             calls,
@@ -459,13 +548,13 @@ fn root_of(state: &State, thread: ObjId) -> Option<ObjId> {
 
 // Lists the calls that make an object of untyped memory.
 fn list_makings(
-    scene: &Scene<'_>,
+    scene: &Scene<'_, '_, '_>,
     space: &Space,
     entry: &Entry,
     calls: &mut Vec<Call>,
 ) -> Result<(), AllocError> {
     for (kind, made, bits) in &MAKINGS {
-        if scene.wide || (leads_further(*made) && !is_made(scene, entry.cap.object, *made)) {
+        if scene.is_wide() || (leads_further(*made) && !is_made(scene, entry.cap.object, *made)) {
             for gap in &space.gaps {
                 add(
                     calls,
@@ -493,13 +582,13 @@ fn leads_further(kind: ObjectKind) -> bool {
 }
 
 // Whether an object of a kind was made already, with the label of a piece of untyped memory.
-fn is_made(scene: &Scene<'_>, memory: ObjId, kind: ObjectKind) -> bool {
-    let label = label_of(scene.table, scene.state, memory);
+fn is_made(scene: &Scene<'_, '_, '_>, memory: ObjId, kind: ObjectKind) -> bool {
+    let label = scene.label(memory);
     let declared = scene.table.objects().len() as u64;
     for number in declared..scene.state.next_id() {
         let id = ObjId(number);
         if let Some(object) = scene.state.object(id) {
-            if object.kind() == kind && label_of(scene.table, scene.state, id) == label {
+            if object.kind() == kind && scene.label(id) == label {
                 return true;
             }
         }

@@ -192,11 +192,11 @@ impl<'a, R: AllocGlobal + Clock + Eprint> Explainer<'a, R> {
         };
         let alloc = self.rt.alloc();
         self.tell_lines(explain_breaches(alloc, reach, judged, broken, lead));
-        self.tell_runs(judged, broken);
+        self.tell_runs(reach, judged, broken);
     }
 
     /// Tells a run for each of the first broken claims on a pair of labels, as it is found, as long as there is time.
-    fn tell_runs(&self, judged: &Judged<'_>, broken: &[Broken]) {
+    fn tell_runs(&self, reach: &Reach<'_>, judged: &Judged<'_>, broken: &[Broken]) {
         let alloc = self.rt.alloc();
         let begun = Instant::now(self.rt);
         let mut searched: usize = 0;
@@ -204,7 +204,7 @@ impl<'a, R: AllocGlobal + Clock + Eprint> Explainer<'a, R> {
         for one in broken {
             if let Failure::Pair(breach) = one.failure {
                 if searched < SEARCHES && !self.is_late(&begun) {
-                    self.tell_lines(explain_breach(alloc, judged, one.line, breach));
+                    self.tell_lines(explain_breach(alloc, reach, judged, one.line, breach));
                     searched = searched.saturating_add(1);
                 } else {
                     left = left.saturating_add(1);
