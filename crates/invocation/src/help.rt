@@ -171,7 +171,7 @@ A system description, as Microkit 1.x reads it: protection domains, virtual mach
 memory regions, maps and channels, in XML. What it doesn't show is told with `--explain`.
 docs/IMPORT.md says what each element becomes.";
 
-pub const VERSION: &str = "0.20.0";
+pub const VERSION: &str = "0.21.0";
 
 pub const EXPLAIN: &str = "Adds reasons, runs and notes to what standard error says";
 
