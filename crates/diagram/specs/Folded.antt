@@ -6,7 +6,8 @@ use Rattle.machine.specs.Layout.{Layout}
 use Rattle.policy.specs.Domain.{EdgeTest}
 use Rattle.reach.specs.Extents.{Limits}
 use Rattle.captext.specs.PolicyText.{label_name}
-use Rattle.summary.specs.{declared.rows.Row.Row, Labelled.others_of, Padding.given, Regions.names_text}
+use Rattle.matrix.specs.Padding.{given}
+use Rattle.summary.specs.{declared.rows.Row.Row, Labelled.others_of, Regions.names_text}
 use Rattle.diagram.specs.declared.{drawing.TheConstants.HEAD, verbs.Verb.{Verb, TheVariants.{Changes, Takes, Writes}}}
 use Rattle.diagram.specs.{Programs.{ArePrograms, Program, program_of}, Regions.{between, does, inside}}
 

@@ -2,7 +2,7 @@
 ghost use Rattle.std.specs.{List.flat_map, Prelude.{◌++◌, ◌≡◌, IfOk, OnOk, string_bytes}};
 ghost use Rattle.base.specs.Labels.{is_in};
 ghost use Rattle.policy.specs.Policy.{allows};
-ghost use Rattle.summary.specs.Padding.{given};
+ghost use Rattle.matrix.specs.Padding.{given};
 ghost use Rattle.diagram.specs.Folded.{arrow_text, between_text, more_text, phrase_text, reasons_text, style_text};
 ghost use Rattle.diagram.specs.{Folded.{worded_text, words_text}, Programs.program_of};
 
@@ -15,7 +15,7 @@ use summary::Row;
 use table::Table;
 
 /// Writes the arrows from each program.
-#[tactic(auto, using(summary::proofs::Pieces::piece_more))]
+#[tactic(auto, using(matrix::proofs::Pieces::piece_more))]
 pub(crate) fn write_arrows(
     alloc: Global,
     text: &mut String,
@@ -34,7 +34,7 @@ pub(crate) fn write_arrows(
     Ok(())
 }
 
-#[tactic(auto, using(summary::proofs::Pieces::piece_more))]
+#[tactic(auto, using(matrix::proofs::Pieces::piece_more))]
 fn write_arrows_from(
     alloc: Global,
     text: &mut String,

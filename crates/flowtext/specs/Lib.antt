@@ -1,1 +1,2 @@
+pub mod FlowMatrix
 pub mod FlowText

@@ -1,7 +1,10 @@
-//! The text on what one label does and that comes to another.
+//! The texts on what one label does and that comes to another: of two labels, and the matrix of all programs.
 #![tactic(auto)]
 
+mod every_pair;
 mod flow;
 mod lines;
+mod rows;
 
+pub use every_pair::flow_matrix;
 pub use flow::{MOST_SETS, flow_text};

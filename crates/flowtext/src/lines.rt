@@ -57,8 +57,8 @@ fn write_set(alloc: Global, text: &mut String, table: &Table, set: Labels) -> Re
     text.push_str("\n")
 }
 
-// The labels of a set, rising.
-fn members(alloc: Global, set: Labels) -> Result<Vec<Label>, AllocError>
+/// Returns the labels of a set, rising.
+pub(crate) fn members(alloc: Global, set: Labels) -> Result<Vec<Label>, AllocError>
     ensures { IfOk result (λ list. list.items ≡ members_of set) }
 {
     set.iter().collect(alloc)

@@ -1,4 +1,4 @@
-//! The law on reading.
+//! The laws on reading.
 ghost use Rattle.std.specs.Prelude.{ℕ, ◌≡◌, List, false};
 ghost use Rattle.base.specs.declared.{edge.Edge.Edge, kind.Kind.Kind};
 ghost use Rattle.machine.specs.Layout.{Layout};
@@ -6,27 +6,49 @@ ghost use Rattle.policy.specs.{Domain.EdgeTest, Policy.allows};
 ghost use Rattle.table.specs.Rules.{IsLawful};
 ghost use Rattle.integrity.specs.{Confined.IsConfined, Keeping.IsSharp};
 ghost use Rattle.reach.specs.Reach.{HasBootAuthority, IsReach};
-ghost use Rattle.reading.specs.Reading.{NeverReads};
+ghost use Rattle.summary.specs.Sharing.{SharesMemory, reads_of};
+ghost use Rattle.reading.specs.Reading.{NeverPassesMemory, NeverReads, NeverUses};
 
 use table::boot_states_are_well_formed;
 
-/// A law: in every run of a table, threads of a label read only from objects of labels to which the label has the edge.
+/// A law: in every run of a table, threads of a label read and write words only of objects of labels to which the label
+/// has the edge.
 ///
-/// Without an edge `read` no read of a frame is ever done. Without an edge `await` no poll or wait is done or waits,
-/// and without an edge `receive` no receive. A call that is refused reads nothing. This is so for the reach of the
-/// table, and for each sharply closed policy that has all authority of the boot state.
+/// Without an edge `read` no read of a frame is ever done, and without an edge `write` no write. Without an edge `await`
+/// no poll or wait is done or waits, and without an edge `receive` no receive. A call that is refused reads nothing.
+/// This is so for the reach of the table, and for each sharply closed policy that has all authority of the boot state.
 pub fn runs_read_within_reach()
     ensures reach { (t : Layout) (edges : List Edge) (a : ℕ) (by : Kind) (l : ℕ)
         → IsLawful t
         → IsReach t edges
         → allows edges a by l ≡ false
-        → NeverReads t a by l }
+        → NeverUses t a by l }
     ensures policy { (t : Layout) (allowed : EdgeTest) (a : ℕ) (by : Kind) (l : ℕ)
         → IsLawful t
         → IsSharp t allowed
         → HasBootAuthority t allowed
         → allowed a by l ≡ false
-        → NeverReads t a by l }
+        → NeverUses t a by l }
+{
+    boot_states_are_well_formed();
+}
+
+/// A law: what the summary of a table says of memory and of readers is so in every run.
+///
+/// Where a cell has no `m`, threads of the row's label write no frame of a label of which threads of the column's label
+/// read a frame, whatever is made of untyped memory; but for the frames of that label itself. And a label that isn't
+/// among those by which another is read never reads, polls, waits or receives there.
+pub fn summaries_show_who_reads()
+    ensures memory { (t : Layout) (edges : List Edge) (a l : ℕ)
+        → IsLawful t
+        → IsReach t edges
+        → ¬ SharesMemory t (allows edges) a l
+        → NeverPassesMemory t a l }
+    ensures readers { (t : Layout) (edges : List Edge) (a l : ℕ)
+        → IsLawful t
+        → IsReach t edges
+        → reads_of (allows edges) a l ≡ false
+        → NeverReads t a l }
 {
     boot_states_are_well_formed();
 }

@@ -1,8 +1,8 @@
-//! A law on what threads read, in every run of a table.
+//! Laws on what threads read and write, in every run of a table.
 //!
 //! It decides nothing, and knows no code of the kernel.
 #![tactic(auto)]
 
 mod laws;
 
-pub use laws::runs_read_within_reach;
+pub use laws::{runs_read_within_reach, summaries_show_who_reads};

@@ -5,7 +5,7 @@ use Rattle.base.specs.declared.edge.Edge.{Edge}
 use Rattle.machine.specs.Layout.{Layout}
 use Rattle.policy.specs.declared.why.Why.{Why, Why as why}
 use Rattle.captext.specs.PolicyText.{label_name}
-use Rattle.summary.specs.{declared.rows.Row.Row, Labelled.{others_of, programs_of}, Matrix.marks, Regions.{changers, readers, takers}}
+use Rattle.summary.specs.{declared.rows.Row.Row, Labelled.{others_of, programs_of}, Marks.marks, Regions.{changers, readers, takers}}
 use Rattle.claims.specs.{Lines.claim_at, declared.{claim.Claim.Claim, deciding.{Broken.Broken, Failure.{Failure, Failure as failure}}}}
 use Rattle.reptext.specs.{Breaches.{breaches_data, failure_data, names_both, told, told_of}, Reasons.{edge_data, why_data}}
 use Rattle.reptext.specs.Summaries.{cell_data, cells_of, region_data, summary_data, told_cell}

@@ -3,7 +3,7 @@ use Rattle.std.specs.{List.flat_map, Prelude.{[], ℕ, ◌∷◌, ◌==◌, ◌�
 use Rattle.machine.specs.Layout.{Layout}
 use Rattle.captext.specs.PolicyText.{label_name}
 use Rattle.reach.specs.Reach.{TableReach}
-use Rattle.summary.specs.{declared.rows.Row.Row, Labelled.{others_of, programs_of}, Matrix.marks, Regions.{changers, readers, takers}, Rows.AreRows}
+use Rattle.summary.specs.{declared.rows.Row.Row, Labelled.{others_of, programs_of}, Marks.marks, Regions.{changers, readers, takers}, Rows.AreRows}
 use Rattle.reptext.specs.Reports.{line_of, names_data}
 use Rattle.serde_json.specs.{Data.{Data, array, member, no_members, object, string}, View.items_of}
 

@@ -1,7 +1,7 @@
 //! The summary of an accepted system, as JSON.
 ghost use Rattle.std.specs.{List.flat_map, Prelude.{◌++◌, ◌≡◌, IfErr, IfOk, OnOk, map, string_bytes}};
 ghost use Rattle.serde_json.specs.View.{view};
-ghost use Rattle.summary.specs.Matrix.{marks};
+ghost use Rattle.summary.specs.Marks.{marks};
 ghost use Rattle.base.specs.Refusals.{out_of_memory};
 ghost use Rattle.reptext.specs.{Reports.line_of, Summaries.{IsSummaryReport, cell_data, cells_of, labels_data}};
 ghost use Rattle.reptext.specs.Summaries.{region_data, summary_data, told_cell};

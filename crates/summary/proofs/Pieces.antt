@@ -1,39 +1,8 @@
--- Texts and lists that grow by one piece.
-use Rattle.std.{specs.{List.{filter, flat_map, range_with_len}, Prelude.All}, proofs.Common.{[], ℕ, ◌++◌, ◌+◌, ◌<◌, ◌∙◌, ◌∷◌, ◌≡◌, Bool, List, ap, arith, get_or}}
+-- Lists that grow by one piece.
+use Rattle.std.{specs.List.{filter, range_with_len}, proofs.Common.{[], ℕ, ◌++◌, ◌+◌, ◌<◌, ◌∙◌, ◌∷◌, ◌≡◌, Bool, List, ap, arith, get_or}}
 use Rattle.std.proofs.Common.{false, length, map, subst, sym, take, true}
-use Rattle.std.proofs.lemmas.List.{append-nil, flat_map_more, map-append, map-id, take_more, Elements.{All-push, filter-append}, FromFn.map-range_with_len_more}
-use Rattle.summary.specs.declared.rows.Row.{Row}
-
--- one text more, for the next of some values
-pub piece_more : {X : Type 0} (f : X → List ℕ) (xs : List X) (i : ℕ) (d : X) (before text longer : List ℕ) → i < length xs
-    → text ≡ before ++ flat_map f (take i xs) → longer ≡ text ++ f (get_or xs i d) → longer ≡ before ++ flat_map f (take (i + 1) xs)
-piece_more f xs i d before text longer within so_far grown =
-    grown
-    ∙ ap (λ bytes. bytes ++ f (get_or xs i d)) so_far
-    ∙ flat_map_more f before (take i xs) (get_or xs i d)
-    ∙ ap (λ front. before ++ flat_map f front) (sym (take_more xs i d within))
-
--- numbers from 1 grow by one
-from_one_more : (i : ℕ) → range_with_len 1 (i + 1) ≡ range_with_len 1 i ++ (i + 1) ∷ []
-from_one_more i =
-    sym (map-id (range_with_len 1 (i + 1)))
-    ∙ map-range_with_len_more (λ (k : ℕ). k) 1 i (i + 1) (omega arith)
-    ∙ ap (λ front. front ++ (i + 1) ∷ []) (map-id (range_with_len 1 i))
-
-pub range_more : (n : ℕ) → range_with_len 0 (n + 1) ≡ range_with_len 0 n ++ n ∷ []
-range_more n =
-    sym (map-id (range_with_len 0 (n + 1)))
-    ∙ map-range_with_len_more (λ (k : ℕ). k) 0 n n (omega arith)
-    ∙ ap (λ front. front ++ n ∷ []) (map-id (range_with_len 0 n))
-
--- one text more, for the next number
-pub number_more : (f : ℕ → List ℕ) (n : ℕ) (before text longer : List ℕ) → text ≡ before ++ flat_map f (range_with_len 0 n)
-    → longer ≡ text ++ f n → longer ≡ before ++ flat_map f (range_with_len 0 (n + 1))
-number_more f n before text longer so_far grown =
-    grown
-    ∙ ap (λ bytes. bytes ++ f n) so_far
-    ∙ flat_map_more f before (range_with_len 0 n) n
-    ∙ ap (λ front. before ++ flat_map f front) (sym (range_more n))
+use Rattle.std.proofs.lemmas.List.{append-nil, map-append, map-id, take_more, Elements.{All-push, filter-append}, FromFn.map-range_with_len_more}
+use Rattle.matrix.proofs.Pieces.{range_more}
 
 -- one number more that passes, or not
 pub filter_more : (p : ℕ → Bool) (n : ℕ) → filter p (range_with_len 0 (n + 1)) ≡ filter p (range_with_len 0 n) ++ filter p (n ∷ [])
@@ -86,21 +55,3 @@ pub kept_same : {X : Type 0} (p : X → Bool) (xs : List X) (i : ℕ) (x : X) (k
     → p x ≡ false → kept ≡ filter p (take i xs) → kept ≡ filter p (take (i + 1) xs)
 kept_same p xs i x kept within is fails so_far =
     item_fails (λ y. y) p xs i x kept within is fails (so_far ∙ sym (map-id (filter p (take i xs)))) ∙ map-id (filter p (take (i + 1) xs))
-
--- one row more
-
-pub labels_more : (rows longer : List Row) (row : Row) (labels : List ℕ) (i label : ℕ) → i < length labels
-    → map (λ (r : Row). r.label) rows ≡ take i labels → longer ≡ rows ++ row ∷ [] → row.label ≡ label → label ≡ get_or labels i label
-    → map (λ (r : Row). r.label) longer ≡ take (i + 1) labels
-labels_more rows longer row labels i label within so_far grown same is =
-    ap (map (λ (r : Row). r.label)) grown ∙ map-append (λ (r : Row). r.label) rows (row ∷ []) ∙ ap (λ xs. xs ++ row.label ∷ []) so_far
-    ∙ ap (λ l. take i labels ++ l ∷ []) (same ∙ is) ∙ sym (take_more labels i label within)
-
-pub numbers_more : (rows longer : List Row) (row : Row) (i : ℕ) → map (λ (r : Row). r.number) rows ≡ range_with_len 1 i
-    → longer ≡ rows ++ row ∷ [] → row.number ≡ i + 1 → map (λ (r : Row). r.number) longer ≡ range_with_len 1 (i + 1)
-numbers_more rows longer row i so_far grown is =
-    ap (map (λ (r : Row). r.number)) grown ∙ map-append (λ (r : Row). r.number) rows (row ∷ []) ∙ ap (λ xs. xs ++ row.number ∷ []) so_far
-    ∙ ap (λ n. range_with_len 1 i ++ n ∷ []) is ∙ sym (from_one_more i)
-
-pub each_more : (P : Row → Type 0) (rows longer : List Row) (row : Row) → All P rows → longer ≡ rows ++ row ∷ [] → P row → All P longer
-each_more P rows longer row so_far grown here = subst (All P) (sym grown) (All-push P rows row so_far here)

@@ -2,7 +2,8 @@
 use Rattle.std.{specs.{Bool.if◌then◌else◌, Prelude.{OnOk, codes}, Result.is_ok}, proofs.Common.{[], ℕ, ◌++◌, ◌∙◌, ◌∷◌, ◌≡◌, Err, List, Ok}}
 use Rattle.std.proofs.Common.{Result, ap, append_assoc, false, refl, sym, true}
 use Rattle.machine.specs.Layout.{Layout}
-use Rattle.summary.specs.{declared.rows.Row.Row, Padding.given, Regions.{also_text, changers, group_of, group_text, is_nil, leads}}
+use Rattle.matrix.specs.Padding.{given}
+use Rattle.summary.specs.{declared.rows.Row.Row, Regions.{also_text, changers, group_of, group_text, is_nil, leads}}
 use Rattle.summary.specs.Regions.{names_text, readers, readers_text, users_text}
 use mathlib.Core.Bool.{false≢true}
 

@@ -1,4 +1,4 @@
--- The labels that have a thread in a table, and those that have a frame (confine's own).
+-- The labels that have a thread in a table, and those that have memory (confine's own).
 use Rattle.std.specs.{List.{filter, list_any, range_with_len}, Prelude.{ℕ, ◌&&◌, ◌==◌, Bool, List, false, length, not, true}}
 use Rattle.machine.specs.{declared.object.Object.{Object, Object as o}, Layout.Layout}
 
@@ -6,9 +6,11 @@ abbrev pub is_thread : Object → Bool
 is_thread (o.Tcb _) = true
 is_thread _ = false
 
-abbrev pub is_frame : Object → Bool
-is_frame (o.Frame _) = true
-is_frame _ = false
+-- memory is frames, and untyped memory, of which frames can be made
+abbrev pub is_memory : Object → Bool
+is_memory (o.Frame _) = true
+is_memory (o.Untyped _) = true
+is_memory _ = false
 
 -- whether an object of the table that passes a test has a label
 abbrev pub has_object : (Object → Bool) → Layout → ℕ → Bool
@@ -18,9 +20,9 @@ has_object passes t label = list_any (λ initial. passes initial.object && (labe
 abbrev pub has_thread : Layout → ℕ → Bool
 has_thread = has_object is_thread
 
--- whether a label has a frame
-abbrev pub has_frame : Layout → ℕ → Bool
-has_frame = has_object is_frame
+-- whether a label has memory
+abbrev pub has_memory : Layout → ℕ → Bool
+has_memory = has_object is_memory
 
 -- the labels of the table
 abbrev pub labels_of : Layout → List ℕ

@@ -1,7 +1,6 @@
 pub mod Labelled
 pub mod Letters
-pub mod Matrix
-pub mod Padding
+pub mod Marks
 pub mod Regions
 pub mod Rows
 pub mod Sharing

@@ -4,7 +4,8 @@ use Rattle.std.specs.Prelude.{if◌then◌else◌, map, nat_lt, not, true}
 use Rattle.base.specs.Labels.{is_in}
 use Rattle.machine.specs.Layout.{Layout}
 use Rattle.captext.specs.PolicyText.{label_name}
-use Rattle.summary.specs.{declared.rows.Row.Row, Padding.given}
+use Rattle.matrix.specs.Padding.{given}
+use Rattle.summary.specs.declared.rows.Row.{Row}
 
 -- two tests agree
 abbrev pub is_same : Bool → Bool → Bool

@@ -4,26 +4,26 @@ use Rattle.base.specs.{declared.{kind.Kind.TheVariants.{Await, Read, Receive, Wr
 use Rattle.base.specs.declared.label.TheConstants.Label as Label
 use Rattle.machine.specs.Layout.{Layout}
 use Rattle.policy.specs.Domain.{EdgeTest}
-use Rattle.summary.specs.{Labelled.has_frame, Sources.row_at}
+use Rattle.summary.specs.{Labelled.has_memory, Sources.row_at}
 
--- a label has frames of another to read or to write
-pub record HasFrameOf (t : Layout) (test : EdgeTest) (region l : ℕ) : Type 0 where
-  pub frame : has_frame t region ≡ true
+-- a label has memory of another to read or to write
+pub record HasMemoryOf (t : Layout) (test : EdgeTest) (region l : ℕ) : Type 0 where
+  pub memory : has_memory t region ≡ true
   pub has : (test l Read region ≡ true) ⊎ (test l Write region ≡ true)
   pub apart : l ≢ region
 
--- one label may write frames that another has, which aren't of the other's own label
+-- one label may write memory that another has, which isn't of the other's own label
 pub record SharesMemory (t : Layout) (test : EdgeTest) (a l : ℕ) : Type 0 where
   pub region : ℕ
   pub writes : test a Write region ≡ true
-  pub held : HasFrameOf t test region l
+  pub held : HasMemoryOf t test region l
 
 -- a label takes what another has to read: words, messages or signals
 abbrev pub reads_of : EdgeTest → ℕ → ℕ → Bool
 reads_of test a l = (test a Read l || test a Receive l) || test a Await l
 
--- the row of each label has the others that have its frames
+-- the row of each label has the others that have its memory
 pub record IsShared (t : Layout) (test : EdgeTest) (rows : List Labels) : Type 0 where
   pub count : length rows ≡ Label.COUNT
   pub each : (region : ℕ) → region < Label.COUNT → (l : ℕ)
-      → (is_in (row_at rows region) l ≡ true) ↔ HasFrameOf t test region l
+      → (is_in (row_at rows region) l ≡ true) ↔ HasMemoryOf t test region l

@@ -2,7 +2,8 @@
 use Rattle.std.specs.Prelude.{[], ℕ, ◌++◌, ◌∷◌, ◌≡◌, List, codes}
 use Rattle.machine.specs.Layout.{Layout}
 use Rattle.reach.specs.Reach.{TableReach}
-use Rattle.summary.specs.{Labelled.others_of, Matrix.{matrix_text, page_of}, Regions.regions_text, Rows.AreRows}
+use Rattle.matrix.specs.Matrix.{matrix_text}
+use Rattle.summary.specs.{Labelled.others_of, Marks.cells, Regions.regions_text, Rows.AreRows}
 use Rattle.summary.specs.declared.{rows.Row.Row, writing.TheConstants.HEAD}
 
 -- after an empty line the labels without a thread, if there are any
@@ -14,7 +15,7 @@ others_text t rows (first ∷ others) = codes "\n" ++ regions_text t rows (first
 abbrev pub summary_text : Layout → List Row → List ℕ
 summary_text t [] = codes "no label has a thread\n"
 summary_text t (row ∷ rows) =
-    HEAD.now ++ (matrix_text t (page_of t (row ∷ rows)) (row ∷ rows) ++ others_text t (row ∷ rows) (others_of t))
+    HEAD.now ++ (matrix_text cells t (row ∷ rows) ++ others_text t (row ∷ rows) (others_of t))
 
 -- a text is the summary of a system
 pub record IsSummary (reach : TableReach) (text : List ℕ) : Type 0 where

@@ -1,7 +1,7 @@
-//! The labels that have a thread in a table, and those that have a frame.
+//! The labels that have a thread in a table, and those that have memory.
 ghost use Rattle.std.specs.Prelude.{ℕ, ◌≡◌, IfOk};
 ghost use Rattle.base.specs.Labels.{is_in};
-ghost use Rattle.summary.specs.Labelled.{has_frame, has_thread, is_frame, is_thread, others_of, programs_of};
+ghost use Rattle.summary.specs.Labelled.{has_memory, has_thread, is_memory, is_thread, others_of, programs_of};
 
 use base::{Label, Labels};
 use machine::Object;
@@ -14,10 +14,10 @@ fn is_thread(object: &Object) -> bool
     matches!(object, Object::Tcb(_))
 }
 
-fn is_frame(object: &Object) -> bool
-    ensures { result ≡ is_frame object.now }
+fn is_memory(object: &Object) -> bool
+    ensures { result ≡ is_memory object.now }
 {
-    matches!(object, Object::Frame(_))
+    matches!(object, Object::Frame(_) | Object::Untyped(_))
 }
 
 // The labels that have a thread in the table.
@@ -33,13 +33,13 @@ fn with_threads(table: &Table) -> Labels
     found
 }
 
-/// Returns the labels that have a frame in the table.
-pub(crate) fn with_frames(table: &Table) -> Labels
-    ensures { (label : ℕ) → is_in result label ≡ has_frame table.now label }
+/// Returns the labels that have a frame in the table, or untyped memory, of which frames can be made.
+pub(crate) fn with_memory(table: &Table) -> Labels
+    ensures { (label : ℕ) → is_in result label ≡ has_memory table.now label }
 {
     let mut found = Labels::none();
     for initial in table.objects() {
-        if is_frame(&initial.object) {
+        if is_memory(&initial.object) {
             found = found.union(Labels::only(initial.label));
         }
     }

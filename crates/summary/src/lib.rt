@@ -1,16 +1,14 @@
-//! The summary of an accepted system: a matrix of who may change whom, and the labels without a
+//! The summary of a system: a matrix of who may change whom, and the labels without a
 //! thread with those who change and read them.
 //!
-//! `claims`, `diagram`, `reptext` and `report` stand on it. It knows no claim, and no code of the
+//! `claims`, `diagram`, `flowtext`, `reptext` and `report` stand on it. It knows no claim, and no code of the
 //! kernel's calls.
 #![tactic(auto)]
 
+mod cells;
 mod edges;
 mod labelled;
 mod laws;
-mod lines;
-mod matrix;
-mod padding;
 mod regions;
 mod rows;
 mod sharing;
@@ -18,9 +16,9 @@ mod sources;
 mod ways;
 mod writing;
 
+pub use cells::marks;
 pub use labelled::{others, programs};
 pub use laws::each_change_has_a_letter;
-pub use matrix::marks;
 pub use regions::{changers, readers, takers, write_names};
 pub use rows::{Row, rows_of};
 pub use writing::summary;

@@ -10,7 +10,7 @@ use std::alloc::{AllocError, Global};
 use table::Table;
 
 /// Writes the labels without a thread: those with the same users in one line, and who these are.
-#[tactic(auto, using(crate::proofs::Pieces::piece_more))]
+#[tactic(auto, using(matrix::proofs::Pieces::piece_more))]
 pub(crate) fn write_regions(
     alloc: Global,
     text: &mut String,
@@ -231,7 +231,7 @@ pub fn write_names(text: &mut String, table: &Table, labels: &[Label]) -> Result
     }
 }
 
-#[tactic(auto, using(crate::proofs::Pieces::piece_more))]
+#[tactic(auto, using(matrix::proofs::Pieces::piece_more))]
 fn write_more_names(text: &mut String, table: &Table, labels: &[Label]) -> Result<(), AllocError>
     ensures { OnOk result (string_bytes text.new ≡ string_bytes text.old ++ flat_map (more_name table.now) labels.now) }
 {

@@ -2,17 +2,17 @@
 ghost use Rattle.std.specs.Prelude.{ℕ, ◌↔◌, ◌≡◌, IfOk, true};
 ghost use Rattle.base.specs.Labels.{is_in};
 ghost use Rattle.policy.specs.Policy.{allows};
-ghost use Rattle.summary.specs.{Labelled.has_frame, Sharing.{HasFrameOf, IsShared, SharesMemory}};
+ghost use Rattle.summary.specs.{Labelled.has_memory, Sharing.{HasMemoryOf, IsShared, SharesMemory}};
 
 use crate::edges::row;
-use crate::labelled::with_frames;
+use crate::labelled::with_memory;
 use crate::sources::{join, sources_of};
 use base::{Kind, Label, Labels};
 use policy::Policy;
 use std::alloc::{AllocError, Global};
 use table::Table;
 
-/// Returns for each label the other labels that have its frames to read or to write.
+/// Returns for each label the other labels that have its memory to read or to write.
 pub(crate) fn sharers(
     alloc: Global,
     table: &Table,
@@ -20,21 +20,21 @@ pub(crate) fn sharers(
 ) -> Result<Vec<Labels>, AllocError>
     ensures { IfOk result (λ rows. IsShared table.now (allows policy.now) rows.items) }
 {
-    let frames = with_frames(table);
+    let memory = with_memory(table);
     let mut rows = Vec::with_capacity(alloc, Label::COUNT as usize)?;
     for number in 0..Label::COUNT {
         if let Some(region) = Label::new(number) {
-            rows.push(sharers_of(table, policy, frames, region))?;
+            rows.push(sharers_of(table, policy, memory, region))?;
         }
     }
     Ok(rows)
 }
 
-fn sharers_of(table: &Table, policy: &Policy, frames: Labels, region: Label) -> Labels
-    requires { (l : ℕ) → is_in frames l ≡ has_frame table.now l }
-    ensures { (l : ℕ) → (is_in result l ≡ true) ↔ HasFrameOf table.now (allows policy.now) region l }
+fn sharers_of(table: &Table, policy: &Policy, memory: Labels, region: Label) -> Labels
+    requires { (l : ℕ) → is_in memory l ≡ has_memory table.now l }
+    ensures { (l : ℕ) → (is_in result l ≡ true) ↔ HasMemoryOf table.now (allows policy.now) region l }
 {
-    if !frames.has(region) {
+    if !memory.has(region) {
         return Labels::none();
     }
     let readers = sources_of(policy, Kind::Read, region);

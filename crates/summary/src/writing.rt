@@ -4,11 +4,10 @@ ghost use Rattle.base.specs.Refusals.{out_of_memory};
 ghost use Rattle.summary.specs.{Labelled.others_of, Whole.{IsSummary, others_text, summary_text}};
 
 use crate::labelled::others;
-use crate::lines::page_of;
-use crate::matrix::write_matrix;
 use crate::regions::write_regions;
 use crate::rows::{Row, rows_of};
 use base::Refusal;
+use matrix::write_matrix;
 use reach::Reach;
 use std::alloc::{AllocError, Global};
 use table::Table;
@@ -40,9 +39,8 @@ fn summary_of(alloc: Global, table: &Table, rows: &[Row]) -> Result<String, Allo
     if rows.is_empty() {
         return String::from_str(alloc, "no label has a thread\n");
     }
-    let page = page_of(alloc, table, rows)?;
     let mut text = String::from_str(alloc, HEAD)?;
-    write_matrix(alloc, &mut text, table, page, rows)?;
+    write_matrix(alloc, &mut text, table, rows)?;
     write_others(alloc, &mut text, table, rows)?;
     Ok(text)
 }

@@ -1,7 +1,8 @@
 -- the arrows from one program more are written
 use Rattle.std.{specs.List.flat_map, proofs.Common.{ℕ, ◌++◌, ◌∙◌, List, ap, string_bytes}}
 use Rattle.policy.specs.Policy.{allows}
-use Rattle.summary.{specs.declared.rows.Row.Row, proofs.Pieces.piece_more}
+use Rattle.matrix.proofs.Pieces.{piece_more}
+use Rattle.summary.specs.declared.rows.Row.{Row}
 use Rattle.diagram.specs.{Folded.arrow_text, Programs.program_of}
 use Rattle.diagram.proofs.arrows.write_arrows.Goals as goal
 

@@ -1,6 +1,6 @@
 -- Nothing flows, or a chain of flows and the smallest sets are told.
-use Rattle.std.{specs.Option.MatchOption, proofs.Common.{ℕ, ◌∙◌, ◌≡◌, List, None, Option, Some, ap, codes, rules, subst, sym}}
-use Rattle.base.specs.{declared.labels.Labels.Labels, Labels.is_in}
+use Rattle.std.{specs.Option.MatchOption, proofs.Common.{◌≡◌, rules, subst}}
+use Rattle.base.specs.{Labels.is_in}
 use Rattle.reach.specs.{Extents.limits_of, Reach.TableReach}
 use Rattle.flows.specs.{Chains.IsChain, Flowing.GoesThrough}
 use Rattle.filters.specs.Smallest.{IsFilterSet, IsSmallest}

@@ -1,7 +1,8 @@
 -- row by row
 use Rattle.std.proofs.Common.{arith}
 use Rattle.reach.specs.Extents.{limits_by}
-use Rattle.summary.{specs.Rows.IsRowOf, proofs.Pieces.{each_more, labels_more, numbers_more}}
+use Rattle.matrix.proofs.Pieces.{each_more, labels_more, numbers_more}
+use Rattle.summary.specs.{Rows.IsRowOf, declared.rows.Row.Row}
 use Rattle.summary.proofs.rows.rows_of.Goals as goal
 
 pub loop-index-preserved : goal.loop-index-preserved
@@ -12,7 +13,7 @@ loop-index-preserved c =
     let i = c.loop-index.index in
     let so_far = c.loop-index.invariant in
     let grown = c.in_ok-push.ensures.items in (
-      labels_more rows longer row c.deref-label-items.result.now i c.label-item.result (omega arith) so_far.0 grown c.row_of.ensures.label c.label-item.is,
-      numbers_more rows longer row i so_far.1 grown c.row_of.ensures.number,
+      labels_more (λ (r : Row). r.label) rows longer row c.deref-label-items.result.now i c.label-item.result (omega arith) so_far.0 grown c.row_of.ensures.label c.label-item.is,
+      numbers_more (λ (r : Row). r.number) rows longer row i so_far.1 grown c.row_of.ensures.number,
       each_more (IsRowOf c.args.table.now (limits_by c.args.policy.now c.args.actors)) rows longer row so_far.2 grown c.row_of.ensures.row,
     )

@@ -1,5 +1,5 @@
 use Rattle.std.{specs.Prelude.replicate, proofs.Common.{◌++◌, ◌≡◌, string_bytes}}
-use Rattle.summary.proofs.padding.push_spaces.Given as goal
+use Rattle.matrix.proofs.padding.push_spaces.Given as goal
 
 -- the spaces so far are written
 abbrev pub invariant-loop-index : goal.invariant-loop-index

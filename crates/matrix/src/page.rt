@@ -1,9 +1,9 @@
-//! How wide the parts of a line of the matrix are, and which columns it has.
+//! How wide the parts of a line of a matrix are, and which columns it has.
 ghost use Rattle.std.specs.{List.fold, Prelude.{ℕ, ◌≡◌, ◌<◌, IfOk, length}};
-ghost use Rattle.summary.specs.Matrix.{columns, longest_name, page_of, shown_from};
+ghost use Rattle.matrix.specs.Matrix.{columns, longest_name, page_of, shown_from};
 
 use crate::padding::digits;
-use crate::rows::Row;
+use crate::rows::MatrixRow;
 use captext::label_name;
 use std::alloc::{AllocError, Global};
 use table::Table;
@@ -16,20 +16,24 @@ pub(crate) struct Page {
 }
 
 /// Returns how wide the parts of lines are for these rows.
-pub(crate) fn page_of(alloc: Global, table: &Table, rows: &[Row]) -> Result<Page, AllocError>
-    ensures { IfOk result (λ page. page ≡ page_of table.now rows.now) }
+pub(crate) fn page_of<R: MatrixRow>(
+    alloc: Global,
+    table: &Table,
+    rows: &[R],
+) -> Result<Page, AllocError>
+    ensures { IfOk result (λ page. page ≡ page_of R.cells table.now rows.now) }
 {
     let numbers = digits(alloc, rows.len())?.len();
     let names = longest_name(table, rows);
     Ok(Page { numbers, names })
 }
 
-fn longest_name(table: &Table, rows: &[Row]) -> usize
-    ensures { result ≡ longest_name table.now rows.now }
+fn longest_name<R: MatrixRow>(table: &Table, rows: &[R]) -> usize
+    ensures { result ≡ longest_name R.cells table.now rows.now }
 {
     let mut longest = 0;
     for row in rows {
-        longest = longest.max(label_name(table, row.label).len());
+        longest = longest.max(label_name(table, row.label()).len());
     }
     longest
 }
@@ -46,7 +50,7 @@ pub(crate) fn columns(page: Page) -> usize
 }
 
 /// Returns the rows that are the columns of the block which begins with this one.
-pub(crate) fn shown_from(page: Page, rows: &[Row], first: usize) -> &[Row]
+pub(crate) fn shown_from<R>(page: Page, rows: &[R], first: usize) -> &[R]
     requires { first < length rows.now }
     ensures { result.now ≡ shown_from page rows.now first }
 {

@@ -1,6 +1,6 @@
 //! Texts that are filled up with spaces to a width.
 ghost use Rattle.std.specs.{Fmt.decimal, Prelude.{◌++◌, ◌≡◌, IfOk, OnOk, replicate, string_bytes}};
-ghost use Rattle.summary.specs.Padding.{pad_left, pad_right};
+ghost use Rattle.matrix.specs.Padding.{pad_left, pad_right};
 
 use std::alloc::{AllocError, Global};
 

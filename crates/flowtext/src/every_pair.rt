@@ -1,0 +1,45 @@
+//! The matrix of flows between programs.
+ghost use Rattle.std.specs.Prelude.{◌≡◌, IfErr, IfOk, string_bytes};
+ghost use Rattle.base.specs.Refusals.{out_of_memory};
+ghost use Rattle.flowtext.specs.FlowMatrix.{IsFlowMatrix, flow_matrix_text};
+
+use crate::rows::{FlowRow, flow_rows};
+use base::Refusal;
+use filters::FlowGraph;
+use matrix::write_matrix;
+use reach::Reach;
+use std::alloc::{AllocError, Global};
+use table::Table;
+
+/// What the matrix begins with.
+const HEAD: &str = "\
+through how many other programs all goes that one does and that comes to another, in any run:
+  . nothing comes, d: directly, +: more than 5
+";
+
+/// Returns the matrix of the flows between the programs of a table: in the row of one and the column of another, how
+/// many programs the smallest sets have through which all goes from the one to the other.
+///
+/// # Errors
+///
+/// 40 where memory is refused.
+pub fn flow_matrix(alloc: Global, reach: &Reach<'_>) -> Result<Vec<u8>, Refusal>
+    ensures text { IfOk result (λ text. IsFlowMatrix reach.now text.items) }
+    ensures memory { IfErr result (λ refusal. refusal ≡ out_of_memory) }
+{
+    let table = reach.table();
+    let graph = FlowGraph::of(alloc, reach)?;
+    let rows = flow_rows(alloc, table, &graph)?;
+    Ok(matrix_of(alloc, table, &rows)?.into_bytes())
+}
+
+fn matrix_of(alloc: Global, table: &Table, rows: &[FlowRow]) -> Result<String, AllocError>
+    ensures { IfOk result (λ text. string_bytes text ≡ flow_matrix_text table.now rows.now) }
+{
+    if rows.is_empty() {
+        return String::from_str(alloc, "no label has a thread\n");
+    }
+    let mut text = String::from_str(alloc, HEAD)?;
+    write_matrix(alloc, &mut text, table, rows)?;
+    Ok(text)
+}

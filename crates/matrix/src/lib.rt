@@ -1,0 +1,12 @@
+//! A matrix of programs as text: blocks of columns, each with a head, and a line for each row.
+//!
+//! What a cell says is told by the rows ([`MatrixRow`]).
+#![tactic(auto)]
+
+mod padding;
+mod page;
+mod rows;
+mod writing;
+
+pub use rows::MatrixRow;
+pub use writing::write_matrix;

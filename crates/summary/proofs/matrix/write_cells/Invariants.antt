@@ -1,7 +1,0 @@
-use Rattle.std.{specs.List.flat_map, proofs.Common.{◌++◌, ◌≡◌, string_bytes, take}}
-use Rattle.summary.specs.Matrix.{cell_text}
-use Rattle.summary.proofs.matrix.write_cells.Given as goal
-
--- the cells so far are written
-abbrev pub invariant-loop-other : goal.invariant-loop-other
-invariant-loop-other l = string_bytes l.text ≡ string_bytes l.fn.text ++ flat_map (cell_text l.row) (take l.other-index l.shown)

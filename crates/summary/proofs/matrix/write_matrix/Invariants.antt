@@ -1,8 +1,0 @@
-use Rattle.std.{specs.List.{flat_map, range_with_len}, proofs.Common.{◌++◌, ◌≡◌, string_bytes}}
-use Rattle.summary.specs.Matrix.{block_from}
-use Rattle.summary.proofs.matrix.write_matrix.Given as goal
-
--- the blocks so far are written
-abbrev pub invariant-loop-first : goal.invariant-loop-first
-invariant-loop-first l =
-    string_bytes l.text ≡ string_bytes l.fn.text ++ flat_map (block_from l.table l.fn.page l.rows) (range_with_len 0 l.first)

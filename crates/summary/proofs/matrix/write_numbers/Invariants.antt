@@ -1,7 +1,0 @@
-use Rattle.std.{specs.List.flat_map, proofs.Common.{◌++◌, ◌≡◌, string_bytes, take}}
-use Rattle.summary.specs.Matrix.{number_text}
-use Rattle.summary.proofs.matrix.write_numbers.Given as goal
-
--- the numbers so far are written
-abbrev pub invariant-loop-row : goal.invariant-loop-row
-invariant-loop-row l = string_bytes l.text ≡ string_bytes l.fn.text ++ flat_map number_text (take l.row-index l.shown)
