@@ -18,7 +18,7 @@ STORED = {("four_threads", file): f"confine/data/{file}" for file in ["table", "
 STORED |= {("four_threads", "log"): "confine/stdout", ("nine_kinds", "table"): "states/data/table"}
 
 # The command that a word asks for.
-ASKED = {word: [word] for word in ["run", "replay", "check", "verify", "close", "list", "summary"]}
+ASKED = {word: [word] for word in ["run", "replay", "check", "verify", "close", "list", "summary", "flows"]}
 ASKED |= {"cert": ["check", "--cert"], "missing": ["close", "--missing"], "surplus": ["close", "--surplus"]}
 ASKED |= {"claim": ["claims"], "strongest": ["claims", "--all"]}
 ASKED |= {"draw": ["draw", "--all"], "draw --policy": ["draw", "--policy", "--all"]}
@@ -29,6 +29,9 @@ ASKED |= {"import": ["import", "--rights", "least"]}
 # What each summary begins with.
 HEAD = "who may change whom, in any run: C calls, A answers, S signals, F for another reason, t only takes away, . never; "
 HEAD += "m: memory that one writes and the other has\n"
+# What each matrix of flows begins with.
+COUNTS = "through how many other programs all flows from one to another go, in any run:\n"
+COUNTS += "  . nothing flows, d: directly, +: more than 5\n"
 
 ESCAPED = {"n": b"\n", "r": b"\r", "t": b"\t", "0": b"\0"}
 
@@ -60,6 +63,10 @@ class Asker:
 
     def is_shown(self, words, files, script):
         """Whether a script ends as a search asked for it."""
+        raise NotImplementedError
+
+    def is_told(self, words, files, text):
+        """Whether a text may be printed of the flows from one label to another: it has one of the shortest chains."""
         raise NotImplementedError
 
     def state(self, table, script, count=None):
@@ -215,6 +222,11 @@ def drawing(words):
     return "".join(["digraph authority {\n", *(f"  {line}\n" for line in lines), "}\n"]).encode()
 
 
+def flowing(words):
+    sets, _, chain = words.partition("; ")
+    return "".join([*(f"{line}\n" for line in sets.split(", ")), *(f"link {link}\n" for link in chain.split(", ") if link)]).encode()
+
+
 def folding(words):
     boxes, *arrows = words.split("; ")
     lines = ["node [shape=box]", "edge [fontsize=10]", "nodesep=0.1", "ranksep=0.4"]
@@ -254,6 +266,10 @@ def expected(words, system, script, file, line):
         return 0, system.get(words, b"")
     if word == "matrix":
         return 0, HEAD.encode() + plain(quoted(rest)) + b"\n"
+    if word == "counts":
+        return 0, COUNTS.encode() + plain(quoted(rest)) + b"\n"
+    if word == "comes":
+        return 0, flowing(rest)
     if words in ("shows", "unknown"):
         return (0, b"a script that shows it") if words == "shows" else (2, b"")
     if words == "impossible":
@@ -459,6 +475,8 @@ class Session:
             came = wanted
         elif answer.startswith("unshown ") and is_within(came, wanted):
             came = wanted
+        elif answer.startswith("comes ") and ";" not in answer and came[0] == 0 and came[1].startswith(wanted[1]):
+            came = wanted if self.asker.is_told(asked, files, came[1]) else came
         return Case(number, line, wanted, came)
 
     def run_of(self, number, line, log):
@@ -512,6 +530,8 @@ def command_of(words):
         return ["why", *(["--policy"] if told[1] else []), told[2], told[3]]
     if told := re.fullmatch(r"show (\S+) (\S+)((?: --take)?(?: --steps [0-9]+)?)", words):
         return ["show", told[1], told[2], *told[3].split()]
+    if told := re.fullmatch(r"flows (\S+) (\S+)", words):
+        return ["flows", told[1], told[2]]
     if told := re.fullmatch(r"import (least|all)((?: --claims)?)", words):
         return ["import", "--rights", told[1], *told[2].split()]
     raise Wrong("there is no such command")

@@ -13,6 +13,8 @@
   `import` prints of it, with `--rights RIGHTS` and the options that follow, and that file from here on;
 - one that begins with `who may change whom` is what `summary` prints of the files, one that begins with `{"cells"` what it prints with
   `--format json`, and one that begins with `{"bound"` what `show` does, of the labels that `<!-- show: A B -->` tells;
+- the one after `<!-- flows: A B -->` is what `flows` prints of these labels, with that change, and one that begins with
+  `through how many other programs` what it prints of all programs;
 - one that begins with `confine-policy 1` after `<!-- close: of the table -->` is what `close` prints of the table alone, with the options that
   follow these words, and one that begins with `confine-claims 2` after `<!-- claims: all -->` what `claims --all` prints of the files;
 - a row of a table whose last cell is a report, or 'accepted', is the answer to these files with the
@@ -138,7 +140,7 @@ def parts_of(text):
         if block:
             yield number - len(block), "block", "\n".join(block) + "\n"
             block = []
-        if comment := re.match(r"<!-- (system|labels|change|why|show|import|log|close|claims|short): (.*) -->", line):
+        if comment := re.match(r"<!-- (system|labels|change|why|show|flows|import|log|close|claims|short): (.*) -->", line):
             yield number, comment[1], comment[2]
         elif line.startswith("| "):
             yield number, "row", line
@@ -157,7 +159,7 @@ def in_one_line(text, between=""):
 
 def examples_of(path):
     """Where each example stands, its files, and the answer that it shows."""
-    files, change, asked, imports, short, alone, closes, strongest = {}, "", [], "", [], False, None, False
+    files, change, asked, flows, imports, short, alone, closes, strongest = {}, "", [], [], "", [], False, None, False
     for number, form, text in parts_of(path.read_text()):
         where = f"{path.relative_to(TOP)}:{number}"
         kind = (re.match(r" *(?:1  )?confine-(\w+) [12]\n", text) or ["", ""])[1]
@@ -171,6 +173,8 @@ def examples_of(path):
             change = f"{change} {text}"
         elif form in ("why", "show"):
             asked = text.split()
+        elif form == "flows":
+            flows = text.split()
         elif form == "import":
             imports = text
         elif form == "short":
@@ -189,6 +193,9 @@ def examples_of(path):
             files, imports = files | {kind: text}, ""
         elif form == "block" and text.startswith("<?xml"):
             files = files | {"description": text}
+        elif form == "block" and (flows or text.startswith("through how many other programs")):
+            yield where, changed(files, change, text) | {"asked": ["flows", "table", *flows]}, text
+            change, flows = "", []
         elif form == "block" and text.startswith("who may change whom"):
             yield where, files, with_one_head(text)
         elif form == "block" and re.match(r" *1  ", text):
@@ -248,7 +255,7 @@ def is_answered(answer, status, out):
 
 def commands_of(answer, asked):
     """The commands that give such an answer."""
-    if asked[:1] == ["import"] or "--format" in asked:
+    if asked[:1] in (["import"], ["flows"]) or "--format" in asked:
         return [asked]
     if '"file":"description"' in answer:
         return [["import", "description", "--rights", "least"]]

@@ -723,3 +723,33 @@ def make_wide(r):
     table_text = texts.text_of(header, [*(f"label {label}" for label in labels), *made, *objects, *caps, *bound])
     lines = [texts.edge_line(edge, texts.read_table(table_text.encode())) for edge in sorted(edges)]
     return {"table": table_text, "policy": texts.text_of("confine-policy 1", lines)}
+
+
+def make_relays(r):
+    """A table of programs in layers: each signals programs of the next layer, or writes memory that they read. The first label is the program of
+    the first layer, and the last label that of the last."""
+    count, width = r.choice([4, 6, 9, 12, 16]), r.choice([1, 2, 3, 4, 6, 7])
+    layer = [0, *(1 + i // width for i in range(count - 2))]
+    layer.append(layer[-1] + 1)
+    programs, memory = [f"p{i}" for i in range(count)], [f"m{i}" for i in range(count)]
+    between = [*programs[1:-1], *memory]
+    r.shuffle(between)
+    caps, frames = {i: [f"b{i} r 0"] for i in range(count)}, []
+    for i in range(count):
+        next_ones = [j for j in range(count) if layer[j] == layer[i] + 1 and r.random() < 0.95 or j != i and r.random() < 0.03]
+        if next_ones and r.random() < 0.4:
+            of = r.choice([memory[i], memory[i], programs[i], programs[next_ones[0]]])
+            frames.append(f"frame f{i} {of} {0x80000 + (i << 12):#x}")
+            caps[i].append(f"f{i} w")
+            for j in next_ones:
+                caps[j].append(f"f{i} r")
+        else:
+            caps[i] += [f"b{j} w {1 << i}" for j in next_ones]
+    made = [f"cnode c{i} p{i} {0x40000 + (i << 10):#x} 5" for i in range(count)]
+    made += [f"tcb t{i} p{i} {i << 10:#x} {r.choice(['ready'] * 15 + ['inactive'])}" for i in range(count)]
+    made += [f"notification b{i} p{i} {0x20000 + (i << 5):#x}" for i in range(count)]
+    made += [f"context x{i} p{i} {0x10000 + (i << 8):#x} 0 10 10" for i in range(count)]
+    lines = [f"cap c{i}.{at} {cap}" for i in range(count) for at, cap in enumerate(caps[i])]
+    bound = [f"bind t{i} x{i}" for i in range(count)]
+    labels = [f"label {label}" for label in [programs[0], *between, programs[-1]]]
+    return {"table": texts.text_of("confine-table 1", [*labels, *made, *frames, *lines, *bound])}

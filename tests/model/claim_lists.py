@@ -1,6 +1,7 @@
 """Claims: their text, as docs/FORMATS.md has it, which of them don't hold, and the strongest that do."""
 import policies
 import texts
+from flows import Flows
 from texts import Fault, ask, kind, name
 
 HEADER = "confine-claims 2"
@@ -72,27 +73,17 @@ def breach(claim, extents, count):
                 return a, b, extents[a, b]
 
 
-def reached(start, filters, affected, needed):
-    """The labels to which a chain of flows leads from one, past no filter, and by no object of a filter."""
-    there, done = {start}, set()
-    while more := {a for a in there - done if a == start or a not in filters}:
-        done |= more
-        there |= {b for b, needs in needed.items() if any(affected[a] & needs - filters for a in more)}
-    return there
-
-
 def broken(claims, table, policy, acts):
     """What is told of each claim that doesn't hold."""
     count = len(table.labels)
     extents = {(a, b): how for a, b, how in policies.extents(policy, acts, count)}
-    affected = {a: {b for b in range(count) if a == b and a in acts or a != b and extents[a, b] != "none"} for a in range(count)}
-    needed = {b: {b} | policies.seen(policy, acts, b) for b in range(count)}
+    flows = Flows(table, policy, acts) if any(claim[0] == "through" for _, claim, _ in claims) else None
     for line, claim, text in claims:
         told = {"claim": text, "line": line}
         if claim[0] == "through":
             if not claim[3]:
                 told["claim"] = text.replace("through", "apart", 1)
-            if claim[2] in reached(claim[1], {*claim[3]}, affected, needed):
+            if flows.chain(claim[1], claim[2], {*claim[3]}) is not None:
                 yield told
         elif claim[0] == "without":
             if claim[1:] in policy:

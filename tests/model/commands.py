@@ -5,6 +5,7 @@ import pathlib
 from types import SimpleNamespace
 
 import claim_lists
+import flows
 import imports
 import kernel
 import policies
@@ -272,6 +273,19 @@ def summary(table):
     return 0, summaries.summary(table, *limits(table))
 
 
+def flowing(table, a=None, b=None):
+    """What is told of the flows from one label to another; or, where none are named, between all programs."""
+    all_flows = flows.Flows(table, *limits(table))
+    if a is None:
+        return 0, flows.matrix(table, all_flows)
+    return 0, all_flows.told(table.labels.index(a), table.labels.index(b))
+
+
+def is_told(table, a, b, text):
+    """Whether `flows` may write a text: it says which the smallest sets are, and ends with a shortest chain."""
+    return flows.Flows(table, *limits(table)).is_told(table.labels.index(a), table.labels.index(b), text)
+
+
 def shown(table, a, b, takes=False):
     """What `show` answers where it makes no calls; None where it has to try some."""
     how = policies.why(*limits(table), table.labels.index(a), table.labels.index(b))[0]
@@ -326,7 +340,7 @@ def read(file, text, table, options=()):
 def answer(command, given, options=()):
     """Status, standard output and standard error of a command. `given` has the bytes of its files, or None where one can't be read;
     `options` are those of the command, each value behind its option, but that of `--policy`, which is a file; the last two of `why` are its
-    labels, and the first two of `show`. It answers None where `show` has to try calls."""
+    labels, and the first two of `show`; `flows` has two or none. It answers None where `show` has to try calls."""
     values = []
     for file, text in zip(files_of(command, options), given):
         if text is None:
@@ -337,12 +351,14 @@ def answer(command, given, options=()):
             return 2, report(fault=fault.number, file=file, line=fault.line), ""
     table, second = values[0], values[1] if len(values) > 1 else None
     alone, rules = ALLOWED * ("--policy" in options), rules_of(options)
-    labels = {"why": options[-2:], "show": options[:2]}.get(command, [])
+    labels = {"why": options[-2:], "show": options[:2], "flows": options[:2]}.get(command, [])
     for operand, label in zip("AB", labels):
         if label not in table.labels:
             return 2, "", f"confine: {operand} is no label of the table\n"
     if command == "why":
         return *why(table, second, *labels), alone
+    if command == "flows":
+        return *flowing(table, *labels), ""
     if command == "show":
         told = shown(table, *labels, "--take" in options)
         return told and (*told, "")

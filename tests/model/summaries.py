@@ -10,15 +10,15 @@ LETTERS = [*zip("FCASFFAFFFACASCFA", policies.CHANGE, strict=True)]
 WIDTH, CELL = 140, 6
 
 
-def row_of(table, policy, acts, frames, a):
+def row_of(table, policy, acts, memory, a):
     """What threads of a label may do to each other label."""
     labels = range(len(table.labels))
     by = {letter: set() for letter in "CASF"}
     for letter, way in LETTERS if a in acts else []:
         by[letter] |= {l for l, _ in policies.ways_from(policy, acts, a, [way])}
     shrinks = {l for l, _ in policies.shrink_ways(policy, acts, a)}
-    written = {region for region in frames if (a, WRITE, region) in policy}
-    has = {l: {region for region in frames - {l} if {(l, READ, region), (l, WRITE, region)} & policy} for l in labels}
+    written = {region for region in memory if (a, WRITE, region) in policy}
+    has = {l: {region for region in memory - {l} if {(l, READ, region), (l, WRITE, region)} & policy} for l in labels}
     shares = {l for l in labels if written & has[l]}
     reads = {l for l in labels if {(a, READ, l), (a, RECEIVE, l), (a, AWAIT, l)} & policy}
     changes, writes = set.union({a} & acts, *by.values()), {l for l in labels if (a, WRITE, l) in policy}
@@ -27,43 +27,37 @@ def row_of(table, policy, acts, frames, a):
 
 
 def cell(row, l):
-    if l == row["label"]:
-        return "="
     mark = "m" if l in row["shares"] else ""
     if l in row["changes"]:
         return "".join(letter for letter in "CASF" if l in row["by"][letter]) + mark
     return ("t" if l in row["shrinks"] else "" if mark else ".") + mark
 
 
-def matrix(table, rows):
-    """Blocks of columns, each with all rows."""
-    numbers = len(str(len(rows)))
-    names = max(len(table.labels[row["label"]]) for row in rows)
+def matrix(table, labels, cell):
+    """Blocks of columns, each with all rows: what `cell` says of each two of these labels, and `=` of one and itself."""
+    numbers = len(str(len(labels)))
+    names = max(len(table.labels[label]) for label in labels)
     columns = max((WIDTH - 1 - numbers - names) // CELL, 1)
-    for first in range(0, len(rows), columns):
-        shown = range(first, min(first + columns, len(rows)))
-        yield "\n" + " " * (numbers + 1 + names) + "".join(f"{at + 1:>{CELL}}" for at in shown) + "\n"
-        for number, row in enumerate(rows, 1):
-            cells = "".join(f"{cell(row, rows[at]['label']):>{CELL}}" for at in shown)
-            yield f"{number:>{numbers}} {table.labels[row['label']]:{names}}{cells}\n"
+    for first in range(0, len(labels), columns):
+        shown = [*enumerate(labels, 1)][first : first + columns]
+        yield "\n" + " " * (numbers + 1 + names) + "".join(f"{number:>{CELL}}" for number, _ in shown) + "\n"
+        for number, label in enumerate(labels, 1):
+            cells = "".join(f"{'=' if label == other else cell(label, other):>{CELL}}" for _, other in shown)
+            yield f"{number:>{numbers}} {table.labels[label]:{names}}{cells}\n"
 
 
 def users(table, rows, l):
-    """Who changes a label, and who reads it."""
-    return tuple(", ".join(table.labels[row["label"]] for row in rows if l in row[how]) for how in ("changes", "reads"))
-
-
-def told(changers, readers):
-    if not changers:
-        return f"read by {readers}" if readers else "changed and read by nobody"
-    return f"changed by {changers}" + (f"; read by {readers}" if readers else "")
+    """Who changes a label, who may only take from it, and who reads it."""
+    uses = [{"changed by": row["changes"], "taken away by": row["shrinks"] - row["changes"], "read by": row["reads"]} for row in rows]
+    names = {how: [table.labels[row["label"]] for row, by in zip(rows, uses) if l in by[how]] for how in ("changed by", "taken away by", "read by")}
+    return "; ".join(f"{how} {', '.join(by)}" for how, by in names.items() if by) or "changed and read by nobody"
 
 
 def rows_and_others(table, policy, acts):
     """The rows of labels with a thread, and the other labels."""
-    of = {kind: {item.label for item in table.objects if item.kind == kind} for kind in ("tcb", "frame")}
-    rows = [row_of(table, policy, acts, of["frame"], a) for a in sorted(of["tcb"])]
-    return rows, [l for l in range(len(table.labels)) if l not in of["tcb"]]
+    threads, memory = ({item.label for item in table.objects if item.kind in kinds} for kinds in [("tcb",), ("frame", "untyped")])
+    rows = [row_of(table, policy, acts, memory, a) for a in sorted(threads)]
+    return rows, [l for l in range(len(table.labels)) if l not in threads]
 
 
 def summary(table, policy, acts):
@@ -73,8 +67,10 @@ def summary(table, policy, acts):
     groups = {}
     for l in without:
         groups.setdefault(users(table, rows, l), []).append(table.labels[l])
-    others = [f"{', '.join(names)}\n    {told(*by)}\n" for by, names in groups.items()]
-    return "".join([HEAD, *matrix(table, rows), *(["\n", *others] if others else [])])
+    others = [f"{', '.join(names)}\n    {by}\n" for by, names in groups.items()]
+    of = {row["label"]: row for row in rows}
+    cells = matrix(table, [*of], lambda a, l: cell(of[a], l))
+    return "".join([HEAD, *cells, *(["\n", *others] if others else [])])
 
 
 # The drawing. What a program alone uses stands in its box; what it does to that which another uses too, in the words of the arrow there.

@@ -20,6 +20,8 @@ const GROUPS = [
     { name: "why", reads: TABLE, pair: true, asks: "by which edges?" },
     { name: "show", reads: TABLE, pair: true, asks: "by which calls does A change B?", gives: "script" },
     { name: "show", option: "--take", reads: TABLE, pair: true, asks: "by which calls does A take from B?", gives: "script" },
+    { name: "flows", reads: TABLE, pair: true, asks: "through which programs does A affect B?" },
+    { name: "flows", reads: TABLE, asks: "through how many programs: all at once" },
     { name: "draw", reads: TABLE, asks: "the programs, as a graph" },
     { name: "draw", option: "--all", reads: TABLE, asks: "all labels, as a graph" },
   ] },
@@ -328,6 +330,7 @@ async function ask(command) {
   await markClaims(turn, given, command === CLAIMS ? report : null);
   if (command !== IMPORT) await showSystem(turn, given, command, answer);
   await listObjects(turn, allTexts());
+  if (command === WHY) await showThrough(turn, given, words.slice(1 + WHY.reads.length));
   if (turn !== asked) return null;
   document.body.dataset.answered = turn;
   return answer;
@@ -351,7 +354,7 @@ function showAnswer(command, given, answer, output, report, took) {
   find("sentences").replaceChildren(...sentences.map((line) => element("p", {}, ...withPlaces(line))));
   const lines = output.split("\n");
   const isLong = lines.length > MOST_SHOWN;
-  find("output").classList.toggle("unwrapped", command === SUMMARY);
+  find("output").classList.toggle("unwrapped", command === SUMMARY || command.name === "flows");
   find("output").textContent = isLong ? `${lines.slice(0, MOST_SHOWN).join("\n")}\n.. ${lines.length - 1} lines in all` : output;
   for (const name of FILES.filter((name) => name !== "description")) texts[name].unmark();
   const named = namedLine(report, given);

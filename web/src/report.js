@@ -157,22 +157,30 @@ function summaryOf(text) {
     else if (/^[a-z]/.test(line)) others.push({ labels: line.split(", "), users: "" });
   }
   for (const other of others) {
-    const [, changed, read] = /^(?:changed by ([^;]*))?(?:; )?(?:read by (.*))?$/.exec(other.users) ?? [];
+    const [, changed, read] =
+      /^(?:changed by ([^;]*))?(?:; )?(?:taken away by [^;]*)?(?:; )?(?:read by (.*))?$/.exec(other.users) ?? [];
     [other.changed, other.read] = [changed, read].map((names) => names?.split(", ") ?? []);
   }
   return { signs: head.slice(head.indexOf(": ") + 2), labels: [...rows.keys()], rows: [...rows.values()], others };
+}
+
+// What `flows` writes of two labels: whether the one flows to the other, and the sets of programs through which all of it goes.
+function flowOf(text) {
+  const lines = text.trimEnd().split("\n");
+  const sets = lines.filter((line) => line.startsWith("through ")).map((line) => line.split(" ").slice(1));
+  return { isThere: lines[0] !== "none", sets, isLarge: lines[0] === "more than 5" };
 }
 
 const LETTERS = { C: "calls", A: "answers", S: "signals", F: "changes for another reason", t: "only takes away", m: "shares memory" };
 // What a cell says, in words.
 const cellInWords = (cell) => [...cell].map((letter) => LETTERS[letter]).filter(Boolean).join(", ") || "never";
 
-// The labels of memory that both use, and that one of them may change.
+// The labels of memory that both use, and that one of them may change: frames, and untyped memory, of which frames can be made.
 function memoryOf({ others }, table, one, other) {
-  const framed = new Set(wordsOf(table, "frame").map((words) => words[2]));
+  const isMemory = new Set(["frame", "untyped"].flatMap((kind) => wordsOf(table, kind)).map((words) => words[2]));
   const uses = ({ changed, read }, label) => changed.includes(label) || read.includes(label);
   const isShared = (it) => uses(it, one) && uses(it, other) && (it.changed.includes(one) || it.changed.includes(other));
-  return others.filter(isShared).flatMap(({ labels }) => labels).filter((label) => framed.has(label));
+  return others.filter(isShared).flatMap(({ labels }) => labels).filter((label) => isMemory.has(label));
 }
 
 // The list of a table's objects, in columns.

@@ -151,12 +151,30 @@ function offerNext(one, other, held) {
     next.append(calls);
   }
   if (held !== "full") {
-    const claim = `${held} ${one} ${other}`;
-    const button = element("button", {}, "Claim ", element("code", {}, claim));
-    button.addEventListener("click", () => putClaim(claim));
-    next.append(button);
+    next.append(offerClaim(`${held} ${one} ${other}`));
   }
   return next;
+}
+
+// Lets what holds become a claim.
+function offerClaim(claim) {
+  const button = element("button", {}, "Claim ", element("code", {}, claim));
+  button.addEventListener("click", () => putClaim(claim));
+  return button;
+}
+
+// Shows with the reason through which programs what A does flows to B, and lets that become a claim. It is asked last: it may take long.
+async function showThrough(turn, given, [one, other]) {
+  const told = one === other ? null : await program.answer(["flows", "table", one, other], given).catch(failed);
+  if (turn !== asked || told?.status !== 0) return;
+  const { isThere, sets, isLarge } = flowOf(decoded(told.output));
+  const ways = sets.flatMap((set, at) => [at === 0 ? " only through " : ", or through ", element("code", {}, set.join(", "))]);
+  const words = sets.length > 0 ? ways : [!isThere ? "" : isLarge ? " through more than 5 programs" : " directly"];
+  const [from, to] = [one, other].map((label) => element("code", {}, label));
+  const next = find("reason").querySelector(".next");
+  next.before(element("p", { class: "through" }, isThere ? "What " : "Nothing that ", from, " does flows to ", to, ...words, "."));
+  if (!isThere) next.append(offerClaim(`apart ${one} ${other}`));
+  if (sets.length > 0) next.append(offerClaim(`through ${one} ${other} ${sets[0].join(" ")}`));
 }
 
 // Asks a command of two labels, and brings the answer into sight.

@@ -1,10 +1,10 @@
 //! The lines on claims that don't hold.
+use crate::chains::push_chain;
 use crate::scripts::push_run;
-use base::{Edge, Label, Labels, Refusal};
+use base::{Edge, Label, Refusal};
 use captext::label_name;
 use claims::{Breach, Broken, Claim, ClaimLines, Failure, claim_text};
 use explain::{EdgeLine, EdgeList, Origins, OtherWays};
-use flows::{Flows, Link};
 use policy::Why;
 use reach::{Extent, Reach};
 use runs::Question;
@@ -293,43 +293,4 @@ fn push_had(
         lines,
         "{start}`{from}` {has} `{edge}`. Change the claim{ways}."
     )
-}
-
-/// Adds the flows of a shortest chain from one label to another that goes through no filter.
-fn push_chain(
-    alloc: Global,
-    lines: &mut String,
-    reach: &Reach<'_>,
-    from: Label,
-    to: Label,
-    filters: Labels,
-) -> Result<(), Refusal> {
-    let flows = Flows::of(alloc, reach)?;
-    let mut separator = "";
-    if let Some(links) = flows.chain(alloc, from, to, filters)? {
-        for link in &links {
-            lines.push_str(separator)?;
-            push_link(lines, reach.table(), *link)?;
-            separator = ", ";
-        }
-    }
-    Ok(lines.push_str(
-        ". Change the claim, or change what makes one of these steps possible. \
-         `confine why` prints the edges of a step.\n",
-    )?)
-}
-
-/// Adds by whose objects what a label does may come to another.
-fn push_link(lines: &mut String, table: &Table, link: Link) -> Result<(), AllocError> {
-    let from = label_name(table, link.from);
-    let object = label_name(table, link.object);
-    write!(
-        lines,
-        "`{from}` may change objects of `{object}` or take from them"
-    )?;
-    if link.object != link.to {
-        let to = label_name(table, link.to);
-        write!(lines, ", which `{to}` sees")?;
-    }
-    Ok(())
 }

@@ -17,7 +17,8 @@ unlabelled_message Object = codes "confine: B is no label of the table"
 abbrev pub misuse_message : Misuse → List ℕ
 misuse_message NoRights =
     codes "confine: this is a system description: say --rights least (each capability has the rights that its line needs) or --rights all (all that Microkit's tool may give it)"
-misuse_message NeedlessRights = codes "confine: this is a capability table: --rights is for system descriptions"
+misuse_message NeedlessRights =
+    codes "confine: this text is empty or doesn't begin with '<', so it isn't a system description: leave out --rights for a capability table"
 
 -- the line on standard error, without its line feed
 abbrev pub message_of : End → Option (List ℕ)

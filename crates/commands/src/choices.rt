@@ -100,6 +100,13 @@ pub enum OfSystem<'a> {
     Draw(Picture),
     /// Summarises who may change whom, and who uses which memory.
     Summary(Form),
+    /// Reports what flows from the label `from` to the label `to`, and through which programs.
+    Flows {
+        from: &'a str,
+        to: &'a str,
+    },
+    /// Reports for each two programs through how many others all flows from the one to the other go.
+    AllFlows,
     /// Writes the strongest claims that hold.
     Strongest,
 }

@@ -30,7 +30,7 @@ impl Asked {
 pub enum Misuse {
     /// It is a description, and `--rights` wasn't given.
     NoRights,
-    /// It is a table, and `--rights` was given.
+    /// It is no description, and `--rights` was given.
     NeedlessRights,
 }
 
@@ -43,7 +43,7 @@ impl Misuse {
             Misuse::NoRights =>
                 "confine: this is a system description: say --rights least (each capability has the rights that its line needs) or --rights all (all that Microkit's tool may give it)",
             Misuse::NeedlessRights =>
-                "confine: this is a capability table: --rights is for system descriptions",
+                "confine: this text is empty or doesn't begin with '<', so it isn't a system description: leave out --rights for a capability table",
         }
     }
 }

@@ -2,6 +2,7 @@
 use crate::asked::asked_edge;
 use crate::capability::push_capability;
 use crate::closing::mending_edge;
+use crate::domains::ReasonIn;
 use crate::grounds::first_premise;
 use crate::lines::{line_of_edge, line_of_place};
 use crate::premises::premises;
@@ -114,7 +115,11 @@ fn push_place(
     policy: &Policy,
     denial: &Denial,
 ) -> Result<usize, AllocError> {
-    let reason = Reason { table, denial };
+    let reason = ReasonIn {
+        table,
+        policy,
+        denial,
+    };
     let other = OtherWay {
         table,
         policy,
@@ -162,7 +167,7 @@ fn push_command(
 
 /// A name of a file as a shell takes it: in quotes, where it has other characters than names mostly have.
 #[derive(Clone, Copy)]
-struct Pasted<'a>(&'a str);
+pub struct Pasted<'a>(pub &'a str);
 
 impl fmt::Display for Pasted<'_> {
     fn fmt<W: fmt::Write>(&self, f: &mut fmt::Formatter<W>) -> fmt::Result {

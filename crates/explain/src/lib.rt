@@ -8,6 +8,7 @@ mod asked;
 mod capability;
 mod closing;
 mod denials;
+mod domains;
 mod grounds;
 mod label_sets;
 mod lines;
@@ -23,7 +24,7 @@ mod unlabelled;
 
 pub use asked::{an_asked_edge_is_missing, asked_edge};
 pub use closing::explain_closing;
-pub use denials::{Names, explain_denial, explain_outside};
+pub use denials::{Names, Pasted, explain_denial, explain_outside};
 pub use label_sets::LabelNames;
 pub use lines::line_of_edge;
 pub use origins::explain_why_allowed;

@@ -336,11 +336,13 @@ fn add_others(policy: &mut Policy, edges: &[Edge], left_out: &Edge) -> Result<()
     Ok(())
 }
 
-/// The rule that is broken, and the edges of the policy by which it asks for another.
+/// The rule that is broken, and the edges of the policy by which it asks for another, each once.
 fn asked_of(alloc: Global, policy: &Policy, broken: Broken) -> Result<Asked, AllocError> {
     let mut by = Vec::new(alloc);
     for premise in premises(policy, broken) {
-        by.extend(premise)?;
+        if let Some(edge) = premise {
+            push_edge(&mut by, edge)?;
+        }
     }
     let rule = broken.rule();
     Ok(Asked { rule, by })

@@ -77,6 +77,12 @@ fn meeting(policy: &Policy, user: Label, kind: Kind, receiver: Label) -> [Option
     }
 }
 
+/// The first label in whose domain two labels are, if there is one.
+pub(crate) fn domain_of(policy: &Policy, parent: Label, child: Label) -> Option<Label> {
+    let [first, _, _, _] = in_one_domain(policy, parent, child);
+    Some(first?.from)
+}
+
 /// The edges by which two labels are in one domain.
 fn in_one_domain(policy: &Policy, parent: Label, child: Label) -> [Option<Edge>; 4] {
     for subject in Labels::all().iter() {

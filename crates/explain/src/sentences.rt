@@ -1,5 +1,6 @@
 //! The sentences on denials: why a rule is broken, and what mends it beside the edge.
-use crate::premises::{premises, there};
+use crate::domains::{tell_domain_exit, tell_domain_way};
+use crate::premises::{domain_of, premises};
 use base::{Edge, Kind, Label, ObjId, SlotRef};
 use captext::{SlotName, label_name, object_name};
 use labels::declared_label;
@@ -570,44 +571,22 @@ fn tell_rule_way<W: fmt::Write>(
             let [_, twin, _, _] = premises(policy, *broken);
             tell_domain_way(f, table, policy, subject, other, twin)
         }
-        _ => {
-            let (one, two) = names_of_ends(table, broken);
-            tell_words(f, &way_words(broken, one, two))
-        }
+        Broken::DomainLacks { parent, child } => match domain_of(policy, parent, child) {
+            Some(subject) => tell_domain_exit(f, table, policy, subject, parent, child),
+            None => tell_way_words(f, table, broken),
+        },
+        _ => tell_way_words(f, table, broken),
     }
 }
 
-/// What mends a policy where two labels of a domain disagree: that the one edge or the domain goes.
-fn tell_domain_way<W: fmt::Write>(
+/// What mends a broken rule in place of the edge, with no more than the names of two labels.
+fn tell_way_words<W: fmt::Write>(
     f: &mut fmt::Formatter<W>,
     table: &Table,
-    policy: &Policy,
-    subject: Label,
-    other: Label,
-    twin: Option<Edge>,
+    broken: &Broken,
 ) -> fmt::Result {
-    let name = label_name(table, other);
-    let space = there(policy, subject, Kind::Space, other);
-    let words = if space.is_some() { " and " } else { "" };
-    let twin = EdgeAfter {
-        words: "Remove ",
-        table,
-        edge: twin,
-    };
-    let control = EdgeAfter {
-        words,
-        table,
-        edge: there(policy, subject, Kind::Control, other),
-    };
-    let space = EdgeAfter {
-        words: "",
-        table,
-        edge: space,
-    };
-    write!(
-        f,
-        "{twin}, or remove what puts `{name}` into that domain ({space}{control})"
-    )
+    let (one, two) = names_of_ends(table, broken);
+    tell_words(f, &way_words(broken, one, two))
 }
 
 /// The words on what mends a broken rule in place of the edge, with the names of the two labels in their places.

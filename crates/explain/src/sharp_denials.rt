@@ -1,5 +1,6 @@
 //! The sentences on denials by the sharp rules: why a rule is broken, and what may be done.
 use crate::grounds::{Grounds, View, WayWords, grounds_at};
+use crate::origins::push_edge;
 use crate::sentences::{EdgeLine, EdgeList, verb};
 use base::{Edge, Kind};
 use captext::label_name;
@@ -9,18 +10,18 @@ use std::alloc::{AllocError, Global};
 use std::fmt;
 use table::Table;
 
-/// Returns the edges by which a sharp rule requires another.
+/// Returns the edges by which a sharp rule requires another, each once.
 ///
 /// # Errors
 ///
 /// [`AllocError`] where memory is refused.
 pub(crate) fn edges_of(alloc: Global, grounds: &Grounds) -> Result<Vec<Edge>, AllocError> {
     let mut edges = Vec::new(alloc);
-    let [first, second, third, fourth] = grounds.edges;
-    edges.extend(first)?;
-    edges.extend(second)?;
-    edges.extend(third)?;
-    edges.extend(fourth)?;
+    for ground in &grounds.edges {
+        if let Some(edge) = ground {
+            push_edge(&mut edges, *edge)?;
+        }
+    }
     Ok(edges)
 }
 

@@ -1,4 +1,4 @@
--- The matrix of flows (confine's own): for each two programs, through how many programs all goes that the one does and that comes to the other.
+-- The matrix of flows (confine's own): for each two programs, through how many others all flows from the one to the other go.
 use Rattle.std.specs.{Fmt.decimal, List.range_with_len, Prelude.{[], ℕ, ◌++◌, ◌-◌, ◌<◌, ◌==◌, ◌∷◌, ◌≡◌, All, List, codes, get_or}}
 use Rattle.std.specs.Prelude.{if◌then◌else◌, length, map}
 use Rattle.base.specs.declared.labels.Labels.{Labels}
@@ -20,13 +20,13 @@ size_of_smallest smallest.Direct = size.Direct
 size_of_smallest smallest.Larger = size.Larger
 size_of_smallest (smallest.Fewest sets) = size.Programs (first_size sets.sets.items)
 
--- a size is that of the smallest sets of programs through which all goes from one label to another
+-- a size is that of the smallest sets of programs through which all flows from one label to another go
 pub record IsSize (limits : Limits) (from to : ℕ) (size : Size) : Type 0 where
   pub sets : Smallest
   pub are : IsSmallest (IsFilterSet limits from to) 1 sets
   pub is : size ≡ size_of_smallest sets
 
--- the sizes for what goes from one label to each of these
+-- the sizes for what flows from one label to each of these
 pub record AreSizes (limits : Limits) (from : ℕ) (labels : List ℕ) (sizes : List Size) : Type 0 where
   pub count : length sizes ≡ length labels
   pub each : (k : ℕ) → k < length labels → IsSize limits from (get_or labels k 0) (get_or sizes k size.Direct)
@@ -45,7 +45,7 @@ pub record AreFlowRows (labels : List ℕ) (limits : Limits) (rows : List FlowRo
 abbrev pub size_at : FlowRow → ℕ → Size
 size_at row number = get_or row.sizes.items (number - 1) size.Direct
 
--- what a cell says: nothing goes there, or through so many programs
+-- what a cell says: nothing flows, or through so many programs
 abbrev pub count_text : ℕ → List ℕ
 count_text count = if count == 0 then codes "." else decimal count
 

@@ -1,11 +1,11 @@
--- The text on what one label does and that comes to another: through which programs all of it goes, and a chain of flows (confine's own).
+-- The text on what flows from one label to another: through which programs all of it goes, and a chain of flows (confine's own).
 use Rattle.std.specs.{List.flat_map, Prelude.{[], ℕ, ◌++◌, ◌∷◌, ◌≡◌, List, codes, false, if◌then◌else◌}}
 use Rattle.base.specs.{declared.labels.Labels.Labels, Labels.{is_in, members_of}}
 use Rattle.machine.specs.Layout.{Layout}
 use Rattle.captext.specs.PolicyText.{label_name}
-use Rattle.reach.specs.{Extents.limits_of, Reach.TableReach}
-use Rattle.flows.specs.{Chains.IsChain, Flowing.GoesThrough, declared.links.Link.Link}
-use Rattle.filters.specs.{Smallest.{IsFilterSet, IsSmallest}, declared.smallest.{Sets.Sets, Smallest.{Smallest, Smallest as smallest}}}
+use Rattle.reach.specs.{Extents.{Limits, limits_of}, Reach.TableReach}
+use Rattle.flows.specs.{Chains.IsChain, Flowing.{FilterTest, GoesThrough}, declared.links.Link.Link}
+use Rattle.filters.specs.{Ways.programs_beside, Smallest.{IsFilterSet, IsSmallest}, declared.smallest.{Sets.Sets, Smallest.{Smallest, Smallest as smallest}}}
 use Rattle.flowtext.specs.declared.flow.TheConstants.{MOST_SETS}
 
 -- a label's name, behind a space
@@ -30,16 +30,25 @@ smallest_text t smallest.Direct = codes "direct\n"
 smallest_text t smallest.Larger = codes "more than 5\n"
 smallest_text t (smallest.Fewest sets) = flat_map (set_line t) sets.sets.items ++ rest_line sets
 
--- the text where something comes from the one label to the other: the smallest sets, and a chain
+-- the text where something flows from the one label to the other: the smallest sets, and a chain
 abbrev pub reached_text : Layout → Smallest → List Link → List ℕ
 reached_text t sets links = smallest_text t sets ++ flat_map (link_line t) links
 
--- it says that nothing comes from the one label to the other, which is so; or what is so of what does
+-- the programs that a chain avoids: where no set of programs is one, all others; else none
+abbrev pub avoided_in : Limits → ℕ → ℕ → Smallest → FilterTest
+avoided_in limits from to smallest.Direct = programs_beside limits from to
+avoided_in limits from to _ = λ l. false
+
+-- a set is that of these programs
+abbrev pub AreAvoided : Limits → ℕ → ℕ → Smallest → Labels → Type 0
+AreAvoided limits from to sets avoided = (l : ℕ) → is_in avoided l ≡ avoided_in limits from to sets l
+
+-- it says that nothing flows from the one label to the other, which is so; or what is so of the flows, and a chain
 pub data IsFlowText (reach : TableReach) (from to : ℕ) (text : List ℕ) : Type 0 where
   none :
       (nobody : Labels) → ((l : ℕ) → is_in nobody l ≡ false) → GoesThrough (limits_of reach) (is_in nobody) from to → text ≡ codes "none\n"
       → IsFlowText reach from to text
   some :
-      (nobody : Labels) (links : List Link) (sets : Smallest) → ((l : ℕ) → is_in nobody l ≡ false)
-      → IsChain (limits_of reach) (is_in nobody) from links to → IsSmallest (IsFilterSet (limits_of reach) from to) MOST_SETS sets
+      (sets : Smallest) (avoided : Labels) (links : List Link) → IsSmallest (IsFilterSet (limits_of reach) from to) MOST_SETS sets
+      → AreAvoided (limits_of reach) from to sets avoided → IsChain (limits_of reach) (is_in avoided) from links to
       → text ≡ reached_text reach.table sets links → IsFlowText reach from to text

@@ -13,8 +13,8 @@ use table::Table;
 
 /// What the matrix begins with.
 const HEAD: &str = "\
-through how many other programs all goes that one does and that comes to another, in any run:
-  . nothing comes, d: directly, +: more than 5
+through how many other programs all flows from one to another go, in any run:
+  . nothing flows, d: directly, +: more than 5
 ";
 
 /// Returns the matrix of the flows between the programs of a table: in the row of one and the column of another, how

@@ -1,7 +1,8 @@
-//! The text on two labels.
+//! The text on the flows from one label to another.
 ghost use Rattle.std.specs.Prelude.{◌≡◌, IfErr, IfOk, string_bytes};
 ghost use Rattle.base.specs.Refusals.{out_of_memory};
-ghost use Rattle.flowtext.specs.FlowText.{IsFlowText, reached_text};
+ghost use Rattle.reach.specs.Extents.{limits_of};
+ghost use Rattle.flowtext.specs.FlowText.{AreAvoided, IsFlowText, reached_text};
 
 use crate::lines::{write_links, write_smallest};
 use base::{Label, Labels, Refusal};
@@ -14,10 +15,11 @@ use table::Table;
 /// The most sets of programs that a text names.
 pub const MOST_SETS: usize = 10;
 
-/// Returns the text on what the label `from` does and that comes to the label `to`.
+/// Returns the text on what flows from the label `from` to the label `to`.
 ///
 /// It is `none` if nothing does. Else it has a line for each of the smallest sets of programs through which all of
-/// it goes, of at most [`MOST_SETS`], or `direct` if no set of programs is one, and then a chain of flows.
+/// it goes, of at most [`MOST_SETS`], or `direct` if no set of programs is one, and then a chain of flows. Where it is
+/// `direct` the chain goes through no other program and by no object of one.
 ///
 /// # Errors
 ///
@@ -31,16 +33,30 @@ pub fn flow_text(
     ensures text { IfOk result (λ text. IsFlowText reach.now from to text.items) }
     ensures memory { IfErr result (λ refusal. refusal ≡ out_of_memory) }
 {
-    let flows = Flows::of(alloc, reach)?;
-    let Some(links) = flows.chain(alloc, from, to, Labels::none())? else {
-        return Ok(String::from_str(alloc, "none\n")?.into_bytes());
-    };
     let graph = FlowGraph::of(alloc, reach)?;
     let smallest = graph.smallest_filters(alloc, from, to, MOST_SETS)?;
-    Ok(reached_string(alloc, reach.table(), &smallest, &links)?.into_bytes())
+    let avoided = avoided(reach, from, to, &smallest);
+    let flows = Flows::of(alloc, reach)?;
+    match flows.chain(alloc, from, to, avoided)? {
+        Some(links) => Ok(reached_string(alloc, reach.table(), &smallest, &links)?.into_bytes()),
+        None => Ok(String::from_str(alloc, "none\n")?.into_bytes()),
+    }
 }
 
-// The text where something comes from the one label to the other.
+// The programs that the chain avoids.
+fn avoided(reach: &Reach<'_>, from: Label, to: Label, smallest: &Smallest) -> Labels
+    ensures { AreAvoided (limits_of reach.now) from to smallest.now result }
+{
+    match smallest {
+        Smallest::Direct => {
+            let ends = Labels::only(from).union(Labels::only(to));
+            reach.actors().difference(ends)
+        }
+        _ => Labels::none(),
+    }
+}
+
+// The text where something flows from the one label to the other.
 fn reached_string(
     alloc: Global,
     table: &Table,

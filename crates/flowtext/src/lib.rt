@@ -1,4 +1,4 @@
-//! The texts on what one label does and that comes to another: of two labels, and the matrix of all programs.
+//! The texts on flows: from one label to another, and the matrix of all programs.
 #![tactic(auto)]
 
 mod every_pair;

@@ -1,4 +1,4 @@
-//! The rows of the matrix of flows: through how many programs all goes from one program to each other one.
+//! The rows of the matrix of flows: through how many programs all flows from one program to each other one go.
 ghost use Rattle.std.specs.Prelude.{◌≡◌, IfOk, string_bytes};
 ghost use Rattle.reach.specs.Extents.{limits_of};
 ghost use Rattle.filters.specs.Sets.{size_of};
@@ -13,18 +13,18 @@ use std::alloc::{AllocError, Global};
 use summary::programs;
 use table::Table;
 
-/// How many programs the smallest sets have through which all goes from one label to another.
+/// How many programs the smallest sets have through which all flows from one label to another go.
 #[derive(Clone, Copy, PartialEq, Eq, Debug)]
 pub(crate) enum Size {
     /// No set of programs is one.
     Direct,
     /// More than are looked for.
     Larger,
-    /// So many; none, if nothing goes from the one label to the other.
+    /// So many; none, if nothing flows from the one label to the other.
     Programs(usize),
 }
 
-/// A program, its number in the matrix, and the sizes for what goes from it to the program of each row.
+/// A program, its number in the matrix, and the sizes for what flows from it to the program of each row.
 #[derive(Drop)]
 pub(crate) struct FlowRow {
     pub number: usize,
@@ -112,7 +112,7 @@ fn rows_of(
     Ok(rows)
 }
 
-// The sizes for what goes from a label to each of some.
+// The sizes for what flows from a label to each of some.
 fn sizes_from(
     alloc: Global,
     graph: &FlowGraph<'_>,
@@ -128,7 +128,7 @@ fn sizes_from(
     Ok(sizes)
 }
 
-// The size for what goes from one label to another.
+// The size for what flows from one label to another.
 fn size_between(
     alloc: Global,
     graph: &FlowGraph<'_>,

@@ -13,6 +13,16 @@ pub fn form_of(file: File, line: &str) -> Option<Form> {
     None
 }
 
+/// Returns the call of this word, if there is one.
+pub fn call_named(word: &str) -> Option<Form> {
+    for form in &Form::ALL {
+        if form.file() == File::Script && form.word() == word {
+            return Some(*form);
+        }
+    }
+    None
+}
+
 /// A form of the lines of a file.
 #[derive(Clone, Copy, PartialEq, Eq)]
 pub enum Form {

@@ -17,7 +17,7 @@ mod telling;
 mod wanted;
 
 pub use file::File;
-pub use form::{Form, form_of};
+pub use form::{Form, call_named, form_of};
 pub use layout::{
     LayoutFlaw, OfLayout, before_of, bytes_flaw, formless_flaw, header_flaw, section_flaw,
 };
@@ -26,4 +26,4 @@ pub use nearest::{LISTED, nearest_name, write_more};
 pub use offers::{near_layout, near_word};
 pub use outcomes::{OutcomeFlaw, outcome_flaw};
 pub use shapes::shape_flaw;
-pub use wanted::{Wanted, WordFlaw, decimal, hexadecimal, kind_number, right_number};
+pub use wanted::{NumberFlaw, Wanted, WordFlaw, decimal, hexadecimal, kind_number, right_number};

@@ -10,13 +10,14 @@ pub enum OutcomeFlaw<'a> {
     Unknown(&'a str),
     /// A word after `done` that begins no answer.
     NoAnswer(&'a str),
-    Words(WordFlaw<'a>),
+    /// A word that isn't as these words have it.
+    Words(&'static str, WordFlaw<'a>),
 }
 
 /// Returns what is wrong with an outcome, if anything is.
 pub fn outcome_flaw(outcome: &str) -> Option<OutcomeFlaw<'_>> {
     match pattern_of(outcome) {
-        Ok(pattern) => Some(OutcomeFlaw::Words(pattern_flaw(pattern, outcome)?)),
+        Ok(pattern) => Some(OutcomeFlaw::Words(pattern, pattern_flaw(pattern, outcome)?)),
         Err(flaw) => Some(flaw),
     }
 }
@@ -40,7 +41,7 @@ fn pattern_of_answer(answer: Option<&str>) -> Result<&'static str, OutcomeFlaw<'
         "aborted" => Ok("done aborted"),
         "word" => Ok("done word DEC"),
         "count" => Ok("done count DEC"),
-        "msg" => Ok("done msg DEC DEC DEC DEC DEC CAME"),
+        "msg" => Ok("done msg DEC DEC DEC DEC DEC C"),
         other => Err(OutcomeFlaw::NoAnswer(other)),
     }
 }

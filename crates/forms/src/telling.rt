@@ -4,6 +4,7 @@ use crate::form::Form;
 use crate::layout::{LayoutFlaw, OfLayout};
 use crate::nearest::{LISTED, write_more};
 use crate::outcomes::OutcomeFlaw;
+use crate::wanted::WordFlaw;
 use std::fmt::{self, Display};
 
 impl fmt::Display for OfLayout<'_> {
@@ -13,9 +14,12 @@ impl fmt::Display for OfLayout<'_> {
             LayoutFlaw::OldClaims if self.file == File::Claims => f.write_str(OLD_CLAIMS),
             LayoutFlaw::OldClaims => tell_header(f, File::Claims, self.file),
             LayoutFlaw::NoHeader => tell_headers(f, self.file),
+            LayoutFlaw::Empty => {
+                f.write_str("the file is empty: ")?;
+                tell_headers(f, self.file)
+            }
             LayoutFlaw::Capitals(word) => write!(f, "`{word}` must be in small letters"),
-            LayoutFlaw::NoCall => f.write_str("core, thread and call are missing"),
-            LayoutFlaw::NoOutcome => f.write_str("` = ` and an outcome are missing"),
+            LayoutFlaw::Misplaced(call) => tell_place(f, call),
             LayoutFlaw::UnknownCall(word) => tell_calls(f, word),
             LayoutFlaw::Unknown(word, before) => tell_lines(f, self.file, word, before),
             LayoutFlaw::NearCall(word, near) => {
@@ -31,6 +35,26 @@ impl fmt::Display for OfLayout<'_> {
 /// What is said of the header of claims of version 1.
 const OLD_CLAIMS: &str =
     "claims of version 1 aren't read any more: write `confine-claims 2` here. The other lines can stay as they are";
+
+/// What is said of a line of a script that has no third word.
+const EVENT: &str =
+    "an event is the numbers of a core and a thread, and then a call, as in `0 1 fetch`";
+
+/// What is said of a line of a log that has no event or no outcome.
+const ENTRY: &str = "an entry is an event, ` = ` and an outcome, as in `0 1 poll 0 = done word 4`";
+
+// Where a call must stand.
+fn tell_place<W: fmt::Write>(f: &mut fmt::Formatter<W>, call: Form) -> fmt::Result {
+    let word = call.word();
+    let operands = match call {
+        Form::Fetch => "",
+        _ => " ..",
+    };
+    write!(
+        f,
+        "`{word}` must be the third word, after the numbers of a core and a thread, as in `0 1 {word}{operands}`"
+    )
+}
 
 // That a line is the header of another text.
 fn tell_header<W: fmt::Write>(f: &mut fmt::Formatter<W>, is: File, wanted: File) -> fmt::Result {
@@ -88,27 +112,29 @@ fn tell_lines<W: fmt::Write>(
     before: Option<Form>,
 ) -> fmt::Result {
     let name = file.name();
-    write!(
-        f,
-        "no line of a {name} begins with `{word}`: expected one of `"
-    )?;
+    write!(f, "no line of a {name} begins with `{word}`: expected `")?;
     let section = match before {
         Some(form) => form.section(),
         None => 0,
     };
     words_of(f, file, section, "`, `")?;
-    f.write_str("`, or `end`")
+    f.write_str("` or `end`")
 }
 
 // That lines of a form don't stand below those of another.
 fn tell_order<W: fmt::Write>(f: &mut fmt::Formatter<W>, form: Form, above: Form) -> fmt::Result {
     let (word, above) = (form.word(), above.word());
-    write!(f, "a `{word}` line must come before all `{above}` lines")
+    write!(f, "`{word}` lines must come before all `{above}` lines")
 }
 
 // What is wrong with a line, where nothing of it is named.
 fn plain(flaw: LayoutFlaw<'_>) -> &'static str {
     match flaw {
+        LayoutFlaw::Mark => "the file begins with a byte-order mark: save it as UTF-8 without one",
+        LayoutFlaw::WideMark =>
+            "the file begins with a byte-order mark of UTF-16: save it as UTF-8 without one",
+        LayoutFlaw::NoCall => EVENT,
+        LayoutFlaw::NoEntry => ENTRY,
         LayoutFlaw::NoLineFeed => "the line must end with a line feed",
         LayoutFlaw::AfterEnd => "nothing may follow the line `end`",
         LayoutFlaw::Blank => "blank lines aren't allowed",
@@ -155,7 +181,12 @@ impl fmt::Display for OutcomeFlaw<'_> {
                 f,
                 "`{word}` can't follow `done`: expected nothing, `aborted`, `word`, `count` or `msg`"
             ),
-            OutcomeFlaw::Words(flaw) => flaw.fmt(f),
+            OutcomeFlaw::Words(words, flaw) => match flaw {
+                WordFlaw::Missing(_) | WordFlaw::TooMany(_) => {
+                    write!(f, "{flaw}: expected `{words}`")
+                }
+                _ => flaw.fmt(f),
+            },
         }
     }
 }

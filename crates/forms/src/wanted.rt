@@ -47,7 +47,7 @@ const KEYWORDS: [(&str, Wanted); 15] = [
     ("OPTIONAL", Wanted::Optional),
     ("MINTING", Wanted::Minting),
     ("TERM", Wanted::Term),
-    ("CAME", Wanted::Came),
+    ("C", Wanted::Came),
     ("END", Wanted::End),
 ];
 
@@ -72,7 +72,7 @@ impl Wanted {
             Wanted::Rights => "RIGHTS",
             Wanted::Start => "`ready` or `inactive`",
             Wanted::Kind => "a kind of authority",
-            Wanted::Kinds => "kinds of authority",
+            Wanted::Kinds => "a list of kinds of authority",
             Wanted::Material => "a kind of object",
             Wanted::Optional => "a decimal number or `-`",
             Wanted::Minting => "`badge` or `guard`",
@@ -93,6 +93,8 @@ pub enum WordFlaw<'a> {
     Number(&'a str, NumberFlaw),
     /// A slot without a dot.
     NoDot(&'a str),
+    /// A slot without a name before its dot.
+    NoHolder(&'a str),
     /// What follows the dot of a slot is no index.
     NoIndex(&'a str),
     NoRight(&'a str, char),
@@ -227,7 +229,7 @@ fn name_flaw(word: &str) -> Option<NameFlaw> {
     let Some(first) = bytes.first() else {
         return Some(NameFlaw::First);
     };
-    if bytes.contains(&b'.') {
+    if is_dotted(word) {
         return Some(NameFlaw::Slot);
     }
     if Class::Capital.is_in(bytes) {
@@ -243,6 +245,14 @@ fn name_flaw(word: &str) -> Option<NameFlaw> {
         return Some(NameFlaw::Long);
     }
     None
+}
+
+// Whether a word ends as a slot does: with a dot, and `root` or an index.
+fn is_dotted(word: &str) -> bool {
+    match word.split_once('.') {
+        Some((_, place)) => place == "root" || decimal(place).is_some(),
+        None => false,
+    }
 }
 
 /// Returns a decimal number, if the word is one.
@@ -339,6 +349,9 @@ fn slot_flaw(word: &str) -> Option<WordFlaw<'_>> {
     let Some((name, place)) = word.split_once('.') else {
         return Some(WordFlaw::NoDot(word));
     };
+    if name.is_empty() {
+        return Some(WordFlaw::NoHolder(word));
+    }
     if let Some(flaw) = name_flaw(name) {
         return Some(WordFlaw::Name(name, flaw));
     }
@@ -474,6 +487,10 @@ fn tell_word<W: fmt::Write>(f: &mut fmt::Formatter<W>, flaw: WordFlaw<'_>) -> fm
             word,
             "isn't a slot: write a dot and an index, or `.root`, after the name",
         ),
+        WordFlaw::NoHolder(word) => (
+            word,
+            "isn't a slot: write the name of a CNode or a thread before the dot",
+        ),
         WordFlaw::NoIndex(word) => (
             word,
             "isn't a slot: write a decimal index, or `root`, after the dot",
@@ -518,8 +535,8 @@ fn tell_name<W: fmt::Write>(f: &mut fmt::Formatter<W>, word: &str, flaw: NameFla
     let words = match flaw {
         NameFlaw::Slot => "is a slot, but a name is expected here",
         NameFlaw::Character => "isn't a name: a name has only small letters, digits and `_`",
-        NameFlaw::Capital => return f.write_str("names are written in small letters"),
-        NameFlaw::First => return f.write_str("a name begins with a small letter"),
+        NameFlaw::Capital => "isn't a name: names are written in small letters",
+        NameFlaw::First => "isn't a name: a name begins with a small letter",
         NameFlaw::Long => {
             let length = word.len();
             return write!(f, "the name has {length} characters, more than 31");
@@ -535,12 +552,9 @@ fn tell_number<W: fmt::Write>(
     flaw: NumberFlaw,
 ) -> fmt::Result {
     let words = match flaw {
-        NumberFlaw::CapitalInAddress => {
-            return f.write_str("addresses are written in small letters");
-        }
-        NumberFlaw::CapitalInNumber => {
-            return f.write_str("hexadecimal numbers are written in small letters");
-        }
+        NumberFlaw::CapitalInAddress => "isn't an address: addresses are written in small letters",
+        NumberFlaw::CapitalInNumber =>
+            "isn't a hexadecimal number: these are written in small letters",
         NumberFlaw::Hexadecimal => "must be a decimal number",
         NumberFlaw::Sign => "has a sign, but numbers have none",
         NumberFlaw::Zeros => "has a leading zero, but numbers have none",

@@ -39,6 +39,9 @@ pub const ABOUT_CLOSE: &str =
 pub const ABOUT_WHY: &str =
     "Reports what threads of a label may do to objects of another, and by which edges";
 
+pub const ABOUT_FLOWS: &str =
+    "Reports what flows from one label to another, and through which programs all of it goes";
+
 pub const ABOUT_DRAW: &str =
     "Draws, for Graphviz, which programs may change or take from which, and by what";
 
@@ -171,7 +174,7 @@ A system description, as Microkit 1.x reads it: protection domains, virtual mach
 memory regions, maps and channels, in XML. What it doesn't show is told with `--explain`.
 docs/IMPORT.md says what each element becomes.";
 
-pub const VERSION: &str = "0.21.0";
+pub const VERSION: &str = "0.22.0";
 
 pub const EXPLAIN: &str = "Adds reasons, runs and notes to what standard error says";
 
@@ -230,6 +233,14 @@ pub const ALL: &str = "Writes the strongest claims that hold, on all labels, in 
 pub const ACTOR: &str = "The label whose threads act, by its name in the table";
 
 pub const OBJECT: &str = "The label of the objects on which they act";
+
+pub const FLOWS_FROM: &str =
+    "The label whose threads act; without labels, a matrix of all programs";
+
+pub const FLOWS_TO: &str = "The label to which it flows";
+
+pub const ONE_LABEL: &str =
+    "'flows' takes two labels, '<A> <B>', or none: then it prints a matrix of all programs";
 
 pub const POLICY_ALLOWS: &str =
     "Asks what this policy allows if all labels make calls: this holds of no run";
@@ -702,6 +713,54 @@ tried, `show` prints `none found`, with status 1 too. That says nothing of other
 `--take` an object that shrinks is enough.
 "
 );
+
+pub const EXAMPLE_FLOWS: &str = "\
+Example, to be pasted into a shell: two clients call a server.
+
+cat >system <<'.'
+<system>
+  <protection_domain name=\"server\" priority=\"2\">
+    <program_image path=\"server.elf\"/>
+  </protection_domain>
+  <protection_domain name=\"one\" priority=\"1\">
+    <program_image path=\"one.elf\"/>
+  </protection_domain>
+  <protection_domain name=\"two\" priority=\"1\">
+    <program_image path=\"two.elf\"/>
+  </protection_domain>
+  <channel>
+    <end pd=\"server\" id=\"1\"/>
+    <end pd=\"one\" id=\"1\" pp=\"true\"/>
+  </channel>
+  <channel>
+    <end pd=\"server\" id=\"2\"/>
+    <end pd=\"two\" id=\"1\" pp=\"true\"/>
+  </channel>
+</system>
+.
+confine flows system one two --rights least
+
+What `one` does flows to `two`, but only through `server`. The command ends with status 0:
+
+through server
+link one server two
+
+A `link` is a step of a shortest chain: threads of `one` may change objects of `server` or take
+from them, and `two` sees those objects. There is a line `through` for each smallest set of
+programs, at most 10; then `and more`. `direct` says that no set of other programs is one, `more
+than 5` that each has more programs, and `none` that nothing flows. With `--explain` standard
+error says by which edges each step goes. Without labels it prints a matrix, also with status 0:
+
+confine flows system --rights least
+
+through how many other programs all flows from one to another go, in any run:
+  . nothing flows, d: directly, +: more than 5
+
+             1     2     3
+1 server     =     d     d
+2 one        d     =     1
+3 two        d     1     =
+";
 
 pub const EXAMPLE_IMPORT: &str = "\
 Example, to be pasted into a shell: a client may call a server, and the server may notify it.

@@ -36,14 +36,37 @@ fn read_by<'a>(
     let matches = command.try_get_matches_from_mut(words)?;
     let line = line_of(&matches);
     let misuse = misuse_of(alloc, &matches);
+    let verb = verb_in(&matches);
     drop(matches);
     match line {
         Some(line) => Ok(line),
         None => {
             let (kind, message) = misuse?;
-            Err(command.error(kind, &message)?)
+            match (verb, words.get(1)) {
+                (Some(verb), Some(name)) => Err(misused(alloc, verb, name, kind, &message)?),
+                _ => Err(command.error(kind, &message)?),
+            }
         }
     }
+}
+
+// The command that the words begin with.
+fn verb_in(matches: &ArgMatches<'_>) -> Option<Verb> {
+    let (name, _) = matches.subcommand()?;
+    Verb::from_name(name)
+}
+
+// The error of the command of this name, whose words make no request, with the command's usage.
+fn misused(
+    alloc: Global,
+    verb: Verb,
+    name: &str,
+    kind: ErrorKind,
+    message: &str,
+) -> Result<Error, AllocError> {
+    let called = format!(in alloc; "confine {name}")?;
+    let mut command = command_of(alloc, verb)?.bin_name(&called)?;
+    command.error(kind, message)
 }
 
 // What is wrong with a command line that makes no request.
@@ -68,6 +91,7 @@ fn misuse_of(alloc: Global, matches: &ArgMatches<'_>) -> Result<(ErrorKind, Stri
         "import" => help::WRONG_RIGHTS,
         "show" => help::WRONG_STEPS,
         "claims" => help::WRONG_SECONDS,
+        "flows" => help::ONE_LABEL,
         _ => help::WRONG_WORKERS,
     };
     Ok((ErrorKind::InvalidValue, String::from_str(alloc, message)?))
@@ -223,6 +247,25 @@ fn words_of<'a>(verb: Verb, found: &ArgMatches<'a>) -> Words<'a>
     }
 }
 
+// The command of a verb.
+fn command_of<'a>(alloc: Global, verb: Verb) -> Result<Command<'a>, AllocError> {
+    match verb {
+        Verb::Import => import_command(alloc),
+        Verb::Check => check_command(alloc),
+        Verb::Verify => verify_command(alloc),
+        Verb::Run => run_command(alloc),
+        Verb::Replay => replay_command(alloc),
+        Verb::Close => close_command(alloc),
+        Verb::Why => why_command(alloc),
+        Verb::Show => show_command(alloc),
+        Verb::Draw => draw_command(alloc),
+        Verb::Summary => summary_command(alloc),
+        Verb::Flows => flows_command(alloc),
+        Verb::Claims => claims_command(alloc),
+        Verb::List => list_command(alloc),
+    }
+}
+
 fn command<'a>(alloc: Global) -> Result<Command<'a>, AllocError> {
     let command = Command::new(alloc, "confine")
         .bin_name("confine")?
@@ -236,6 +279,7 @@ fn command<'a>(alloc: Global) -> Result<Command<'a>, AllocError> {
     let command = with(command, summary_command(alloc));
     let command = with(command, why_command(alloc));
     let command = with(command, show_command(alloc));
+    let command = with(command, flows_command(alloc));
     let command = with(command, claims_command(alloc));
     let command = with(command, draw_command(alloc));
     let command = with(command, list_command(alloc));
@@ -345,6 +389,14 @@ fn show_command<'a>(alloc: Global) -> Result<Command<'a>, AllocError> {
 fn summary_command<'a>(alloc: Global) -> Result<Command<'a>, AllocError> {
     let command = on_system(alloc, "summary", help::ABOUT_SUMMARY, help::EXAMPLE_SUMMARY);
     taking(command, Ok(one_word_more(alloc)))
+}
+
+fn flows_command<'a>(alloc: Global) -> Result<Command<'a>, AllocError> {
+    let command = on_system(alloc, "flows", help::ABOUT_FLOWS, help::EXAMPLE_FLOWS);
+    let from = word(alloc, "actor", "A", help::FLOWS_FROM).required(false);
+    let command = taking(command, Ok(from));
+    let to = word(alloc, "object", "B", help::FLOWS_TO).required(false);
+    taking(command, Ok(to))
 }
 
 fn draw_command<'a>(alloc: Global) -> Result<Command<'a>, AllocError> {

@@ -47,7 +47,7 @@ pub struct EngineCall {
 }
 
 /// The calls of engines.
-pub const CALLS: [EngineCall; 35] = [
+pub const CALLS: [EngineCall; 37] = [
     EngineCall {
         name: "engine_log",
         engine: Engine::Run,
@@ -199,6 +199,24 @@ pub const CALLS: [EngineCall; 35] = [
         third: "",
         status: 0,
         text: MATRIX,
+    },
+    EngineCall {
+        name: "engine_flows",
+        engine: Engine::Asked(OfSystem::Flows { from: "a", to: "b" }),
+        table: TWO_THREADS,
+        policy: "",
+        third: "",
+        status: 0,
+        text: FLOWS,
+    },
+    EngineCall {
+        name: "engine_all_flows",
+        engine: Engine::Asked(OfSystem::AllFlows),
+        table: TWO_THREADS,
+        policy: "",
+        third: "",
+        status: 0,
+        text: FLOW_MATRIX,
     },
     EngineCall {
         name: "engine_show",
@@ -448,6 +466,38 @@ who may change whom, in any run: C calls, A answers, S signals, F for another re
 
         1
 1 a     =
+";
+
+/// A table of three labels. The thread of `a` may signal that of `s`, and that may signal what has `b`.
+const TWO_THREADS: &str = "\
+confine-table 1
+label a
+label b
+label s
+cnode ca a 0x1000 1
+cnode cs s 0x1040 1
+tcb ta a 0x2000 ready
+tcb ts s 0x2400 ready
+notification nb b 0x3000
+notification ns s 0x3020
+context xa a 0x4000 0 10 10
+context xs s 0x4100 0 10 10
+cap ca.0 ns w 1
+cap cs.0 nb w 1
+bind ta xa
+bind ts xs
+end
+";
+
+const FLOWS: &str = "through s\nlink a s s\nlink s b b\n";
+
+const FLOW_MATRIX: &str = "\
+through how many other programs all flows from one to another go, in any run:
+  . nothing flows, d: directly, +: more than 5
+
+        1     2
+1 a     =     d
+2 s     .     =
 ";
 
 /// The first event of the script is the first that is tried.

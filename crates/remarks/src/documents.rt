@@ -1,13 +1,16 @@
 //! Why a text isn't a document: the first thing in it that isn't spelled as it should be.
-use forms::Shown;
+use forms::{File, LayoutFlaw, Shown, header_flaw, line_at};
 use std::alloc::{AllocError, Global};
 use std::fmt;
+use xml::{MAX_ATTRIBUTES, MAX_ELEMENTS, MAX_LEVELS, MAX_TEXT_LENGTH, MAX_VALUE_LENGTH};
 
 /// What isn't spelled as it should be.
 #[derive(Clone, Copy)]
 pub(crate) enum Slip<'t> {
     /// A text without an element.
     Empty,
+    /// The header of another text.
+    HeaderOf(File),
     ByteOrderMark,
     DocumentType,
     CharacterData,
@@ -29,8 +32,12 @@ pub(crate) enum Slip<'t> {
     OtherEnd(&'t [u8], Open<'t>),
     /// An element without an end.
     Unclosed(Open<'t>),
+    /// A limit of the text.
+    Limit(Limit<'t>),
     /// A tag, of this element, in which something else than an attribute stands.
     Tag(&'t [u8]),
+    /// An attribute that is given twice, and the name of its element.
+    Twice(&'t [u8], &'t [u8]),
     /// An attribute without `=` and a value.
     NoValue(&'t [u8]),
     /// A value without quotes.
@@ -41,6 +48,21 @@ pub(crate) enum Slip<'t> {
     Reference(&'t [u8]),
     /// None of these was found.
     Unknown,
+}
+
+/// A limit of descriptions that a text passes.
+#[derive(Clone, Copy)]
+pub(crate) enum Limit<'t> {
+    /// The bytes of the text.
+    Text,
+    /// The levels of elements.
+    Levels,
+    /// The number of elements.
+    Elements,
+    /// The attributes of an element of this name.
+    Attributes(&'t [u8]),
+    /// The bytes of the value of an attribute of this name.
+    Value(&'t [u8]),
 }
 
 /// An element that is open, and the line of its tag.
@@ -56,14 +78,20 @@ pub(crate) struct Open<'t> {
 ///
 /// [`AllocError`] where memory is refused.
 pub(crate) fn first_slip<'t>(alloc: Global, text: &'t [u8]) -> Result<Slip<'t>, AllocError> {
+    if text.len() > MAX_TEXT_LENGTH {
+        return Ok(Slip::Limit(Limit::Text));
+    }
     if text.starts_with(b"\xef\xbb\xbf") {
         return Ok(Slip::ByteOrderMark);
+    }
+    if let Some(other) = other_of(text) {
+        return Ok(Slip::HeaderOf(other));
     }
     let mut scan = Scan {
         rest: text,
         line: 1,
         open: Vec::new(alloc),
-        has_root: false,
+        begun: 0,
     };
     if text.starts_with(b"<?xml") {
         scan.take_past(b"?>");
@@ -73,15 +101,25 @@ pub(crate) fn first_slip<'t>(alloc: Global, text: &'t [u8]) -> Result<Slip<'t>, 
         if scan.rest.is_empty() {
             break;
         }
-        if let Some(slip) = scan.item()? {
+        if let Some(slip) = scan.item(alloc)? {
             return Ok(slip);
         }
     }
     Ok(match scan.open.last() {
         Some(open) => Slip::Unclosed(*open),
-        None if scan.has_root => Slip::Unknown,
+        None if scan.begun > 0 => Slip::Unknown,
         None => Slip::Empty,
     })
+}
+
+// The other file of which a text has the header, if it has one.
+fn other_of(text: &[u8]) -> Option<File> {
+    match header_flaw(File::Description, line_at(text, 1)?.bytes) {
+        LayoutFlaw::HeaderOf(File::Description) => None,
+        LayoutFlaw::HeaderOf(other) => Some(other),
+        LayoutFlaw::OldClaims => Some(File::Claims),
+        _ => None,
+    }
 }
 
 /// What is left of a text, and what was found before that.
@@ -90,7 +128,8 @@ struct Scan<'t> {
     rest: &'t [u8],
     line: u64,
     open: Vec<Open<'t>>,
-    has_root: bool,
+    /// How many elements began.
+    begun: usize,
 }
 
 impl<'t> Scan<'t> {
@@ -144,7 +183,7 @@ impl<'t> Scan<'t> {
     }
 
     // Takes a comment or a tag. Returns what is wrong with it, if anything is.
-    fn item(&mut self) -> Result<Option<Slip<'t>>, AllocError> {
+    fn item(&mut self, alloc: Global) -> Result<Option<Slip<'t>>, AllocError> {
         if self.has_taken(b"<!--") {
             return Ok(self.comment());
         }
@@ -157,14 +196,14 @@ impl<'t> Scan<'t> {
         if self.rest.starts_with(b"<?") {
             return Ok(Some(Slip::Instruction));
         }
-        if self.has_root && self.open.is_empty() {
+        if self.begun > 0 && self.open.is_empty() {
             return Ok(Some(Slip::AfterRoot));
         }
         if self.has_taken(b"</") {
             return Ok(self.end());
         }
         if self.has_taken(b"<") {
-            return self.begin();
+            return self.begin(alloc);
         }
         Ok(Some(Slip::Text))
     }
@@ -197,14 +236,29 @@ impl<'t> Scan<'t> {
         }
     }
 
+    // Returns the limit that one element more would pass.
+    fn limit(&self) -> Option<Limit<'t>> {
+        if self.open.len() >= MAX_LEVELS {
+            Some(Limit::Levels)
+        } else if self.begun >= MAX_ELEMENTS {
+            Some(Limit::Elements)
+        } else {
+            None
+        }
+    }
+
     // Takes what is left of the tag that begins an element.
-    fn begin(&mut self) -> Result<Option<Slip<'t>>, AllocError> {
+    fn begin(&mut self, alloc: Global) -> Result<Option<Slip<'t>>, AllocError> {
         let line = self.line;
         let name = self.name();
         if name.is_empty() {
             return Ok(Some(Slip::Nameless));
         }
-        self.has_root = true;
+        if let Some(limit) = self.limit() {
+            return Ok(Some(Slip::Limit(limit)));
+        }
+        self.begun = self.begun.saturating_add(1);
+        let mut given = Vec::new(alloc);
         for _ in 0..self.rest.len() {
             let left = self.rest.len();
             self.spaces();
@@ -221,16 +275,20 @@ impl<'t> Scan<'t> {
             if self.rest.len() == left {
                 return Ok(Some(Slip::Tag(name)));
             }
-            if let Some(slip) = self.attribute(name) {
+            let attribute = self.name();
+            if let Some(slip) = refused(&given, name, attribute) {
+                return Ok(Some(slip));
+            }
+            given.push(attribute)?;
+            if let Some(slip) = self.attribute(name, attribute) {
                 return Ok(Some(slip));
             }
         }
         Ok(Some(Slip::Tag(name)))
     }
 
-    // Takes an attribute of an element of this name.
-    fn attribute(&mut self, element: &'t [u8]) -> Option<Slip<'t>> {
-        let name = self.name();
+    // Takes what follows the name of an attribute, of an element of that name.
+    fn attribute(&mut self, element: &'t [u8], name: &'t [u8]) -> Option<Slip<'t>> {
         if name.is_empty() {
             return Some(Slip::Tag(element));
         }
@@ -256,8 +314,39 @@ impl<'t> Scan<'t> {
         if value.contains(&b'&') && !has_known_references(value) {
             return Some(Slip::Reference(name));
         }
+        if read_length(value) > MAX_VALUE_LENGTH {
+            return Some(Slip::Limit(Limit::Value(name)));
+        }
         None
     }
+}
+
+// Why an element of this name, which has attributes of the names that are given, can't have one more.
+fn refused<'t>(given: &[&'t [u8]], element: &'t [u8], name: &'t [u8]) -> Option<Slip<'t>> {
+    if given.iter().any(|other| *other == name) {
+        Some(Slip::Twice(name, element))
+    } else if given.len() >= MAX_ATTRIBUTES {
+        Some(Slip::Limit(Limit::Attributes(element)))
+    } else {
+        None
+    }
+}
+
+// How many bytes a value has once its references are read.
+fn read_length(value: &[u8]) -> usize {
+    let mut length: usize = 0;
+    let mut is_in_reference = false;
+    for byte in value {
+        if !is_in_reference {
+            length = length.saturating_add(1);
+        }
+        is_in_reference = match *byte {
+            b'&' => true,
+            b';' => false,
+            _ => is_in_reference,
+        };
+    }
+    length
 }
 
 fn is_space(byte: u8) -> bool {
@@ -284,6 +373,16 @@ fn is_reference(piece: &[u8]) -> bool {
     let names: [&[u8]; 5] = [b"lt;", b"gt;", b"amp;", b"quot;", b"apos;"];
     names.iter().any(|name| piece.starts_with(name))
         || piece.starts_with(b"#") && piece.contains(&b';')
+}
+
+impl Slip<'_> {
+    /// Returns what begins the sentence on it.
+    pub(crate) fn start(self) -> &'static str {
+        match self {
+            Slip::HeaderOf(_) | Slip::Twice(_, _) | Slip::Limit(_) => "",
+            _ => "this isn't read as XML: ",
+        }
+    }
 }
 
 impl fmt::Display for Slip<'_> {
@@ -315,6 +414,9 @@ impl fmt::Display for Slip<'_> {
                      lacks its closing quote"
                 )
             }
+            Slip::HeaderOf(other) => tell_header(f, other),
+            Slip::Twice(name, element) => tell_twice(f, name, element),
+            Slip::Limit(limit) => write!(f, "{limit}"),
             Slip::NoValue(name) => {
                 let name = Shown { bytes: name };
                 write!(f, "`{name}` has no value: write `{name}=\"..\"`")
@@ -339,6 +441,49 @@ impl fmt::Display for Slip<'_> {
                 )
             }
             slip => f.write_str(plain(slip)),
+        }
+    }
+}
+
+// That a text is another one, by its header.
+fn tell_header<W: fmt::Write>(f: &mut fmt::Formatter<W>, other: File) -> fmt::Result {
+    let (name, wanted) = (other.name(), File::Description.name());
+    write!(f, "this is the header of a {name}, not of a {wanted}")
+}
+
+// That an attribute is given twice.
+fn tell_twice<W: fmt::Write>(
+    f: &mut fmt::Formatter<W>,
+    name: &[u8],
+    element: &[u8],
+) -> fmt::Result {
+    let (name, element) = (Shown { bytes: name }, Shown { bytes: element });
+    write!(
+        f,
+        "the attribute `{name}` of `{element}` is given twice: remove one of the two"
+    )
+}
+
+impl fmt::Display for Limit<'_> {
+    fn fmt<W: fmt::Write>(&self, f: &mut fmt::Formatter<W>) -> fmt::Result {
+        match *self {
+            Limit::Text => write!(f, "the text has more than {MAX_TEXT_LENGTH} bytes"),
+            Limit::Levels => write!(
+                f,
+                "this element is inside {MAX_LEVELS} others: no more are allowed"
+            ),
+            Limit::Elements => write!(f, "there are more than {MAX_ELEMENTS} elements"),
+            Limit::Attributes(element) => {
+                let element = Shown { bytes: element };
+                write!(f, "`{element}` has more than {MAX_ATTRIBUTES} attributes")
+            }
+            Limit::Value(name) => {
+                let name = Shown { bytes: name };
+                write!(
+                    f,
+                    "the value of `{name}` has more than {MAX_VALUE_LENGTH} bytes"
+                )
+            }
         }
     }
 }

@@ -37,13 +37,11 @@ pub fn explain_fault(
             format!(in alloc; "{name}:{line}: {told}")
         }
         Err(other) if other == Fault::MEMORY => format!(in alloc; "{name}: no memory"),
-        Err(_) => match document_words(fault.number) {
-            Some(words) => format!(in alloc; "{name}:{line}: {words}"),
-            None => {
-                let slip = first_slip(alloc, text)?;
-                format!(in alloc; "{name}:{line}: this isn't read as XML: {slip}")
-            }
-        },
+        Err(_) => {
+            let slip = first_slip(alloc, text)?;
+            let start = slip.start();
+            format!(in alloc; "{name}:{line}: {start}{slip}")
+        }
     }
 }
 
@@ -155,15 +153,4 @@ fn form_flaw<'a>(place: Place<'a, '_>) -> Option<(Option<&'a [u8]>, Flaw<'a>)> {
         }
     }
     None
-}
-
-// What is wrong with a text that is spelled as a document, but isn't one.
-fn document_words(number: u64) -> Option<&'static str> {
-    match number {
-        52 => Some("an attribute is given twice"),
-        54 => Some(
-            "a limit of the text is exceeded: 1 MiB, 66 levels, 20,000 elements, 32 attributes, 4,096 bytes of a value",
-        ),
-        _ => None,
-    }
 }

@@ -2,6 +2,7 @@ pub mod Answers
 pub mod Replays
 pub mod Claimed
 pub mod Closings
+pub mod Flowing
 pub mod Questions
 pub mod Imports
 pub mod Shows

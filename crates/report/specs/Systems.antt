@@ -10,12 +10,13 @@ use Rattle.commands.specs.declared.{answer.Answer.Answer, choices.OfPolicy.{OfPo
 use Rattle.commands.specs.declared.choices.{OfSystem.{OfSystem, OfSystem as of_system}, Taken.Taken}
 use Rattle.commands.specs.Commands.{Input, IsDoneOnSystem, IsDoneWith, Output, Says}
 use Rattle.report.specs.{Claimed.TellsStrongest, Closings.Closes, Questions.{IsPicture, IsSoByPolicy, IsSoByReach, TellsWhy, unlabelled}}
-use Rattle.report.specs.{Shows.Shows, Summaries.TellsSummary}
+use Rattle.report.specs.{Flowing.{TellsAllFlows, TellsFlows}, Shows.Shows, Summaries.TellsSummary}
 
 -- of the labels that are asked about, the first that the table lacks
 abbrev pub lacking : OfSystem → Layout → Option Asked
 lacking (of_system.Why form actor object) t = unlabelled t actor.now object.now
 lacking (of_system.Show search actor object) t = unlabelled t actor.now object.now
+lacking (of_system.Flows from to) t = unlabelled t from.now to.now
 lacking _ t = None
 
 -- the answer to a system
@@ -26,6 +27,8 @@ AnswersSystem (of_system.Why form actor object) t = Says (λ text. IsSoByReach t
 AnswersSystem (of_system.Show search actor object) t = Shows search actor.now object.now t
 AnswersSystem (of_system.Draw picture) t = Says (λ text. IsSoByReach t (IsPicture picture t text))
 AnswersSystem (of_system.Summary form) t = Says (TellsSummary form t)
+AnswersSystem (of_system.Flows from to) t = Says (TellsFlows from.now to.now t)
+AnswersSystem of_system.AllFlows t = Says (TellsAllFlows t)
 AnswersSystem of_system.Strongest t = Says (TellsStrongest t)
 
 -- the answer to a system that is asked this was given

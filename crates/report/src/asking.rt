@@ -13,6 +13,7 @@ ghost use Rattle.report.specs.Systems.{lacking, lacking_of_policy};
 
 use crate::claiming::strongest_text;
 use crate::closing::closed;
+use crate::flowing::{all_flows_told, flows_told};
 use crate::showing::shown;
 use crate::{Asked, End, Form, Listener, Picture, Sink, Source};
 use base::{Edge, Label, Labels, Refusal};
@@ -89,6 +90,8 @@ fn system_answer(alloc: Global, asked: OfSystem<'_>, table: &Table) -> Result<An
         } => shown(alloc, search, table, actor, object),
         OfSystem::Draw(picture) => { Ok(Answer::plain(reach_picture(alloc, picture, table)?, 0)) }
         OfSystem::Summary(form) => Ok(Answer::plain(summary_text(alloc, form, table)?, 0)),
+        OfSystem::Flows { from, to } => flows_told(alloc, table, from, to),
+        OfSystem::AllFlows => Ok(Answer::plain(all_flows_told(alloc, table)?, 0)),
         OfSystem::Strongest => Ok(Answer::plain(strongest_text(alloc, table)?, 0)),
     }
 }

@@ -9,6 +9,7 @@ mod checking;
 mod claiming;
 mod closing;
 mod describing;
+mod flowing;
 mod laws;
 mod replaying;
 mod running;

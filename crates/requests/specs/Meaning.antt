@@ -161,6 +161,15 @@ abbrev pub drawing_of : Words → Option CommandLine
 drawing_of words =
     if is_some words.policy then of_policy words (by_policy.Draw (picture_of words)) else of_system words (asked.Draw (picture_of words))
 
+-- the flows from a label to another, or between all programs
+abbrev pub flows_by : Words → Option Name → Option Name → Option CommandLine
+flows_by words (Some from) (Some to) = of_system words (asked.Flows from to)
+flows_by words None None = of_system words asked.AllFlows
+flows_by words _ _ = None
+
+abbrev pub flows_of : Words → Option CommandLine
+flows_of words = flows_by words words.actor words.object
+
 -- a run by workers
 abbrev pub split_of : Words → Option CommandLine
 split_of words = do
@@ -223,6 +232,7 @@ asked_by verb.Draw words = drawing_of words
 asked_by verb.Summary words = do
   written ← form_of words
   of_system words (asked.Summary written)
+asked_by verb.Flows words = flows_of words
 asked_by verb.Claims words = if words.all then of_system words asked.Strongest else claims_of words
 asked_by verb.List words = of_system words asked.List
 
@@ -241,5 +251,6 @@ verb_name verb.Why = codes "why"
 verb_name verb.Show = codes "show"
 verb_name verb.Draw = codes "draw"
 verb_name verb.Summary = codes "summary"
+verb_name verb.Flows = codes "flows"
 verb_name verb.Claims = codes "claims"
 verb_name verb.List = codes "list"

@@ -1,7 +1,7 @@
 -- What a command line may ask for, and of which files (confine's own).
 use Rattle.std.specs.{Borrow.Bor, Option.option_map_or, Prelude.{[], ℕ, ◌<◌, ◌≡◌, ◌≤◌, List, None, Option, Some}}
 use Rattle.forms.specs.declared.file.File.{File, File as file}
-use Rattle.commands.specs.declared.{choices.{OfPolicy.TheVariants.{Why as WhyAllowed}, OfSystem.TheVariants.{Show, Why}}, end.Asked.{Asked, Asked as label}}
+use Rattle.commands.specs.declared.{choices.{OfPolicy.TheVariants.{Why as WhyAllowed}, OfSystem.TheVariants.{Flows, Show, Why}}, end.Asked.{Asked, Asked as label}}
 use Rattle.verdict.specs.declared.rules.Rules.{Rules as rules}
 use Rattle.requests.specs.declared.request.{CommandLine.{CommandLine, TheVariants.{InTurn, Split}}, OfThree.TheVariants.Run}
 use Rattle.requests.specs.declared.request.{Request.{Request, Request as request}, SplitRun.SplitRun}
@@ -62,6 +62,8 @@ label_of (request.OfSystem (Why form actor object) taken system) label.Actor = a
 label_of (request.OfSystem (Why form actor object) taken system) label.Object = object.now
 label_of (request.OfSystem (Show search actor object) taken system) label.Actor = actor.now
 label_of (request.OfSystem (Show search actor object) taken system) label.Object = object.now
+label_of (request.OfSystem (Flows from to) taken system) label.Actor = from.now
+label_of (request.OfSystem (Flows from to) taken system) label.Object = to.now
 label_of (request.OfPolicy (WhyAllowed form actor object) taken system policy) label.Actor = actor.now
 label_of (request.OfPolicy (WhyAllowed form actor object) taken system policy) label.Object = object.now
 label_of _ _ = []

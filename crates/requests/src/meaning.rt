@@ -1,7 +1,7 @@
 //! Which request the words of a command line make.
 ghost use Rattle.std.specs.Prelude.{◌≡◌, ◌≢◌, ◌≤◌, IfNone, IfSome};
 ghost use Rattle.requests.specs.Requests.{IsWithinLimits, OnInTurn};
-ghost use Rattle.requests.specs.Meaning.{closing_of, command_line_of, drawing_of, form_of, format_beside, format_for, format_of};
+ghost use Rattle.requests.specs.Meaning.{closing_of, command_line_of, drawing_of, flows_of, form_of, format_beside, format_for, format_of};
 ghost use Rattle.requests.specs.Meaning.{imported_of, in_turn, manner_of, minting_of, number_in, of_policy, of_system, of_three};
 ghost use Rattle.requests.specs.Meaning.{on_accept_of, on_close_of, on_import_of, picture_of, rights_of, rules_of, search_of};
 ghost use Rattle.requests.specs.Meaning.{seconds_of, set_of, split_of, taken_of, verb_name, why_of};
@@ -26,6 +26,7 @@ pub enum Verb {
     Show,
     Draw,
     Summary,
+    Flows,
     Claims,
     List,
 }
@@ -47,6 +48,7 @@ impl Verb {
             "show" => Some(Verb::Show),
             "draw" => Some(Verb::Draw),
             "summary" => Some(Verb::Summary),
+            "flows" => Some(Verb::Flows),
             "claims" => Some(Verb::Claims),
             "list" => Some(Verb::List),
             _ => None,
@@ -131,6 +133,7 @@ impl<'a> Words<'a> {
             }
             Verb::Draw => self.draw(),
             Verb::Summary => self.of_system(OfSystem::Summary(self.form()?)),
+            Verb::Flows => self.flows(),
             Verb::Claims if self.all => self.of_system(OfSystem::Strongest),
             Verb::Claims => self.in_turn(Request::OfClaims(
                 self.taken()?,
@@ -223,6 +226,18 @@ impl<'a> Words<'a> {
         match self.policy {
             Some(_) => self.of_policy(OfPolicy::Draw(self.picture())),
             None => self.of_system(OfSystem::Draw(self.picture())),
+        }
+    }
+
+    // The flows from a label to another, or between all programs.
+    fn flows(self) -> Option<CommandLine<'a>>
+        ensures meaning { result ≡ flows_of self.entry }
+        ensures limits { IfSome result (λ line. OnInTurn line IsWithinLimits) }
+    {
+        match (self.actor, self.object) {
+            (Some(from), Some(to)) => self.of_system(OfSystem::Flows { from, to }),
+            (None, None) => self.of_system(OfSystem::AllFlows),
+            _ => None,
         }
     }
 

@@ -143,6 +143,8 @@ impl<'a, N> Request<'a, N> {
                 Request::OfSystem(OfSystem::Why { actor, .. } | OfSystem::Show { actor, .. }, _, _)
                 | Request::OfPolicy(OfPolicy::Why { actor, .. }, _, _, _),
             ) => actor,
+            (Asked::Actor, Request::OfSystem(OfSystem::Flows { from, .. }, _, _)) => from,
+            (Asked::Object, Request::OfSystem(OfSystem::Flows { to, .. }, _, _)) => to,
             (
                 Asked::Object,
                 Request::OfSystem(

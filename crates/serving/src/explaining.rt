@@ -1,10 +1,11 @@
 //! What a person is told on standard error: the sentences on what a command finds, and with `--explain` the reasons, runs and notes.
 use crate::opening::Opened;
 use crate::sheets::Sourced;
+use crate::swapped::Swapped;
 use base::Refusal;
 use breaches::{
-    Judged, Lead, breach_lines, explain_breach, explain_breaches, explain_escape, explain_run,
-    explain_shared_memory,
+    Judged, Lead, breach_lines, explain_breach, explain_breaches, explain_escape, explain_flows,
+    explain_flows_beside, explain_run, explain_shared_memory,
 };
 use captext::object_name;
 use causes::{Caller, explain_illegal, explain_refusal};
@@ -341,7 +342,12 @@ impl<'a, R: AllocGlobal + Clock + Eprint> Explainer<'a, R> {
         fault: Fault,
     ) -> Result<String, AllocError> {
         let alloc = self.rt.alloc();
-        let name = self.invocation.request.name_of(file);
+        let request = self.invocation.request;
+        let name = request.name_of(file);
+        if let Some(swapped) = Swapped::of(&request, file, text) {
+            let line = fault.line;
+            return format!(in alloc; "{name}:{line}: {swapped}");
+        }
         match file {
             File::Description => remarks::explain_fault(alloc, name, text, fault),
             _ => explain_fault(alloc, file, name, text, table, fault),
@@ -434,12 +440,15 @@ impl<'a, R: AllocGlobal + Clock + Eprint> Explainer<'a, R> {
         }
     }
 
-    /// Returns notes on memory that claims which hold don't speak of.
-    fn shared_memory_told(&self, given: &Given, lines: &ClaimLines) -> Result<String, Refusal> {
+    /// Tells notes on memory that claims which hold don't speak of, and on flows.
+    fn tell_notes_on_claims(&self, given: &Given, lines: &ClaimLines) -> Result<(), Refusal> {
         let alloc = self.rt.alloc();
         let system = self.sourced(given)?;
         let reach = Reach::of(alloc, given.table())?;
-        Ok(explain_shared_memory(alloc, &reach, &self.judged(system.sheet(), lines))?)
+        let judged = self.judged(system.sheet(), lines);
+        self.tell_lines(explain_shared_memory(alloc, &reach, &judged));
+        self.tell_lines(explain_flows_beside(alloc, &reach, &judged));
+        Ok(())
     }
 
     /// Tells more of a system that isn't wrong.
@@ -459,6 +468,9 @@ impl<'a, R: AllocGlobal + Clock + Eprint> Explainer<'a, R> {
             }
             OfSystem::Why { actor, object, .. } => {
                 self.tell_lines(self.why_told(sheet, actor, object));
+            }
+            OfSystem::Flows { from, to } => {
+                self.tell_lines(self.flows_told(sheet, from, to));
             }
             OfSystem::Show { .. } => {
                 if let Some(script) = &answer.script {
@@ -486,6 +498,13 @@ impl<'a, R: AllocGlobal + Clock + Eprint> Explainer<'a, R> {
         let alloc = self.rt.alloc();
         let reach = Reach::of(alloc, sheet.table)?;
         explain_why(alloc, sheet, &reach, actor, object)
+    }
+
+    /// Returns by which edges the flows of a chain go, and where these come from.
+    fn flows_told(&self, sheet: Sheet<'_>, from: &str, to: &str) -> Result<String, Refusal> {
+        let alloc = self.rt.alloc();
+        let reach = Reach::of(alloc, sheet.table)?;
+        explain_flows(alloc, sheet, &reach, from, to)
     }
 
     /// Tells what may not be meant in the table of an accepted system, and whom each label may change.
@@ -544,7 +563,7 @@ impl<'a, R: AllocGlobal + Clock + Eprint> Explainer<'a, R> {
             }
             (_, Files::Claims(given, lines)) => {
                 if !self.invocation.manner.is_quiet {
-                    self.tell_lines(self.shared_memory_told(given, lines));
+                    let _ = self.tell_notes_on_claims(given, lines);
                 }
             }
             _ => {}
@@ -579,8 +598,9 @@ impl<R: AllocGlobal + Clock + Eprint + Threads + Sync> Listener for Explainer<'_
 
     fn hear_unlabelled(&mut self, table: &Table, asked: Asked) {
         if self.tells() {
-            let word = self.invocation.request.word_of(asked);
-            self.tell(explain_unlabelled(self.rt.alloc(), table, word));
+            let request = self.invocation.request;
+            let (file, word) = (request.name_of(File::Table), request.word_of(asked));
+            self.tell(explain_unlabelled(self.rt.alloc(), file, table, word));
         }
     }
 }

@@ -9,6 +9,7 @@ mod explaining;
 mod opening;
 mod sheets;
 mod short;
+mod swapped;
 
 pub use answering::{answer, answer_short, answer_split, answer_split_short, tell};
 pub use opening::{FileOrInput, MOST_BYTES, Opened, open};

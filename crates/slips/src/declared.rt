@@ -90,6 +90,14 @@ impl Declared<'_> {
             }
         }
     }
+
+    /// Returns the number of the object of this name, if there is one.
+    pub fn number_of(self, name: &str) -> Option<u64> {
+        match self {
+            Declared::Rows(rows) => rows.number_of(name),
+            Declared::Table(table) => Some(table.object_named(name)?.0),
+        }
+    }
 }
 
 // The form of the lines that declare objects of a kind.

@@ -8,6 +8,7 @@ use crate::limits::{event_flaw, limit_flaw};
 use crate::memory::placed_flaw;
 use crate::names::{known_flaw, twice_flaw};
 use crate::near::near_flaw;
+use crate::numbers::event_word_flaw;
 use crate::order::order_flaw;
 use crate::tree::tree_flaw;
 use forms::{
@@ -20,9 +21,9 @@ use words::Fault;
 
 /// Says which line of a file has a fault, and which condition the line doesn't meet.
 ///
-/// `text` is all of the file called `name`, and the line is found in it. `table` is the table by which a policy, a
-/// certificate or claims were read. For the other files it doesn't matter. The faults of a description are
-/// explained by the crate `remarks`, since it is XML: here no condition of its lines is known.
+/// `text` is all of the file called `name`, and the line is found in it. `table` is the table by which any other file
+/// was read. For a table it doesn't matter. The faults of a description are explained by the crate `remarks`, since it
+/// is XML: here no condition of its lines is known.
 ///
 /// Where memory was refused that is said, and no line.
 ///
@@ -52,7 +53,7 @@ pub fn explain_fault(
         }
         None => {
             let flaw = Flaw::NoLine(file, number);
-            format!(in alloc; "{name}:{number}: the line is missing: {flaw}")
+            format!(in alloc; "{name}:{number}: {flaw}")
         }
     }
 }
@@ -72,8 +73,10 @@ fn declared<'a>(
             };
             Some(Declared::Rows(Rows { text, end }))
         }
-        File::Policy | File::Certificate | File::Claims => Some(Declared::Table(table?)),
-        File::Script | File::Log | File::Description => None,
+        File::Policy | File::Certificate | File::Claims | File::Script | File::Log => {
+            Some(Declared::Table(table?))
+        }
+        File::Description => None,
     }
 }
 
@@ -91,7 +94,7 @@ fn flaw_of<'a>(
         text: text_of(line.bytes),
     };
     if fault.line == 1 {
-        return Flaw::Layout(file, first_flaw(file, row.text));
+        return Flaw::Layout(file, header_flaw(file, line.bytes));
     }
     if fault.number == 50 {
         if let Some(flaw) = bytes_flaw(file, line, before) {
@@ -112,17 +115,6 @@ fn flaw_of<'a>(
     }
 }
 
-// Why a line isn't the first line of a file.
-fn first_flaw<'a>(file: File, line: &'a str) -> LayoutFlaw<'a> {
-    if file.has_header(line) {
-        return LayoutFlaw::NoLineFeed;
-    }
-    match line.strip_suffix("\r") {
-        Some(header) if file.has_header(header) => LayoutFlaw::CarriageReturn,
-        _ => header_flaw(line),
-    }
-}
-
 // Of the form and the order of lines: 50.
 fn syntax_flaw<'a>(
     file: File,
@@ -134,7 +126,7 @@ fn syntax_flaw<'a>(
     let event = match file {
         File::Log => match row.text.split_once(" = ") {
             Some((event, _)) => event,
-            None => return Some(Flaw::Layout(file, LayoutFlaw::NoOutcome)),
+            None => return Some(Flaw::Layout(file, LayoutFlaw::NoEntry)),
         },
         _ => row.text,
     };
@@ -142,7 +134,7 @@ fn syntax_flaw<'a>(
         return Some(Flaw::Layout(file, flaw));
     }
     if let Some(flaw) = shape_flaw(form, event) {
-        return Some(Flaw::Word(form, flaw));
+        return Some(event_word_flaw(file, declared, form, row, flaw));
     }
     let above = Row {
         line: row.line.saturating_sub(1),
@@ -156,23 +148,24 @@ fn syntax_flaw<'a>(
     })
 }
 
-// Of what a line's words mean: 51 to 56. Without a table nothing is said of a name.
+// Of what a line's words mean: 51 to 56. In an event that is a number past its limit. Without a table nothing is
+// said of a name.
 fn meaning_flaw<'a>(
     declared: Option<Declared<'a>>,
     number: u64,
     form: Form,
     row: Row<'a>,
 ) -> Option<Flaw<'a>> {
-    let Some(declared) = declared else {
+    if form.file() == File::Script {
         return Some(Flaw::Limit(event_flaw(row)?));
-    };
-    Some(match (number, declared) {
-        (51, _) => Flaw::Known(known_flaw(declared, form, row)?),
+    }
+    Some(match (number, declared?) {
+        (51, declared) => Flaw::Known(known_flaw(declared, form, row)?),
         (52, Declared::Rows(rows)) => Flaw::Twice(twice_flaw(rows, form, row)?),
         (53, Declared::Rows(rows)) => Flaw::Placed(placed_flaw(rows, form, row)?),
-        (54, _) if has_slots(form) => Flaw::Slot(slot_flaw(declared, form, row)?),
+        (54, declared) if has_slots(form) => Flaw::Slot(slot_flaw(declared, form, row)?),
         (54, Declared::Rows(rows)) => Flaw::Limit(limit_flaw(rows, form, row)?),
-        (55, _) => Flaw::Kind(kind_flaw(declared, form, row)?),
+        (55, declared) => Flaw::Kind(kind_flaw(declared, form, row)?),
         (56, Declared::Rows(rows)) => Flaw::Tree(tree_flaw(rows, row)?),
         _ => return None,
     })

@@ -6,6 +6,7 @@ use crate::edges::{EdgeFlaw, Numbered};
 use crate::limits::LimitFlaw;
 use crate::memory::PlacedFlaw;
 use crate::names::{KnownFlaw, TwiceFlaw};
+use crate::numbers::EventFlaw;
 use crate::order::{OrderFlaw, Ranked};
 use crate::tree::TreeFlaw;
 use forms::{File, Form, LayoutFlaw, OfLayout, OutcomeFlaw, WordFlaw};
@@ -19,6 +20,7 @@ pub(crate) enum Flaw<'a> {
     Layout(File, LayoutFlaw<'a>),
     Word(Form, WordFlaw<'a>),
     Outcome(OutcomeFlaw<'a>),
+    Event(EventFlaw<'a>),
     Order(OrderFlaw<'a>),
     Edge(EdgeFlaw<'a>),
     Claim(ClaimFlaw<'a>),
@@ -37,10 +39,12 @@ impl fmt::Display for Flaw<'_> {
     fn fmt<W: fmt::Write>(&self, f: &mut fmt::Formatter<W>) -> fmt::Result {
         match *self {
             Flaw::NoLine(file, 1) => {
-                let flaw = LayoutFlaw::NoHeader;
+                let flaw = LayoutFlaw::Empty;
                 OfLayout { file, flaw }.fmt(f)
             }
-            Flaw::NoLine(_, _) => f.write_str("the text ends without the line `end`"),
+            Flaw::NoLine(_, _) => {
+                f.write_str("the line is missing: the text ends without the line `end`")
+            }
             Flaw::Layout(file, flaw) => OfLayout { file, flaw }.fmt(f),
             Flaw::Word(form, flaw) => match flaw {
                 WordFlaw::Missing(_) | WordFlaw::TooMany(_) => {
@@ -50,6 +54,7 @@ impl fmt::Display for Flaw<'_> {
                 _ => flaw.fmt(f),
             },
             Flaw::Outcome(flaw) => flaw.fmt(f),
+            Flaw::Event(flaw) => flaw.fmt(f),
             Flaw::Order(flaw) => flaw.fmt(f),
             Flaw::Edge(flaw) => flaw.fmt(f),
             Flaw::Claim(flaw) => flaw.fmt(f),
@@ -64,6 +69,39 @@ impl fmt::Display for Flaw<'_> {
                 let words = form.words();
                 write!(f, "expected {words}")
             }
+        }
+    }
+}
+
+impl fmt::Display for EventFlaw<'_> {
+    fn fmt<W: fmt::Write>(&self, f: &mut fmt::Formatter<W>) -> fmt::Result {
+        match *self {
+            EventFlaw::NoCore(word) => write!(
+                f,
+                "`{word}` isn't a decimal number: the first word is the number of a core"
+            ),
+            EventFlaw::Thread(file, name, number) => {
+                let text = file.name();
+                write!(
+                    f,
+                    "a {text} has a thread's number in place of its name: write {number} for `{name}`"
+                )
+            }
+            EventFlaw::NoThread(name, form) => {
+                let noun = noun(form);
+                write!(
+                    f,
+                    "`{name}` is {noun}, not a thread: the second word is the number of a thread"
+                )
+            }
+            EventFlaw::NoNumber(word) => write!(
+                f,
+                "`{word}` isn't a decimal number: the second word is the number of a thread, which `confine list` shows"
+            ),
+            EventFlaw::Operand(name) => write!(
+                f,
+                "`{name}` isn't a decimal number: write the address at which the thread finds a capability for it"
+            ),
         }
     }
 }
@@ -202,7 +240,7 @@ fn write_unknown<W: fmt::Write>(
 ) -> fmt::Result {
     match declared {
         Declared::Rows(_) => write!(f, "no {what} above this line is called `{name}`"),
-        Declared::Table(_) => write!(f, "the table has no {what} `{name}`"),
+        Declared::Table(_) => write!(f, "the system has no {what} `{name}`"),
     }
 }
 

@@ -13,6 +13,7 @@ mod limits;
 mod memory;
 mod names;
 mod near;
+mod numbers;
 mod order;
 mod tree;
 

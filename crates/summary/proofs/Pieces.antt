@@ -1,7 +1,7 @@
 -- Lists that grow by one piece.
-use Rattle.std.{specs.List.{filter, range_with_len}, proofs.Common.{[], ℕ, ◌++◌, ◌+◌, ◌<◌, ◌∙◌, ◌∷◌, ◌≡◌, Bool, List, ap, arith, get_or}}
-use Rattle.std.proofs.Common.{false, length, map, subst, sym, take, true}
-use Rattle.std.proofs.lemmas.List.{append-nil, map-append, map-id, take_more, Elements.{All-push, filter-append}, FromFn.map-range_with_len_more}
+use Rattle.std.{specs.List.{filter, range_with_len}, proofs.Common.{[], ℕ, ◌++◌, ◌+◌, ◌<◌, ◌∙◌, ◌∷◌, ◌≡◌, Bool, List, ap, get_or}}
+use Rattle.std.proofs.Common.{false, length, map, sym, take, true}
+use Rattle.std.proofs.lemmas.List.{append-nil, map-append, map-id, take_more, Elements.{filter-append}}
 use Rattle.matrix.proofs.Pieces.{range_more}
 
 -- one number more that passes, or not

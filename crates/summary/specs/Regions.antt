@@ -12,6 +12,10 @@ abbrev pub is_same : Bool → Bool → Bool
 is_same true b = b
 is_same false b = not b
 
+-- the label of the row may take from a label, and not change it otherwise
+abbrev pub takes_from : Row → ℕ → Bool
+takes_from row l = is_in row.shrinks l && not (is_in row.changes l)
+
 -- the labels with a thread that may change a label
 abbrev pub changers : List Row → ℕ → List ℕ
 changers rows l = map (λ row. row.label) (filter (λ row. is_in row.changes l) rows)
@@ -22,12 +26,17 @@ readers rows l = map (λ row. row.label) (filter (λ row. is_in row.reads l) row
 
 -- the labels with a thread that may take from a label, and not change it otherwise
 abbrev pub takers : List Row → ℕ → List ℕ
-takers rows l = map (λ row. row.label) (filter (λ row. is_in row.shrinks l && not (is_in row.changes l)) rows)
+takers rows l = map (λ row. row.label) (filter (λ row. takes_from row l) rows)
 
--- two labels are changed and read by the same labels with a thread
+-- the row's label uses two labels in the same ways
+abbrev pub uses_alike : ℕ → ℕ → Row → Bool
+uses_alike k l row =
+    (is_same (is_in row.changes k) (is_in row.changes l) && is_same (takes_from row k) (takes_from row l))
+    && is_same (is_in row.reads k) (is_in row.reads l)
+
+-- two labels are changed, taken from and read by the same labels with a thread
 abbrev pub has_same_users : List Row → ℕ → ℕ → Bool
-has_same_users rows k l =
-    list_all (λ row. is_same (is_in row.changes k) (is_in row.changes l) && is_same (is_in row.reads k) (is_in row.reads l)) rows
+has_same_users rows k l = list_all (uses_alike k l) rows
 
 -- the labels with the same users as a label
 abbrev pub group_of : List Row → List ℕ → ℕ → List ℕ
@@ -55,25 +64,33 @@ abbrev pub is_nil : List ℕ → Bool
 is_nil [] = true
 is_nil (first ∷ labels) = false
 
--- who reads what nobody changes
-abbrev pub readers_text : Layout → List ℕ → List ℕ
-readers_text t readers =
-    if is_nil readers then codes "\n    changed and read by nobody\n" else (codes "\n    read by " ++ names_text t readers) ++ codes "\n"
+-- what stands between two lists
+abbrev pub separator : Bool → List ℕ
+separator first = if first then [] else codes "; "
 
--- who reads what others change, if there are any
-abbrev pub also_text : Layout → List ℕ → List ℕ
-also_text t readers = if is_nil readers then [] else codes "; read by " ++ names_text t readers
+-- a word and names, where there are any
+abbrev pub listed_text : Layout → Bool → List ℕ → List ℕ → List ℕ
+listed_text t first word labels = if is_nil labels then [] else separator first ++ (word ++ names_text t labels)
 
--- who changes and who reads
-abbrev pub users_text : Layout → List ℕ → List ℕ → List ℕ
-users_text t changers readers =
-    if is_nil changers then readers_text t readers
-    else (codes "\n    changed by " ++ names_text t changers) ++ (also_text t readers ++ codes "\n")
+-- who changes a label, who may only take from it, and who reads it
+abbrev pub lists_text : Layout → List ℕ → List ℕ → List ℕ → List ℕ
+lists_text t changers takers readers =
+    listed_text t true (codes "changed by ") changers
+    ++ (listed_text t (is_nil changers) (codes "taken away by ") takers
+    ++ listed_text t (is_nil changers && is_nil takers) (codes "read by ") readers)
+
+-- .. if anybody does
+abbrev pub who_text : Layout → List ℕ → List ℕ → List ℕ → List ℕ
+who_text t changers takers readers =
+    if (is_nil changers && is_nil takers) && is_nil readers then codes "changed and read by nobody" else lists_text t changers takers readers
+
+abbrev pub users_text : Layout → List ℕ → List ℕ → List ℕ → List ℕ
+users_text t changers takers readers = codes "\n    " ++ (who_text t changers takers readers ++ codes "\n")
 
 -- the labels with the same users as this one, at the first of them
 abbrev pub group_text : Layout → List Row → List ℕ → ℕ → List ℕ
 group_text t rows others l =
-    given (leads rows others l) (names_text t (group_of rows others l) ++ users_text t (changers rows l) (readers rows l))
+    given (leads rows others l) (names_text t (group_of rows others l) ++ users_text t (changers rows l) (takers rows l) (readers rows l))
 
 -- all of them
 abbrev pub regions_text : Layout → List Row → List ℕ → List ℕ

@@ -1,7 +1,8 @@
-//! The labels without a thread, with those who change and read them.
+//! The labels without a thread, with those who change them, take from them and read them.
 ghost use Rattle.std.specs.{List.{flat_map, list_any}, Prelude.{◌++◌, ◌≡◌, IfOk, OnOk, string_bytes}};
-ghost use Rattle.summary.specs.Regions.{also_text, changers, group_of, group_text, has_same_users, is_leader, is_nil};
-ghost use Rattle.summary.specs.Regions.{leads, more_name, names_text, readers, readers_text, regions_text, takers, users_text};
+ghost use Rattle.summary.specs.Regions.{changers, group_of, group_text, has_same_users, is_leader, is_nil, leads, listed_text, lists_text};
+ghost use Rattle.summary.specs.Regions.{more_name, names_text, readers, regions_text, separator, takers, takes_from, users_text, uses_alike};
+ghost use Rattle.summary.specs.Regions.{who_text};
 
 use crate::rows::Row;
 use base::Label;
@@ -45,8 +46,9 @@ fn write_group(
     let group = group_of(alloc, rows, others, label)?;
     write_names(text, table, &group)?;
     let changers = changers(alloc, rows, label)?;
+    let takers = takers(alloc, rows, label)?;
     let readers = readers(alloc, rows, label)?;
-    write_users(text, table, &changers, &readers)
+    write_users(text, table, &changers, &takers, &readers)
 }
 
 // Whether a label is the first of those with the same users.
@@ -70,13 +72,27 @@ fn is_leader(rows: &[Row], label: Label, other: Label) -> bool
     other.number() < label.number() && has_same_users(rows, other, label)
 }
 
-// Whether two labels are changed and read by the same labels with a thread.
+// Whether two labels are changed, taken from and read by the same labels with a thread.
 fn has_same_users(rows: &[Row], one: Label, other: Label) -> bool
     ensures { result ≡ has_same_users rows.now one other }
 {
-    rows.iter().all(|row| {
-        row.changes.has(one) == row.changes.has(other) && row.reads.has(one) == row.reads.has(other)
-    })
+    rows.iter().all(|row| uses_alike(row, one, other))
+}
+
+// Whether the row's label uses two labels in the same ways.
+fn uses_alike(row: &Row, one: Label, other: Label) -> bool
+    ensures { result ≡ uses_alike one other row.now }
+{
+    row.changes.has(one) == row.changes.has(other)
+        && takes_from(row, one) == takes_from(row, other)
+        && row.reads.has(one) == row.reads.has(other)
+}
+
+// Whether the row's label may take from a label, and not change it otherwise.
+fn takes_from(row: &Row, label: Label) -> bool
+    ensures { result ≡ takes_from row.now label }
+{
+    row.shrinks.has(label) && !row.changes.has(label)
 }
 
 // The labels with the same users as this one.
@@ -145,63 +161,87 @@ pub fn takers(alloc: Global, rows: &[Row], label: Label) -> Result<Vec<Label>, A
 {
     let mut found = Vec::new(alloc);
     for row in rows {
-        if row.shrinks.has(label) && !row.changes.has(label) {
+        if takes_from(row, label) {
             found.push(row.label)?;
         }
     }
     Ok(found)
 }
 
+// Writes who uses labels.
 fn write_users(
     text: &mut String,
     table: &Table,
     changers: &[Label],
+    takers: &[Label],
     readers: &[Label],
 ) -> Result<(), AllocError>
     ensures { OnOk result (string_bytes text.new
-        ≡ string_bytes text.old ++ users_text table.now changers.now readers.now) }
+        ≡ string_bytes text.old ++ users_text table.now changers.now takers.now readers.now) }
 {
-    if is_nil(changers) {
-        return write_readers(text, table, readers);
-    }
-    write_listed(text, table, "\n    changed by ", changers)?;
-    write_also(text, table, readers)?;
+    text.push_str("\n    ")?;
+    write_who(text, table, changers, takers, readers)?;
     text.push_str("\n")
 }
 
-// Writes who reads what nobody changes.
-fn write_readers(text: &mut String, table: &Table, readers: &[Label]) -> Result<(), AllocError>
-    ensures { OnOk result (string_bytes text.new ≡ string_bytes text.old ++ readers_text table.now readers.now) }
+fn write_who(
+    text: &mut String,
+    table: &Table,
+    changers: &[Label],
+    takers: &[Label],
+    readers: &[Label],
+) -> Result<(), AllocError>
+    ensures { OnOk result (string_bytes text.new
+        ≡ string_bytes text.old ++ who_text table.now changers.now takers.now readers.now) }
 {
-    if is_nil(readers) {
-        return text.push_str("\n    changed and read by nobody\n");
+    if is_nil(changers) && is_nil(takers) && is_nil(readers) {
+        return text.push_str("changed and read by nobody");
     }
-    write_listed(text, table, "\n    read by ", readers)?;
-    text.push_str("\n")
+    write_lists(text, table, changers, takers, readers)
 }
 
-// Writes who reads what others change, if there are any.
-fn write_also(text: &mut String, table: &Table, readers: &[Label]) -> Result<(), AllocError>
-    ensures { OnOk result (string_bytes text.new ≡ string_bytes text.old ++ also_text table.now readers.now) }
+// Writes the lists that aren't empty.
+fn write_lists(
+    text: &mut String,
+    table: &Table,
+    changers: &[Label],
+    takers: &[Label],
+    readers: &[Label],
+) -> Result<(), AllocError>
+    ensures { OnOk result (string_bytes text.new
+        ≡ string_bytes text.old ++ lists_text table.now changers.now takers.now readers.now) }
 {
-    if is_nil(readers) {
-        return Ok(());
-    }
-    write_listed(text, table, "; read by ", readers)
+    let unchanged = is_nil(changers);
+    let untaken = unchanged && is_nil(takers);
+    write_listed(text, table, true, "changed by ", changers)?;
+    write_listed(text, table, unchanged, "taken away by ", takers)?;
+    write_listed(text, table, untaken, "read by ", readers)
 }
 
-// Writes a word and names.
+// Writes a word and names, where there are any, after a separator if they aren't the first.
 fn write_listed(
     text: &mut String,
     table: &Table,
+    is_first: bool,
     word: &str,
     labels: &[Label],
 ) -> Result<(), AllocError>
     ensures { OnOk result (string_bytes text.new
-        ≡ string_bytes text.old ++ (word.now ++ names_text table.now labels.now)) }
+        ≡ string_bytes text.old ++ listed_text table.now is_first word.now labels.now) }
 {
+    if is_nil(labels) {
+        return Ok(());
+    }
+    text.push_str(separator(is_first))?;
     text.push_str(word)?;
     write_names(text, table, labels)
+}
+
+// What stands between two lists.
+fn separator(is_first: bool) -> &'static str
+    ensures { result.now ≡ separator is_first }
+{
+    if is_first { "" } else { "; " }
 }
 
 // Whether there are no labels.

@@ -24,5 +24,12 @@ returns-in_ok-reach_picture-in-Draw c = rw c.in-Draw.is (said c.in_ok-reach_pict
 pub returns-in_ok-summary_text-in-Summary : goal.returns-in_ok-summary_text-in-Summary
 returns-in_ok-summary_text-in-Summary c = rw c.in-Summary.is (said c.in_ok-summary_text-in-Summary.ensures.text c.plain-in-Summary.ensures.plain)
 
+pub returns-in-Flows : goal.returns-in-Flows
+returns-in-Flows c = rw c.in-Flows.is c.flows_told.ensures
+
+pub returns-in_ok-all_flows_told-in-AllFlows : goal.returns-in_ok-all_flows_told-in-AllFlows
+returns-in_ok-all_flows_told-in-AllFlows c =
+    rw c.in-AllFlows.is (said c.in_ok-all_flows_told-in-AllFlows.ensures.text c.plain-in-AllFlows.ensures.plain)
+
 pub returns-in_ok-strongest_text-in-Strongest : goal.returns-in_ok-strongest_text-in-Strongest
 returns-in_ok-strongest_text-in-Strongest c = rw c.in-Strongest.is (said c.in_ok-strongest_text-in-Strongest.ensures.text c.plain-in-Strongest.ensures.plain)
