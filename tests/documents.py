@@ -23,13 +23,13 @@
 - one whose last cell is a line of a file and `note`, as `table:8: note`, is a line that `check --explain` says of them on standard error,
   or the beginning of one, if it ends with ` ..`;
 - a block after `<!-- short: STATUS WORDS -->` is what the command of these words prints with `--format short` of the files, with the change that
-  `<!-- change: .. -->` tells;
+  `<!-- change: .. -->` tells; one after `<!-- asked: STATUS WORDS -->` what it prints without that option, on standard error with `--explain`;
 - one with numbered lines is the beginning of a file of the system;
 - one that begins with a line of a file and `denied by`, as `table:8: denied by`, is what `check --explain` says of them on standard
   error, with the change that `<!-- change: .. -->` tells.
 
 A report or a sentence that is too long for a line of the document goes on in the next, which begins with two spaces more; the sentence is
-broken where it has a space. A block that ends with a line `..` is a beginning.
+broken where it has a space. In a block that shows an output, a line `..` stands for any lines.
 
 A report with `full` is that of `check`; one that says no more than `accept`, the rule C1 and a fault of the
 certificate are those of `verify`; one with entries or an entry, and a fault of the log, are those of `replay`; one with claims,
@@ -140,7 +140,7 @@ def parts_of(text):
         if block:
             yield number - len(block), "block", "\n".join(block) + "\n"
             block = []
-        if comment := re.match(r"<!-- (system|labels|change|why|show|flows|import|log|close|claims|short): (.*) -->", line):
+        if comment := re.match(r"<!-- (system|labels|change|why|show|flows|import|log|close|claims|short|asked): (.*) -->", line):
             yield number, comment[1], comment[2]
         elif line.startswith("| "):
             yield number, "row", line
@@ -179,6 +179,8 @@ def examples_of(path):
             imports = text
         elif form == "short":
             short = [*text.split(), "--format", "short"]
+        elif form == "asked":
+            short = text.split()
         elif form == "log":
             alone = True
         elif form == "close":
@@ -236,10 +238,9 @@ def examples_of(path):
 
 
 def is_answered(answer, status, out):
-    if answer.endswith("\n..\n"):
-        return status == 0 and out.startswith(answer.removesuffix("..\n"))
-    if answer.startswith("status "):
-        return answer == f"status {status}\n{out}"
+    if answer.startswith("status ") or "\n..\n" in answer:
+        parts = re.split(r"(?m)^\.\.\n", answer if answer.startswith("status ") else "status 0\n" + answer)
+        return re.fullmatch("(?:.*\n)*?".join(map(re.escape, parts)), f"status {status}\n{out}") is not None
     if DENIED.match(answer):
         return (status, out) == (1, answer)
     if NOTED.match(answer):
@@ -255,7 +256,7 @@ def is_answered(answer, status, out):
 
 def commands_of(answer, asked):
     """The commands that give such an answer."""
-    if asked[:1] in (["import"], ["flows"]) or "--format" in asked:
+    if asked[:1] in (["import"], ["flows"]) or "--format" in asked or answer.startswith("status "):
         return [asked]
     if '"file":"description"' in answer:
         return [["import", "description", "--rights", "least"]]

@@ -440,15 +440,20 @@ impl<'a, R: AllocGlobal + Clock + Eprint> Explainer<'a, R> {
         }
     }
 
-    /// Tells notes on memory that claims which hold don't speak of, and on flows.
-    fn tell_notes_on_claims(&self, given: &Given, lines: &ClaimLines) -> Result<(), Refusal> {
+    /// Returns notes on memory that claims which hold don't speak of.
+    fn shared_memory_told(&self, given: &Given, lines: &ClaimLines) -> Result<String, Refusal> {
         let alloc = self.rt.alloc();
         let system = self.sourced(given)?;
         let reach = Reach::of(alloc, given.table())?;
-        let judged = self.judged(system.sheet(), lines);
-        self.tell_lines(explain_shared_memory(alloc, &reach, &judged));
-        self.tell_lines(explain_flows_beside(alloc, &reach, &judged));
-        Ok(())
+        Ok(explain_shared_memory(alloc, &reach, &self.judged(system.sheet(), lines))?)
+    }
+
+    /// Returns notes on what flows between labels of which claims that hold say that the one changes nothing of the other.
+    fn flows_beside_told(&self, given: &Given, lines: &ClaimLines) -> Result<String, Refusal> {
+        let alloc = self.rt.alloc();
+        let system = self.sourced(given)?;
+        let reach = Reach::of(alloc, given.table())?;
+        explain_flows_beside(alloc, &reach, &self.judged(system.sheet(), lines))
     }
 
     /// Tells more of a system that isn't wrong.
@@ -563,7 +568,8 @@ impl<'a, R: AllocGlobal + Clock + Eprint> Explainer<'a, R> {
             }
             (_, Files::Claims(given, lines)) => {
                 if !self.invocation.manner.is_quiet {
-                    let _ = self.tell_notes_on_claims(given, lines);
+                    self.tell_lines(self.shared_memory_told(given, lines));
+                    self.tell_lines(self.flows_beside_told(given, lines));
                 }
             }
             _ => {}
