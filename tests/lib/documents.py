@@ -40,7 +40,7 @@ A row of a table whose last cell is empty goes on in the next row.
 import pathlib
 import re
 
-TOP = pathlib.Path(__file__).resolve().parent.parent
+TOP = pathlib.Path(__file__).resolve().parent.parent.parent
 FILES = ["table", "policy", "script", "certificate", "log"]
 KINDS = [*FILES, "claims"]  # of which an example may lack the last
 TEXTS = [*KINDS, "description"]

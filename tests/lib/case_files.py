@@ -9,7 +9,7 @@ import json
 import pathlib
 import re
 
-WORKED = pathlib.Path(__file__).resolve().parent / "worked"
+WORKED = pathlib.Path(__file__).resolve().parent.parent / "worked"
 TOP = WORKED.parent.parent
 EXAMPLES = TOP / "examples"
 TEXTS = ["table", "policy", "script", "certificate", "log", "claims", "description"]
