@@ -1,0 +1,7 @@
+-- Of the rows so far all changes are added.
+use Rattle.std.{specs.List.flat_map, proofs.Common.{◌++◌, ◌≡◌, take}}
+use Rattle.diff.specs.Changes.{cell_change}
+use Rattle.diff.proofs.comparing.push_cells.Given as goal
+
+abbrev pub invariant-loop-from : goal.invariant-loop-from
+invariant-loop-from l = l.changes.items ≡ l.fn.changes.items ++ flat_map (λ from. flat_map (cell_change l.old l.new from) l.names) (take l.from-index l.names)

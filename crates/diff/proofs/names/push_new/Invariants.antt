@@ -1,0 +1,7 @@
+-- The names of the labels so far are added.
+use Rattle.std.{specs.List.{flat_map, range_with_len}, proofs.Common.{◌++◌, ◌≡◌}}
+use Rattle.diff.specs.Names.{new_name}
+use Rattle.diff.proofs.names.push_new.Given as goal
+
+abbrev pub invariant-loop-number : goal.invariant-loop-number
+invariant-loop-number l = l.names.items ≡ l.fn.names.items ++ flat_map (new_name l.old l.new) (range_with_len 0 l.number)

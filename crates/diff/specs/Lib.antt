@@ -1,0 +1,4 @@
+pub mod Changes
+pub mod Names
+pub mod Side
+pub mod Text

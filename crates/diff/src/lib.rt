@@ -1,0 +1,16 @@
+//! What changes from one system to another of who may change, read and reach whom.
+//!
+//! Two systems are compared by the names of their labels. `reptext` and `report` stand on this crate. It knows no code of the kernel's calls.
+#![tactic(auto)]
+
+mod change;
+mod comparing;
+mod edges;
+mod names;
+mod side;
+mod writing;
+
+pub use change::{Change, Marks, Role, Sign, Standing, Verb};
+pub use comparing::changes;
+pub use names::Named;
+pub use writing::{adds_authority, changes_text, write_cell_marks};
