@@ -2,6 +2,7 @@ mod Admits
 pub mod SlotLaws
 pub mod StepLaws
 mod PolicyLaws
+mod DraftLaws
 pub mod NameLaws
 pub mod Written
 mod TableLines

@@ -89,7 +89,7 @@ line_takes t edges words next h =
 
 -- an edge above the last joins edges that rise, and where it joined them it is above their last
 
-above_from_test : (last : Option Edge) (edge : Edge) → follows last edge ≡ true → IfSome last (λ last. edge_cmp last edge ≡ Less)
+pub above_from_test : (last : Option Edge) (edge : Edge) → follows last edge ≡ true → IfSome last (λ last. edge_cmp last edge ≡ Less)
 above_from_test None edge passed = tt
 above_from_test (Some last) edge passed = less_from_test (edge_cmp last edge) passed
   where

@@ -3,4 +3,5 @@ pub mod Spelling
 pub mod Tables
 pub mod Policies
 pub mod PolicyText
+pub mod Drafts
 pub mod TableText

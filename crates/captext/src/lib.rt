@@ -5,6 +5,7 @@
 #![tactic(auto)]
 
 mod caps;
+mod drafts;
 mod objects;
 mod policies;
 mod shapes;
@@ -13,6 +14,7 @@ mod tables;
 mod write;
 
 pub use caps::{fits_holder, is_thread_and_context, slot_in};
+pub use drafts::{PolicyDraft, policies_are_read_as_drafts, read_draft};
 pub use policies::{policies_are_read_back, read_policy};
 pub use shapes::{Place, slot};
 pub use spelling::{slots_are_read_back, terms_are_read_back};

@@ -24,15 +24,16 @@ fn kind(words: &mut Words<'_>) -> Result<Kind, Wrong>
 }
 
 /// An edge by the names of its labels.
-struct NamedEdge<'a> {
-    from: &'a str,
-    kind: Kind,
-    to: &'a str,
+#[derive(Drop)]
+pub(crate) struct NamedEdge<'a> {
+    pub(crate) from: &'a str,
+    pub(crate) kind: Kind,
+    pub(crate) to: &'a str,
 }
 
 /// Reads `edge LABEL KIND LABEL`.
 #[tactic(auto, unfolding(crate::specs::Policies::named_edge_at, words::specs::Parts::by_word, words::specs::Parts::in_turn, words::specs::Parts::keyed, words::specs::Reading::bind))]
-fn named_edge<'a>(words: &mut Words<'a>) -> Result<NamedEdge<'a>, Wrong>
+pub(crate) fn named_edge<'a>(words: &mut Words<'a>) -> Result<NamedEdge<'a>, Wrong>
     ensures { Gives (λ edge. ((edge.from.now, (edge.kind, edge.to.now)), words.new)) result (policies.named_edge_at words.old) }
 {
     let word = words.word()?;
