@@ -1,1 +1,13 @@
+mod Adding
+mod Joined
+mod Lesser
+mod LesserReaches
+mod Namesakes
+mod Outside
+mod Parts
 mod Pieces
+mod SameRows
+mod Unchanged
+mod WithinChanges
+mod WithinClaims
+mod WithinFlows
