@@ -12,7 +12,7 @@ import re
 WORKED = pathlib.Path(__file__).resolve().parent.parent / "worked"
 TOP = WORKED.parent.parent
 EXAMPLES = TOP / "examples"
-TEXTS = ["table", "policy", "script", "certificate", "log", "claims", "description"]
+TEXTS = ["table", "policy", "script", "certificate", "log", "claims", "description", "new"]
 # The texts of systems that stand with the stored runs of crates' programs.
 STORED = {("four_threads", file): f"confine/data/{file}" for file in ["table", "policy", "script"]}
 STORED |= {("four_threads", "log"): "confine/stdout", ("nine_kinds", "table"): "states/data/table"}
@@ -25,6 +25,8 @@ ASKED |= {"draw": ["draw", "--all"], "draw --policy": ["draw", "--policy", "--al
 ASKED |= {"fold": ["draw"], "fold --policy": ["draw", "--policy"]}
 ASKED |= {f"{word} sharp": [*ASKED[word], "--rules", "sharp"] for word in ["run", "check", "cert", "verify", "close", "missing", "surplus"]}
 ASKED |= {"import": ["import", "--rights", "least"]}
+ASKED |= {"diff": ["diff"], "diff json": ["diff", "--format", "json"]}
+ASKED |= {f"diff {rights}": ["diff", "--rights", rights] for rights in ["least", "all"]}
 
 # What each summary begins with.
 HEAD = "who may change whom, in any run: C calls, A answers, S signals, F for another reason, t only takes away, . never; "
@@ -189,12 +191,12 @@ def report(**keys):
 
 
 def breaches_in(words):
-    """What is told of claims, each as `LINE CLAIM`, with `by AUTHORITY` or `by AUTHORITY of A B` where there is one."""
+    """What is told of claims, each as `LINE CLAIM`, with `by AUTHORITY`, `by AUTHORITY of A B` or `by edge A KIND B` where there is one."""
     for one in words.split("; "):
-        if not (told := re.fullmatch(r"([0-9]+) (.*?)(?: by (full|take)(?: of (\w+) (\w+))?)?", one)):
-            raise Wrong("a broken claim is told as `LINE CLAIM by AUTHORITY of A B`")
-        line, claim, authority, *pair = told.groups()
-        shown = {"claim": claim, "line": int(line)}
+        if not (told := re.fullmatch(r"([0-9]+) (.*?)(?: by edge (\w+ \w+ \w+)| by (full|take)(?: of (\w+) (\w+))?)?", one)):
+            raise Wrong("a broken claim is told as `LINE CLAIM by AUTHORITY of A B` or `LINE CLAIM by edge A KIND B`")
+        line, claim, edge, authority, *pair = told.groups()
+        shown = {"claim": claim, "line": int(line)} | ({"edge": edge.split(" ")} if edge else {})
         yield shown | ({"authority": authority} if authority else {}) | ({"pair": pair} if pair[0] else {})
 
 
@@ -252,11 +254,16 @@ def each(script, outcome):
     return b"confine-log 1\n" + events.replace(b"\n", f" = {outcome}\n".encode()) + end
 
 
+def changing(words):
+    return "".join(f"{line}\n" for line in words.split("; ") if line).encode()
+
+
 def fault(words, file, line):
     told = re.fullmatch(r"(?:(\w+) )?([0-9]+)(?: line ([0-9]+))?", words)
     if not told or (told[1] or file) not in TEXTS:
         raise Wrong("there is no such answer")
-    return report(fault=int(told[2]), file=told[1] or file, line=int(told[3] or line))
+    file = told[1] or file
+    return report(fault=int(told[2]), file="new system" if file == "new" else file, line=int(told[3] or line))
 
 
 def expected(words, system, script, file, line):
@@ -285,6 +292,12 @@ def expected(words, system, script, file, line):
         return 0, word.encode() + b"\n" + edges_in(rest)
     if word == "lacks":
         return int(bool(rest)), edges_in(rest)
+    if words == "same":
+        return 0, b""
+    if word == "lists":
+        return 0, changing(rest)
+    if word in ("adds", "drops"):
+        return int(word == "adds"), plain(quoted(rest)) + b"\n" if rest.startswith("`") else changing(rest)
     if word in ("draws", "folds"):
         return 0, drawing(rest) if word == "draws" else folding(rest)
     if word == "each":
@@ -327,11 +340,13 @@ def path_of(name, file):
 
 @functools.cache
 def system_of(name):
-    """The texts of a system: an example, or one of tests/worked/systems. It may lack what the program says of it."""
+    """The texts of a system: an example, or one of tests/worked/systems. It may lack what the program says of it. The new system, with which
+    it is compared, is at first the same table."""
     paths = {file: path_of(name, file) for file in [*TEXTS, "report"]}
     if not all(paths[file].is_file() for file in TEXTS[:3]):
         raise Wrong("a file can't be read")
-    return {file: path.read_bytes() if path.is_file() else b"" for file, path in paths.items()}
+    files = {file: path.read_bytes() if path.is_file() else b"" for file, path in paths.items()}
+    return files | {"new": files["table"]}
 
 
 @functools.cache
@@ -426,6 +441,9 @@ class Session:
         elif rest == "is":
             self.text(word)
             self.block, self.lines = ("is", word), []
+        elif taken := re.fullmatch(r"is (\w+) of (\w+)", rest):
+            self.text(word), self.text(taken[1])
+            self.files = self.files | {word: system_of(taken[2])[taken[1]]}
         elif line != "all differ":  # which is asked of the whole file
             self.become(word, rest)
 
@@ -526,6 +544,8 @@ def command_of(words):
     """The command that words ask for."""
     if words in ASKED:
         return ASKED[words]
+    if told := re.fullmatch(r"why ((?:--reads )?)\* (\S+)", words):
+        return ["why", *told[1].split(), "*", told[2]]
     if told := re.fullmatch(r"why (--policy )?(\S+) (\S.*)", words):
         return ["why", *(["--policy"] if told[1] else []), told[2], told[3]]
     if told := re.fullmatch(r"show (\S+) (\S+)((?: --take)?(?: --steps [0-9]+)?)", words):

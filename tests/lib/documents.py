@@ -1,8 +1,8 @@
 """The examples of the documents, and what they show. What counts as an example:
 
 - a code block that begins with `confine-table 1`, `confine-policy 1`, `confine-script 1` or `confine-claims 2` is that file
-  from here on; `<!-- system: NAME -->` takes the files of examples/NAME, and `<!-- labels: NAME .. -->` a
-  table of these labels alone, without an edge and without an event;
+  from here on; `<!-- system: NAME -->` takes the files of examples/NAME, or of tests/worked/systems/NAME, and
+  `<!-- labels: NAME .. -->` a table of these labels alone, without an edge and without an event;
 - one that begins with `confine-log 1` is the log of its events on these files, and legal; after `<!-- log: not run -->`, it is the log
   alone that `replay` is asked about;
 - one that begins with `confine-cert 1` is what `check --cert` prints of them, and the certificate from here on;
@@ -19,11 +19,14 @@
   follow these words, and one that begins with `confine-claims 2` after `<!-- claims: all -->` what `claims --all` prints of the files;
 - a row of a table whose last cell is a report, or 'accepted', is the answer to these files with the
   changes that the cells before it tell, as `X` becomes `Y`; if the cell before the last is such an answer too, it is the one with
-  `--rules sharp`;
+  `--rules sharp`. A fault may be written as `50 table:2`. A row with `X`, or `Y`, or `Z` is three examples: in the others Y or Z stands
+  in place of X;
 - one whose last cell is a line of a file and `note`, as `table:8: note`, is a line that `check --explain` says of them on standard error,
   or the beginning of one, if it ends with ` ..`;
 - a block after `<!-- short: STATUS WORDS -->` is what the command of these words prints with `--format short` of the files, with the change that
   `<!-- change: .. -->` tells; one after `<!-- asked: STATUS WORDS -->` what it prints without that option, on standard error with `--explain`;
+  after `<!-- new: .. -->` there is a file `new`, the table with this change; after `<!-- with: .. -->` the files have this change from
+  here on;
 - one with numbered lines is the beginning of a file of the system;
 - one that begins with a line of a file and `denied by`, as `table:8: denied by`, is what `check --explain` says of them on standard
   error, with the change that `<!-- change: .. -->` tells.
@@ -36,6 +39,9 @@ certificate are those of `verify`; one with entries or an entry, and a fault of 
 or that begins with `{"broken"`, and a fault of the claims, are those of `claims`; all others are those of `run`, and of `check` too.
 
 A row of a table whose last cell is empty goes on in the next row.
+
+A page of SESSIONS is one session in a folder. A block that begins with `<?xml` or `confine-claims 2` is a file that the reader writes there. In
+one that begins with `$ `, each line `$ COMMAND` is called in bash, and prints the lines that follow: on standard output and standard error.
 """
 import pathlib
 import re
@@ -44,11 +50,15 @@ TOP = pathlib.Path(__file__).resolve().parent.parent.parent
 FILES = ["table", "policy", "script", "certificate", "log"]
 KINDS = [*FILES, "claims"]  # of which an example may lack the last
 TEXTS = [*KINDS, "description"]
+SYSTEMS = [TOP / "examples", TOP / "tests/worked/systems"]
 DENIED = re.compile(r"\w+:\d+: denied by ")
 NOTED = re.compile(r"\w+:\d+: note: ")
 REPORT = re.compile(r"accepted$|`\{\".*\}`$")
+FAULT = re.compile(r"(\d\d) (\w+):(\d+)$")
 SHARPLY = ["--rules", "sharp"]
 NOT_WELL = '"verdict":"(deny|illegal|broken)"|"state":"outside"|"bound"'
+SESSIONS = ["docs/TUTORIAL.md"]
+WRITTEN = {"<?xml": "description", "confine-claims 2": "claims"}  # what a file of a session begins with, and its name
 MARKS = str.maketrans({"␣": " ", "␍": "\r"})
 
 
@@ -84,6 +94,13 @@ LONG = {
     "1,000,001 events": ("script", text_of("script", ["0 1 poll 0"] * 1000001)),
     "1,000,001 entries": ("log", text_of("log", ["0 1 poll 0 = done word 0"] * 1000001)),
 }
+
+
+def alternatives(told):
+    """What a row tells, once for each text in backquotes that ', or' joins: each of them in place of the first."""
+    begun, *others = re.split(r", or (?=`)", told)
+    before = begun[: begun.rstrip("`").rfind("`")]
+    return [begun, *(before + other for other in others)]
 
 
 def with_lines_changed(text, told):
@@ -140,10 +157,29 @@ def parts_of(text):
         if block:
             yield number - len(block), "block", "\n".join(block) + "\n"
             block = []
-        if comment := re.match(r"<!-- (system|labels|change|why|show|flows|import|log|close|claims|short|asked): (.*) -->", line):
+        if comment := re.match(r"<!-- (system|labels|change|with|new|why|show|flows|import|log|close|claims|short|asked): (.*) -->", line):
             yield number, comment[1], comment[2]
         elif line.startswith("| "):
             yield number, "row", line
+
+
+def session_of(path):
+    """Where each step of a page of SESSIONS stands, the files that the reader writes before it, its command, and what it shows."""
+    files = {}
+    for number, form, text in parts_of(path.read_text()):
+        names = [name for begins, name in WRITTEN.items() if form == "block" and text.startswith(begins)]
+        files |= {name: text for name in names}
+        if form == "block" and text.startswith("$ "):
+            for step in re.split(r"(?m)^\$ ", text)[1:]:
+                command, _, shown = step.partition("\n")
+                yield f"{path.relative_to(TOP)}:{number}", files, command, shown
+                files = {}
+
+
+def is_shown(shown, out):
+    """Whether a session shows what a command printed. A line that was broken goes on in the next, and `..` stands for any lines."""
+    parts = re.split(r"(?m)^\.\.\n", shown.replace("\n  ", " "))
+    return re.fullmatch("(?:.*\n)*?".join(map(re.escape, parts)), out.replace("\n  ", " ")) is not None
 
 
 def with_one_head(text):
@@ -164,11 +200,15 @@ def examples_of(path):
         where = f"{path.relative_to(TOP)}:{number}"
         kind = (re.match(r" *(?:1  )?confine-(\w+) [12]\n", text) or ["", ""])[1]
         if form == "system":
-            folder = TOP / "examples" / text
-            files = {kind: (folder / kind).read_text() for kind in TEXTS if kind in FILES or (folder / kind).exists()}
+            folder = next(path / text for path in SYSTEMS if (path / text).is_dir())
+            files = {kind: (folder / kind).read_text() for kind in TEXTS if (folder / kind).exists()}
         elif form == "labels":
             files = {kind: text_of(kind, []) for kind in KINDS}
             files["table"] = text_of("table", [f"label {label}" for label in text.split()])
+        elif form == "new":
+            files = files | {"new": changed({"table": files["table"]}, text, "")["table"]}
+        elif form == "with":
+            files = changed(files, text, "")
         elif form == "change":
             change = f"{change} {text}"
         elif form in ("why", "show"):
@@ -188,7 +228,8 @@ def examples_of(path):
         elif form == "claims":
             strongest = True
         elif form == "block" and short:
-            yield where, changed(files, change, text) | {"asked": short[1:]}, f"status {short[0]}\n" + text.replace("\n  ", " ")
+            text = in_one_line(text) if text.startswith("{") else text.replace("\n  ", " ")
+            yield where, changed(files, change, text) | {"asked": short[1:]}, f"status {short[0]}\n{text}"
             change, short = "", []
         elif form == "block" and imports:
             yield where, files | {"asked": ["import", "description", "--rights", *imports.split()]}, text
@@ -228,13 +269,15 @@ def examples_of(path):
             change = ""
         elif form == "row":
             *told, answer = [cell.strip() for cell in text.strip("|").split("|") if cell.strip()] or [""]
+            answer = FAULT.sub(r'`{"fault":\1,"file":"\2","line":\3}`', answer)
             if NOTED.match(answer):
                 yield where, changed(files, " ".join(told), answer), answer + "\n"
             elif REPORT.match(answer):
                 if told and REPORT.match(told[-1]):
                     sharp = told.pop()
                     yield where, changed(files, " ".join(told), sharp) | {"asked": SHARPLY}, sharp.strip("`") + "\n"
-                yield where, changed(files, " ".join(told), answer), answer.strip("`") + "\n"
+                for one in alternatives(" ".join(told)):
+                    yield where, changed(files, one, answer), answer.strip("`") + "\n"
 
 
 def is_answered(answer, status, out):
@@ -295,5 +338,5 @@ def commands_of(answer, asked):
 
 def write(files, folder):
     """Puts the files of an example into a folder; one that it doesn't have is an empty text."""
-    for kind in TEXTS:
+    for kind in [*TEXTS, "new"]:
         (folder / kind).write_bytes(files.get(kind, text_of(kind, [])).encode())

@@ -1,4 +1,4 @@
-"""Claims: their text, as docs/FORMATS.md has it, which of them don't hold, and the strongest that do."""
+"""Claims: their text, as docs/formats has it, which of them don't hold, and the strongest that do."""
 import policies
 import texts
 from flows import Flows
@@ -26,8 +26,8 @@ def claim_of(line, table):
         a, b = end(a, table), end(b, table)
         ask(50, a != b)
         return word, a, b
-    if word == "only":
-        ask(50, len(words) >= 2)
+    if word in ("only", "within", "readers"):
+        ask(50, len(words) >= (1 if word == "readers" else 2))
         labels = [name(each) for each in words]
         labels = [table.label(each) for each in labels]
         ask(50, labels[0] not in labels[1:])
@@ -41,8 +41,10 @@ def claim_of(line, table):
         ask(52, len(set(filters)) == len(filters))
         return "through", a, b, tuple(filters)
     ask(50, word == "without" and len(words) == 3)
-    a, k, b = name(words[0]), kind(words[1]), name(words[2])
-    return word, table.label(a), k, table.label(b)
+    a, k, b = named(words[0]), kind(words[1]), named(words[2])
+    a, b = end(a, table), end(b, table)
+    ask(50, a is not None or b is not None)
+    return word, a, k, b
 
 
 def read(text, table):
@@ -66,11 +68,23 @@ def breach(claim, extents, count):
                 continue
             if claim[0] == "only":
                 bounded, left = b == claim[1] and a not in claim[2], ("none",)
+            elif claim[0] == "within":
+                bounded, left = a == claim[1] and b not in claim[2], ("none",)
             else:
                 bounded = claim[1] in (None, a) and claim[2] in (None, b)
                 left = ("none", claim[0])
             if bounded and extents[a, b] not in left:
                 return a, b, extents[a, b]
+
+
+def excluded(claim, count):
+    """The edges that a claim `readers` or `without` excludes, by label, kind and label."""
+    if claim[0] == "readers":
+        others = [a for a in range(count) if a not in (claim[1], *claim[2])]
+        return [(a, k, claim[1]) for a in others for k in sorted(map(kind, ("read", "receive", "await")))]
+    _, a, k, b = claim
+    ends = [(x, y) for x in range(count) for y in range(count) if a in (None, x) and b in (None, y)]
+    return [(x, k, y) for x, y in ends if x != y or a == b]
 
 
 def broken(claims, table, policy, acts):
@@ -85,12 +99,14 @@ def broken(claims, table, policy, acts):
                 told["claim"] = text.replace("through", "apart", 1)
             if flows.chain(claim[1], claim[2], {*claim[3]}) is not None:
                 yield told
-        elif claim[0] == "without":
-            if claim[1:] in policy:
-                yield told
+        elif claim[0] in ("readers", "without"):
+            if edges := [edge for edge in excluded(claim, count) if edge in policy]:
+                a, k, b = edges[0]
+                names_it = claim[0] == "without" and None not in claim
+                yield told | ({} if names_it else {"edge": [table.labels[a], texts.KINDS[k], table.labels[b]]})
         elif found := breach(claim, extents, count):
             a, b, how = found
-            names_both = claim[0] != "only" and None not in claim
+            names_both = claim[0] not in ("only", "within") and None not in claim
             pair = {} if names_both else {"pair": [table.labels[a], table.labels[b]]}
             yield told | {"authority": how} | pair
 

@@ -1,10 +1,11 @@
-"""The commands: what each writes, and its status, as docs/FORMATS.md has them; authority, certificates, verdicts and last states."""
+"""The commands: what each writes, and its status, as docs/formats has them; authority, certificates, verdicts and last states."""
 import copy
 import json
 import pathlib
 from types import SimpleNamespace
 
 import claim_lists
+import differences
 import flows
 import imports
 import kernel
@@ -259,6 +260,18 @@ def why(table, policy, a, b):
     return 0, "".join(f"{line}\n" for line in [how, *(texts.edge_line(edge, table) for edge in reason)])
 
 
+def users(table, b, reads=False):
+    """The other labels that may change a label, or only take from it, as `why` says; or those that have an edge to read there."""
+    edges, acts = limits(table)
+    l = table.labels.index(b)
+    others = [a for a in range(len(table.labels)) if a != l]
+    if reads:
+        told = [(a, "reads") for a in others if {(a, kind, l) for kind in (policies.READ, policies.RECEIVE, policies.AWAIT)} & edges]
+    else:
+        told = [(a, policies.why(edges, acts, a, l)[0]) for a in others]
+    return 0, "".join(f"{table.labels[a]} {how}\n" for a, how in told if how != "none") or "none\n"
+
+
 def claims(table, claimed=None):
     """Whether these claims hold; where there are none, the strongest that do."""
     edges, acts = limits(table)
@@ -308,6 +321,15 @@ def is_shown(table, events, a, b, takes=False):
     return any(states.shrinks(before, state, number) == takes for number in changed)
 
 
+def compared(old, new, as_json=False):
+    """What changes from one system to another."""
+    told = list(differences.changes(*(differences.Side(table, reach(table)) for table in (old, new))))
+    adds = any(differences.adds(*words) for words, _ in told)
+    if as_json:
+        return int(adds), report(adds=adds, changes=[change | {"sign": words[0]} for words, change in told])
+    return int(adds), "".join(" ".join(words) + "\n" for words, _ in told)
+
+
 def drawn(table, policy=None, every=False):
     edges, acts = limits(table, policy)
     if not every:
@@ -329,8 +351,14 @@ def read(file, text, table, options=()):
     def import_text():
         return imports.imported(text, "all" in options, "--claims" in options)
 
+    def system():
+        described = "--rights" in options and text.lstrip(b" \t\r\n").startswith(b"<")
+        return texts.read_table(import_text().encode() if described else text)
+
     return {
         "description": import_text, "table": lambda: texts.read_table(text), "policy": lambda: texts.read_policy(text, table),
+        "system": system,
+        "draft": lambda: texts.read_draft(text, table),
         "certificate": lambda: texts.read_certificate(text, table),
         "script": lambda: texts.read_script(text), "log": lambda: texts.read_log(text),
         "claims": lambda: claim_lists.read(text, table),
@@ -340,21 +368,27 @@ def read(file, text, table, options=()):
 def answer(command, given, options=()):
     """Status, standard output and standard error of a command. `given` has the bytes of its files, or None where one can't be read;
     `options` are those of the command, each value behind its option, but that of `--policy`, which is a file; the last two of `why` are its
-    labels, and the first two of `show`; `flows` has two or none. It answers None where `show` has to try calls."""
+    labels, of which the first may be `*`, and the first two of `show`; `flows` has two or none. Only `diff` reads descriptions here, with
+    `--rights`, and `import`. It answers None where `show` has to try calls."""
     values = []
     for file, text in zip(files_of(command, options), given):
+        told = "new system" if file == "new" else file
         if text is None:
-            return 2, "", f"confine: cannot read {file}\n"
+            return 2, "", f"confine: cannot read {told}\n"
         try:
-            values.append(read(file, text, values[0] if values else None, options))
+            kind = "draft" if (command, file) == ("close", "policy") else "system" if command == "diff" else file
+            values.append(read(kind, text, values[0] if values else None, options))
         except Fault as fault:
-            return 2, report(fault=fault.number, file=file, line=fault.line), ""
+            return 2, report(fault=fault.number, file=told, line=fault.line), ""
     table, second = values[0], values[1] if len(values) > 1 else None
     alone, rules = ALLOWED * ("--policy" in options), rules_of(options)
     labels = {"why": options[-2:], "show": options[:2], "flows": options[:2]}.get(command, [])
-    for operand, label in zip("AB", labels):
+    everybody = command == "why" and labels[0] == "*"
+    for operand, label in [*zip("AB", labels)][everybody:]:
         if label not in table.labels:
             return 2, "", f"confine: {operand} is no label of the table\n"
+    if everybody:
+        return *users(table, labels[1], "--reads" in options), ""
     if command == "why":
         return *why(table, second, *labels), alone
     if command == "flows":
@@ -366,6 +400,8 @@ def answer(command, given, options=()):
         return *drawn(table, second, "--all" in options), alone
     if command == "import":
         return 0, table, ""
+    if command == "diff":
+        return *compared(table, second, "json" in options), ""
     if command == "close":
         return *close(table, second, rules, "--missing" in options, "--surplus" in options), ""
     if command == "check":

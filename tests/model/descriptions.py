@@ -18,9 +18,9 @@ DOMAIN = f"name!name {TIMES} passive=flag stack_size=number smc=flag cpu=number 
 MAP = "mr!text vaddr!number perms=rights cached=flag setvar_vaddr=text setvar_size=text setvar_prefill_size=text"
 ATTRIBUTES_OF = {
     "/system": "",
-    "system/memory_region": "name!name size!number page_size=page phys_addr=number",
+    "system/memory_region": "name!name size!number page_size=page phys_addr=number prefill_path=text",
     "system/protection_domain": DOMAIN, "protection_domain/protection_domain": f"id!number setvar_id=text {DOMAIN}",
-    "protection_domain/program_image": "path!text", "protection_domain/map": MAP, "virtual_machine/map": MAP,
+    "protection_domain/program_image": "path!text path_for_symbols=text", "protection_domain/map": MAP, "virtual_machine/map": MAP,
     "protection_domain/irq": "irq!number id!number trigger=trigger setvar_id=text",
     "protection_domain/ioport": "id!number addr!number size!number setvar_id=text setvar_addr=text",
     "protection_domain/setvar": "symbol!text region_paddr!text",

@@ -1,4 +1,4 @@
-"""What changes from one system to another of who may change, read and reach whom, label by label and by their names, as docs/FORMATS.md
+"""What changes from one system to another of who may change, read and reach whom, label by label and by their names, as docs/formats
 has it."""
 import summaries
 from policies import AWAIT, READ, RECEIVE
@@ -74,7 +74,8 @@ def labels_changed(old, new, names):
     for name in names:
         one, other = old.standing(name), new.standing(name)
         if sign := differs(one, other, ""):
-            yield (sign, name, one, other) if sign == "~" else (sign, one or other, name)
+            words = (sign, name, one, other) if sign == "~" else (sign, one or other, name)
+            yield words, {"label": name, "old": one or "nothing", "new": other or "nothing"}
 
 
 def cells_changed(old, new, names):
@@ -82,7 +83,8 @@ def cells_changed(old, new, names):
         for l in names:
             one, other = old.cell(a, l), new.cell(a, l)
             if sign := differs(one, other, "."):
-                yield (sign, a, l, one, other) if sign == "~" else (sign, a, l, other if sign == "+" else one)
+                words = (sign, a, l, one, other) if sign == "~" else (sign, a, l, other if sign == "+" else one)
+                yield words, {"cell": [a, l], "old": one, "new": other}
 
 
 def uses_changed(old, new, names):
@@ -90,7 +92,7 @@ def uses_changed(old, new, names):
         for l in names:
             for verb in ("changes", "takes", "reads"):
                 if sign := differs(verb in old.uses(a, l), verb in new.uses(a, l), False):
-                    yield sign, a, verb, l
+                    yield (sign, a, verb, l), {"use": [a, verb, l]}
 
 
 def roles_changed(old, new, names):
@@ -99,7 +101,7 @@ def roles_changed(old, new, names):
             sign = differs(old.has_role(role, name), new.has_role(role, name), False)
             one, other = (old, new) if sign == "+" else (new, old)
             if sign and not (role == "actor" and adds_standing(one.standing(name), other.standing(name))):
-                yield sign, role, name
+                yield (sign, role, name), {"role": [role, name]}
 
 
 def is_shown(without, having, edge):
@@ -117,11 +119,11 @@ def edges_changed(old, new):
         for edge in having.edges():
             if not without.has(edge) and not is_shown(without, having, edge):
                 a, kind, l = edge
-                yield sign, "edge", a, KINDS[kind], l
+                yield (sign, "edge", a, KINDS[kind], l), {"edge": [a, KINDS[kind], l]}
 
 
 def changes(old, new):
-    """Each line, as its sign and its words, in their order."""
+    """Each line, as its sign and its words, with what a report has of it but the sign, in their order."""
     names = [*new.table.labels, *(name for name in old.table.labels if name not in new.table.labels)]
     for part in (labels_changed, cells_changed, uses_changed, roles_changed):
         yield from part(old, new, names)

@@ -1,5 +1,5 @@
 """What flows from one label to another: the smallest sets of programs through which all of it goes, a shortest chain of
-flows, and the matrix of `flows`, as docs/FORMATS.md has them. A program is a label whose threads make calls."""
+flows, and the matrix of `flows`, as docs/formats has them. A program is a label whose threads make calls."""
 import policies
 import summaries
 

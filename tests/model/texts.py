@@ -1,4 +1,4 @@
-"""The texts: tables, policies, scripts, logs and certificates, as docs/FORMATS.md has them, and their faults, as docs/FAULTS.md has them.
+"""The texts: tables, policies, scripts, logs and certificates, as docs/formats has them, and their faults, as docs/FAULTS.md has them.
 
 Each reader goes line by line, and tests in a line what the fault of the lowest rank asks first: 50, 51, 52, 55, 54, 53.
 """
@@ -323,6 +323,19 @@ def read_policy(text, table):
 
     read_lines(text, "confine-policy 1", read)
     return set(edges)
+
+
+def read_draft(text, table):
+    """A policy as `close` reads it: in any order, and without the lines that name a label which the table lacks."""
+    edges = set()
+
+    def read(words):
+        _, a, k, b = form(words, one_of("edge"), name, kind, name)
+        if a in table.labels and b in table.labels:
+            edges.add((table.label(a), k, table.label(b)))
+
+    read_lines(text, "confine-policy 1", read)
+    return edges
 
 
 def edge_line(edge, table):

@@ -189,14 +189,7 @@ fn push_failure(
             push_chain(alloc, lines, reach, *from, *to, filters.set())?;
             Ok(Vec::new(alloc))
         }
-        (Failure::Edge, Claim::Without(actor, kind, object)) => {
-            let edge = Edge {
-                from: *actor,
-                kind: *kind,
-                to: *object,
-            };
-            push_edge(alloc, lines, reach, judged, origins, &edge)
-        }
+        (Failure::Edge(edge), _) => push_edge(alloc, lines, reach, judged, origins, &edge),
         _ => {
             lines.push('\n')?;
             Ok(Vec::new(alloc))

@@ -1,13 +1,14 @@
 -- The search for the first breach of a claim: which pairs it bounds, and which have more.
-use Rattle.std.{specs.List.{Contains, list_any, slice_get}, proofs.Common.{[], ℕ, ◌++◌, ◌<◌, ◌==◌, ◌||◌, ◌↔◌, ◌∙◌, ◌∷◌, ◌≡◌, ◌≢◌}}
-use Rattle.std.proofs.{Common.{Bool, List, Some, ap, arith, inl, inr, length, subst, sym, true}, lemmas.Bool.{cases_order, eqb-true}}
-use Rattle.std.proofs.lemmas.{Bool.{or_cases, or_left, or_right}, List.{get_or_append_left, get_or_push, length_push}}
+use Rattle.std.{specs.List.{Contains, list_any, slice_get}, proofs.Common.{[], ℕ, ◌&&◌, ◌++◌, ◌<◌, ◌==◌, ◌||◌, ◌↔◌, ◌∙◌, ◌∷◌, ◌≡◌, ◌≢◌}}
+use Rattle.std.proofs.{Common.{Bool, List, Some, ap, arith, false, get_or, inl, inr, length, not, refl, subst, sym, true}}
+use Rattle.std.proofs.lemmas.Bool.{cases_order, eq-eqb, eqb-true, false≢true, not-true, or_cases, or_left, or_right}
+use Rattle.std.proofs.lemmas.List.{Folds.list_any_at, get_or_append_left, get_or_push, length_push}
 use Rattle.std.proofs.lemmas.{Map.Views.Contains-from_any, Option.{get_or_from_slice_get, slice_get-get_or, slice_get_within}}
 use Rattle.machine.specs.Layout.{Layout}
 use Rattle.reach.specs.Extents.{GoesTo, MayChangeIn, MayShrinkIn, Limits}
 use Rattle.claims.specs.declared.{breaches.Breach.Breach, claim.{Claim.{Claim, Claim as claim}, Most.Most as most}, rows.Row.Row}
 use Rattle.claims.specs.{Breaches.{HoldsOf, IsFirstBreachBy}, Holding.{Bounds, ComesBefore, HasAtMost, IsFirstBreach, most_of}}
-use Rattle.claims.specs.Rows.{IsRow}
+use Rattle.claims.specs.{Claims.is_one_of, Rows.IsRow}
 
 -- a row has more than a claim leaves
 
@@ -54,6 +55,29 @@ module _ (t : Layout) (limits : Limits) (claim : Claim) where
 pub among : (labels : List ℕ) (a : ℕ) → list_any (λ other. a == other) labels ≡ true → Contains labels a
 among labels a is = Contains-from_any {eq = ◌==◌} (λ x y same. eqb-true x y same) a labels is
 
+both : (x y : Bool) → (x && y) ≡ true → (x ≡ true) × (y ≡ true)
+both true y is = (refl, is)
+both false y is = absurd (false≢true is)
+
+-- labels that aren't among others, as a set of labels without these has them
+module _ (objects : List ℕ) (l : ℕ) (here without : Bool) (is : without ≡ (here && not (is_one_of objects l))) where
+  one_of : Contains objects l → is_one_of objects l ≡ true
+  one_of has = list_any_at (λ other. other == l) objects has.0 l has.1 (eq-eqb (get_or objects has.0 l) l has.2)
+
+  pub outside : (without ≡ true) ↔ ((here ≡ true) × (¬ Contains objects l))
+  outside = (
+    λ has.
+        let parts = both here (not (is_one_of objects l)) (sym is ∙ has) in
+        (parts.0, λ among. false≢true (sym (not-true (is_one_of objects l) parts.1) ∙ one_of among)),
+    λ parts. is ∙ by (is_one_of objects l) refl parts,
+  ) where
+    found : is_one_of objects l ≡ true → Contains objects l
+    found one = Contains-from_any {eq = λ x y. y == x} (λ x y same. sym (eqb-true y x same)) l objects one
+
+    by : (one : Bool) → is_one_of objects l ≡ one → (here ≡ true) × (¬ Contains objects l) → (here && not one) ≡ true
+    by true one parts = absurd (parts.1 (found one))
+    by false one parts = ap (λ b. b && true) parts.0
+
 -- one row more
 module _ (limits : Limits) (rows : List Row) (row : Row) (n : ℕ) (count : length rows ≡ n) (is : IsRow limits n row)
     (so_far : (a : ℕ) (other : Row) → slice_get rows a ≡ Some other → IsRow limits a other)
@@ -77,5 +101,7 @@ module _ (limits : Limits) (rows : List Row) (row : Row) (n : ℕ) (count : leng
 pub bounded_within : (t : Layout) (claim : Claim) (a l : ℕ) → Bounds t claim a l → a < length t.labels
 bounded_within t (claim.AtMost limit actor object) a l bounded = bounded.0.0
 bounded_within t (claim.Only object actors) a l bounded = bounded.0.0
+bounded_within t (claim.Within actor objects) a l bounded = bounded.0.0
+bounded_within t (claim.Readers object readers) a l bounded = absurd bounded
 bounded_within t (claim.Through from to filters) a l bounded = absurd bounded
 bounded_within t (claim.Without actor kind object) a l bounded = absurd bounded

@@ -1,11 +1,12 @@
 -- Of the lines of a text there is one list of the claims that don't hold.
 use Rattle.std.proofs.Common.{[], ℕ, ◌+◌, ◌∙◌, ◌∷◌, ◌≡◌, ◌⊎◌, List, None, Option, Some, ap, inl, inr, refl, subst, sym}
-use Rattle.std.proofs.lemmas.Bool.{cases_order}
+use Rattle.std.proofs.lemmas.Bool.{cases_order, false≢true}
+use Rattle.base.{specs.{declared.edge.Edge.Edge, Kinds.kind_number}, proofs.KindNames.number_once}
 use Rattle.machine.specs.Layout.{Layout}
 use Rattle.reach.specs.{declared.extent.Extent.{Extent, Extent as extent}, Extents.{GoesTo, Limits}}
 use Rattle.claims.specs.declared.{breaches.Breach.Breach, claim.Claim.{Claim, Claim as claim}, deciding.Broken.Broken}
-use Rattle.claims.specs.{declared.deciding.Failure.{Failure, Failure as failure}, Holding.{AreBroken, Fails, FailsOnPair, IsBroken}}
-use Rattle.claims.specs.Holding.{ComesBefore, IsFirstBreach, broke, ended, held, silent}
+use Rattle.claims.specs.{declared.deciding.Failure.{Failure, Failure as failure}, Holding.{AreBroken, Fails, FailsOnEdge, FailsOnPair, IsBroken}}
+use Rattle.claims.specs.Holding.{ComesBefore, EdgeComesBefore, IsFirstBreach, IsFirstEdge, broke, ended, held, silent}
 
 -- an authority goes so far, and no other way
 pub extents_once : (limits : Limits) (a l : ℕ) (e f : Extent) → GoesTo limits a l e → GoesTo limits a l f → e ≡ f
@@ -31,6 +32,21 @@ pairs a l b m = elim (cases_order a b) [
   | inr (inr after) ↦ inr (inl (inl after))
 ]
 
+-- and two edges
+edges : (one other : Edge)
+    → EdgeComesBefore one.from one.kind one.to other ⊎ (EdgeComesBefore other.from other.kind other.to one ⊎ (one ≡ other))
+edges one other = elim (cases_order one.from other.from) [
+  | inl same ↦ elim (pairs (kind_number one.kind) one.to (kind_number other.kind) other.to) [
+    | inl before ↦ inl (inr (same, before))
+    | inr (inl after) ↦ inr (inl (inr (sym same, after)))
+    | inr (inr also) ↦
+        let kinds : one.kind ≡ other.kind = number_once one.kind other.kind also.0 in
+        inr (inr (λ i. record { from = same i; kind = kinds i; to = also.1 i }))
+  ]
+  | inr (inl before) ↦ inl (inl before)
+  | inr (inr after) ↦ inr (inl (inl after))
+]
+
 module _ (t : Layout) (limits : Limits) where
   breach_once : (claim : Claim) (one other : Breach) → IsFirstBreach t limits claim one → IsFirstBreach t limits claim other → one ≡ other
   breach_once claim one other is also = elim (pairs one.actor one.object other.actor other.object) [
@@ -46,15 +62,31 @@ module _ (t : Layout) (limits : Limits) where
   on_pair_once : (claim : Claim) (one other : Failure) → FailsOnPair t limits claim one → FailsOnPair t limits claim other → one ≡ other
   on_pair_once claim (failure.Pair one) (failure.Pair other) is also = ap failure.Pair (breach_once claim one other is also)
   on_pair_once claim failure.Chain other is also = absurd is
-  on_pair_once claim failure.Edge other is also = absurd is
+  on_pair_once claim (failure.Edge edge) other is also = absurd is
   on_pair_once claim (failure.Pair one) failure.Chain is also = absurd also
-  on_pair_once claim (failure.Pair one) failure.Edge is also = absurd also
+  on_pair_once claim (failure.Pair one) (failure.Edge edge) is also = absurd also
+
+  edge_once : (claim : Claim) (one other : Edge) → IsFirstEdge t limits.test claim one → IsFirstEdge t limits.test claim other → one ≡ other
+  edge_once claim one other is also = elim (edges one other) [
+    | inl before ↦ absurd (false≢true (sym (also.first one.from one.kind one.to is.excluded before) ∙ is.has))
+    | inr (inl after) ↦ absurd (false≢true (sym (is.first other.from other.kind other.to also.excluded after) ∙ also.has))
+    | inr (inr same) ↦ same
+  ]
+
+  on_edge_once : (claim : Claim) (one other : Failure) → FailsOnEdge t limits.test claim one → FailsOnEdge t limits.test claim other → one ≡ other
+  on_edge_once claim (failure.Edge one) (failure.Edge other) is also = ap failure.Edge (edge_once claim one other is also)
+  on_edge_once claim failure.Chain other is also = absurd is
+  on_edge_once claim (failure.Pair breach) other is also = absurd is
+  on_edge_once claim (failure.Edge one) failure.Chain is also = absurd also
+  on_edge_once claim (failure.Edge one) (failure.Pair breach) is also = absurd also
 
   fails_once : (claim : Claim) (one other : Failure) → Fails t limits claim one → Fails t limits claim other → one ≡ other
   fails_once (claim.AtMost most actor object) one other is also = on_pair_once (claim.AtMost most actor object) one other is also
   fails_once (claim.Only object actors) one other is also = on_pair_once (claim.Only object actors) one other is also
+  fails_once (claim.Within actor objects) one other is also = on_pair_once (claim.Within actor objects) one other is also
+  fails_once (claim.Readers object readers) one other is also = on_edge_once (claim.Readers object readers) one other is also
   fails_once (claim.Through from to filters) one other is also = is.0 ∙ sym also.0
-  fails_once (claim.Without actor kind object) one other is also = is.0 ∙ sym also.0
+  fails_once (claim.Without actor kind object) one other is also = on_edge_once (claim.Without actor kind object) one other is also
 
   one_broken : (line : ℕ) (claim : Claim) (one other : Broken) → IsBroken t limits line claim one → IsBroken t limits line claim other → one ≡ other
   one_broken line claim one other is also =

@@ -26,8 +26,10 @@ abbrev pub same_claim : Claim → Claim → Bool
 same_claim (claim.AtMost limit actor object) (claim.AtMost least agent thing) =
     same_most limit least && (same_who actor agent && same_who object thing)
 same_claim (claim.Only object actors) (claim.Only thing agents) = (object == thing) && pointwise ◌==◌ actors agents
+same_claim (claim.Within actor objects) (claim.Within agent things) = (actor == agent) && pointwise ◌==◌ objects things
+same_claim (claim.Readers object readers) (claim.Readers thing others) = (object == thing) && pointwise ◌==◌ readers others
 same_claim (claim.Through from to filters) (claim.Through start end others) =
     (from == start) && ((to == end) && pointwise ◌==◌ filters others)
 same_claim (claim.Without actor kind object) (claim.Without agent sort thing) =
-    (actor == agent) && ((kind_number kind == kind_number sort) && (object == thing))
+    same_who actor agent && ((kind_number kind == kind_number sort) && same_who object thing)
 same_claim _ _ = false

@@ -1,8 +1,9 @@
 -- When claims hold, what is then kept in every run from a table's boot state, and which of the claims of a text don't
 -- hold (the authority and what is kept are those of 'seL4 Enforces Integrity', sections 4 and 5, restated; claims are confine's own).
 use Rattle.std.specs.{List.Contains, Prelude.{[], ℕ, ◌+◌, ◌<◌, ◌∷◌, ◌≡◌, ◌≢◌, ◌⊎◌, List, None, Option, Some, false, length, true}}
-use Rattle.base.specs.declared.kind.Kind.{Kind}
+use Rattle.base.specs.{declared.{edge.Edge.Edge, kind.Kind.{Kind, TheVariants.{Await, Read, Receive}}}, Kinds.kind_number}
 use Rattle.machine.specs.{Authority.HasAuthority, Layout.Layout, Machine.Machine}
+use Rattle.policy.specs.Domain.{EdgeTest}
 use Rattle.integrity.specs.{Apart.{NeverChanges, OnlyTakes}, Safe.IsReached}
 use Rattle.reach.specs.Extents.{GoesTo, MayChangeIn, MayShrinkIn, Limits}
 use Rattle.flows.specs.Flowing.{IsClosedOff, IsShielded, Leads}
@@ -25,6 +26,8 @@ AreTwo t a l = (a < length t.labels) × (l < length t.labels) × (a ≢ l)
 abbrev pub Bounds : Layout → Claim → ℕ → ℕ → Type 0
 Bounds t (claim.AtMost _ actor object) a l = AreTwo t a l × IsNamed actor a × IsNamed object l
 Bounds t (claim.Only object actors) a l = AreTwo t a l × (l ≡ object) × (¬ Contains actors a)
+Bounds t (claim.Within actor objects) a l = AreTwo t a l × (a ≡ actor) × (¬ Contains objects l)
+Bounds t (claim.Readers _ _) a l = ⊥
 Bounds t (claim.Through _ _ _) a l = ⊥
 Bounds t (claim.Without _ _ _) a l = ⊥
 
@@ -32,6 +35,22 @@ Bounds t (claim.Without _ _ _) a l = ⊥
 abbrev pub most_of : Claim → Most
 most_of (claim.AtMost limit _ _) = limit
 most_of _ = most.Nothing
+
+-- by such authority threads take what another label has to read: messages, signals or words
+abbrev pub IsReading : Kind → Type 0
+IsReading kind = (kind ≡ Receive) ⊎ ((kind ≡ Await) ⊎ (kind ≡ Read))
+
+-- the ends of `without` name these labels: `*` each label of the table but that of the other end. Two labels may be one
+abbrev pub AreNamed : Layout → Who → Who → ℕ → ℕ → Type 0
+AreNamed t (who.One actor) (who.One object) a l = (a ≡ actor) × (l ≡ object)
+AreNamed t (who.One actor) who.Others a l = AreTwo t a l × (a ≡ actor)
+AreNamed t who.Others object a l = AreTwo t a l × IsNamed object l
+
+-- a claim excludes authority of this kind of a label on another
+abbrev pub Excludes : Layout → Claim → ℕ → Kind → ℕ → Type 0
+Excludes t (claim.Readers object readers) a kind l = AreTwo t a l × (l ≡ object) × (¬ Contains readers a) × IsReading kind
+Excludes t (claim.Without actor sort object) a kind l = AreNamed t actor object a l × (kind ≡ sort)
+Excludes t _ a kind l = ⊥
 
 -- when it holds: for labels that are kept apart, but for filters, if a set of labels is closed off. Then no chain of flows leads from the one to the
 -- other, and where a claim fails, one does
@@ -45,11 +64,17 @@ HasAtMost limits a l most.Take = ¬ MayChangeIn limits a l
 abbrev pub HoldsOnPairs : Layout → Limits → Claim → Type 0
 HoldsOnPairs t limits claim = (a l : ℕ) → Bounds t claim a l → HasAtMost limits a l (most_of claim)
 
+-- there is no edge that the claim excludes
+abbrev pub HoldsOnEdges : Layout → EdgeTest → Claim → Type 0
+HoldsOnEdges t test claim = (a : ℕ) (kind : Kind) (l : ℕ) → Excludes t claim a kind l → test a kind l ≡ false
+
 abbrev pub Holds : Layout → Limits → Claim → Type 0
 Holds t limits (claim.AtMost limit actor object) = HoldsOnPairs t limits (claim.AtMost limit actor object)
 Holds t limits (claim.Only object actors) = HoldsOnPairs t limits (claim.Only object actors)
+Holds t limits (claim.Within actor objects) = HoldsOnPairs t limits (claim.Within actor objects)
+Holds t limits (claim.Readers object readers) = HoldsOnEdges t limits.test (claim.Readers object readers)
 Holds t limits (claim.Through from to filters) = IsClosedOff limits (is_one_of filters) from to
-Holds t limits (claim.Without actor kind object) = limits.test actor kind object ≡ false
+Holds t limits (claim.Without actor kind object) = HoldsOnEdges t limits.test (claim.Without actor kind object)
 
 -- what is kept in every run
 
@@ -66,12 +91,17 @@ NeverHas t a kind l = (m : Machine) → IsReached t m → ¬ HasAuthority t m a 
 abbrev pub KeepsPairs : Layout → Claim → Type 0
 KeepsPairs t claim = (a l : ℕ) → Bounds t claim a l → KeepsAtMost t a l (most_of claim)
 
+abbrev pub KeepsEdges : Layout → Claim → Type 0
+KeepsEdges t claim = (a : ℕ) (kind : Kind) (l : ℕ) → Excludes t claim a kind l → NeverHas t a kind l
+
 -- what is claimed is kept in every run from the table's boot state
 abbrev pub IsKept : Layout → Limits → Claim → Type 0
 IsKept t limits (claim.AtMost limit actor object) = KeepsPairs t (claim.AtMost limit actor object)
 IsKept t limits (claim.Only object actors) = KeepsPairs t (claim.Only object actors)
+IsKept t limits (claim.Within actor objects) = KeepsPairs t (claim.Within actor objects)
+IsKept t limits (claim.Readers object readers) = KeepsEdges t (claim.Readers object readers)
 IsKept t limits (claim.Through from to filters) = IsShielded t limits (is_one_of filters) from to
-IsKept t limits (claim.Without actor kind object) = NeverHas t actor kind object
+IsKept t limits (claim.Without actor kind object) = KeepsEdges t (claim.Without actor kind object)
 
 -- where it doesn't hold
 
@@ -86,18 +116,37 @@ pub record IsFirstBreach (t : Layout) (limits : Limits) (claim : Claim) (breach 
   pub goes_to : GoesTo limits breach.actor breach.object breach.extent
   pub first : (a l : ℕ) → Bounds t claim a l → ComesBefore a l breach.actor breach.object → HasAtMost limits a l (most_of claim)
 
--- what is told of a claim that doesn't hold: its first breach, if it bounds pairs; else that there is a chain, or the edge
+-- an edge comes before another: by label, then kind, then label
+abbrev pub EdgeComesBefore : ℕ → Kind → ℕ → Edge → Type 0
+EdgeComesBefore a kind l edge =
+    (a < edge.from) ⊎ ((a ≡ edge.from) × ComesBefore (kind_number kind) l (kind_number edge.kind) edge.to)
+
+-- the first edge that a claim excludes, and that is there
+pub record IsFirstEdge (t : Layout) (test : EdgeTest) (claim : Claim) (edge : Edge) : Type 0 where
+  pub excluded : Excludes t claim edge.from edge.kind edge.to
+  pub has : test edge.from edge.kind edge.to ≡ true
+  pub first : (a : ℕ) (kind : Kind) (l : ℕ) → Excludes t claim a kind l → EdgeComesBefore a kind l edge → test a kind l ≡ false
+
+-- what is told of a claim that doesn't hold: its first breach, if it bounds pairs; its first edge, if it excludes edges; else that there
+-- is a chain
 
 abbrev pub FailsOnPair : Layout → Limits → Claim → Failure → Type 0
 FailsOnPair t limits claim (failure.Pair breach) = IsFirstBreach t limits claim breach
 FailsOnPair t limits claim failure.Chain = ⊥
-FailsOnPair t limits claim failure.Edge = ⊥
+FailsOnPair t limits claim (failure.Edge edge) = ⊥
+
+abbrev pub FailsOnEdge : Layout → EdgeTest → Claim → Failure → Type 0
+FailsOnEdge t test claim (failure.Edge edge) = IsFirstEdge t test claim edge
+FailsOnEdge t test claim failure.Chain = ⊥
+FailsOnEdge t test claim (failure.Pair breach) = ⊥
 
 abbrev pub Fails : Layout → Limits → Claim → Failure → Type 0
 Fails t limits (claim.AtMost limit actor object) told = FailsOnPair t limits (claim.AtMost limit actor object) told
 Fails t limits (claim.Only object actors) told = FailsOnPair t limits (claim.Only object actors) told
+Fails t limits (claim.Within actor objects) told = FailsOnPair t limits (claim.Within actor objects) told
+Fails t limits (claim.Readers object readers) told = FailsOnEdge t limits.test (claim.Readers object readers) told
 Fails t limits (claim.Through from to filters) told = (told ≡ failure.Chain) × Leads limits (is_one_of filters) from to
-Fails t limits (claim.Without actor kind object) told = (told ≡ failure.Edge) × (limits.test actor kind object ≡ true)
+Fails t limits (claim.Without actor kind object) told = FailsOnEdge t limits.test (claim.Without actor kind object) told
 
 -- the claim of a line doesn't hold
 pub record IsBroken (t : Layout) (limits : Limits) (line : ℕ) (claim : Claim) (broken : Broken) : Type 0 where

@@ -5,4 +5,5 @@ pub mod Holding
 pub mod Strongest
 pub mod Rows
 pub mod Breaches
+pub mod Edges
 pub mod Text

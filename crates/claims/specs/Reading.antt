@@ -46,6 +46,11 @@ may_meet (who.One _) who.Others = true
 may_meet who.Others (who.One _) = true
 may_meet who.Others who.Others = false
 
+-- whether both ends stand for all others
+abbrev pub are_others : Who → Who → Bool
+are_others who.Others who.Others = true
+are_others _ _ = false
+
 -- these labels and those of the names
 unfoldable pub labels_named : Layout → List ℕ → List (List ℕ) → Result (List ℕ) Wrong
 labels_named t labels [] = Ok labels
@@ -71,17 +76,40 @@ at_most_claim t limit words = do
   _ ← demand (may_meet one other) wrong.Syntax
   Ok (claim.AtMost limit one other)
 
+-- a label and others: none of these is the label or comes twice
+unfoldable pub label_and_others : Layout → List ℕ → List (List ℕ) → Result (ℕ × List ℕ) Wrong
+label_and_others t name names = do
+  label ← label_at t name
+  others ← labels_named t [] names
+  _ ← demand (not (is_one_of others label)) wrong.Syntax
+  _ ← demand (are_distinct [] others) wrong.Double
+  Ok (label, others)
+
 -- LABEL LABEL ..
+unfoldable pub one_and_more : Layout → List (List ℕ) → Result (ℕ × List ℕ) Wrong
+one_and_more t words = do
+  name ← name_at words
+  names ← names_after [] name.1
+  _ ← demand (not (is_nil names)) wrong.Syntax
+  label_and_others t name.0 names
+
 unfoldable pub only_claim : Layout → List (List ℕ) → Result Claim Wrong
 only_claim t words = do
-  object ← name_at words
-  names ← names_after [] object.1
-  _ ← demand (not (is_nil names)) wrong.Syntax
-  label ← label_at t object.0
-  actors ← labels_named t [] names
-  _ ← demand (not (is_one_of actors label)) wrong.Syntax
-  _ ← demand (are_distinct [] actors) wrong.Double
-  Ok (claim.Only label actors)
+  labels ← one_and_more t words
+  Ok (claim.Only labels.0 labels.1)
+
+unfoldable pub within_claim : Layout → List (List ℕ) → Result Claim Wrong
+within_claim t words = do
+  labels ← one_and_more t words
+  Ok (claim.Within labels.0 labels.1)
+
+-- LABEL ..
+unfoldable pub readers_claim : Layout → List (List ℕ) → Result Claim Wrong
+readers_claim t words = do
+  name ← name_at words
+  names ← names_after [] name.1
+  labels ← label_and_others t name.0 names
+  Ok (claim.Readers labels.0 labels.1)
 
 -- LABEL LABEL
 unfoldable pub apart_claim : Layout → List (List ℕ) → Result Claim Wrong
@@ -108,15 +136,16 @@ through_claim t words = do
   _ ← demand (are_distinct [] filters) wrong.Double
   Ok (claim.Through one other filters)
 
--- LABEL KIND LABEL
+-- END KIND END
 unfoldable pub without_claim : Layout → List (List ℕ) → Result Claim Wrong
 without_claim t words = do
-  actor ← name_at words
+  actor ← end_at words
   kind ← kind_at actor.1
-  object ← name_at kind.1
+  object ← end_at kind.1
   _ ← ended_at object.1
-  one ← label_at t actor.0
-  other ← label_at t object.0
+  one ← who_named t actor.0
+  other ← who_named t object.0
+  _ ← demand (not (are_others one other)) wrong.Syntax
   Ok (claim.Without one kind.0 other)
 
 -- by its first word
@@ -125,10 +154,12 @@ claim_by t word words =
     if bytes_eq word (codes "none") then at_most_claim t most.Nothing words else
     (if bytes_eq word (codes "take") then at_most_claim t most.Take words else
     (if bytes_eq word (codes "only") then only_claim t words else
+    (if bytes_eq word (codes "within") then within_claim t words else
+    (if bytes_eq word (codes "readers") then readers_claim t words else
     (if bytes_eq word (codes "apart") then apart_claim t words else
     (if bytes_eq word (codes "through") then through_claim t words else
     (if bytes_eq word (codes "without") then without_claim t words else
-    Err wrong.Syntax)))))
+    Err wrong.Syntax)))))))
 
 -- lines
 

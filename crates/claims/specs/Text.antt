@@ -21,9 +21,10 @@ through_words t from to (filter ∷ filters) =
 abbrev pub claim_words : Layout → Claim → List (List ℕ)
 claim_words t (claim.AtMost limit actor object) = most_word limit ∷ end_word t actor ∷ end_word t object ∷ []
 claim_words t (claim.Only object actors) = codes "only" ∷ label_name t object ∷ map (label_name t) actors
+claim_words t (claim.Within actor objects) = codes "within" ∷ label_name t actor ∷ map (label_name t) objects
+claim_words t (claim.Readers object readers) = codes "readers" ∷ label_name t object ∷ map (label_name t) readers
 claim_words t (claim.Through from to filters) = through_words t from to filters
-claim_words t (claim.Without actor kind object) =
-    codes "without" ∷ label_name t actor ∷ kind_name kind ∷ label_name t object ∷ []
+claim_words t (claim.Without actor kind object) = codes "without" ∷ end_word t actor ∷ kind_name kind ∷ end_word t object ∷ []
 
 -- a claim as it is told
 abbrev pub claim_text : Layout → Claim → List ℕ

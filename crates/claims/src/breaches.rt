@@ -32,7 +32,7 @@ fn names(who: Who, label: Label) -> bool
 }
 
 /// The labels of these that an end of a claim names.
-fn named(who: Who, labels: Labels) -> Labels
+pub(crate) fn named(who: Who, labels: Labels) -> Labels
     ensures { (l : ℕ) → (is_in result l ≡ true) ↔ ((is_in labels l ≡ true) × IsNamed who l) }
 {
     match who {
@@ -41,7 +41,7 @@ fn named(who: Who, labels: Labels) -> Labels
     }
 }
 
-/// Whether `only` names this label beside its object.
+/// Whether `only` or `readers` names this label beside its object.
 fn is_among(actors: &LabelList, actor: Label) -> bool
     ensures { result ≡ list_any (λ other. actor == other) actors.now }
 {
@@ -61,8 +61,13 @@ fn objects_of_ends(actors: Who, objects: Who, others: Labels, actor: Label) -> L
     named(objects, others)
 }
 
-/// The label of a table but this one with which `only` bounds what it does.
-fn objects_of_only(object: Label, actors: &LabelList, others: Labels, actor: Label) -> Labels
+/// The label of a table but this one with which `only` bounds what it does, and `readers` whether it reads.
+pub(crate) fn objects_of_only(
+    object: Label,
+    actors: &LabelList,
+    others: Labels,
+    actor: Label,
+) -> Labels
     ensures { (l : ℕ) → (is_in result l ≡ true)
         ↔ ((is_in others l ≡ true) × (l ≡ object) × (¬ Contains actors.now actor)) }
 {
@@ -70,6 +75,17 @@ fn objects_of_only(object: Label, actors: &LabelList, others: Labels, actor: Lab
         return Labels::none();
     }
     others.intersection(Labels::only(object))
+}
+
+/// The labels of a table but this one with which `within` bounds what it does.
+fn objects_of_within(by: Label, objects: &LabelList, others: Labels, actor: Label) -> Labels
+    ensures { (l : ℕ) → (is_in result l ≡ true)
+        ↔ ((is_in others l ≡ true) × (actor ≡ by) × (¬ Contains objects.now l)) }
+{
+    if actor.number() != by.number() {
+        return Labels::none();
+    }
+    others.difference(objects.set())
 }
 
 /// The labels of a table with which a claim bounds what this one does.
@@ -83,6 +99,8 @@ fn objects_of(claim: &Claim, labels: Labels, actor: Label) -> Labels
     match claim {
         Claim::AtMost(_, actors, objects) => objects_of_ends(*actors, *objects, others, actor),
         Claim::Only(object, actors) => objects_of_only(*object, actors, others, actor),
+        Claim::Within(by, objects) => objects_of_within(*by, objects, others, actor),
+        Claim::Readers(_, _) => Labels::none(),
         Claim::Through(_, _, _) => Labels::none(),
         Claim::Without(_, _, _) => Labels::none(),
     }

@@ -100,11 +100,15 @@ pub enum Claim {
     AtMost(Most, Who, Who),
     /// `only`: objects of the label are changed by threads of its own and of these labels alone.
     Only(Label, LabelList),
+    /// `within`: threads of the label change objects of its own and of these labels alone.
+    Within(Label, LabelList),
+    /// `readers`: the label and these labels alone have a way to read objects of the label.
+    Readers(Label, LabelList),
     /// `apart`, and with filters `through`: no chain of flows leads from the first label to the second, but
     /// through these filters.
     Through(Label, Label, LabelList),
-    /// `without`: the first label never has this kind of authority on the second.
-    Without(Label, Kind, Label),
+    /// `without`: labels of the one end never have this kind of authority on those of the other.
+    Without(Who, Kind, Who),
 }
 
 /// Whether two claims leave as much.
@@ -145,6 +149,12 @@ impl Claim {
             (Claim::Only(object, actors), Claim::Only(other_object, other_actors)) => {
                 object.number() == other_object.number() && are_same_labels(actors, other_actors)
             }
+            (Claim::Within(actor, objects), Claim::Within(other_actor, other_objects)) => {
+                actor.number() == other_actor.number() && are_same_labels(objects, other_objects)
+            }
+            (Claim::Readers(object, readers), Claim::Readers(other_object, other_readers)) => {
+                object.number() == other_object.number() && are_same_labels(readers, other_readers)
+            }
             (
                 Claim::Through(from, to, filters),
                 Claim::Through(other_from, other_to, other_filters),
@@ -157,9 +167,9 @@ impl Claim {
                 Claim::Without(actor, kind, object),
                 Claim::Without(other_actor, other_kind, other_object),
             ) => {
-                actor.number() == other_actor.number()
+                is_same_who(*actor, *other_actor)
                     && kind.number() == other_kind.number()
-                    && object.number() == other_object.number()
+                    && is_same_who(*object, *other_object)
             }
             _ => false,
         }

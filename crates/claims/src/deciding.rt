@@ -2,33 +2,37 @@
 ghost use Rattle.std.specs.{List.Contains, Prelude.{[], ℕ, ◌≡◌, IfErr, IfNone, IfOk, IfSome, Some}};
 ghost use Rattle.base.specs.Refusals.{out_of_memory};
 ghost use Rattle.machine.specs.Layout.{Layout};
+ghost use Rattle.policy.specs.Policy.{allows};
 ghost use Rattle.table.specs.Names.{AreLabelsOf};
 ghost use Rattle.reach.specs.Extents.{Limits, limits_of};
 ghost use Rattle.flows.specs.Flowing.{IsClosedOff, Leads};
 ghost use Rattle.claims.specs.Claims.{is_one_of};
 ghost use Rattle.claims.specs.{declared.claim.Claim.Claim as ClaimOf, Holding.AreBroken};
-ghost use Rattle.claims.specs.{Holding.{Fails, FailsOnPair, Holds, HoldsOnPairs, IsKept}, Rows.AreRows};
+ghost use Rattle.claims.specs.Holding.{Fails, FailsOnEdge, FailsOnPair, Holds, HoldsOnEdges, HoldsOnPairs, IsKept};
+ghost use Rattle.claims.specs.Rows.{AreRows};
 ghost use Rattle.claims.specs.declared.lines.TheConstants.ClaimLines as ClaimLines;
 
 use crate::breaches::{Breach, first_breach};
 use crate::claim::{Claim, LabelList};
+use crate::edges::first_edge;
 use crate::lines::ClaimLines;
 use crate::rows::Rows;
 use base::{Edge, Label, Labels, Refusal};
 use flows::Flows;
+use policy::Policy;
 use reach::Reach;
 use std::alloc::Global;
 
 /// Why a claim doesn't hold.
 #[derive(Clone, Copy, PartialEq, Eq, Debug)]
 pub enum Failure {
-    /// The first pair of labels of which the one has more authority on the other than `none`, `take` or
-    /// `only` leaves it.
+    /// The first pair of labels of which the one has more authority on the other than `none`, `take`, `only`
+    /// or `within` leaves it.
     Pair(Breach),
     /// A chain of flows leads from the one label of `apart` or `through` to the other, beside all filters.
     Chain,
-    /// The reach has the edge that `without` excludes.
-    Edge,
+    /// The first edge of the reach that `readers` or `without` excludes.
+    Edge(Edge),
 }
 
 /// A claim that doesn't hold.
@@ -55,10 +59,12 @@ pub fn all_broken(
         AreBroken reach.now.table (limits_of reach.now) ClaimLines.FIRST lines.now broken.items) }
 
     // `none A B`: in every run from the table's boot state no step of a thread of A changes an object of B; nor,
-    // for `take A B`, other than by shrinking it. `only B A`: no step of a thread of another label does. `through
-    // A B F ..`, and `apart A B` without an F: there is a set of labels with B and without A and each F. Threads
-    // of labels outside it, but for each F, never change an object of a label in it, or one that a label in it
-    // sees, but for objects of each F. `without A KIND B`: no state gives A this authority on B.
+    // for `take A B`, other than by shrinking it. `only B A`: no step of a thread of another label does. `within A
+    // B`: no step of a thread of A changes an object of another label. `readers B A`: no state gives another label
+    // authority to read, receive or await on B. `through A B F ..`, and `apart A B` without an F: there is a set of
+    // labels with B and without A and each F. Threads of labels outside it, but for each F, never change an object
+    // of a label in it, or one that a label in it sees, but for objects of each F. `without A KIND B`: no state
+    // gives A this authority on B.
     ensures kept { (claim : ClaimOf) → Holds reach.now.table (limits_of reach.now) claim
         → IsKept reach.now.table (limits_of reach.now) claim }
     ensures all_kept { IfOk result (λ broken. broken.items ≡ []
@@ -111,6 +117,19 @@ fn pair_failure(rows: &Rows, labels: Labels, claim: &Claim) -> Option<Failure>
     }
 }
 
+/// Why a claim that excludes edges doesn't hold, if it doesn't.
+fn edge_failure(policy: &Policy, labels: Labels, claim: &Claim) -> Option<Failure>
+    ensures some { IfSome result (λ told. (t : Layout) → AreLabelsOf t labels
+        → FailsOnEdge t (allows policy.now) claim.now told) }
+    ensures none { IfNone result ((t : Layout) → AreLabelsOf t labels
+        → HoldsOnEdges t (allows policy.now) claim.now) }
+{
+    match first_edge(policy, labels, claim) {
+        Some(edge) => Some(Failure::Edge(edge)),
+        None => None,
+    }
+}
+
 /// Why a claim that keeps labels apart, but for filters, doesn't hold, if it doesn't.
 fn through_failure(
     flows: &Flows<'_>,
@@ -145,17 +164,9 @@ fn failure_of(
     match claim {
         Claim::AtMost(_, _, _) => pair_failure(rows, labels, claim),
         Claim::Only(_, _) => pair_failure(rows, labels, claim),
+        Claim::Within(_, _) => pair_failure(rows, labels, claim),
+        Claim::Readers(_, _) => edge_failure(reach.policy(), labels, claim),
         Claim::Through(from, to, filters) => through_failure(flows, *from, *to, filters),
-        Claim::Without(actor, kind, object) => {
-            let edge = Edge {
-                from: *actor,
-                kind: *kind,
-                to: *object,
-            };
-            if reach.policy().has(edge) {
-                return Some(Failure::Edge);
-            }
-            None
-        }
+        Claim::Without(_, _, _) => edge_failure(reach.policy(), labels, claim),
     }
 }

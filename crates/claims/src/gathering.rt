@@ -21,7 +21,7 @@ use table::Table;
 ///
 /// For labels that have a thread these are `none` and `take`, on each pair of them on which less than full
 /// authority is left. For each label without a thread it is one `only` with all other labels that may change
-/// or shrink its objects, or `none * B` where no other label may.
+/// or shrink its objects, or `none * B` where no other label may. Claims of other forms aren't among them.
 ///
 /// What they claim is kept in every run.
 ///

@@ -6,6 +6,7 @@
 mod breaches;
 mod claim;
 mod deciding;
+mod edges;
 mod gathering;
 mod lines;
 mod reading;

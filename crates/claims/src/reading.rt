@@ -140,25 +140,72 @@ fn are_distinct(labels: &LabelList) -> bool
     true
 }
 
+/// The label of a name, and those of others, of which none is the first or comes twice.
+#[tactic(auto, unfolding(crate::specs::Reading::label_and_others, words::specs::Reading::bind))]
+fn label_and_others(
+    alloc: Global,
+    table: &Table,
+    name: &str,
+    names: &[&str],
+) -> Result<(Label, LabelList), LineError>
+    ensures { GivesOrStops (λ labels. labels) result
+        (reading.label_and_others table.now name.now (map (λ name. name.now) names.now)) }
+{
+    let label = label(table, name)?;
+    let others = labels(alloc, table, names)?;
+    if is_one_of(&others, label) {
+        return Err(LineError::Text(Wrong::Syntax));
+    }
+    if !are_distinct(&others) {
+        return Err(LineError::Text(Wrong::Double));
+    }
+    Ok((label, others))
+}
+
+/// Reads a label, and one or more others.
+#[tactic(auto, unfolding(crate::specs::Reading::one_and_more, words::specs::Reading::bind))]
+fn one_and_more(
+    alloc: Global,
+    table: &Table,
+    words: &mut Words<'_>,
+) -> Result<(Label, LabelList), LineError>
+    ensures { GivesOrStops (λ labels. labels) result (reading.one_and_more table.now words.old) }
+{
+    let name = words.name()?;
+    let names = names(alloc, words)?;
+    if names.is_empty() {
+        return Err(LineError::Text(Wrong::Syntax));
+    }
+    label_and_others(alloc, table, name, &names)
+}
+
 /// Reads what follows `only`: a label, and one or more others.
 #[tactic(auto, unfolding(crate::specs::Reading::only_claim, words::specs::Reading::bind))]
 fn only(alloc: Global, table: &Table, words: &mut Words<'_>) -> Result<Claim, LineError>
     ensures { GivesOrStops (λ claim. claim) result (reading.only_claim table.now words.old) }
 {
-    let object = words.name()?;
-    let names = names(alloc, words)?;
-    if names.is_empty() {
-        return Err(LineError::Text(Wrong::Syntax));
-    }
-    let object = label(table, object)?;
-    let actors = labels(alloc, table, &names)?;
-    if is_one_of(&actors, object) {
-        return Err(LineError::Text(Wrong::Syntax));
-    }
-    if !are_distinct(&actors) {
-        return Err(LineError::Text(Wrong::Double));
-    }
+    let (object, actors) = one_and_more(alloc, table, words)?;
     Ok(Claim::Only(object, actors))
+}
+
+/// Reads what follows `within`: a label, and one or more others.
+#[tactic(auto, unfolding(crate::specs::Reading::within_claim, words::specs::Reading::bind))]
+fn within(alloc: Global, table: &Table, words: &mut Words<'_>) -> Result<Claim, LineError>
+    ensures { GivesOrStops (λ claim. claim) result (reading.within_claim table.now words.old) }
+{
+    let (actor, objects) = one_and_more(alloc, table, words)?;
+    Ok(Claim::Within(actor, objects))
+}
+
+/// Reads what follows `readers`: a label, and others.
+#[tactic(auto, unfolding(crate::specs::Reading::readers_claim, words::specs::Reading::bind))]
+fn readers(alloc: Global, table: &Table, words: &mut Words<'_>) -> Result<Claim, LineError>
+    ensures { GivesOrStops (λ claim. claim) result (reading.readers_claim table.now words.old) }
+{
+    let name = words.name()?;
+    let names = names(alloc, words)?;
+    let (object, readers) = label_and_others(alloc, table, name, &names)?;
+    Ok(Claim::Readers(object, readers))
 }
 
 /// Reads what follows `apart`: two labels.
@@ -200,17 +247,27 @@ fn through(alloc: Global, table: &Table, words: &mut Words<'_>) -> Result<Claim,
     Ok(Claim::Through(from, to, filters))
 }
 
-/// Reads what follows `without`: a label, a kind of authority, and a label.
+/// Whether both ends of a claim stand for all others.
+fn are_others(actor: &Who, object: &Who) -> bool
+    ensures { result ≡ reading.are_others actor.now object.now }
+{
+    matches!((actor, object), (Who::Others, Who::Others))
+}
+
+/// Reads what follows `without`: an end, a kind of authority, and an end.
 #[tactic(auto, unfolding(crate::specs::Reading::without_claim, words::specs::Reading::bind))]
 fn without(table: &Table, words: &mut Words<'_>) -> Result<Claim, Wrong>
     ensures { result ≡ reading.without_claim table.now words.old }
 {
-    let actor = words.name()?;
+    let actor = end(words)?;
     let kind = kind(words)?;
-    let object = words.name()?;
+    let object = end(words)?;
     words.end()?;
-    let actor = label(table, actor)?;
-    let object = label(table, object)?;
+    let actor = who(table, actor)?;
+    let object = who(table, object)?;
+    if are_others(&actor, &object) {
+        return Err(Wrong::Syntax);
+    }
     Ok(Claim::Without(actor, kind, object))
 }
 
@@ -232,6 +289,12 @@ fn claim_by(
     }
     if word == b"only".as_slice() {
         return only(alloc, table, words);
+    }
+    if word == b"within".as_slice() {
+        return within(alloc, table, words);
+    }
+    if word == b"readers".as_slice() {
+        return readers(alloc, table, words);
     }
     if word == b"apart".as_slice() {
         return Ok(apart(alloc, table, words)?);

@@ -34,19 +34,20 @@ fn push_names(text: &mut String, table: &Table, labels: &LabelList) -> Result<()
     Ok(())
 }
 
-/// The text of `only`.
-fn only_text(
+/// The text of a claim that has a label and others behind its first word.
+fn list_text(
     alloc: Global,
     table: &Table,
-    object: Label,
-    actors: &LabelList,
+    word: &str,
+    label: Label,
+    others: &LabelList,
 ) -> Result<String, AllocError>
     ensures { IfOk result (λ text. string_bytes text
-        ≡ join_with_byte 32 (codes "only" ∷ label_name table.now object ∷ map (label_name table.now) actors.now)) }
+        ≡ join_with_byte 32 (word.now ∷ label_name table.now label ∷ map (label_name table.now) others.now)) }
 {
-    let name = label_name(table, object);
-    let mut text = format!(in alloc; "only {name}")?;
-    push_names(&mut text, table, actors)?;
+    let name = label_name(table, label);
+    let mut text = format!(in alloc; "{word} {name}")?;
+    push_names(&mut text, table, others)?;
     Ok(text)
 }
 
@@ -85,12 +86,14 @@ pub fn claim_text(alloc: Global, claim: &Claim, table: &Table) -> Result<String,
             let object = end_word(table, *object);
             format!(in alloc; "{word} {actor} {object}")
         }
-        Claim::Only(object, actors) => only_text(alloc, table, *object, actors),
+        Claim::Only(object, actors) => list_text(alloc, table, "only", *object, actors),
+        Claim::Within(actor, objects) => list_text(alloc, table, "within", *actor, objects),
+        Claim::Readers(object, readers) => list_text(alloc, table, "readers", *object, readers),
         Claim::Through(from, to, filters) => through_text(alloc, table, *from, *to, filters),
         Claim::Without(actor, kind, object) => {
-            let actor = label_name(table, *actor);
+            let actor = end_word(table, *actor);
             let kind = kind.name();
-            let object = label_name(table, *object);
+            let object = end_word(table, *object);
             format!(in alloc; "without {actor} {kind} {object}")
         }
     }

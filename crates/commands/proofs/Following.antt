@@ -1,8 +1,10 @@
 -- What files hold, one after another: that a load gives it, and what is heard of it.
-use Rattle.std.proofs.Common.{ℕ, ◌≡◌, Err, List, None, Ok, Option, Result, subst, sym}
+use Rattle.std.proofs.Common.{ℕ, ◌≡◌, Err, IfSome, List, None, Ok, Option, Result, Some, subst, sym}
 use Rattle.machine.specs.Layout.{Layout}
-use Rattle.commands.specs.declared.load.Stop.{Stop, Stop as stop}
-use Rattle.commands.specs.{Files.{Contents, Gives, and_then, faulty, misused, unknown, whole}, Hearing.{HearsFault, Hearing}}
+use Rattle.captext.specs.Tables.{read_table_of}
+use Rattle.forms.specs.declared.file.File.{File, TheVariants.Table}
+use Rattle.commands.specs.declared.{choices.Taken.Taken, given.Given.Given, load.Stop.{Stop, Stop as stop}}
+use Rattle.commands.specs.{Files.{Contents, Gives, and_then, as_taken, faulty, held_by, misused, named_contents, table_contents, unknown, whole}, Hearing.{HearsFault, Hearing}}
 
 -- a stop that is neither a fault nor a misuse says nothing of the files
 abbrev IsFree : Stop → Type 0
@@ -87,3 +89,19 @@ module _ {X Y : Type 0} (next : Y → Contents X) where
     heard_after (faulty file text table fault) y why first gives heard = absurd first
     heard_after (misused is) y why first gives heard = absurd first
     heard_after unknown y why first gives heard = told_as (next y) why gives heard
+
+-- what is heard of a system's text is heard of a file whose bytes are known to be that text
+module _ (table description : File) (taken : Taken) {L : Type 0} (Hears : L → Hearing → L → Type 0) (old new : L) where
+  pub named_heard : (known : Option (List ℕ)) (text : List ℕ) (loaded : Result Given Stop) → IfSome known (λ bytes. text ≡ bytes)
+      → Gives (as_taken table description taken text) loaded → HearsFault Hears (as_taken table description taken text) loaded old new
+      → HearsFault Hears (named_contents table description taken known) loaded old new
+  named_heard None text (Ok x) is gives heard = heard
+  named_heard None text (Err why) is gives heard = told_as whole Hears old new (as_taken table description taken text) why gives heard
+  named_heard (Some bytes) text loaded is gives heard =
+      subst (λ (b : List ℕ). HearsFault Hears (as_taken table description taken b) loaded old new) is heard
+
+-- a text's fault is that of the file whose bytes are known to be that text
+pub table_gives : (known : Option (List ℕ)) (text : List ℕ) (loaded : Result Layout Stop) → IfSome known (λ bytes. text ≡ bytes)
+    → Gives (held_by Table None text (read_table_of text)) loaded → Gives (table_contents known) loaded
+table_gives None text loaded is gives = tt
+table_gives (Some bytes) text loaded is gives = subst (λ (b : List ℕ). Gives (held_by Table None b (read_table_of b)) loaded) is gives

@@ -8,15 +8,15 @@ use Rattle.captext.specs.{Policies.read_policy_of, Tables.read_table_of}
 use Rattle.microkit.specs.Description.{Description}
 use Rattle.importing.specs.declared.pieces.Minting.{Minting}
 use Rattle.devices.specs.Devices.{AppendsBeginning}
-use Rattle.forms.specs.declared.file.File.{File, TheVariants.{Policy, Table}}
+use Rattle.forms.specs.declared.file.File.{File, TheVariants.{New, Policy, Table}}
 use Rattle.forms.specs.declared.file.File.TheVariants as files
 use Rattle.reptext.specs.{Places.place_names, Reports.{denial_report, fault_report}}
 use Rattle.verdict.specs.{declared.denial.Denial.Denial, Verdict.rule_name}
 use Rattle.commands.specs.declared.{answer.Answer.Answer, choices.Taken.Taken, end.{Asked.Asked, End.End, Misuse.Misuse}}
-use Rattle.commands.specs.declared.{given.Given.Given, listener.Finding.{Finding, Finding as finding}, load.{Stop.{Stop, Stop as stop}, Three.Three, With.With}}
+use Rattle.commands.specs.declared.{given.Given.Given, listener.Finding.{Finding, Finding as finding}, load.{Stop.{Stop, Stop as stop}, Three.Three, Two.Two, With.With}}
 use Rattle.commands.specs.{Ends.{IfCannotWrite, IfMisused, IfNoLabel, IfStatus, IfUnwritten, is_unwritable, status_of, unread_file}, Files.Contents}
 use Rattle.commands.specs.{Files.{described_contents, faulty, first_failed, given_contents, misused, table_contents, three_contents, unknown}, Described.Described}
-use Rattle.commands.specs.{Files.{unread_of, whole, with_contents}, Given.layout_of}
+use Rattle.commands.specs.{Files.{two_contents, unread_of, whole, with_contents}, Given.layout_of}
 
 -- a source, before and after a command: the bytes that it had left, where they are known, and whether it failed
 pub record Input (S : Type 0) : Type 0 where
@@ -151,6 +151,15 @@ IsDoneOnSystem taken lacks judges system =
     IsCarriedOut (λ s. lacks (layout_of s)) (λ s. judges (layout_of s)) (given_contents taken system.bytes)
     (first_failed ((Table, system.failed) ∷ []))
 
+-- a command of two systems was carried out
+pub record IsDoneOnTwo
+    {S T O : Type 0} (taken : Taken) (judges : Layout → Layout → Answer → Type 0) (old : Input S) (new : Input T) (out : Output O)
+    (end : End) : Type 0 where
+  pub done : IsCarriedOut (λ s. None) (λ s. judges (layout_of s.old) (layout_of s.new)) (two_contents taken old.bytes new.bytes)
+      (first_failed ((Table, old.failed) ∷ (New, new.failed) ∷ [])) out end
+  -- the new system's file is as it was, or the old one was read and is a text
+  pub new_waits : (new.new ≡ new.old) ⊎ HasSystem taken old
+
 -- a command of a system and a second file of this name, which is read so, was carried out
 pub record IsDoneWith
     {T S O X : Type 0} (taken : Taken) (name : File) (read : Layout → List ℕ → Result X Fault) (lacks : Layout → Option Asked)
@@ -189,6 +198,10 @@ DescriptionIsJudged = IsJudged (λ d. None)
 -- a system was judged so
 abbrev pub SystemIsJudged : (Layout → Option Asked) → (Layout → Answer → Type 0) → Result Given Stop → Result Answer Stop → Type 0
 SystemIsJudged lacks judges = IsJudged (λ s. lacks (layout_of s)) (λ s. judges (layout_of s))
+
+-- two systems were judged so
+abbrev pub TwoIsJudged : (Layout → Layout → Answer → Type 0) → Result Two Stop → Result Answer Stop → Type 0
+TwoIsJudged judges = IsJudged (λ s. None) (λ s. judges (layout_of s.old) (layout_of s.new))
 
 -- a system and what a second file holds were judged so
 abbrev pub WithIsJudged :

@@ -1,12 +1,12 @@
 -- What the files of a command hold, as far as their bytes are known, and why they couldn't be loaded (confine's own).
 use Rattle.std.specs.Prelude.{[], ℕ, ◌∷◌, ◌≡◌, ◌⊎◌, Bool, Err, List, None, Ok, Option, Result, Some, false, true}
 use Rattle.words.specs.{declared.faults.Fault.Fault, Reading.◌>>=◌}
-use Rattle.forms.specs.declared.file.File.{File, TheVariants.{Description, Policy, Table}}
+use Rattle.forms.specs.declared.file.File.{File, TheVariants.{Description, New, Policy, Table}}
 use Rattle.microkit.specs.Reading.{description_of_text}
 use Rattle.machine.specs.Layout.{Layout}
 use Rattle.captext.specs.{Policies.read_policy_of, Tables.read_table_of}
 use Rattle.importing.specs.{declared.pieces.Minting.Minting, Tables.table_at}
-use Rattle.commands.specs.{declared.{end.{Asked.Asked, Misuse.{Misuse, Misuse as misuse}}, load.{Pair.Pair, Stop.{Stop, Stop as stop}, Three.Three, With.With}}}
+use Rattle.commands.specs.{declared.{end.{Asked.Asked, Misuse.{Misuse, Misuse as misuse}}, load.{Pair.Pair, Stop.{Stop, Stop as stop}, Three.Three, Two.Two, With.With}}}
 use Rattle.commands.specs.{declared.{choices.Taken.{Taken, Taken as taken}, given.Given.{Given, Given as given}}, Described.Described, Given.{is_description, layout_of}}
 
 -- what the files hold; or the first file that isn't a text of its kind, with its text, the table that it was read by, if that is another,
@@ -49,29 +49,51 @@ described_of minting text = do
 abbrev pub described_contents : Minting → Option (List ℕ) → Contents Described
 described_contents minting description = contents_of Description None description (described_of minting)
 
--- a text that is read as a table
-abbrev pub as_table : List ℕ → Contents Given
-as_table text = and_then (held_by Table None text (read_table_of text)) (λ t. whole (given.Table t))
+-- the names of a file that is a system: as a table, and as a description
 
--- .. as a description
-abbrev pub as_description : Minting → List ℕ → Contents Given
-as_description minting text = and_then (held_by Description None text (described_of minting text)) (λ d. whole (given.Description d))
+module _ (table description : File) where
+  -- a text that is read as a table
+  abbrev pub as_table : List ℕ → Contents Given
+  as_table text = and_then (held_by table None text (read_table_of text)) (λ t. whole (given.Table t))
 
--- a system's text, by whether it is one of a description, and whether rights are given
-abbrev pub as_system : Option Minting → Bool → List ℕ → Contents Given
-as_system None true text = misused misuse.NoRights
-as_system (Some minting) true text = as_description minting text
-as_system None false text = as_table text
-as_system (Some minting) false text = misused misuse.NeedlessRights
+  -- .. as a description
+  abbrev pub as_description : Minting → List ℕ → Contents Given
+  as_description minting text = and_then (held_by description None text (described_of minting text)) (λ d. whole (given.Description d))
 
-abbrev pub as_taken : Taken → List ℕ → Contents Given
-as_taken taken.Table text = as_table text
-as_taken (taken.System rights) text = as_system rights (is_description text) text
+  -- a system's text, by whether it is one of a description, and whether rights are given
+  abbrev pub as_system : Option Minting → Bool → List ℕ → Contents Given
+  as_system None true text = misused misuse.NoRights
+  as_system (Some minting) true text = as_description minting text
+  as_system None false text = as_table text
+  as_system (Some minting) false text = misused misuse.NeedlessRights
+
+  -- .. of one of two systems, of which rights are for descriptions alone
+  abbrev pub as_either : Option Minting → Bool → List ℕ → Contents Given
+  as_either None true text = misused misuse.NoRights
+  as_either (Some minting) true text = as_description minting text
+  as_either rights false text = as_table text
+
+  abbrev pub as_taken : Taken → List ℕ → Contents Given
+  as_taken taken.Table text = as_table text
+  as_taken (taken.System rights) text = as_system rights (is_description text) text
+  as_taken (taken.Either rights) text = as_either rights (is_description text) text
+
+  abbrev pub named_contents : Taken → Option (List ℕ) → Contents Given
+  named_contents taken None = unknown
+  named_contents taken (Some text) = as_taken taken text
 
 -- what a system holds
 abbrev pub given_contents : Taken → Option (List ℕ) → Contents Given
-given_contents taken None = unknown
-given_contents taken (Some text) = as_taken taken text
+given_contents = named_contents Table Description
+
+-- .. the second system of a comparison
+abbrev pub new_contents : Taken → Option (List ℕ) → Contents Given
+new_contents = named_contents New New
+
+-- .. two systems
+abbrev pub two_contents : Taken → Option (List ℕ) → Option (List ℕ) → Contents Two
+two_contents taken old new =
+    and_then (given_contents taken old) (λ o. and_then (new_contents taken new) (λ n. whole (record { old = o; new = n })))
 
 -- what a system and a second file of this name hold, which is read so
 abbrev pub with_contents :
@@ -114,13 +136,13 @@ IsStopOf file (stop.Faulty which fault) = which ≡ file
 IsStopOf file (stop.NoLabel asked) = ⊥
 IsStopOf file (stop.Misused told) = ⊥
 
--- a system stopped the load, or memory did
-abbrev pub IsSystemStop : Stop → Type 0
-IsSystemStop stop.NoMemory = Unit {0}
-IsSystemStop (stop.CannotRead which) = which ≡ Table
-IsSystemStop (stop.Faulty which fault) = (which ≡ Table) ⊎ (which ≡ Description)
-IsSystemStop (stop.NoLabel asked) = ⊥
-IsSystemStop (stop.Misused told) = Unit {0}
+-- a system that is called so, as a table and as a description, stopped the load, or memory did
+abbrev pub IsSystemStop : File → File → Stop → Type 0
+IsSystemStop plain xml stop.NoMemory = Unit {0}
+IsSystemStop plain xml (stop.CannotRead which) = which ≡ plain
+IsSystemStop plain xml (stop.Faulty which fault) = (which ≡ plain) ⊎ (which ≡ xml)
+IsSystemStop plain xml (stop.NoLabel asked) = ⊥
+IsSystemStop plain xml (stop.Misused told) = Unit {0}
 
 -- a device failed
 abbrev pub is_unread : {X : Type 0} → Result X Stop → Bool

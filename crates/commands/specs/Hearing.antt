@@ -3,19 +3,22 @@ use Rattle.std.specs.Prelude.{ℕ, ◌≡◌, Err, List, None, Ok, Option, Resul
 use Rattle.base.specs.declared.edge.Edge.{Edge}
 use Rattle.machine.specs.{declared.call.{Event.Event, Outcome.Outcome}, Layout.Layout}
 use Rattle.words.specs.declared.faults.Fault.{Fault}
+use Rattle.captext.specs.Drafts.{Draft}
 use Rattle.claims.specs.declared.claim.Claim.{Claim}
 use Rattle.forms.specs.declared.file.File.{File}
 use Rattle.commands.specs.{declared.{answer.Answer.Answer, end.{Asked.Asked, End.End}, files.Files.{Files, Files as heard}}, Described.Described}
 use Rattle.commands.specs.Files as files
 use Rattle.commands.specs.Files.{Contents}
 use Rattle.commands.specs.{declared.{choices.Taken.Taken, given.Given.Given, load.{Stop.{Stop, Stop as stop}, Three.Three, With.With}}, Commands.{IsJudged, IsTold, Output}}
-use Rattle.commands.specs.{Files.{Gives, given_contents, three_contents, with_contents}, Given.layout_of}
+use Rattle.commands.specs.{Files.{Gives, given_contents, three_contents, two_contents, with_contents}, Given.layout_of}
 
 -- what the files of a command hold
 pub data Held : Type 0 where
   description : Described → Held
   system : Given → Held
+  compared : Given → Given → Held
   policy : Given → List Edge → Held
+  draft : Given → Draft → Held
   claims : Given → List (Option Claim) → Held
   certificate : Layout → List Edge → Held
   script : Layout → List Edge → List Event → Held
@@ -24,7 +27,9 @@ pub data Held : Type 0 where
 abbrev pub held_of : Files → Held
 held_of (heard.Description d) = description d.now
 held_of (heard.System given) = system given.now
+held_of (heard.Compared old new) = compared old.now new.now
 held_of (heard.Policy given edges) = policy given.now edges.now
+held_of (heard.Draft given read) = draft given.now read.now
 held_of (heard.Claims given lines) = claims given.now lines.now
 held_of (heard.Certificate table edges) = certificate table.now edges.now
 held_of (heard.Script table edges events) = script table.now edges.now events.now
@@ -82,6 +87,14 @@ abbrev pub SystemIsHeard :
     → Output O → End → Type 0
 SystemIsHeard Hears taken lacks judges bytes =
     IsHeard Hears layout_of system (λ s. lacks (layout_of s)) (λ s. judges (layout_of s)) (given_contents taken bytes)
+
+-- .. of two systems
+abbrev pub TwoIsHeard :
+    {L O : Type 0} → (L → Hearing → L → Type 0) → Taken → (Layout → Layout → Answer → Type 0) → Option (List ℕ) → Option (List ℕ) → L → L
+    → Output O → End → Type 0
+TwoIsHeard Hears taken judges old new =
+    IsHeard Hears (λ s. layout_of s.new) (λ s. compared s.old s.new) (λ s. None) (λ s. judges (layout_of s.old) (layout_of s.new))
+    (two_contents taken old new)
 
 -- .. of a system and a second file of this name, which is read so
 abbrev pub WithIsHeard :

@@ -50,13 +50,22 @@ pub enum Picture {
     Labels,
 }
 
-/// In which form `why` and `summary` answer.
+/// In which form `why`, `summary` and `diff` answer.
 #[derive(Clone, Copy, PartialEq, Eq, Debug)]
 pub enum Form {
     /// As text.
     Text,
     /// As one JSON object on a line.
     Json,
+}
+
+/// Which users of a label `why` lists.
+#[derive(Clone, Copy, PartialEq, Eq, Debug)]
+pub enum Use {
+    /// The labels that may change it.
+    Changes,
+    /// The labels that may read it.
+    Reads,
 }
 
 /// What `show` looks for, and how long.
@@ -75,6 +84,8 @@ pub enum Taken {
     Table,
     /// As a system: a description, whose capabilities then have these rights, or a table, for which none are given.
     System(Option<Minting>),
+    /// As one of two systems: a description, whose capabilities then have these rights, or a table.
+    Either(Option<Minting>),
 }
 
 /// What is asked of a system alone.
@@ -88,6 +99,11 @@ pub enum OfSystem<'a> {
     Why {
         form: Form,
         actor: &'a str,
+        object: &'a str,
+    },
+    /// Lists the other labels that may use objects of the label `object` in this way.
+    Users {
+        usage: Use,
         object: &'a str,
     },
     /// Searches for a run in which a thread of the label `actor` changes an object of the label `object`.

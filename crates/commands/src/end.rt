@@ -60,6 +60,7 @@ fn unread_message(file: File) -> &'static str
         File::Log => "confine: cannot read log",
         File::Claims => "confine: cannot read claims",
         File::Description => "confine: cannot read description",
+        File::New => "confine: cannot read new system",
     }
 }
 

@@ -1,11 +1,12 @@
 //! What the files of a command hold, of which a listener hears.
 ghost use Rattle.std.specs.Prelude.{◌≡◌};
 ghost use Rattle.machine.specs.Layout.{Layout};
-ghost use Rattle.commands.specs.{Given.layout_of, Hearing.{Held, certificate, claims, description, held_of, log, policy, script}};
+ghost use Rattle.commands.specs.{Given.layout_of, Hearing.{Held, certificate, claims, compared, description, draft, held_of, log, policy, script}};
 ghost use Rattle.commands.specs.Hearing as held;
 
 use crate::later::{Entries, Script};
 use crate::{Described, Given};
+use captext::PolicyDraft;
 use certificate::Certificate;
 use claims::ClaimLines;
 use machine::{Event, Outcome};
@@ -19,8 +20,12 @@ pub enum Files<'a> {
     Description(&'a Described),
     /// A system.
     System(&'a Given),
+    /// Two systems that are compared: the old one, and the new one.
+    Compared(&'a Given, &'a Given),
     /// A system and a policy.
     Policy(&'a Given, &'a Policy),
+    /// A system and a policy that is to be mended.
+    Draft(&'a Given, &'a PolicyDraft),
     /// A system and claims.
     Claims(&'a Given, &'a ClaimLines),
     /// A table, a policy and a certificate.
@@ -36,8 +41,11 @@ impl<'a> Files<'a> {
     pub fn table(self) -> &'a Table {
         match self {
             Files::Description(described) => &described.table,
-            Files::System(given) | Files::Policy(given, _) | Files::Claims(given, _) =>
-                given.table(),
+            Files::System(given)
+            | Files::Compared(_, given)
+            | Files::Policy(given, _)
+            | Files::Draft(given, _)
+            | Files::Claims(given, _) => given.table(),
             Files::Certificate(table, _) | Files::Script(table, _, _) | Files::Log(table, _, _) =>
                 table,
         }

@@ -3,8 +3,8 @@ ghost use Rattle.std.specs.Prelude.{[], ◌∷◌, ◌≡◌, IfErr, None, false
 ghost use Rattle.words.specs.Reading.{Reads};
 ghost use Rattle.forms.specs.declared.file.File.TheVariants as file;
 ghost use Rattle.xml.specs.Characters.{is_space};
-ghost use Rattle.commands.specs.Files.{Gives, IsStopOf, IsSystemStop, as_description, as_system, as_table, described_contents};
-ghost use Rattle.commands.specs.Files.{described_of, first_failed, given_contents, lacking_of, unread_of};
+ghost use Rattle.commands.specs.Files.{Gives, IsStopOf, IsSystemStop, as_description, as_either, as_system, as_table, described_contents};
+ghost use Rattle.commands.specs.Files.{described_of, first_failed, given_contents, lacking_of, named_contents, new_contents, unread_of};
 ghost use Rattle.commands.specs.{Given.{first_visible, is_description, is_tag, layout_of}, Hearing.HearsFault};
 
 use crate::load::{read_file, stopped};
@@ -89,6 +89,13 @@ pub fn load_description<S: Source, L: Listener>(
     }
 }
 
+/// What reports call a file that is a system: as a table, and as a description.
+#[derive(Clone, Copy)]
+struct Called {
+    table: File,
+    description: File,
+}
+
 /// Loads a system; the bytes of the file are let go.
 ///
 /// # Errors
@@ -105,69 +112,149 @@ pub fn load_given<S: Source, L: Listener>(
 ) -> Result<Given, Stop>
     requires { S.failed source.old ≡ false }
     ensures loaded { Gives (given_contents taken (S.remaining source.old)) result }
-    ensures stops { IfErr result IsSystemStop }
+    ensures stops { IfErr result (IsSystemStop file.Table file.Description) }
     ensures unread { unread_of result ≡ first_failed ((file.Table, S.failed source.new) ∷ []) }
     ensures labels { lacking_of result ≡ None }
     ensures heard { HearsFault L.Hears (given_contents taken (S.remaining source.old)) result listener.old listener.new }
 {
-    let bytes = read_file(alloc, File::Table, source)?;
+    let called = Called {
+        table: File::Table,
+        description: File::Description,
+    };
+    load_called(alloc, called, taken, source, listener)
+}
+
+/// Loads the second system of a comparison; the bytes of the file are let go.
+///
+/// # Errors
+///
+/// Those of [`load_given`], with the name of this file.
+pub(crate) fn load_new<S: Source, L: Listener>(
+    alloc: Global,
+    taken: Taken,
+    source: &mut S,
+    listener: &mut L,
+) -> Result<Given, Stop>
+    requires { S.failed source.old ≡ false }
+    ensures loaded { Gives (new_contents taken (S.remaining source.old)) result }
+    ensures stops { IfErr result (IsSystemStop file.New file.New) }
+    ensures unread { unread_of result ≡ first_failed ((file.New, S.failed source.new) ∷ []) }
+    ensures labels { lacking_of result ≡ None }
+    ensures heard { HearsFault L.Hears (new_contents taken (S.remaining source.old)) result listener.old listener.new }
+{
+    let called = Called {
+        table: File::New,
+        description: File::New,
+    };
+    load_called(alloc, called, taken, source, listener)
+}
+
+/// Loads a system that reports call so.
+fn load_called<S: Source, L: Listener>(
+    alloc: Global,
+    called: Called,
+    taken: Taken,
+    source: &mut S,
+    listener: &mut L,
+) -> Result<Given, Stop>
+    requires { S.failed source.old ≡ false }
+    ensures loaded { Gives (named_contents called.table called.description taken (S.remaining source.old)) result }
+    ensures stops { IfErr result (IsSystemStop called.table called.description) }
+    ensures unread { unread_of result ≡ first_failed ((called.table, S.failed source.new) ∷ []) }
+    ensures labels { lacking_of result ≡ None }
+    ensures heard { HearsFault L.Hears (named_contents called.table called.description taken (S.remaining source.old)) result
+        listener.old listener.new }
+{
+    let bytes = read_file(alloc, called.table, source)?;
     match taken {
-        Taken::Table => as_table(alloc, &bytes, listener),
-        Taken::System(rights) => as_system(alloc, rights, &bytes, listener),
+        Taken::Table => as_table(alloc, called, &bytes, listener),
+        Taken::System(rights) => as_system(alloc, called, rights, &bytes, listener),
+        Taken::Either(rights) => as_either(alloc, called, rights, &bytes, listener),
     }
 }
 
 /// The system of a text, by whether it is one of a description, and whether rights are given.
 fn as_system<L: Listener>(
     alloc: Global,
+    called: Called,
     rights: Option<Minting>,
     text: &[u8],
     listener: &mut L,
 ) -> Result<Given, Stop>
-    ensures loaded { Gives (as_system rights (is_description text.now) text.now) result }
-    ensures stops { IfErr result IsSystemStop }
+    ensures loaded { Gives (as_system called.table called.description rights (is_description text.now) text.now) result }
+    ensures stops { IfErr result (IsSystemStop called.table called.description) }
     ensures unread { unread_of result ≡ None }
     ensures labels { lacking_of result ≡ None }
-    ensures heard { HearsFault L.Hears (as_system rights (is_description text.now) text.now) result listener.old listener.new }
+    ensures heard { HearsFault L.Hears (as_system called.table called.description rights (is_description text.now) text.now) result
+        listener.old listener.new }
 {
     match (rights, is_description(text)) {
         (None, true) => Err(Stop::Misused(Misuse::NoRights)),
-        (Some(minting), true) => as_description(alloc, minting, text, listener),
-        (None, false) => as_table(alloc, text, listener),
+        (Some(minting), true) => as_description(alloc, called, minting, text, listener),
+        (None, false) => as_table(alloc, called, text, listener),
         (Some(_), false) => Err(Stop::Misused(Misuse::NeedlessRights)),
     }
 }
 
-/// The system of a text that is one of a table.
-fn as_table<L: Listener>(alloc: Global, text: &[u8], listener: &mut L) -> Result<Given, Stop>
-    ensures loaded { Gives (as_table text.now) result }
-    ensures stops { IfErr result IsSystemStop }
+/// .. of one of two systems, of which rights are for descriptions alone.
+fn as_either<L: Listener>(
+    alloc: Global,
+    called: Called,
+    rights: Option<Minting>,
+    text: &[u8],
+    listener: &mut L,
+) -> Result<Given, Stop>
+    ensures loaded { Gives (as_either called.table called.description rights (is_description text.now) text.now) result }
+    ensures stops { IfErr result (IsSystemStop called.table called.description) }
     ensures unread { unread_of result ≡ None }
     ensures labels { lacking_of result ≡ None }
-    ensures heard { HearsFault L.Hears (as_table text.now) result listener.old listener.new }
+    ensures heard { HearsFault L.Hears (as_either called.table called.description rights (is_description text.now) text.now) result
+        listener.old listener.new }
+{
+    match (rights, is_description(text)) {
+        (None, true) => Err(Stop::Misused(Misuse::NoRights)),
+        (Some(minting), true) => as_description(alloc, called, minting, text, listener),
+        (_, false) => as_table(alloc, called, text, listener),
+    }
+}
+
+/// The system of a text that is one of a table.
+fn as_table<L: Listener>(
+    alloc: Global,
+    called: Called,
+    text: &[u8],
+    listener: &mut L,
+) -> Result<Given, Stop>
+    ensures loaded { Gives (as_table called.table called.description text.now) result }
+    ensures stops { IfErr result (IsSystemStop called.table called.description) }
+    ensures unread { unread_of result ≡ None }
+    ensures labels { lacking_of result ≡ None }
+    ensures heard { HearsFault L.Hears (as_table called.table called.description text.now) result listener.old listener.new }
 {
     match read_table(alloc, text) {
         Ok(table) => Ok(Given::Table(table)),
-        Err(fault) => Err(stopped(File::Table, text, None, fault, listener)),
+        Err(fault) => Err(stopped(called.table, text, None, fault, listener)),
     }
 }
 
 /// The system of a text that is one of a description.
 fn as_description<L: Listener>(
     alloc: Global,
+    called: Called,
     minting: Minting,
     text: &[u8],
     listener: &mut L,
 ) -> Result<Given, Stop>
-    ensures loaded { Gives (as_description minting text.now) result }
-    ensures stops { IfErr result IsSystemStop }
+    ensures loaded { Gives (as_description called.table called.description minting text.now) result }
+    ensures stops { IfErr result (IsSystemStop called.table called.description) }
     ensures unread { unread_of result ≡ None }
     ensures labels { lacking_of result ≡ None }
-    ensures heard { HearsFault L.Hears (as_description minting text.now) result listener.old listener.new }
+    ensures heard { HearsFault L.Hears (as_description called.table called.description minting text.now) result
+        listener.old listener.new }
 {
     match described_of(alloc, minting, text) {
         Ok(described) => Ok(Given::Description(described)),
-        Err(fault) => Err(stopped(File::Description, text, None, fault, listener)),
+        Err(fault) => Err(stopped(called.description, text, None, fault, listener)),
     }
 }
 

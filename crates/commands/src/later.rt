@@ -3,15 +3,15 @@ ghost use Rattle.std.specs.Prelude.{ℕ, ◌≡◌, List, Option, Result};
 ghost use Rattle.base.specs.declared.edge.Edge.{Edge};
 ghost use Rattle.machine.specs.Layout.{Layout};
 ghost use Rattle.words.specs.{declared.faults.Fault.Fault, Reading.Reads};
-ghost use Rattle.captext.specs.Policies.{read_policy_of};
+ghost use Rattle.captext.specs.{Drafts.read_draft_of, Policies.read_policy_of};
 ghost use Rattle.evtext.specs.{Log.read_log_of, Script.read_script_of};
 ghost use Rattle.certificate.specs.Reading.{read_certificate_of};
 ghost use Rattle.claims.specs.Reading.{read_claims_of};
 ghost use Rattle.forms.specs.declared.file.File.{File, File as file};
-ghost use Rattle.commands.specs.{declared.given.Given.Given, Hearing.{Held, certificate, claims, held_of, log, policy, script}};
+ghost use Rattle.commands.specs.{declared.given.Given.Given, Hearing.{Held, certificate, claims, draft, held_of, log, policy, script}};
 
 use crate::{File, Files, Given};
-use captext::Fault;
+use captext::{Fault, PolicyDraft};
 use certificate::Certificate;
 use claims::ClaimLines;
 use evtext::{read_log, read_script};
@@ -47,6 +47,16 @@ pub trait SecondFile: LaterFile {
         ensures { held_of result ≡ held_with given.now self.now };
 }
 
+/// What a file holds that is read as a policy after a system.
+pub trait PolicyFile: SecondFile {
+    // Its edges.
+    ghost edges_of: { Self → List Edge };
+
+    /// The policy.
+    fn policy(&self) -> &Policy
+        ensures { result.now ≡ edges_of self.now };
+}
+
 /// What a file holds that is read after a table and a policy.
 pub trait ThirdFile: LaterFile {
     // What the three hold.
@@ -76,6 +86,44 @@ impl SecondFile for Policy {
 
     fn files<'a>(&'a self, given: &'a Given) -> Files<'a> {
         Files::Policy(given, self)
+    }
+}
+
+impl PolicyFile for Policy {
+    ghost edges_of = { λ edges. edges };
+
+    fn policy(&self) -> &Policy {
+        self
+    }
+}
+
+impl LaterFile for PolicyDraft {
+    ghost named = { file.Policy };
+
+    ghost read_of = { read_draft_of };
+
+    fn name() -> File {
+        File::Policy
+    }
+
+    fn read(alloc: Global, table: &Table, bytes: &[u8]) -> Result<PolicyDraft, Fault> {
+        captext::read_draft(alloc, bytes, table)
+    }
+}
+
+impl SecondFile for PolicyDraft {
+    ghost held_with = { draft };
+
+    fn files<'a>(&'a self, given: &'a Given) -> Files<'a> {
+        Files::Draft(given, self)
+    }
+}
+
+impl PolicyFile for PolicyDraft {
+    ghost edges_of = { λ draft. draft.edges };
+
+    fn policy(&self) -> &Policy {
+        PolicyDraft::policy(self)
     }
 }
 

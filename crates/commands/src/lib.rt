@@ -18,16 +18,16 @@ mod telling;
 pub use answer::{Answer, Made, denied};
 pub use captext::Fault;
 pub use choices::{
-    Form, Imported, OfPolicy, OfSystem, OnAccept, OnClose, OnImport, Picture, Search, Taken,
+    Form, Imported, OfPolicy, OfSystem, OnAccept, OnClose, OnImport, Picture, Search, Taken, Use,
 };
 pub use devices::{ReadError, Sink, Source};
 pub use end::{Asked, End, Misuse};
 pub use files::{Files, Loaded};
 pub use given::{Described, Given, load_description, load_given};
 pub use importing::Minting;
-pub use later::{Entries, LaterFile, Script, SecondFile, ThirdFile};
+pub use later::{Entries, LaterFile, PolicyFile, Script, SecondFile, ThirdFile};
 pub use listener::{Finding, Listener, Silence};
-pub use load::{Stop, Three, With, load_table, load_three, load_with};
+pub use load::{Stop, Three, Two, With, load_table, load_three, load_two, load_with};
 pub use reptext::File;
 pub use telling::tell;
 pub use verdict::Rules;

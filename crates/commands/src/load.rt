@@ -5,11 +5,11 @@ ghost use Rattle.forms.specs.declared.file.File.TheVariants as file;
 ghost use Rattle.machine.specs.Layout.{Layout};
 ghost use Rattle.captext.specs.Tables.{read_table_of};
 ghost use Rattle.commands.specs.{declared.load.Stop.{Stop}, Commands.{HasPolicy, HasSystem, HasTable, input}};
-ghost use Rattle.commands.specs.{Files.{Gives, IsDeviceStop, IsStopOf, contents_of, first_failed, is_unread, lacking_of}};
-ghost use Rattle.commands.specs.{Files.{pair_contents, table_contents, three_contents, unread_of, with_contents}, Given.layout_of};
-ghost use Rattle.commands.specs.Hearing.{HearsFault, HearsStop, Held, description, held_of, system};
+ghost use Rattle.commands.specs.{Files.{Gives, IsDeviceStop, IsStopOf, contents_of, first_failed, held_by, is_unread, lacking_of}};
+ghost use Rattle.commands.specs.{Files.{pair_contents, table_contents, three_contents, two_contents, unread_of, with_contents}, Given.layout_of};
+ghost use Rattle.commands.specs.Hearing.{HearsFault, HearsStop, Held, compared, description, held_of, system};
 
-use crate::given::load_given;
+use crate::given::{load_given, load_new};
 use crate::later::{LaterFile, SecondFile, ThirdFile};
 use crate::{
     Asked, Described, File, Files, Given, Listener, Loaded, Misuse, ReadError, Source, Taken,
@@ -59,6 +59,13 @@ pub struct With<X: Drop> {
     pub second: X,
 }
 
+/// Two systems that are compared.
+#[derive(Drop)]
+pub struct Two {
+    pub old: Given,
+    pub new: Given,
+}
+
 /// A table and a policy.
 #[derive(Drop)]
 struct Pair {
@@ -99,6 +106,20 @@ impl Loaded for Given {
 
     fn files(&self) -> Files<'_> {
         Files::System(self)
+    }
+}
+
+impl Loaded for Two {
+    ghost layout = { λ two. layout_of two.new };
+
+    ghost held = { λ two. compared two.old two.new };
+
+    fn table(&self) -> &Table {
+        self.new.table()
+    }
+
+    fn files(&self) -> Files<'_> {
+        Files::Compared(&self.old, &self.new)
     }
 }
 
@@ -188,9 +209,20 @@ pub fn load_table<T: Source, L: Listener>(
     ensures heard { HearsFault L.Hears (table_contents (T.remaining table.old)) result listener.old listener.new }
 {
     let bytes = read_file(alloc, File::Table, table)?;
-    match read_table(alloc, &bytes) {
+    table_of(alloc, &bytes, listener)
+}
+
+/// The table of a text.
+fn table_of<L: Listener>(alloc: Global, text: &[u8], listener: &mut L) -> Result<Table, Stop>
+    ensures loaded { Gives (held_by file.Table None text.now (read_table_of text.now)) result }
+    ensures stops { IfErr result (λ stop. IsStopOf file.Table stop) }
+    ensures unread { unread_of result ≡ None }
+    ensures labels { lacking_of result ≡ None }
+    ensures heard { HearsFault L.Hears (held_by file.Table None text.now (read_table_of text.now)) result listener.old listener.new }
+{
+    match read_table(alloc, text) {
         Ok(table) => Ok(table),
-        Err(fault) => Err(stopped(File::Table, &bytes, None, fault, listener)),
+        Err(fault) => Err(stopped(File::Table, text, None, fault, listener)),
     }
 }
 
@@ -241,6 +273,40 @@ pub fn load_with<X: LaterFile, T: Source, S: Source, L: Listener>(
         Ok(second) => Ok(With { system, second }),
         Err(stop) => {
             drop(system);
+            Err(stop)
+        }
+    }
+}
+
+/// Loads two systems one after another, up to the first that stops it.
+///
+/// # Errors
+///
+/// Those of [`load_given`] for each. The new system is read only if the old one has no fault.
+pub fn load_two<S: Source, T: Source, L: Listener>(
+    alloc: Global,
+    taken: Taken,
+    old: &mut S,
+    new: &mut T,
+    listener: &mut L,
+) -> Result<Two, Stop>
+    requires old { S.failed old.old ≡ false }
+    requires new { T.failed new.old ≡ false }
+    ensures loaded { Gives (two_contents taken (S.remaining old.old) (T.remaining new.old)) result }
+    ensures new_waits { (new.new ≡ new.old) ⊎ HasSystem taken (input S.remaining S.failed old.old old.new) }
+    ensures unread { unread_of result ≡ first_failed
+        ((file.Table, S.failed old.new) ∷ (file.New, T.failed new.new) ∷ []) }
+    ensures labels { lacking_of result ≡ None }
+    ensures heard { HearsFault L.Hears (two_contents taken (S.remaining old.old) (T.remaining new.old)) result listener.old listener.new }
+{
+    let given = load_given(alloc, taken, old, listener)?;
+    match load_new(alloc, taken, new, listener) {
+        Ok(later) => Ok(Two {
+            old: given,
+            new: later,
+        }),
+        Err(stop) => {
+            drop(given);
             Err(stop)
         }
     }

@@ -25,5 +25,7 @@ twin_who twin who.Others = who.Others
 abbrev pub twin_claim : (ℕ → ℕ) → Claim → Claim
 twin_claim twin (claim.AtMost limit actor object) = claim.AtMost limit (twin_who twin actor) (twin_who twin object)
 twin_claim twin (claim.Only object actors) = claim.Only (twin object) (map twin actors)
+twin_claim twin (claim.Within actor objects) = claim.Within (twin actor) (map twin objects)
+twin_claim twin (claim.Readers object readers) = claim.Readers (twin object) (map twin readers)
 twin_claim twin (claim.Through from to filters) = claim.Through (twin from) (twin to) (map twin filters)
-twin_claim twin (claim.Without actor kind object) = claim.Without (twin actor) kind (twin object)
+twin_claim twin (claim.Without actor kind object) = claim.Without (twin_who twin actor) kind (twin_who twin object)

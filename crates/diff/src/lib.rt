@@ -1,7 +1,6 @@
 //! What changes from one system to another of who may change, read and reach whom.
 //!
-//! Two systems are compared by the names of their labels. No crate stands on this one yet. It knows no code of the
-//! kernel's calls.
+//! Two systems are compared by the names of their labels. `reptext` and `report` stand on this crate. It knows no code of the kernel's calls.
 #![tactic(auto)]
 
 mod change;

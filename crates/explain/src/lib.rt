@@ -20,6 +20,7 @@ mod reach_origins;
 mod rounds;
 mod sentences;
 mod sharp_denials;
+mod surplus;
 mod unlabelled;
 
 pub use asked::{an_asked_edge_is_missing, asked_edge};
@@ -30,4 +31,5 @@ pub use lines::line_of_edge;
 pub use origins::explain_why_allowed;
 pub use reach_origins::{Origins, OtherWays, explain_why};
 pub use sentences::{EdgeLine, EdgeList, Reason};
+pub use surplus::explain_surplus;
 pub use unlabelled::explain_unlabelled;

@@ -17,10 +17,12 @@ pub enum File {
     Claims,
     /// A system description of Microkit. It is XML, so its lines have no forms.
     Description,
+    /// The second system of a comparison, a table or a description.
+    New,
 }
 
 impl File {
-    /// All files.
+    /// All kinds of files.
     pub const ALL: [File; 7] = [
         File::Table,
         File::Policy,
@@ -36,7 +38,7 @@ impl File {
     /// That of a description is the shortest of those that its XML may begin with.
     pub fn header(self) -> &'static str {
         match self {
-            File::Table => "confine-table 1",
+            File::Table | File::New => "confine-table 1",
             File::Policy => "confine-policy 1",
             File::Certificate => "confine-cert 1",
             File::Script => "confine-script 1",
@@ -51,7 +53,7 @@ impl File {
     /// Tables have one.
     pub fn later_header(self) -> Option<&'static str> {
         match self {
-            File::Table => Some("confine-table 2"),
+            File::Table | File::New => Some("confine-table 2"),
             _ => None,
         }
     }
@@ -87,6 +89,7 @@ impl File {
             File::Log => "log",
             File::Claims => "claims",
             File::Description => "description",
+            File::New => "new system",
         }
     }
 

@@ -70,6 +70,8 @@ pub enum Form {
     ClaimNothing,
     ClaimTake,
     ClaimOnly,
+    ClaimWithin,
+    ClaimReaders,
     ClaimApart,
     ClaimThrough,
     ClaimWithout,
@@ -77,7 +79,7 @@ pub enum Form {
 
 impl Form {
     /// All forms, those of a file in the order in which its lines may come.
-    pub const ALL: [Form; 47] = [
+    pub const ALL: [Form; 49] = [
         Form::Label,
         Form::Untyped,
         Form::CNode,
@@ -122,6 +124,8 @@ impl Form {
         Form::ClaimNothing,
         Form::ClaimTake,
         Form::ClaimOnly,
+        Form::ClaimWithin,
+        Form::ClaimReaders,
         Form::ClaimApart,
         Form::ClaimThrough,
         Form::ClaimWithout,
@@ -134,6 +138,8 @@ impl Form {
             Form::ClaimNothing
             | Form::ClaimTake
             | Form::ClaimOnly
+            | Form::ClaimWithin
+            | Form::ClaimReaders
             | Form::ClaimApart
             | Form::ClaimThrough
             | Form::ClaimWithout => File::Claims,
@@ -213,6 +219,8 @@ impl Form {
             Form::ClaimNothing => "none",
             Form::ClaimTake => "take",
             Form::ClaimOnly => "only",
+            Form::ClaimWithin => "within",
+            Form::ClaimReaders => "readers",
             Form::ClaimApart => "apart",
             Form::ClaimThrough => "through",
             Form::ClaimWithout => "without",
@@ -270,9 +278,11 @@ impl Form {
             Form::ClaimNothing => "`none LABEL LABEL`, with `*` for at most one LABEL",
             Form::ClaimTake => "`take LABEL LABEL`, with `*` for at most one LABEL",
             Form::ClaimOnly => "`only LABEL LABEL ..`",
+            Form::ClaimWithin => "`within LABEL LABEL ..`",
+            Form::ClaimReaders => "`readers LABEL ..`",
             Form::ClaimApart => "`apart LABEL LABEL`",
             Form::ClaimThrough => "`through LABEL LABEL ..`",
-            Form::ClaimWithout => "`without LABEL KIND LABEL`",
+            Form::ClaimWithout => "`without LABEL KIND LABEL`, with `*` for at most one LABEL",
         }
     }
 
@@ -319,6 +329,7 @@ impl Form {
             Form::Retype => "DEC DEC retype DEC MATERIAL DEC DEC DEC DEC",
             Form::ClaimNothing => "none END END",
             Form::ClaimTake => "take END END",
+            Form::ClaimWithout => "without END KIND END",
             form => match part(form.words(), '`', 1) {
                 Some(pattern) => pattern,
                 None => "",

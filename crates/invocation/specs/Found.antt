@@ -22,14 +22,14 @@ Each P (x ∷ xs) = P x × Each P xs
 abbrev pub AreFound : Found → Words → Type 0
 AreFound found words =
     Each (IsFound found)
-    ((codes "system", words.system) ∷ (codes "policy", words.policy) ∷ (codes "certificate", words.certificate)
+    ((codes "system", words.system) ∷ (codes "new", words.newer) ∷ (codes "policy", words.policy) ∷ (codes "certificate", words.certificate)
     ∷ (codes "script", words.script) ∷ (codes "log", words.log) ∷ (codes "claims", words.claims) ∷ (codes "actor", words.actor)
     ∷ (codes "object", words.object) ∷ (codes "workers", words.workers) ∷ (codes "steps", words.steps)
     ∷ (codes "seconds", words.seconds) ∷ (codes "rights", words.rights) ∷ (codes "rules", words.rules) ∷ (codes "format", words.format) ∷ [])
     × Each (IsGiven found)
     ((codes "explain", words.explain) ∷ (codes "quiet", words.quiet) ∷ (codes "cert", words.cert) ∷ (codes "missing", words.missing)
     ∷ (codes "surplus", words.surplus) ∷ (codes "split", words.split) ∷ (codes "all", words.all) ∷ (codes "take", words.take)
-    ∷ (codes "as-claims", words.as_claims) ∷ [])
+    ∷ (codes "reads", words.reads) ∷ (codes "as-claims", words.as_claims) ∷ [])
 
 -- a line asks for what its command and the words found for that make
 pub record IsAskedIn (matches : ArgMatches) (line : CommandLine) : Type 0 where

@@ -42,6 +42,9 @@ pub const ABOUT_WHY: &str =
 pub const ABOUT_FLOWS: &str =
     "Reports what flows from one label to another, and through which programs all of it goes";
 
+pub const ABOUT_DIFF: &str =
+    "Reports what changes from one system to another of who may change, read and reach whom";
+
 pub const ABOUT_DRAW: &str =
     "Draws, for Graphviz, which programs may change or take from which, and by what";
 
@@ -164,17 +167,21 @@ says nothing:
   none A B           threads of label A never change an object of label B
   take A B           .. other than by shrinking it; `*` for A or B: each other label
   only B A A ..      threads of B and of these labels alone change an object of B
+  within A B B ..    threads of A change objects of A and of these labels alone
+  readers B A A ..   no label but B and these ever has authority read, receive or
+                     await on B
   apart A B          nothing A does flows to B: no chain of labels leads from A to B,
                      of which each may change objects that the next one has or sees
   through A B F ..   .. but through these labels
-  without A KIND B   A never has authority of this kind on B, as in an edge of a policy";
+  without A KIND B   A never has authority of this kind on B, as in an edge of a policy;
+                     `*` for A or B: each other label";
 
 pub const DESCRIPTION: &str = "\
 A system description, as Microkit 1.x reads it: protection domains, virtual machines,
 memory regions, maps and channels, in XML. What it doesn't show is told with `--explain`.
 docs/IMPORT.md says what each element becomes.";
 
-pub const VERSION: &str = "0.22.0";
+pub const VERSION: &str = "0.23.0";
 
 pub const EXPLAIN: &str = "Adds reasons, runs and notes to what standard error says";
 
@@ -232,12 +239,30 @@ pub const ALL: &str = "Writes the strongest claims that hold, on all labels, in 
 
 pub const ACTOR: &str = "The label whose threads act, by its name in the table";
 
+pub const ACTOR_OR_ALL: &str =
+    "The label whose threads act; with '*', a line for each other label that may change B";
+
+pub const READS: &str = "With '*' as A: a line for each other label that may read B";
+
+pub const READS_OF_ONE: &str =
+    "'--reads' lists all labels that may read B: write '*' in place of A";
+
+pub const ALL_BY_POLICY: &str =
+    "'*' in place of A asks about runs of the system: leave out '--policy', or name one label";
+
+pub const ALL_AS_JSON: &str = "with '*' in place of A, the answer has no form but 'text'";
+
 pub const OBJECT: &str = "The label of the objects on which they act";
 
 pub const FLOWS_FROM: &str =
     "The label whose threads act; without labels, a matrix of all programs";
 
 pub const FLOWS_TO: &str = "The label to which it flows";
+
+pub const OLD_SYSTEM: &str =
+    "The system as it was: a capability table or a Microkit system description";
+
+pub const NEW_SYSTEM: &str = "The system as it is now, in either form";
 
 pub const ONE_LABEL: &str =
     "'flows' takes two labels, '<A> <B>', or none: then it prints a matrix of all programs";
@@ -661,6 +686,14 @@ comes with status 0:
 confine why table a b --format json
 
 {\"actor\":\"a\",\"authority\":\"full\",\"edges\":[[\"a\",\"notify\",\"b\"]],\"object\":\"b\"}
+
+Which other labels may change objects of `b`, and which may read there? This ends with status 0:
+
+confine why table '*' b
+confine why table '*' b --reads
+
+a full
+a reads
 "
 );
 
@@ -713,6 +746,34 @@ tried, `show` prints `none found`, with status 1 too. That says nothing of other
 `--take` an object that shrinks is enough.
 "
 );
+
+pub const EXAMPLE_DIFF: &str = "\
+Example, to be pasted into a shell: a client may write the settings that it could only read.
+
+cat >old <<'.'
+<system>
+  <memory_region name=\"settings\" size=\"0x1000\"/>
+  <protection_domain name=\"server\" priority=\"2\">
+    <program_image path=\"server.elf\"/>
+    <map mr=\"settings\" vaddr=\"0x200_0000\" perms=\"rw\"/>
+  </protection_domain>
+  <protection_domain name=\"client\" priority=\"1\">
+    <program_image path=\"client.elf\"/>
+    <map mr=\"settings\" vaddr=\"0x200_0000\" perms=\"r\"/>
+  </protection_domain>
+</system>
+.
+sed 's/perms=\"r\"/perms=\"rw\"/' old >new
+confine diff old new --rights least
+
+It prints a line for each change, with status 1, since some add authority:
+
++ client server m
++ client changes settings
+
+`+` is new, `-` is gone, `~` is another than it was. A line of two programs has what the matrix of
+`confine summary` says of them. Then come the uses of memory (`changes`, `takes`, `reads`), and
+edges that no other line shows. Without any change it prints nothing, and the status is 0.";
 
 pub const EXAMPLE_FLOWS: &str = "\
 Example, to be pasted into a shell: two clients call a server.

@@ -84,13 +84,16 @@ fn misuse_of(alloc: Global, matches: &ArgMatches<'_>) -> Result<(ErrorKind, Stri
         return Ok((ErrorKind::TooManyValues, message));
     }
     let message = match name {
-        "why" | "summary" if !has_format(name, found) => help::WRONG_FORM,
+        "why" | "summary" | "diff" if !has_format(name, found) => help::WRONG_FORM,
         _ if !has_format(name, found) => help::WRONG_FORMAT,
         _ if !has_rules(found) => help::WRONG_RULES,
         _ if !has_rights(found) => help::WRONG_RIGHTS,
         "import" => help::WRONG_RIGHTS,
+        "why" if found.get_str("actor") != Some("*") => help::READS_OF_ONE,
+        "why" if found.get_str("policy").is_some() => help::ALL_BY_POLICY,
+        "why" => help::ALL_AS_JSON,
         "show" => help::WRONG_STEPS,
-        "claims" => help::WRONG_SECONDS,
+        "claims" | "diff" => help::WRONG_SECONDS,
         "flows" => help::ONE_LABEL,
         _ => help::WRONG_WORKERS,
     };
@@ -131,7 +134,15 @@ impl<'a> Unneeded<'a> {
 }
 
 // The ids of files.
-const FILES: [&str; 6] = ["system", "policy", "certificate", "script", "log", "claims"];
+const FILES: [&str; 7] = [
+    "system",
+    "new",
+    "policy",
+    "certificate",
+    "script",
+    "log",
+    "claims",
+];
 
 // How many files are standard input, which can be read once.
 fn inputs(found: &ArgMatches<'_>) -> u64 {
@@ -167,8 +178,10 @@ impl fmt::Display for Unneeded<'_> {
             "'{policy}' isn't needed any more: 'confine {command} {system}"
         )?;
         for word in [first, second] {
-            if !word.is_empty() {
-                write!(f, " {word}")?;
+            match *word {
+                "" => {}
+                "*" => f.write_str(" \"*\"")?,
+                _ => write!(f, " {word}")?,
             }
         }
         if let Some(rights) = rights {
@@ -222,6 +235,7 @@ fn words_of<'a>(verb: Verb, found: &ArgMatches<'a>) -> Words<'a>
     Words {
         verb,
         system: found.get_str("system"),
+        newer: found.get_str("new"),
         policy: found.get_str("policy"),
         certificate: found.get_str("certificate"),
         script: found.get_str("script"),
@@ -243,6 +257,7 @@ fn words_of<'a>(verb: Verb, found: &ArgMatches<'a>) -> Words<'a>
         split: found.get_flag("split"),
         all: found.get_flag("all"),
         take: found.get_flag("take"),
+        reads: found.get_flag("reads"),
         as_claims: found.get_flag("as-claims"),
     }
 }
@@ -261,6 +276,7 @@ fn command_of<'a>(alloc: Global, verb: Verb) -> Result<Command<'a>, AllocError> 
         Verb::Draw => draw_command(alloc),
         Verb::Summary => summary_command(alloc),
         Verb::Flows => flows_command(alloc),
+        Verb::Diff => diff_command(alloc),
         Verb::Claims => claims_command(alloc),
         Verb::List => list_command(alloc),
     }
@@ -281,6 +297,7 @@ fn command<'a>(alloc: Global) -> Result<Command<'a>, AllocError> {
     let command = with(command, show_command(alloc));
     let command = with(command, flows_command(alloc));
     let command = with(command, claims_command(alloc));
+    let command = with(command, diff_command(alloc));
     let command = with(command, draw_command(alloc));
     let command = with(command, list_command(alloc));
     let command = with(command, verify_command(alloc));
@@ -370,9 +387,10 @@ fn close_command<'a>(alloc: Global) -> Result<Command<'a>, AllocError> {
 
 fn why_command<'a>(alloc: Global) -> Result<Command<'a>, AllocError> {
     let command = on_system(alloc, "why", help::ABOUT_WHY, help::EXAMPLE_WHY);
-    let command = taking(command, Ok(word(alloc, "actor", "A", help::ACTOR)));
+    let command = taking(command, Ok(word(alloc, "actor", "A", help::ACTOR_OR_ALL)));
     let command = taking(command, Ok(word(alloc, "object", "B", help::OBJECT)));
     let command = taking(command, Ok(one_word_more(alloc)));
+    let command = taking(command, Ok(flag(alloc, "reads", help::READS)));
     taking(command, Ok(allowing(alloc)))
 }
 
@@ -397,6 +415,15 @@ fn flows_command<'a>(alloc: Global) -> Result<Command<'a>, AllocError> {
     let command = taking(command, Ok(from));
     let to = word(alloc, "object", "B", help::FLOWS_TO).required(false);
     taking(command, Ok(to))
+}
+
+fn diff_command<'a>(alloc: Global) -> Result<Command<'a>, AllocError> {
+    let command = telling(alloc, "diff", help::ABOUT_DIFF, help::EXAMPLE_DIFF);
+    let command = taking(command, Ok(word(alloc, "system", "OLD", help::OLD_SYSTEM)));
+    let command = taking(command, Ok(word(alloc, "new", "NEW", help::NEW_SYSTEM)));
+    let rights = option(alloc, "rights", "R", help::RIGHTS_OF_SYSTEM);
+    let command = taking(command, Ok(rights));
+    taking(command, Ok(seconds(alloc)))
 }
 
 fn draw_command<'a>(alloc: Global) -> Result<Command<'a>, AllocError> {
@@ -464,7 +491,9 @@ fn telling<'a>(
 // The option for the format of a command's reports, or of its answer where that has two forms.
 fn format<'a>(alloc: Global, name: &str) -> Arg<'a> {
     match name {
-        "why" | "summary" => option(alloc, "format", "F", help::FORM).default_value("text"),
+        "why" | "summary" | "diff" => option(alloc, "format", "F", help::FORM).default_value(
+            "text",
+        ),
         _ => option(alloc, "format", "F", help::FORMAT).default_value("json"),
     }
 }

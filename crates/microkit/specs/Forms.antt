@@ -72,6 +72,7 @@ rules_of kind.Region =
     ∷ required (codes "size") form.Number
     ∷ optional (codes "page_size") form.PageSize
     ∷ optional (codes "phys_addr") form.Number
+    ∷ optional (codes "prefill_path") form.Text
     ∷ []
 rules_of kind.Domain =
     required (codes "name") form.Name
@@ -99,7 +100,7 @@ rules_of kind.Child =
     ∷ optional (codes "fpu") form.Flag
     ∷ optional (codes "pp") form.Flag
     ∷ []
-rules_of kind.Image = required (codes "path") form.Text ∷ []
+rules_of kind.Image = required (codes "path") form.Text ∷ optional (codes "path_for_symbols") form.Text ∷ []
 rules_of kind.Map = map_rules
 rules_of kind.MachineMap = map_rules
 rules_of kind.Interrupt =

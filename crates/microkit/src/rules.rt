@@ -56,11 +56,12 @@ pub fn rules_of(kind: Kind) -> &'static [Rule]
     }
 }
 
-const REGION: [Rule; 4] = [
+const REGION: [Rule; 5] = [
     Rule("name", Form::Name, Need::Required),
     Rule("size", Form::Number, Need::Required),
     Rule("page_size", Form::PageSize, Need::Optional),
     Rule("phys_addr", Form::Number, Need::Optional),
+    Rule("prefill_path", Form::Text, Need::Optional),
 ];
 
 const DOMAIN: [Rule; 10] = [
@@ -92,7 +93,10 @@ const CHILD: [Rule; 12] = [
     Rule("pp", Form::Flag, Need::Optional),
 ];
 
-const IMAGE: [Rule; 1] = [Rule("path", Form::Text, Need::Required)];
+const IMAGE: [Rule; 2] = [
+    Rule("path", Form::Text, Need::Required),
+    Rule("path_for_symbols", Form::Text, Need::Optional),
+];
 
 const MAP: [Rule; 7] = [
     Rule("mr", Form::Text, Need::Required),

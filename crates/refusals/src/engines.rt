@@ -6,8 +6,8 @@ use crate::memory::{Stopped, Wrong, are, holds, prepared, spend};
 use crate::retypes::{self, LOG_WITHOUT_MEMORY};
 use report::{
     End, Form, Imported, Minting, OfPolicy, OfSystem, OnAccept, OnClose, OnImport, Open, Picture,
-    Rules, Search, Silence, Sink, Source, Taken, Watched, ask, ask_policy, check, check_claims,
-    import, replay, run, run_split, verify,
+    Rules, Search, Silence, Sink, Source, Taken, Use, Watched, ask, ask_policy, check,
+    check_claims, compare, import, replay, run, run_split, verify,
 };
 use std::sync::Wait;
 use std::thread::Threads;
@@ -28,6 +28,8 @@ pub enum Engine {
     /// What is asked of a table and a policy.
     AskedOfPolicy(OfPolicy<'static>),
     Claims,
+    /// What changes from the table to the third text.
+    Changes(Form),
     /// What is imported of a description, with the least rights.
     Import(Imported),
 }
@@ -39,7 +41,7 @@ pub struct EngineCall {
     engine: Engine,
     table: &'static str,
     policy: &'static str,
-    /// The script, log, certificate, claims or description.
+    /// The script, log, certificate, claims, new table or description.
     third: &'static str,
     status: u8,
     /// What is written.
@@ -47,7 +49,7 @@ pub struct EngineCall {
 }
 
 /// The calls of engines.
-pub const CALLS: [EngineCall; 37] = [
+pub const CALLS: [EngineCall; 41] = [
     EngineCall {
         name: "engine_log",
         engine: Engine::Run,
@@ -174,13 +176,37 @@ pub const CALLS: [EngineCall; 37] = [
         text: "full\nedge a notify b\n",
     },
     EngineCall {
+        name: "engine_users",
+        engine: Engine::Asked(OfSystem::Users {
+            usage: Use::Changes,
+            object: "b",
+        }),
+        table: TWO_THREADS,
+        policy: "",
+        third: "",
+        status: 0,
+        text: "s full\n",
+    },
+    EngineCall {
+        name: "engine_readers",
+        engine: Engine::Asked(OfSystem::Users {
+            usage: Use::Reads,
+            object: "r",
+        }),
+        table: OF_A_DESCRIPTION,
+        policy: "",
+        third: "",
+        status: 0,
+        text: "a reads\n",
+    },
+    EngineCall {
         name: "engine_claims",
         engine: Engine::Claims,
         table: TWO_LABELS,
         policy: "",
         third: CLAIMS,
         status: 0,
-        text: HOLD,
+        text: "{\"claims\":4,\"verdict\":\"hold\"}\n",
     },
     EngineCall {
         name: "engine_strongest",
@@ -189,7 +215,7 @@ pub const CALLS: [EngineCall; 37] = [
         policy: "",
         third: "",
         status: 0,
-        text: STRONGEST,
+        text: "confine-claims 2\nnone * a\nnone * b\nend\n",
     },
     EngineCall {
         name: "engine_summary",
@@ -217,6 +243,24 @@ pub const CALLS: [EngineCall; 37] = [
         third: "",
         status: 0,
         text: FLOW_MATRIX,
+    },
+    EngineCall {
+        name: "engine_diff",
+        engine: Engine::Changes(Form::Text),
+        table: TWO_LABELS,
+        policy: "",
+        third: ONE_THREAD,
+        status: 1,
+        text: "~ a label program\n+ a changes b\n",
+    },
+    EngineCall {
+        name: "engine_diff_json",
+        engine: Engine::Changes(Form::Json),
+        table: ONE_THREAD,
+        policy: "",
+        third: TWO_LABELS,
+        status: 0,
+        text: CHANGES,
     },
     EngineCall {
         name: "engine_show",
@@ -247,7 +291,7 @@ pub const CALLS: [EngineCall; 37] = [
         policy: "",
         third: "",
         status: 0,
-        text: NO_ARROW,
+        text: "digraph authority {\n  \"a\"\n  \"b\"\n}\n",
     },
     EngineCall {
         name: "engine_draw_programs",
@@ -292,7 +336,7 @@ pub const CALLS: [EngineCall; 37] = [
         policy: "",
         third: DESCRIPTION,
         status: 0,
-        text: INTENDED,
+        text: "confine-claims 2\nnone a r\nend\n",
     },
     EngineCall {
         name: "engine_denial",
@@ -319,7 +363,7 @@ pub const CALLS: [EngineCall; 37] = [
         policy: POLICY,
         third: NO_LINES,
         status: 1,
-        text: PARTED,
+        text: "{\"place\":[\"1\"],\"rule\":\"C1\",\"verdict\":\"deny\"}\n",
     },
     EngineCall {
         name: "engine_replay_outside",
@@ -350,7 +394,7 @@ pub const CALLS: [EngineCall; 37] = [
         policy: "",
         third: "",
         status: 1,
-        text: UNSHOWN,
+        text: "{\"bound\":\"none\",\"run\":\"impossible\"}\n",
     },
     EngineCall {
         name: "engine_fault",
@@ -359,7 +403,7 @@ pub const CALLS: [EngineCall; 37] = [
         policy: POLICY,
         third: SCRIPT,
         status: 2,
-        text: FAULT,
+        text: "{\"fault\":50,\"file\":\"table\",\"line\":2}\n",
     },
     EngineCall {
         name: "engine_fault_policy",
@@ -368,7 +412,7 @@ pub const CALLS: [EngineCall; 37] = [
         policy: FAULTY,
         third: "",
         status: 2,
-        text: FAULTY_POLICY,
+        text: "{\"fault\":50,\"file\":\"policy\",\"line\":1}\n",
     },
     EngineCall {
         name: "engine_fault_script",
@@ -377,7 +421,7 @@ pub const CALLS: [EngineCall; 37] = [
         policy: POLICY,
         third: FAULTY,
         status: 2,
-        text: FAULTY_SCRIPT,
+        text: "{\"fault\":50,\"file\":\"script\",\"line\":1}\n",
     },
     EngineCall {
         name: "engine_fault_certificate",
@@ -386,7 +430,7 @@ pub const CALLS: [EngineCall; 37] = [
         policy: POLICY,
         third: FAULTY,
         status: 2,
-        text: FAULTY_CERTIFICATE,
+        text: "{\"fault\":50,\"file\":\"certificate\",\"line\":1}\n",
     },
     EngineCall {
         name: "engine_fault_log",
@@ -395,7 +439,7 @@ pub const CALLS: [EngineCall; 37] = [
         policy: POLICY,
         third: FAULTY,
         status: 2,
-        text: FAULTY_LOG,
+        text: "{\"fault\":50,\"file\":\"log\",\"line\":1}\n",
     },
 ];
 
@@ -428,8 +472,6 @@ end
 /// A certificate that lacks the first line of the right one.
 const NO_LINES: &str = "confine-cert 1\nend\n";
 
-const PARTED: &str = "{\"place\":[\"1\"],\"rule\":\"C1\",\"verdict\":\"deny\"}\n";
-
 /// The lines of the policy of the system.
 const LINES: &str = "\
 edge a reset a
@@ -443,8 +485,6 @@ edge a runs a
 /// A table of two labels, which have no authority.
 const TWO_LABELS: &str = "confine-table 1\nlabel a\nlabel b\nend\n";
 
-const STRONGEST: &str = "confine-claims 2\nnone * a\nnone * b\nend\n";
-
 /// Claims of each form, and lines that claim nothing.
 const CLAIMS: &str = "\
 confine-claims 2
@@ -456,8 +496,6 @@ apart a b
 without a notify b
 end
 ";
-
-const HOLD: &str = "{\"claims\":4,\"verdict\":\"hold\"}\n";
 
 /// The summary of a system with one thread.
 const MATRIX: &str = "\
@@ -503,15 +541,11 @@ through how many other programs all flows from one to another go, in any run:
 /// The first event of the script is the first that is tried.
 const SHOWN: &str = "confine-script 1\n0 1 signal 0\nend\n";
 
-const UNSHOWN: &str = "{\"bound\":\"none\",\"run\":\"impossible\"}\n";
-
 /// A table of two labels and an object.
 const ONE_OBJECT: &str = "confine-table 1\nlabel a\nlabel b\nnotification n b 0x3000\nend\n";
 
 /// A policy by which the one label may change the other.
 const ONE_EDGE: &str = "confine-policy 1\nedge a notify b\nend\n";
-
-const NO_ARROW: &str = "digraph authority {\n  \"a\"\n  \"b\"\n}\n";
 
 const DRAWING: &str =
     "digraph authority {\n  \"a\"\n  \"b\"\n  \"a\" -> \"b\" [label=\"a notify b\"]\n}\n";
@@ -534,6 +568,10 @@ cap t.root c 63 0x0
 bind t x
 end
 ";
+
+const CHANGES: &str =
+    "{\"adds\":false,\"changes\":[{\"label\":\"a\",\"new\":\"label\",\"old\":\"program\",\"sign\":\"~\"},\
+    {\"sign\":\"-\",\"use\":[\"a\",\"changes\",\"b\"]}]}\n";
 
 /// Claims of which one holds. Of the others one names both labels, one doesn't, and one is on an edge.
 const BROAD: &str = "\
@@ -586,24 +624,11 @@ const LIST_OF_A_DESCRIPTION: &str = "\
 4 frame r_frame r
 ";
 
-/// The claims that it makes.
-const INTENDED: &str = "confine-claims 2\nnone a r\nend\n";
-
 /// A text whose second line is no line of a table.
 const FAULTY_TABLE: &str = "confine-table 1\nlabel\nend\n";
 
-const FAULT: &str = "{\"fault\":50,\"file\":\"table\",\"line\":2}\n";
-
 /// A text that any file is faulty with, at line 1.
 const FAULTY: &str = "end\n";
-
-const FAULTY_POLICY: &str = "{\"fault\":50,\"file\":\"policy\",\"line\":1}\n";
-
-const FAULTY_SCRIPT: &str = "{\"fault\":50,\"file\":\"script\",\"line\":1}\n";
-
-const FAULTY_CERTIFICATE: &str = "{\"fault\":50,\"file\":\"certificate\",\"line\":1}\n";
-
-const FAULTY_LOG: &str = "{\"fault\":50,\"file\":\"log\",\"line\":1}\n";
 
 /// A search for a change, of few calls.
 const OF_A_CHANGE: Search = Search {
@@ -643,6 +668,7 @@ where
     let alloc = rt.alloc();
     let silence = &mut Silence;
     let rules = Rules::Closed;
+    let either = Taken::Either(None);
     match engine {
         Engine::Run => run(rt, alloc, rules, table, policy, third, silence, out),
         Engine::Split => run_split(rt, alloc, table, policy, third, &Open, silence, out),
@@ -668,6 +694,7 @@ where
             alloc, asked, taken, table, policy, silence, out,
         ),
         Engine::Claims => check_claims(alloc, taken, table, third, silence, out),
+        Engine::Changes(form) => compare(alloc, form, either, table, third, silence, out),
         Engine::Import(imported) => import(alloc, with_least(imported), third, silence, out),
     }
 }

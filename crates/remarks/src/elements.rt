@@ -1,4 +1,5 @@
 //! The elements of a description, and where they stand.
+use microkit::number_of;
 use xml::Element;
 
 /// An element, by its number in the document.
@@ -32,16 +33,26 @@ impl<'a, 't> Place<'a, 't> {
         None
     }
 
+    /// Returns the number of an attribute.
+    pub(crate) fn number_in(self, name: &str) -> Option<u64> {
+        number_of(self.value(name)?)
+    }
+
+    /// Returns the element of this number in the same document.
+    pub(crate) fn at(self, number: usize) -> Place<'a, 't> {
+        Place {
+            elements: self.elements,
+            number,
+        }
+    }
+
     /// Returns the element in which it stands, if it isn't the root.
     pub(crate) fn outer(self) -> Option<Place<'a, 't>> {
         let level = self.element()?.level;
         let mut found = None;
         for (number, element) in self.elements.iter().enumerate() {
             if number < self.number && element.level < level {
-                found = Some(Place {
-                    elements: self.elements,
-                    number,
-                });
+                found = Some(self.at(number));
             }
         }
         found
@@ -68,10 +79,7 @@ impl<'a, 't> Place<'a, 't> {
     pub(crate) fn twin(self, attribute: &str) -> Option<Place<'a, 't>> {
         let value = self.value(attribute)?;
         for number in 0..self.number {
-            let other = Place {
-                elements: self.elements,
-                number,
-            };
+            let other = self.at(number);
             if other.name() == self.name() && other.value(attribute) == Some(value) {
                 return Some(other);
             }

@@ -2,12 +2,12 @@
 use crate::documents::first_slip;
 use crate::elements::Place;
 use crate::flaws::Flaw;
-use crate::limits::limit_flaw;
-use crate::naming::{join_flaw, known_flaw, twice_flaw};
+use crate::limits::{limit_flaw, table_flaw};
+use crate::naming::{Found, hexadecimal_of, join_flaw, known_flaw, twice_flaw};
 use crate::near::near_flaw;
 use crate::rules::{elements_in, outer_kind};
 use forms::Shown;
-use microkit::{Need, has_form, kind_within, rules_of};
+use microkit::{Form, Need, has_form, kind_within, rules_of};
 use std::alloc::{AllocError, Global};
 use std::fmt;
 use words::Fault;
@@ -85,43 +85,53 @@ fn value_of<'a>(place: Place<'a, '_>, name: &[u8]) -> &'a [u8] {
 // What is told of the first element of the line that doesn't meet a condition; else of its first element.
 fn told_of<'a, 't>(elements: &'a [Element<'t>], fault: Fault) -> Told<'a, 't> {
     let mut first = None;
+    let mut table = None;
     for (number, element) in elements.iter().enumerate() {
         if element.line == fault.line {
             let place = Place { elements, number };
-            if let Some(told) = told_at(place, fault.number) {
-                return told;
+            if let Some(found) = flaw_at(place, fault.number) {
+                return told_at(place, found);
+            }
+            if let (54, None, Some(found)) = (fault.number, table, table_flaw(place)) {
+                table = Some((place, found));
             }
             if first.is_none() {
                 first = Some(place);
             }
         }
     }
-    Told {
-        place: first,
-        attribute: None,
-        flaw: Flaw::Other(fault.number),
+    match table {
+        Some((place, found)) => told_at(place, found),
+        None => Told {
+            place: first,
+            attribute: None,
+            flaw: Flaw::Other(fault.number),
+        },
     }
 }
 
-// What is told of an element, if it doesn't meet a condition of this number.
-fn told_at<'a, 't>(place: Place<'a, 't>, number: u64) -> Option<Told<'a, 't>> {
-    let (attribute, flaw) = match number {
-        50 => form_flaw(place)?,
-        51 => known_flaw(place)?,
-        52 => twice_flaw(place)?,
-        54 => limit_flaw(place)?,
-        55 => join_flaw(place)?,
-        _ => return None,
-    };
-    Some(Told {
+fn told_at<'a, 't>(place: Place<'a, 't>, (attribute, flaw): Found<'a>) -> Told<'a, 't> {
+    Told {
         place: Some(place),
         attribute,
         flaw,
-    })
+    }
+}
+
+// The condition of this number that an element doesn't meet, if there is one.
+fn flaw_at<'a>(place: Place<'a, '_>, number: u64) -> Option<Found<'a>> {
+    match number {
+        50 => form_flaw(place),
+        51 => known_flaw(place),
+        52 => twice_flaw(place),
+        54 => limit_flaw(place),
+        55 => join_flaw(place),
+        _ => None,
+    }
 }
 
 // The form of an element: where it stands, and its attributes.
-fn form_flaw<'a>(place: Place<'a, '_>) -> Option<(Option<&'a [u8]>, Flaw<'a>)> {
+fn form_flaw<'a>(place: Place<'a, '_>) -> Option<Found<'a>> {
     let element = place.element()?;
     let outer = match place.outer() {
         Some(outer) => outer.name(),
@@ -132,7 +142,7 @@ fn form_flaw<'a>(place: Place<'a, '_>) -> Option<(Option<&'a [u8]>, Flaw<'a>)> {
         None => None,
     };
     let Some(kind) = kind else {
-        return Some((None, Flaw::Element(outer, elements_in(outer))));
+        return Some((None, Flaw::Element(element.name, outer, elements_in(outer))));
     };
     let rules = rules_of(kind);
     for attribute in &element.attributes {
@@ -142,7 +152,8 @@ fn form_flaw<'a>(place: Place<'a, '_>) -> Option<(Option<&'a [u8]>, Flaw<'a>)> {
         {
             None => return Some((Some(attribute.name), Flaw::Attribute(attribute.name, kind))),
             Some(rule) if !has_form(rule.1, &attribute.value) => {
-                return Some((Some(attribute.name), Flaw::Form(rule.0, rule.1)));
+                let meant = meant_digits(rule.1, &attribute.value);
+                return Some((Some(attribute.name), Flaw::Form(rule.0, rule.1, meant)));
             }
             Some(_) => {}
         }
@@ -153,4 +164,16 @@ fn form_flaw<'a>(place: Place<'a, '_>) -> Option<(Option<&'a [u8]>, Flaw<'a>)> {
         }
     }
     None
+}
+
+// The digits of a value that isn't a number, but would be one with 0x before them.
+fn meant_digits(form: Form, value: &[u8]) -> Option<&[u8]> {
+    let digits = value.strip_prefix(b"0X").unwrap_or(value);
+    let is_begun = digits.first().is_some_and(|byte| byte.is_ascii_digit());
+    if form == Form::Number && is_begun {
+        hexadecimal_of(digits)?;
+        Some(digits)
+    } else {
+        None
+    }
 }

@@ -7,18 +7,20 @@ use std::fmt;
 /// What is wrong with an element.
 #[derive(Clone, Copy)]
 pub(crate) enum Flaw<'a> {
-    /// No element of this name stands there, but these: outside of all, or within one of this name.
-    Element(&'a [u8], &'static str),
+    /// No element of this name stands there, but these: outside of all, or within one of the second name.
+    Element(&'a [u8], &'a [u8], &'static [&'static str]),
     /// An element of this kind has no such attribute.
     Attribute(&'a [u8], Kind),
-    /// A value hasn't this form.
-    Form(&'static str, Form),
+    /// A value hasn't this form; it would be a number with 0x before these digits.
+    Form(&'static str, Form, Option<&'a [u8]>),
     /// An attribute is missing.
     Missing(&'static str),
     /// There is no region of this name.
     NoRegion(&'a [u8]),
     /// There is no domain of this name.
     NoDomain(&'a [u8]),
+    /// No element of this name stands there, within one of the second name, but one of a near name.
+    NearElement(&'a [u8], &'a [u8], &'static str),
     /// There is no attribute of this name, but one of a near name.
     NearAttribute(&'a [u8], &'static str),
     /// There is no region of this name, but one of a near name.
@@ -27,16 +29,18 @@ pub(crate) enum Flaw<'a> {
     NearDomain(&'a [u8], &'a str),
     /// A name is given to another element, in this line.
     Name(u64),
-    /// An id is given twice in this domain.
-    Id(&'a [u8]),
+    /// An id is given to another element of this domain, in this line.
+    Id(&'a [u8], u64),
     /// An interrupt is another domain's, in this line.
     Interrupt(u64),
     /// A domain has another virtual machine, in this line.
     SecondMachine(u64),
-    /// The size of a region isn't made of whole pages; this number of hexadecimal digits would be, with 0x before them.
+    /// The size of a region isn't made of whole pages; it would be with 0x before these digits.
     Pages(Option<&'a [u8]>),
-    /// An address doesn't begin a page, or the region goes beyond the last address.
-    Address,
+    /// An address doesn't begin a page; it would with 0x before these digits.
+    Address(Option<&'a [u8]>),
+    /// A region goes beyond the last address.
+    Beyond,
     /// A region has bytes of another one, in this line.
     Overlap(u64),
     /// A budget is more than its period.
@@ -51,6 +55,8 @@ pub(crate) enum Flaw<'a> {
     Ends,
     /// Both ends of a channel may call.
     BothCall,
+    /// Both ends of a channel, of which one may call, are of this domain.
+    CallsItself(&'a [u8]),
     /// An end calls a domain that hasn't a higher priority.
     Priority(Ranked<'a>, Ranked<'a>),
     /// A number is larger than this.
@@ -75,9 +81,13 @@ pub(crate) struct Ranked<'a> {
 impl fmt::Display for Flaw<'_> {
     fn fmt<W: fmt::Write>(&self, f: &mut fmt::Formatter<W>) -> fmt::Result {
         match *self {
-            Flaw::Element(outer, inner) => tell_element(f, outer, inner),
+            Flaw::Element(_, outer, inner) => tell_element(f, outer, inner),
+            Flaw::NearElement(name, outer, near) => tell_near_element(f, name, outer, near),
             Flaw::Attribute(name, kind) => tell_attribute(f, name, kind),
-            Flaw::Form(name, form) => write!(f, "{name} must be {}", form_words(form)),
+            Flaw::Form(name, form, meant) => {
+                write!(f, "{name} must be {}", form_words(form))?;
+                tell_meant(f, meant)
+            }
             Flaw::Missing(name) => write!(f, "{name} is missing"),
             Flaw::NoRegion(name) => write!(
                 f,
@@ -93,9 +103,9 @@ impl fmt::Display for Flaw<'_> {
             Flaw::NearRegion(name, near) => tell_near(f, "memory region", name, near),
             Flaw::NearDomain(name, near) => tell_near(f, "protection domain", name, near),
             Flaw::Name(line) => write!(f, "line {line} has the same name"),
-            Flaw::Id(domain) => write!(
+            Flaw::Id(domain, line) => write!(
                 f,
-                "this id is given twice in `{}`",
+                "line {line} has the same id in `{}`",
                 Shown { bytes: domain }
             ),
             Flaw::Interrupt(line) => write!(f, "line {line} has the same interrupt"),
@@ -104,10 +114,19 @@ impl fmt::Display for Flaw<'_> {
                 "this domain already has a virtual machine, in line {line}"
             ),
             Flaw::Overlap(line) => write!(f, "this region overlaps the region in line {line}"),
-            Flaw::Pages(None) => f.write_str(PAGES),
-            Flaw::Pages(Some(digits)) => {
-                write!(f, "{PAGES}: meant 0x{}?", Shown { bytes: digits })
+            Flaw::Pages(meant) => {
+                f.write_str("its size must be a multiple of the page size")?;
+                tell_meant(f, meant)
             }
+            Flaw::Address(meant) => {
+                f.write_str("its address must be a multiple of the page size")?;
+                tell_meant(f, meant)
+            }
+            Flaw::CallsItself(domain) => write!(
+                f,
+                "both ends are of `{}`: a domain can't call itself",
+                Shown { bytes: domain }
+            ),
             Flaw::Priority(caller, server) => {
                 let (lower, higher) = (caller.priority, server.priority);
                 let (caller, server) = (Shown { bytes: caller.name }, Shown { bytes: server.name });
@@ -124,7 +143,13 @@ impl fmt::Display for Flaw<'_> {
     }
 }
 
-const PAGES: &str = "its size must be a multiple of the page size";
+// Asks whether these digits lack 0x.
+fn tell_meant<W: fmt::Write>(f: &mut fmt::Formatter<W>, meant: Option<&[u8]>) -> fmt::Result {
+    match meant {
+        Some(digits) => write!(f, ": meant 0x{}?", Shown { bytes: digits }),
+        None => Ok(()),
+    }
+}
 
 // Which name is meant, in place of an unknown one.
 fn tell_near<W: fmt::Write>(
@@ -156,13 +181,34 @@ fn tell_attribute<W: fmt::Write>(
 fn tell_element<W: fmt::Write>(
     f: &mut fmt::Formatter<W>,
     outer: &[u8],
-    inner: &str,
+    inner: &[&str],
 ) -> fmt::Result {
-    let outer = Shown { bytes: outer };
-    match (outer.bytes, inner) {
-        (b"", _) => write!(f, "the root must be {inner}"),
-        (_, "") => write!(f, "{outer} can't contain other elements"),
-        _ => write!(f, "{outer} can only contain {inner}"),
+    let mut separator = match (outer, inner) {
+        (b"", _) => "the root must be ",
+        (_, []) => return write!(f, "{} can't contain other elements", Shown { bytes: outer }),
+        _ => {
+            write!(f, "{} can only contain ", Shown { bytes: outer })?;
+            ""
+        }
+    };
+    for name in inner {
+        write!(f, "{separator}{name}")?;
+        separator = ", ";
+    }
+    Ok(())
+}
+
+// Which element is meant, in place of one that can't stand there.
+fn tell_near_element<W: fmt::Write>(
+    f: &mut fmt::Formatter<W>,
+    name: &[u8],
+    outer: &[u8],
+    near: &str,
+) -> fmt::Result {
+    let (name, outer) = (Shown { bytes: name }, Shown { bytes: outer });
+    match outer.bytes {
+        b"" => write!(f, "the root must be {near}"),
+        _ => write!(f, "{outer} can't contain `{name}`: did you mean `{near}`?"),
     }
 }
 
@@ -181,8 +227,7 @@ fn form_words(form: Form) -> &'static str {
 // A sentence without words of its own.
 fn plain(flaw: Flaw<'_>) -> &'static str {
     match flaw {
-        Flaw::Address =>
-            "its address must be a multiple of the page size, and its end must be below 2^64",
+        Flaw::Beyond => "its address plus its size must be below 2^64",
         Flaw::Budget => "its budget is more than its period",
         Flaw::DefaultBudget =>
             "its budget, by default 1000 microseconds, is more than its period: give a budget too",

@@ -3,6 +3,7 @@
 //! `serving` stands on it. It knows no policy and no verdict.
 #![tactic(auto)]
 
+mod devices;
 mod documents;
 mod elements;
 mod faults;
@@ -13,5 +14,6 @@ mod near;
 mod notes;
 mod rules;
 
+pub use devices::Writers;
 pub use faults::explain_fault;
-pub use notes::{Matter, Note, explain_notes, notes_of};
+pub use notes::{Matter, Note, explain_notes, notes_of, notes_on_label};

@@ -8,7 +8,7 @@ use microkit::{MAX_DOMAINS, MAX_ID, MAX_PRIORITY, number_of};
 /// The number of the last core.
 const LAST_CORE: u64 = 15;
 
-/// Returns the limit that an element passes: one of its own, of the number of domains, or of its table.
+/// Returns the limit that an element passes: one of its own, or of the number of domains.
 pub(crate) fn limit_flaw<'a>(place: Place<'a, '_>) -> Option<Found<'a>> {
     if is_above(place.value("id"), MAX_ID) {
         return Some((Some(b"id"), Flaw::Large("id", MAX_ID)));
@@ -29,6 +29,11 @@ pub(crate) fn limit_flaw<'a>(place: Place<'a, '_>) -> Option<Found<'a>> {
     if is_domain && domains_before(place) >= MAX_DOMAINS {
         return Some((None, Flaw::Domains));
     }
+    None
+}
+
+/// Returns that the table of a description passes a limit at an element, if the element has a name.
+pub(crate) fn table_flaw<'a>(place: Place<'a, '_>) -> Option<Found<'a>> {
     place.value("name")?;
     Some((Some(b"name"), Flaw::Table))
 }
@@ -49,12 +54,6 @@ fn is_no_time(value: Option<&[u8]>) -> bool {
 
 fn domains_before(place: Place<'_, '_>) -> usize {
     (0..place.number)
-        .filter(|number| {
-            let other = Place {
-                elements: place.elements,
-                number: *number,
-            };
-            other.is_named("protection_domain")
-        })
+        .filter(|number| { place.at(*number).is_named("protection_domain") })
         .count()
 }

@@ -32,10 +32,7 @@ pub(crate) fn known_flaw<'a>(place: Place<'a, '_>) -> Option<Found<'a>> {
 // The element of a kind that has this name.
 fn named<'a, 't>(place: Place<'a, 't>, kind: &str, name: &[u8]) -> Option<Place<'a, 't>> {
     for number in 0..place.elements.len() {
-        let other = Place {
-            elements: place.elements,
-            number,
-        };
+        let other = place.at(number);
         if other.is_named(kind) && other.value("name") == Some(name) {
             return Some(other);
         }
@@ -48,28 +45,86 @@ pub(crate) fn twice_flaw<'a>(place: Place<'a, '_>) -> Option<Found<'a>> {
     if let Some(twin) = place.twin("name") {
         return Some((Some(b"name"), Flaw::Name(line_of(twin))));
     }
-    if let (b"irq", Some(twin)) = (place.name(), place.twin("irq")) {
-        return Some((Some(b"irq"), Flaw::Interrupt(line_of(twin))));
-    }
     if let (b"virtual_machine", Some(other)) = (place.name(), machine_before(place)) {
         return Some((None, Flaw::SecondMachine(line_of(other))));
     }
-    let domain = match place.name() {
-        b"end" => place.value("pd")?,
-        _ => place.domain()?.value("name")?,
-    };
-    place.value("id")?;
-    Some((Some(b"id"), Flaw::Id(domain)))
+    if let (b"irq", Some(other)) = (place.name(), interrupt_before(place)) {
+        return Some((Some(b"irq"), Flaw::Interrupt(line_of(other))));
+    }
+    let domain = id_domain(place)?;
+    let other = id_before(place)?;
+    Some((Some(b"id"), Flaw::Id(domain, line_of(other))))
+}
+
+// The element before it that has the same interrupt.
+fn interrupt_before<'a, 't>(place: Place<'a, 't>) -> Option<Place<'a, 't>> {
+    let irq = place.number_in("irq")?;
+    for number in 0..place.number {
+        let other = place.at(number);
+        if other.is_named("irq") && other.number_in("irq") == Some(irq) {
+            return Some(other);
+        }
+    }
+    None
+}
+
+// What the ids of a domain are of.
+#[derive(Clone, Copy, PartialEq, Eq)]
+enum Ids {
+    // Interrupts, and ends of channels.
+    Channels,
+    // Children, and virtual processors.
+    Children,
+}
+
+fn ids_of(place: Place<'_, '_>) -> Option<Ids> {
+    match place.name() {
+        b"irq" | b"end" => Some(Ids::Channels),
+        b"protection_domain" | b"virtual_machine" | b"vcpu" => Some(Ids::Children),
+        _ => None,
+    }
+}
+
+// The name of the domain that knows an element by the element's id.
+fn id_domain<'a>(place: Place<'a, '_>) -> Option<&'a [u8]> {
+    match place.name() {
+        b"end" => place.value("pd"),
+        _ => place.domain()?.value("name"),
+    }
+}
+
+// The element that is read before it, and by whose id the domain knows that one.
+fn id_before<'a, 't>(place: Place<'a, 't>) -> Option<Place<'a, 't>> {
+    let ids = ids_of(place)?;
+    let id = place.number_in("id")?;
+    let domain = id_domain(place)?;
+    for number in 0..place.elements.len() {
+        let other = place.at(number);
+        if ids_of(other) == Some(ids)
+            && other.number_in("id") == Some(id)
+            && is_read_before(other, place)
+            && id_domain(other) == Some(domain)
+        {
+            return Some(other);
+        }
+    }
+    None
+}
+
+// Whether an element is read before another one: ends are read last.
+fn is_read_before(place: Place<'_, '_>, other: Place<'_, '_>) -> bool {
+    match (place.is_named("end"), other.is_named("end")) {
+        (false, true) => true,
+        (true, false) => false,
+        _ => place.number < other.number,
+    }
 }
 
 // The virtual machine before it in the same domain.
 fn machine_before<'a, 't>(place: Place<'a, 't>) -> Option<Place<'a, 't>> {
     let domain = place.domain()?.number;
     for number in 0..place.number {
-        let other = Place {
-            elements: place.elements,
-            number,
-        };
+        let other = place.at(number);
         if let (true, Some(outer)) = (other.is_named("virtual_machine"), other.domain()) {
             if outer.number == domain {
                 return Some(other);
@@ -83,16 +138,23 @@ fn machine_before<'a, 't>(place: Place<'a, 't>) -> Option<Place<'a, 't>> {
 pub(crate) fn join_flaw<'a>(place: Place<'a, '_>) -> Option<Found<'a>> {
     match place.name() {
         b"memory_region" => region_flaw(place),
-        b"protection_domain" | b"virtual_machine" => {
-            Some(match place.value("budget") {
-                Some(_) => (Some(b"budget"), Flaw::Budget),
-                None => (Some(b"period"), Flaw::DefaultBudget),
-            })
-        }
+        b"protection_domain" | b"virtual_machine" => budget_flaw(place),
         b"end" => end_flaw(place),
-        b"channel" => Some((None, channel_flaw(place))),
+        b"channel" => Some((None, channel_flaw(place)?)),
         _ => None,
     }
+}
+
+// A budget that is more than its period.
+fn budget_flaw<'a>(place: Place<'a, '_>) -> Option<Found<'a>> {
+    let budget = number(place, "budget", 1000);
+    if budget <= number(place, "period", budget) {
+        return None;
+    }
+    Some(match place.value("budget") {
+        Some(_) => (Some(b"budget"), Flaw::Budget),
+        None => (Some(b"period"), Flaw::DefaultBudget),
+    })
 }
 
 // The pages and the address of a region.
@@ -102,17 +164,19 @@ fn region_flaw<'a>(place: Place<'a, '_>) -> Option<Found<'a>> {
         return None;
     }
     if size % page != 0 {
-        return Some((Some(b"size"), Flaw::Pages(meant_digits(place, page))));
+        let meant = meant_digits(place.value("size")?, page);
+        return Some((Some(b"size"), Flaw::Pages(meant)));
     }
-    let address = number_of(place.value("phys_addr")?)?;
-    if address % page != 0 || address.checked_add(size).is_none() {
-        return Some((Some(b"phys_addr"), Flaw::Address));
+    let address = place.number_in("phys_addr")?;
+    if address % page != 0 {
+        let meant = meant_digits(place.value("phys_addr")?, page);
+        return Some((Some(b"phys_addr"), Flaw::Address(meant)));
+    }
+    if address.checked_add(size).is_none() {
+        return Some((Some(b"phys_addr"), Flaw::Beyond));
     }
     for other in 0..place.number {
-        let other = Place {
-            elements: place.elements,
-            number: other,
-        };
+        let other = place.at(other);
         if other.is_named("memory_region") && meets(address, size, other) {
             return Some((Some(b"phys_addr"), Flaw::Overlap(line_of(other))));
         }
@@ -120,9 +184,8 @@ fn region_flaw<'a>(place: Place<'a, '_>) -> Option<Found<'a>> {
     None
 }
 
-// The digits of a decimal size that would be whole pages in hexadecimal.
-fn meant_digits<'a>(place: Place<'a, '_>, page: u64) -> Option<&'a [u8]> {
-    let digits = place.value("size")?;
+// The digits of a decimal number that would be whole pages in hexadecimal.
+fn meant_digits(digits: &[u8], page: u64) -> Option<&[u8]> {
     let meant = hexadecimal_of(digits)?;
     if page != 0 && meant % page == 0 {
         Some(digits)
@@ -131,16 +194,17 @@ fn meant_digits<'a>(place: Place<'a, '_>, page: u64) -> Option<&'a [u8]> {
     }
 }
 
-// The number that these digits are in hexadecimal.
-fn hexadecimal_of(digits: &[u8]) -> Option<u64> {
-    let mut number: u64 = 0;
+/// Returns the number that these digits are in hexadecimal.
+pub(crate) fn hexadecimal_of(digits: &[u8]) -> Option<u64> {
+    let mut number: Option<u64> = None;
     for byte in digits {
         if *byte != b'_' {
             let digit = (*byte as char).to_digit(16)?;
-            number = number.checked_mul(16)?.checked_add(u64::from(digit))?;
+            let shifted = number.unwrap_or(0).checked_mul(16)?;
+            number = Some(shifted.checked_add(u64::from(digit))?);
         }
     }
-    Some(number)
+    number
 }
 
 // Whether memory has bytes of a region at a fixed address.
@@ -162,28 +226,48 @@ fn end_flaw<'a>(place: Place<'a, '_>) -> Option<Found<'a>> {
         return Some((None, Flaw::ThirdEnd));
     }
     place.value("pp")?;
-    Some((Some(b"pp"), Flaw::Mixed))
+    if domains_serve(place) {
+        Some((Some(b"pp"), Flaw::Mixed))
+    } else {
+        None
+    }
+}
+
+// Whether a domain of the description has `pp`.
+fn domains_serve(place: Place<'_, '_>) -> bool {
+    for number in 0..place.elements.len() {
+        let other = place.at(number);
+        if other.is_named("protection_domain") && other.value("pp").is_some() {
+            return true;
+        }
+    }
+    false
 }
 
 // What is wrong with a channel that has its ends, or lacks one.
-fn channel_flaw<'a>(place: Place<'a, '_>) -> Flaw<'a> {
-    let ends = [
-        Place {
-            elements: place.elements,
-            number: place.number.saturating_add(1),
-        },
-        Place {
-            elements: place.elements,
-            number: place.number.saturating_add(2),
-        },
-    ];
-    if !ends[0].is_named("end") || !ends[1].is_named("end") {
-        return Flaw::Ends;
+fn channel_flaw<'a>(place: Place<'a, '_>) -> Option<Flaw<'a>> {
+    let first = place.at(place.number.saturating_add(1));
+    let second = place.at(place.number.saturating_add(2));
+    if !first.is_named("end") || !second.is_named("end") {
+        return Some(Flaw::Ends);
     }
-    match (is_calling(ends[0]), is_calling(ends[1])) {
-        (true, true) => Flaw::BothCall,
-        (true, false) => Flaw::Priority(ranked(ends[0]), ranked(ends[1])),
-        _ => Flaw::Priority(ranked(ends[1]), ranked(ends[0])),
+    match (is_calling(first), is_calling(second)) {
+        (true, true) => Some(Flaw::BothCall),
+        (true, false) => call_flaw(first, second),
+        (false, true) => call_flaw(second, first),
+        (false, false) => None,
+    }
+}
+
+// What is wrong with an end that may call, and the other end.
+fn call_flaw<'a>(caller: Place<'a, '_>, server: Place<'a, '_>) -> Option<Flaw<'a>> {
+    let (caller, server) = (ranked(caller), ranked(server));
+    if caller.priority < server.priority {
+        None
+    } else if caller.name == server.name {
+        Some(Flaw::CallsItself(caller.name))
+    } else {
+        Some(Flaw::Priority(caller, server))
     }
 }
 
@@ -202,10 +286,7 @@ fn ranked<'a>(end: Place<'a, '_>) -> Ranked<'a> {
 }
 
 fn number(place: Place<'_, '_>, name: &str, default: u64) -> u64 {
-    match place.value(name) {
-        Some(value) => number_of(value).unwrap_or(default),
-        None => default,
-    }
+    place.number_in(name).unwrap_or(default)
 }
 
 fn line_of(place: Place<'_, '_>) -> u64 {

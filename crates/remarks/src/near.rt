@@ -20,6 +20,11 @@ pub(crate) fn near_flaw<'a>(
         Flaw::Attribute(name, kind) => {
             near_attribute(alloc, kind, text_of(name))?.map(|near| Flaw::NearAttribute(name, near))
         }
+        Flaw::Element(name, outer, inner) => {
+            nearest_name(alloc, text_of(name), inner)?.map(|near| Flaw::NearElement(
+                name, outer, near,
+            ))
+        }
         Flaw::NoRegion(name) => near_named(alloc, elements, "memory_region", text_of(name))?.map(
             |near| Flaw::NearRegion(name, near),
         ),

@@ -1,9 +1,10 @@
 //! What the table of a description doesn't show.
+use crate::devices::{Fixed, Writers, fixed_at};
 use base::Label;
 use captext::label_name;
 use forms::Shown;
-use importing::labelled_of;
-use microkit::{Description, End, Map, Region, Subject, subjects_of};
+use importing::{Form, Minting, Origins, labelled_of};
+use microkit::{Channel, Description, End, Subject, subjects_of};
 use std::alloc::{AllocError, Global};
 use std::fmt;
 use table::Table;
@@ -30,27 +31,40 @@ pub enum Matter<'a> {
     /// I/O ports, by the id that a domain of this name has for them.
     Ports(&'a [u8], u64),
     /// The registers of a virtual processor, by the id that a domain of this name has for it.
-    Registers(&'a [u8], u64),
+    Processor(&'a [u8], u64),
     /// The secure monitor calls of a domain.
     MonitorCalls(&'a [u8]),
     /// The faults of a domain that is no child.
     Faults(&'a [u8]),
     /// A domain that runs on the contexts of its callers.
     Passive(&'a [u8]),
+    /// Such a domain, whose capability for the monitor's endpoint may have all rights.
+    MonitorEndpoint(&'a [u8]),
     /// A domain that may call another one, which has `pp`, since it has the lower priority.
     Caller(&'a [u8], &'a [u8]),
     /// A domain that can't call another one, which has `pp`, since it hasn't the lower priority.
     NoCaller(&'a [u8], &'a [u8]),
-    /// A region of a device.
-    Device(&'a [u8]),
+    /// A channel whose ends are both of this domain.
+    Loop(&'a [u8]),
+    /// A region with the registers of a device, and who may write to it.
+    Registers(&'a [u8], Writers<'a>),
+    /// A region at a fixed address that a device may write by itself.
+    Memory(&'a [u8]),
     /// A name that was changed, and the label that it became.
     Renamed(&'a [u8], &'a str),
+}
+
+impl Note<'_> {
+    /// Returns whether the note is on a region that a device may write by itself.
+    pub fn is_on_memory(&self) -> bool {
+        matches!(self.matter, Matter::Memory(_))
+    }
 }
 
 /// Returns what the table of a description doesn't show.
 ///
 /// What is of the whole description comes first, then the notes in the order of their lines. `table` is the
-/// description's.
+/// description's, with capabilities that have the rights of `minting`.
 ///
 /// # Errors
 ///
@@ -58,6 +72,7 @@ pub enum Matter<'a> {
 pub fn notes_of<'a>(
     alloc: Global,
     description: &'a Description,
+    minting: Minting,
     table: &'a Table,
 ) -> Result<Vec<Note<'a>>, AllocError> {
     let mut notes = Vec::new(alloc);
@@ -68,10 +83,35 @@ pub fn notes_of<'a>(
     add_sharing(alloc, &mut notes, description)?;
     add_names(alloc, &mut notes, description, table)?;
     add_regions(&mut notes, description)?;
-    add_domains(&mut notes, description)?;
+    add_domains(&mut notes, description, minting)?;
     add_devices(&mut notes, description)?;
-    add_callers(&mut notes, description)?;
+    add_channels(&mut notes, description)?;
     notes.sort_by_key(|note| note.line)?;
+    Ok(notes)
+}
+
+/// Returns the notes on those regions with this label that a device may write by itself.
+///
+/// `table` is the description's, and its objects have these origins.
+///
+/// # Errors
+///
+/// [`AllocError`] where memory is refused.
+pub fn notes_on_label<'a>(
+    alloc: Global,
+    description: &'a Description,
+    origins: &Origins,
+    table: &Table,
+    label: Label,
+) -> Result<Vec<Note<'a>>, AllocError> {
+    let mut notes = Vec::new(alloc);
+    for (object, piece) in table.objects().iter().zip(&origins.pieces) {
+        if let (Form::Frame, Some(region)) = (piece.form, description.regions.get(piece.number)) {
+            if object.label == label && fixed_at(description, piece.number) == Some(Fixed::Memory) {
+                add_note(&mut notes, region.line, Matter::Memory(&region.name))?;
+            }
+        }
+    }
     Ok(notes)
 }
 
@@ -111,7 +151,7 @@ impl fmt::Display for Note<'_> {
                 let domain = Shown { bytes: domain };
                 write!(f, "the I/O ports of `{domain}` with id {id} are left out")
             }
-            Matter::Registers(domain, id) => {
+            Matter::Processor(domain, id) => {
                 let domain = Shown { bytes: domain };
                 write!(
                     f,
@@ -137,6 +177,14 @@ impl fmt::Display for Note<'_> {
                      after `init`"
                 )
             }
+            Matter::MonitorEndpoint(domain) => {
+                let domain = Shown { bytes: domain };
+                write!(
+                    f,
+                    "`{domain}` is passive, so it has a capability for the monitor's endpoint: that is left out. If the \
+                     tool gives it all rights, `{domain}` may receive the faults of other domains."
+                )
+            }
             Matter::Caller(caller, server) => {
                 let (caller, server) = (Shown { bytes: caller }, Shown { bytes: server });
                 write!(
@@ -151,12 +199,33 @@ impl fmt::Display for Note<'_> {
                     "`{caller}` can't call `{server}`: `{server}` has `pp`, but the priority of `{caller}` isn't lower"
                 )
             }
-            Matter::Device(region) => {
+            Matter::Loop(domain) => {
+                let domain = Shown { bytes: domain };
+                write!(
+                    f,
+                    "both ends of this channel are of `{domain}`, so it joins `{domain}` to no other domain"
+                )
+            }
+            Matter::Registers(region, writers) => {
                 let region = Shown { bytes: region };
                 write!(
                     f,
-                    "`{region}` is at a fixed address and mapped uncached: what its device writes by itself \
-                     (DMA) is left out"
+                    "`{region}` is at a fixed address and mapped uncached, as the registers of a device are. "
+                )?;
+                if writers.is_empty() {
+                    return f.write_str("Nobody may write to them.");
+                }
+                write!(
+                    f,
+                    "By them, {writers} may have the device write memory (DMA): that is left out."
+                )
+            }
+            Matter::Memory(region) => {
+                let region = Shown { bytes: region };
+                write!(
+                    f,
+                    "`{region}` is at a fixed address and not mapped uncached, as memory for a device is. Whoever drives \
+                     the device may have it write `{region}` (DMA): that is left out."
                 )
             }
             Matter::Renamed(name, label) => {
@@ -241,28 +310,32 @@ fn name_of(description: &Description, subject: Subject) -> Option<(&[u8], u64)> 
     }
 }
 
-// Adds the regions that a device may write to by itself, as far as the description says.
+// Adds the regions that are at fixed addresses, as those of devices are.
 fn add_regions<'a>(
     notes: &mut Vec<Note<'a>>,
     description: &'a Description,
 ) -> Result<(), AllocError> {
     for (number, region) in description.regions.iter().enumerate() {
-        if is_of_device(&description.maps, number, region) {
-            add_note(notes, region.line, Matter::Device(region.name.as_slice()))?;
+        if let Some(fixed) = fixed_at(description, number) {
+            let writers = Writers {
+                description,
+                region: number,
+            };
+            let matter = match fixed {
+                Fixed::Registers => Matter::Registers(&region.name, writers),
+                Fixed::Memory => Matter::Memory(&region.name),
+            };
+            add_note(notes, region.line, matter)?;
         }
     }
     Ok(())
-}
-
-// Whether a region has a fixed address and somebody maps it uncached.
-fn is_of_device(maps: &[Map], number: usize, region: &Region) -> bool {
-    region.address.is_some() && maps.iter().any(|map| map.region == number && !map.cached)
 }
 
 // Adds what is left out of each domain.
 fn add_domains<'a>(
     notes: &mut Vec<Note<'a>>,
     description: &'a Description,
+    minting: Minting,
 ) -> Result<(), AllocError> {
     for domain in &description.domains {
         let name = domain.name.as_slice();
@@ -271,6 +344,9 @@ fn add_domains<'a>(
         }
         if domain.passive {
             add_note(notes, domain.line, Matter::Passive(name))?;
+            if let Minting::All = minting {
+                add_note(notes, domain.line, Matter::MonitorEndpoint(name))?;
+            }
         }
         if domain.smc {
             add_note(notes, domain.line, Matter::MonitorCalls(name))?;
@@ -293,22 +369,31 @@ fn add_devices<'a>(
     }
     for processor in &description.processors {
         let domain = domain_name(description, processor.id.domain);
-        let matter = Matter::Registers(domain, processor.id.number);
+        let matter = Matter::Processor(domain, processor.id.number);
         add_note(notes, processor.line, matter)?;
     }
     Ok(())
 }
 
-// Adds who may call whom, and who can't, in channels of domains that have `pp`.
-fn add_callers<'a>(
+// Adds the channels that join a domain to itself, and who may call a domain that has `pp`, and who can't.
+fn add_channels<'a>(
     notes: &mut Vec<Note<'a>>,
     description: &'a Description,
 ) -> Result<(), AllocError> {
     for channel in &description.channels {
-        add_caller(notes, description, channel.first, channel.second)?;
-        add_caller(notes, description, channel.second, channel.first)?;
+        if is_loop(channel) {
+            let domain = domain_name(description, channel.first.id.domain);
+            add_note(notes, channel.line, Matter::Loop(domain))?;
+        } else {
+            add_caller(notes, description, channel.first, channel.second)?;
+            add_caller(notes, description, channel.second, channel.first)?;
+        }
     }
     Ok(())
+}
+
+fn is_loop(channel: &Channel) -> bool {
+    channel.first.id.domain == channel.second.id.domain
 }
 
 // Adds whether the domain of an end may call that of the other one, if the latter has `pp`.

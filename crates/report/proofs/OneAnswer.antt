@@ -57,7 +57,7 @@ module _ {X : Type 0} (judges : X → Answer → Type 0) where
 pub of_two : (judges : Layout → List Edge → Answer → Type 0) → JudgesTwoOnce judges → TwoHaveOneAnswer judges
 of_two judges one table policy =
     let judged : With (List Edge) → Answer → Type 0 = λ w. judges (layout_of w.system) w.second in
-    then_once judged (as_table table) _
+    then_once judged (as_table file.Table file.Description table) _
     (then_known (held_by file.Table None table (read_table_of table)) _ (held_known file.Table None table (read_table_of table)) (λ t. tt)) (λ s.
     then_once judged (held_by file.Policy (Some (layout_of s)) policy (read_policy_of (layout_of s) policy)) _
     (held_known file.Policy (Some (layout_of s)) policy (read_policy_of (layout_of s) policy)) (λ edges.

@@ -2,10 +2,12 @@ pub mod Answers
 pub mod Replays
 pub mod Claimed
 pub mod Closings
+pub mod Compared
 pub mod Flowing
 pub mod Questions
 pub mod Imports
 pub mod Shows
 pub mod Summaries
 pub mod Systems
+pub mod Using
 pub mod OneAnswer

@@ -6,7 +6,7 @@ use Rattle.base.specs.declared.label.TheConstants.Label as Label
 use Rattle.machine.specs.Layout.{Layout}
 use Rattle.table.specs.Names.{label_named}
 use Rattle.policy.specs.{declared.why.Why.{Why, Why as why}, ActorReasons.IsWhyAmong, Policy.allows}
-use Rattle.reach.specs.{Extents.{Limits, limits_of}, Reach.{IsReachOf, TableReach}}
+use Rattle.reach.specs.{declared.extent.Extent.Extent, Extents.{GoesTo, KeepsTo, Limits, limits_of}, Reach.{IsReachOf, TableReach}}
 use Rattle.captext.specs.PolicyText.{edge_lines}
 use Rattle.diagram.specs.Folded.{IsFoldedDrawing}
 use Rattle.reptext.specs.{Drawing.IsDrawing, Reasons.why_data, Reports.line_of}
@@ -22,10 +22,15 @@ first_absent (Some a) (Some b) = None
 abbrev pub unlabelled : Layout → List ℕ → List ℕ → Option Asked
 unlabelled t actor object = first_absent (label_named t actor) (label_named t object)
 
--- this is so within the limits of the reach of a table
+-- no step of any run goes further with objects of a label than limits say
+abbrev pub AreKept : Layout → Limits → Type 0
+AreKept t limits = (a l : ℕ) (far : Extent) → GoesTo limits a l far → KeepsTo t a l far
+
+-- this is so within the limits of the reach of a table, and every run keeps these
 pub record IsSoByReach (t : Layout) (Is : Limits → Type 0) : Type 0 where
   pub reach : TableReach
   pub is_reach : IsReachOf t reach
+  pub kept : AreKept t (limits_of reach)
   pub so : Is (limits_of reach)
 
 -- the limits of a policy alone: each label counts as one whose threads make calls

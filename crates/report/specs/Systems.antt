@@ -1,20 +1,22 @@
 -- What is answered to a system alone, and to a system and a policy (compare the integrity of 'seL4 Enforces Integrity', section 4; the
 -- questions are confine's own).
-use Rattle.std.specs.Prelude.{[], ◌≡◌, List, None, Option}
+use Rattle.std.specs.Prelude.{[], ℕ, ◌≡◌, List, None, Option}
 use Rattle.base.specs.declared.edge.Edge.{Edge}
 use Rattle.machine.specs.Layout.{Layout}
-use Rattle.captext.specs.Policies.{read_policy_of}
+use Rattle.captext.specs.{Drafts.read_draft_of, Policies.read_policy_of}
 use Rattle.reptext.specs.Objects.{objects_text}
 use Rattle.forms.specs.declared.file.File.TheVariants as file
 use Rattle.commands.specs.declared.{answer.Answer.Answer, choices.OfPolicy.{OfPolicy, OfPolicy as of_policy}, end.{Asked.Asked, End.End}}
 use Rattle.commands.specs.declared.choices.{OfSystem.{OfSystem, OfSystem as of_system}, Taken.Taken}
-use Rattle.commands.specs.Commands.{Input, IsDoneOnSystem, IsDoneWith, Output, Says}
+use Rattle.commands.specs.{Commands.{Input, IsDoneOnSystem, IsDoneWith, Output, Says, no_label}, Hearing.{Hearing, WithIsHeard}}
+use Rattle.commands.specs.Hearing as held
 use Rattle.report.specs.{Claimed.TellsStrongest, Closings.Closes, Questions.{IsPicture, IsSoByPolicy, IsSoByReach, TellsWhy, unlabelled}}
-use Rattle.report.specs.{Flowing.{TellsAllFlows, TellsFlows}, Shows.Shows, Summaries.TellsSummary}
+use Rattle.report.specs.{Flowing.{TellsAllFlows, TellsFlows}, Shows.Shows, Summaries.TellsSummary, Using.{TellsUsers, unlabelled_object}}
 
 -- of the labels that are asked about, the first that the table lacks
 abbrev pub lacking : OfSystem → Layout → Option Asked
 lacking (of_system.Why form actor object) t = unlabelled t actor.now object.now
+lacking (of_system.Users usage object) t = unlabelled_object t object.now
 lacking (of_system.Show search actor object) t = unlabelled t actor.now object.now
 lacking (of_system.Flows from to) t = unlabelled t from.now to.now
 lacking _ t = None
@@ -24,6 +26,7 @@ abbrev pub AnswersSystem : OfSystem → Layout → Answer → Type 0
 AnswersSystem (of_system.Start set written) t = Closes set written t []
 AnswersSystem of_system.List t = Says (λ text. text ≡ objects_text t)
 AnswersSystem (of_system.Why form actor object) t = Says (λ text. IsSoByReach t (TellsWhy form actor.now object.now t text))
+AnswersSystem (of_system.Users usage object) t = Says (TellsUsers usage object.now t)
 AnswersSystem (of_system.Show search actor object) t = Shows search actor.now object.now t
 AnswersSystem (of_system.Draw picture) t = Says (λ text. IsSoByReach t (IsPicture picture t text))
 AnswersSystem (of_system.Summary form) t = Says (TellsSummary form t)
@@ -46,5 +49,16 @@ AnswersPolicy (of_policy.Close set written) t edges = Closes set written t edges
 AnswersPolicy (of_policy.Why form actor object) t edges = Says (λ text. IsSoByPolicy edges (TellsWhy form actor.now object.now t text))
 AnswersPolicy (of_policy.Draw picture) t edges = Says (λ text. IsSoByPolicy edges (IsPicture picture t text))
 
+-- the policy that is closed is one that is mended, whose edges may come in any order; every other is read strictly
 abbrev pub IsAskedOfPolicy : {T P O : Type 0} → OfPolicy → Taken → Input T → Input P → Output O → End → Type 0
+IsAskedOfPolicy (of_policy.Close set written) taken =
+    IsDoneWith taken file.Policy read_draft_of no_label (λ t draft. Closes set written t draft.edges)
 IsAskedOfPolicy asked taken = IsDoneWith taken file.Policy read_policy_of (lacking_of_policy asked) (AnswersPolicy asked)
+
+-- and a listener hears of it
+abbrev pub PolicyIsHeard :
+    {L O : Type 0} → (L → Hearing → L → Type 0) → OfPolicy → Taken → Option (List ℕ) → Option (List ℕ) → L → L → Output O → End → Type 0
+PolicyIsHeard Hears (of_policy.Close set written) taken =
+    WithIsHeard Hears held.draft taken file.Policy read_draft_of no_label (λ t draft. Closes set written t draft.edges)
+PolicyIsHeard Hears asked taken =
+    WithIsHeard Hears held.policy taken file.Policy read_policy_of (lacking_of_policy asked) (AnswersPolicy asked)

@@ -1,24 +1,26 @@
 //! What is asked of a system alone, and of a system and a policy.
 ghost use Rattle.std.specs.Prelude.{◌++◌, ◌≡◌, IfErr, IfOk, None, false};
 ghost use Rattle.base.specs.Refusals.{out_of_memory};
-ghost use Rattle.captext.specs.{Policies.read_policy_of, PolicyText.edge_lines};
-ghost use Rattle.forms.specs.declared.file.File.TheVariants as file;
-ghost use Rattle.commands.specs.Commands.{IsJudgedSo, Says, SystemIsJudged, WithIsJudged, input, output};
+ghost use Rattle.captext.specs.PolicyText.{edge_lines};
+ghost use Rattle.commands.specs.Commands.{IsDoneWith, IsJudgedSo, Says, SystemIsJudged, WithIsJudged, input, output};
 ghost use Rattle.commands.specs.Hearing.{SystemIsHeard, WithIsHeard};
-ghost use Rattle.commands.specs.Hearing as held;
 ghost use Rattle.reach.specs.Extents.{limits_by};
 ghost use Rattle.report.specs.Questions as questions;
-ghost use Rattle.report.specs.{Summaries.{IsSummaryIn, TellsSummary}, Systems.{AnswersPolicy, AnswersSystem, IsAsked, IsAskedOfPolicy}};
+ghost use Rattle.report.specs.{Summaries.{IsSummaryIn, TellsSummary}, Systems.{AnswersPolicy, AnswersSystem, IsAsked, IsAskedOfPolicy, PolicyIsHeard}};
 ghost use Rattle.report.specs.Systems.{lacking, lacking_of_policy};
 
 use crate::claiming::strongest_text;
 use crate::closing::closed;
 use crate::flowing::{all_flows_told, flows_told};
+use crate::reaching::kept_reach;
 use crate::showing::shown;
+use crate::using::users_told;
 use crate::{Asked, End, Form, Listener, Picture, Sink, Source};
 use base::{Edge, Label, Labels, Refusal};
-use captext::write_edges;
-use commands::{Answer, Given, OfPolicy, OfSystem, Stop, Taken, With, load_given, load_with, tell};
+use captext::{PolicyDraft, write_edges};
+use commands::{
+    Answer, Given, OfPolicy, OfSystem, PolicyFile, Stop, Taken, With, load_given, load_with, tell,
+};
 use diagram::write_programs;
 use policy::{Policy, Why};
 use reach::Reach;
@@ -83,6 +85,7 @@ fn system_answer(alloc: Global, asked: OfSystem<'_>, table: &Table) -> Result<An
             actor,
             object,
         } => explained(alloc, form, table, actor, object),
+        OfSystem::Users { usage, object } => users_told(alloc, table, usage, object),
         OfSystem::Show {
             search,
             actor,
@@ -97,6 +100,9 @@ fn system_answer(alloc: Global, asked: OfSystem<'_>, table: &Table) -> Result<An
 }
 
 /// Answers what is asked of a system and a policy.
+///
+/// A policy that is closed may have its edges in any order and more than once, and lines with labels that the table lacks, which are
+/// dropped.
 ///
 /// Writes the answer, whose status is 0 but where `--missing` or `--surplus` finds an edge: 1; or the report of the first fault, with
 /// status 2.
@@ -120,25 +126,67 @@ where
     ensures asked { IsAskedOfPolicy asked.entry taken (input T.remaining T.failed system.old system.new)
         (input P.remaining P.failed policy.old policy.new)
         (output O.contents O.failed O.is_flushed out.old out.new) result }
-    ensures heard { WithIsHeard L.Hears held.policy taken file.Policy read_policy_of (lacking_of_policy asked.entry)
-        (AnswersPolicy asked.entry) (T.remaining system.old) (P.remaining policy.old) listener.old listener.new
+    ensures heard { PolicyIsHeard L.Hears asked.entry taken (T.remaining system.old) (P.remaining policy.old)
+        listener.old listener.new
         (output O.contents O.failed O.is_flushed out.old out.new) result }
 {
-    let with = load_with::<Policy, T, P, L>(alloc, taken, system, policy, listener);
+    match asked {
+        OfPolicy::Close(..) => ask_as::<PolicyDraft, T, P, L, O>(
+            alloc, asked, taken, system, policy, listener, out,
+        ),
+        OfPolicy::Why { .. } => ask_as::<Policy, T, P, L, O>(
+            alloc, asked, taken, system, policy, listener, out,
+        ),
+        OfPolicy::Draw(_) => ask_as::<Policy, T, P, L, O>(
+            alloc, asked, taken, system, policy, listener, out,
+        ),
+    }
+}
+
+/// Answers what is asked of a system and a policy, which is read so.
+fn ask_as<X, T, P, L, O>(
+    alloc: Global,
+    asked: OfPolicy<'_>,
+    taken: Taken,
+    system: &mut T,
+    policy: &mut P,
+    listener: &mut L,
+    out: &mut O,
+) -> End
+where
+    X: PolicyFile,
+    T: Source,
+    P: Source,
+    L: Listener,
+    O: Sink,
+    requires system { T.failed system.old ≡ false }
+    requires policy { P.failed policy.old ≡ false }
+    requires out { O.failed out.old ≡ false }
+    ensures asked { IsDoneWith taken X.named X.read_of (lacking_of_policy asked.entry)
+        (λ table x. AnswersPolicy asked.entry table (X.edges_of x))
+        (input T.remaining T.failed system.old system.new) (input P.remaining P.failed policy.old policy.new)
+        (output O.contents O.failed O.is_flushed out.old out.new) result }
+    ensures heard { WithIsHeard L.Hears X.held_with taken X.named X.read_of (lacking_of_policy asked.entry)
+        (λ table x. AnswersPolicy asked.entry table (X.edges_of x)) (T.remaining system.old) (P.remaining policy.old)
+        listener.old listener.new
+        (output O.contents O.failed O.is_flushed out.old out.new) result }
+{
+    let with = load_with::<X, T, P, L>(alloc, taken, system, policy, listener);
     let answer = answered_of_policy(alloc, asked, &with);
     tell(alloc, &with, answer, listener, out)
 }
 
 /// The answer to a system and a policy that were loaded.
-fn answered_of_policy(
+fn answered_of_policy<X: PolicyFile>(
     alloc: Global,
     asked: OfPolicy<'_>,
-    loaded: &Result<With<Policy>, Stop>,
+    loaded: &Result<With<X>, Stop>,
 ) -> Result<Answer, Stop>
-    ensures { WithIsJudged (lacking_of_policy asked.entry) (AnswersPolicy asked.entry) loaded.now result }
+    ensures { WithIsJudged (lacking_of_policy asked.entry)
+        (λ table x. AnswersPolicy asked.entry table (X.edges_of x)) loaded.now result }
 {
     match loaded {
-        Ok(with) => policy_answer(alloc, asked, with.system.table(), &with.second),
+        Ok(with) => policy_answer(alloc, asked, with.system.table(), with.second.policy()),
         Err(stop) => Err(*stop),
     }
 }
@@ -182,7 +230,7 @@ fn explained(
     let Some(object) = table.label_named(object) else {
         return Err(Stop::NoLabel(Asked::Object));
     };
-    let reach = Reach::of(alloc, table)?;
+    let reach = kept_reach(alloc, table)?;
     let why = reach.why(alloc, actor, object)?;
     Ok(Answer::plain(told(alloc, form, table, actor, object, &why)?, 0))
 }
@@ -256,7 +304,7 @@ fn reach_picture(alloc: Global, picture: Picture, table: &Table) -> Result<Vec<u
         (λ text. questions.IsSoByReach table.now (questions.IsPicture picture table.now text.items)) }
     ensures memory { IfErr result (λ refusal. refusal ≡ out_of_memory) }
 {
-    let reach = Reach::of(alloc, table)?;
+    let reach = kept_reach(alloc, table)?;
     picture_text(alloc, picture, table, reach.policy(), reach.actors())
 }
 
@@ -296,7 +344,7 @@ fn summary_text(alloc: Global, form: Form, table: &Table) -> Result<Vec<u8>, Ref
     ensures text { IfOk result (λ text. TellsSummary form table.now text.items) }
     ensures memory { IfErr result (λ refusal. refusal ≡ out_of_memory) }
 {
-    let reach = Reach::of(alloc, table)?;
+    let reach = kept_reach(alloc, table)?;
     summary_in(alloc, form, &reach)
 }
 

@@ -1,5 +1,5 @@
 //! The command `claims`: whether claims hold, and the strongest claims that do.
-ghost use Rattle.std.specs.Prelude.{[], ◌≡◌, ◌≤◌, IfOk, None, false};
+ghost use Rattle.std.specs.{List.filter, Prelude.{[], ◌≡◌, ◌≤◌, IfOk, None, false, is_some, length}};
 ghost use Rattle.claims.specs.Reading.{read_claims_of};
 ghost use Rattle.forms.specs.declared.file.File.TheVariants as file;
 ghost use Rattle.commands.specs.{Commands.{WithIsJudged, input, output}, Hearing.WithIsHeard};
@@ -85,8 +85,14 @@ fn reach_answer(alloc: Global, reach: &Reach<'_>, lines: &ClaimLines) -> Result<
 fn claim_count(lines: &ClaimLines) -> usize
     ensures { result ≡ claimed.claim_count lines.now }
 {
-    let lines = lines.as_slice();
-    lines.iter().filter(|line| line.is_some()).count()
+    filled_count(lines.as_slice())
+}
+
+/// How many entries are filled.
+fn filled_count<X>(entries: &[Option<X>]) -> usize
+    ensures { result ≡ length (filter is_some entries.now) }
+{
+    entries.iter().filter(|entry| entry.is_some()).count()
 }
 
 /// Returns the text of the strongest claims that hold of a table.

@@ -8,13 +8,16 @@ mod asking;
 mod checking;
 mod claiming;
 mod closing;
+mod comparing;
 mod describing;
 mod flowing;
 mod laws;
+mod reaching;
 mod replaying;
 mod running;
 mod showing;
 mod splitting;
+mod using;
 mod verifying;
 
 pub use asking::{ask, ask_policy};
@@ -24,8 +27,9 @@ pub use closing::the_sharp_policy_for_a_table_is_its_reach;
 pub use commands::{
     Answer, Asked, Described, End, Fault, File, Files, Finding, Form, Given, Imported, Listener,
     Made, Minting, Misuse, OfPolicy, OfSystem, OnAccept, OnClose, OnImport, Picture, Search,
-    Silence, Taken,
+    Silence, Taken, Use,
 };
+pub use comparing::compare;
 pub use deal::{Gate, Open};
 pub use describing::import;
 pub use devices::{ReadError, Sink, Source, Unopened, Watched, WriteError, open_result};

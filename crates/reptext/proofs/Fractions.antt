@@ -18,7 +18,10 @@ one t claim line (failure.Pair breach) = by (names_both claim) refl where
   by true e = rw e refl
   by false e = rw e refl
 one t claim line failure.Chain = refl
-one t claim line failure.Edge = refl
+one t claim line (failure.Edge edge) = by (names_both claim) refl where
+  by : (both : Bool) → names_both claim ≡ both → has_float (failure_data t claim line (failure.Edge edge)) ≡ false
+  by true e = rw e refl
+  by false e = rw e refl
 
 after : (t : Layout) (broken : Broken) (claim : Option Claim) (rest : List Data) → items_have_float (items_of rest) ≡ false
     → items_have_float (items_of (told_of t broken claim ++ rest)) ≡ false

@@ -4,4 +4,5 @@ pub mod OneText
 mod Upgraded
 mod Numbered
 mod Arrows
+pub mod ChangeValues
 pub mod Fractions

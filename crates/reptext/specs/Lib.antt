@@ -4,5 +4,6 @@ pub mod Reports
 pub mod Objects
 pub mod Drawing
 pub mod Breaches
+pub mod Differences
 pub mod Reasons
 pub mod Summaries

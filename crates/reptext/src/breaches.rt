@@ -1,13 +1,14 @@
 //! The report of claims that don't hold.
 ghost use Rattle.std.specs.{List.flat_map, Prelude.{[], ◌++◌, ◌∷◌, ◌≡◌, IfOk, OnOk, map}};
 ghost use Rattle.captext.specs.PolicyText.{label_name as label_name_of};
-ghost use Rattle.reptext.specs.Breaches.{breaches_data, failure_data, names_both, pair_data, plain_data};
+ghost use Rattle.reptext.specs.Breaches.{breaches_data, excluded_data, failure_data, names_both, pair_data, plain_data};
 ghost use Rattle.reptext.specs.{Breaches.told, Reports.{line_of, names_data}};
 ghost use Rattle.serde_json.specs.View.{view};
 
 use crate::places::label_name;
+use crate::reasons::edge_value;
 use crate::reports::{extent_word, line_of};
-use base::Label;
+use base::{Edge, Label};
 use claims::{Breach, Broken, Claim, ClaimLines, Failure, Who, claim_text};
 use serde_json::{Value, json};
 use std::alloc::{AllocError, Global};
@@ -15,7 +16,8 @@ use table::Table;
 
 /// Returns the report of claims that don't hold: each with its line.
 ///
-/// A claim on authority is told with the authority that breaks it, and with the two labels if it doesn't name both.
+/// A claim on authority is told with the authority that breaks it, and with the two labels if it doesn't name both. One
+/// that excludes edges is told with the first that breaks it, if it doesn't name that one itself.
 ///
 /// # Errors
 ///
@@ -89,7 +91,8 @@ fn value_of(
 {
     match broken.failure {
         Failure::Pair(breach) => pair_value(alloc, table, claim, broken.line, breach),
-        Failure::Chain | Failure::Edge => plain_value(alloc, table, claim, broken.line),
+        Failure::Chain => plain_value(alloc, table, claim, broken.line),
+        Failure::Edge(edge) => excluded_value(alloc, table, claim, broken.line, edge),
     }
 }
 
@@ -105,6 +108,25 @@ fn plain_value(
     let text = Value::String(claim_text(alloc, claim, table)?);
     let line = line as u64;
     json!(in alloc; {"claim": text, "line": line})
+}
+
+// A claim that excludes edges and is broken, with the edge if the claim doesn't name it.
+fn excluded_value(
+    alloc: Global,
+    table: &Table,
+    claim: &Claim,
+    line: usize,
+    edge: Edge,
+) -> Result<Value, AllocError>
+    ensures { IfOk result (λ value. view value ≡ excluded_data table.now claim.now line edge) }
+{
+    if names_both(claim) {
+        return plain_value(alloc, table, claim, line);
+    }
+    let edge = edge_value(alloc, table, edge)?;
+    let text = Value::String(claim_text(alloc, claim, table)?);
+    let line = line as u64;
+    json!(in alloc; {"claim": text, "edge": edge, "line": line})
 }
 
 // A claim on authority that is broken, with the authority.
@@ -143,12 +165,13 @@ fn labels_value(
     Ok(Value::Array(names))
 }
 
-// Whether a claim itself names the two labels that it bounds.
+// Whether a claim itself names the two labels that it bounds, or the edge that it excludes.
 fn names_both(claim: &Claim) -> bool
     ensures { result ≡ names_both claim.now }
 {
     match claim {
         Claim::AtMost(_, Who::One(_), Who::One(_)) => true,
+        Claim::Without(Who::One(_), _, Who::One(_)) => true,
         _ => false,
     }
 }

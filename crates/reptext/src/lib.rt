@@ -1,11 +1,12 @@
 //! The texts that the program writes besides tables, policies, certificates and logs: reports, each
 //! one JSON object on a line, and the names at the place that it tells; the summary, and what a label
-//! may do, as JSON; the list of a table's objects; and the drawing of who may change or take from whom.
+//! may do, and what changes from one system to another, as JSON; the list of a table's objects; and the drawing of who may change or take from whom.
 //!
 //! `commands` and `report` stand on it. It knows no device, and no code of the kernel's calls.
 #![tactic(auto)]
 
 mod breaches;
+mod differences;
 mod drawing;
 mod laws;
 mod listing;
@@ -16,6 +17,7 @@ mod reports;
 mod summaries;
 
 pub use breaches::breaches_report;
+pub use differences::changes_report;
 pub use drawing::write_drawing;
 pub use forms::File;
 pub use laws::upgraded_tables_are_reported_alike;

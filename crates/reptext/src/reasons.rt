@@ -90,8 +90,8 @@ fn edge_values(alloc: Global, table: &Table, edges: &[Edge]) -> Result<Vec<Value
     Ok(values)
 }
 
-// The three words of an edge.
-fn edge_value(alloc: Global, table: &Table, edge: Edge) -> Result<Value, AllocError>
+/// Returns the three words of an edge.
+pub(crate) fn edge_value(alloc: Global, table: &Table, edge: Edge) -> Result<Value, AllocError>
     ensures { IfOk result (λ value. view value ≡ edge_data table.now edge) }
 {
     let from = Value::String(label_name(alloc, table, edge.from)?);

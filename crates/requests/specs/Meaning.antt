@@ -1,12 +1,12 @@
 -- What the words of a command line ask for: each command, with its words and options, and the request that they make (confine's own).
-use Rattle.std.specs.{Borrow.Bor, Prelude.{ℕ, ◌&&◌, List, None, Option, Some, codes, if◌then◌else◌, is_some, nat_le}}
+use Rattle.std.specs.{Borrow.Bor, Prelude.{ℕ, ◌&&◌, Bool, List, None, Option, Some, codes, if◌then◌else◌, is_some, nat_le}}
 use Rattle.std.specs.{Option.option_map_or, Prelude.option_and_then, Str.bytes_eq}
 use Rattle.words.specs.Number.{dec_of}
 use Rattle.importing.specs.declared.pieces.Minting.{Minting, Minting as minting}
 use Rattle.commands.specs.declared.choices.{Form.{Form, Form as form}, Imported.{Imported, Imported as imported}, OnAccept.OnAccept}
 use Rattle.commands.specs.declared.choices.{OnAccept.OnAccept as on_accept, OnClose.{OnClose, OnClose as on_close}, OnImport.OnImport}
 use Rattle.commands.specs.declared.choices.{OfPolicy.{OfPolicy, OfPolicy as by_policy}, OfSystem.{OfSystem, OfSystem as asked}}
-use Rattle.commands.specs.declared.choices.{Picture.{Picture, Picture as picture}, Search.Search, Taken.{Taken, Taken as taken}}
+use Rattle.commands.specs.declared.choices.{Picture.{Picture, Picture as picture}, Search.Search, Taken.{Taken, Taken as taken}, Use.{Use, Use as usage}}
 use Rattle.verdict.specs.declared.rules.Rules.{Rules, Rules as rules}
 use Rattle.requests.specs.declared.request.{CommandLine.{CommandLine, TheVariants.{InTurn, Split}}, Format.{Format, Format as format}}
 use Rattle.requests.specs.declared.request.{Manner.Manner, OfThree.{OfThree, OfThree as three}, Request.{Request, Request as request}}
@@ -86,6 +86,7 @@ format_beside word = if bytes_eq word (codes "text") then Some format.Json else 
 abbrev pub format_for : Verb → List ℕ → Option Format
 format_for verb.Why = format_beside
 format_for verb.Summary = format_beside
+format_for verb.Diff = format_beside
 format_for _ = format_of
 
 -- in which form an answer is written: as text, but where the word is for JSON
@@ -122,6 +123,15 @@ rights_of word = do
 abbrev pub taken_of : Words → Option Taken
 taken_of words = option_map_or (λ word. rights_of word.now) words.rights (Some (taken.System None))
 
+-- .. one of two systems
+abbrev pub either_of : List ℕ → Option Taken
+either_of word = do
+  minting ← minting_of word
+  Some (taken.Either (Some minting))
+
+abbrev pub taken_of_two : Words → Option Taken
+taken_of_two words = option_map_or (λ word. either_of word.now) words.rights (Some (taken.Either None))
+
 -- .. of a system alone
 abbrev pub of_system : Words → OfSystem → Option CommandLine
 of_system words what = do
@@ -152,9 +162,26 @@ closing_of words set =
     else of_system words (asked.Start set (on_close_of words))
 
 -- what threads of a label may do, by a policy, if there is one; else in runs of the table
+abbrev pub why_one : Words → Form → Name → Name → Option CommandLine
+why_one words written actor object =
+    if is_some words.policy then of_policy words (by_policy.Why written actor object) else of_system words (asked.Why written actor object)
+
+-- `*` in place of a label asks about each other label
+abbrev pub is_everybody : List ℕ → Bool
+is_everybody word = bytes_eq word (codes "*")
+
+abbrev pub usage_of : Words → Use
+usage_of words = if words.reads then usage.Reads else usage.Changes
+
+-- .. in runs of the table, and in one form
+abbrev pub users_of : Words → Form → Name → Option CommandLine
+users_of words form.Text object = if is_some words.policy then None else of_system words (asked.Users (usage_of words) object)
+users_of words form.Json object = None
+
 abbrev pub why_of : Words → Form → Name → Name → Option CommandLine
 why_of words written actor object =
-    if is_some words.policy then of_policy words (by_policy.Why written actor object) else of_system words (asked.Why written actor object)
+    if is_everybody actor.now then users_of words written object
+    else if words.reads then None else why_one words written actor object
 
 -- a drawing, by a policy, if there is one; else of the table
 abbrev pub drawing_of : Words → Option CommandLine
@@ -192,6 +219,15 @@ claims_of words = do
   system ← words.system
   claims ← words.claims
   in_turn words (request.OfClaims how system claims)
+
+-- what changes from one system to another
+abbrev pub diff_of : Words → Option CommandLine
+diff_of words = do
+  written ← form_of words
+  how ← taken_of_two words
+  old ← words.system
+  new ← words.newer
+  in_turn words (request.OfTwo written how old new)
 
 -- a check of a table against a policy
 abbrev pub check_of : Words → Option CommandLine
@@ -233,6 +269,7 @@ asked_by verb.Summary words = do
   written ← form_of words
   of_system words (asked.Summary written)
 asked_by verb.Flows words = flows_of words
+asked_by verb.Diff words = diff_of words
 asked_by verb.Claims words = if words.all then of_system words asked.Strongest else claims_of words
 asked_by verb.List words = of_system words asked.List
 
@@ -252,5 +289,6 @@ verb_name verb.Show = codes "show"
 verb_name verb.Draw = codes "draw"
 verb_name verb.Summary = codes "summary"
 verb_name verb.Flows = codes "flows"
+verb_name verb.Diff = codes "diff"
 verb_name verb.Claims = codes "claims"
 verb_name verb.List = codes "list"

@@ -1,7 +1,7 @@
 -- What a command line may ask for, and of which files (confine's own).
 use Rattle.std.specs.{Borrow.Bor, Option.option_map_or, Prelude.{[], ℕ, ◌<◌, ◌≡◌, ◌≤◌, List, None, Option, Some}}
 use Rattle.forms.specs.declared.file.File.{File, File as file}
-use Rattle.commands.specs.declared.{choices.{OfPolicy.TheVariants.{Why as WhyAllowed}, OfSystem.TheVariants.{Flows, Show, Why}}, end.Asked.{Asked, Asked as label}}
+use Rattle.commands.specs.declared.{choices.{OfPolicy.TheVariants.{Why as WhyAllowed}, OfSystem.TheVariants.{Flows, Show, Users, Why}}, end.Asked.{Asked, Asked as label}}
 use Rattle.verdict.specs.declared.rules.Rules.{Rules as rules}
 use Rattle.requests.specs.declared.request.{CommandLine.{CommandLine, TheVariants.{InTurn, Split}}, OfThree.TheVariants.Run}
 use Rattle.requests.specs.declared.request.{Request.{Request, Request as request}, SplitRun.SplitRun}
@@ -12,6 +12,7 @@ IsWithinLimits (request.OfDescription asked description) = Unit {0}
 IsWithinLimits (request.OfSystem asked taken system) = Unit {0}
 IsWithinLimits (request.OfPolicy asked taken system policy) = Unit {0}
 IsWithinLimits (request.OfClaims taken system claims) = Unit {0}
+IsWithinLimits (request.OfTwo form taken old new) = Unit {0}
 IsWithinLimits (request.Check asked table policy) = (1 ≤ asked.workers) × (asked.workers ≤ 16)
 IsWithinLimits (request.OfThree asked table policy third) = Unit {0}
 
@@ -21,6 +22,7 @@ OnEach R (request.OfDescription asked description) (request.OfDescription also d
 OnEach R (request.OfSystem asked taken system) (request.OfSystem also how s) = (asked ≡ also) × (taken ≡ how) × R system s
 OnEach R (request.OfPolicy asked taken system policy) (request.OfPolicy also how s p) = (asked ≡ also) × (taken ≡ how) × R system s × R policy p
 OnEach R (request.OfClaims taken system claims) (request.OfClaims how s c) = (taken ≡ how) × R system s × R claims c
+OnEach R (request.OfTwo form taken old new) (request.OfTwo also how o n) = (form ≡ also) × (taken ≡ how) × R old o × R new n
 OnEach R (request.Check asked table policy) (request.Check also t p) = (asked ≡ also) × R table t × R policy p
 OnEach R (request.OfThree asked table policy third) (request.OfThree also t p x) = (asked ≡ also) × R table t × R policy p × R third x
 OnEach R _ _ = ⊥
@@ -45,6 +47,9 @@ file_of (request.OfPolicy asked taken system policy) file.Policy = Some policy
 file_of (request.OfClaims taken system claims) file.Table = Some system
 file_of (request.OfClaims taken system claims) file.Description = Some system
 file_of (request.OfClaims taken system claims) file.Claims = Some claims
+file_of (request.OfTwo form taken old new) file.Table = Some old
+file_of (request.OfTwo form taken old new) file.Description = Some old
+file_of (request.OfTwo form taken old new) file.New = Some new
 file_of (request.Check asked table policy) file.Table = Some table
 file_of (request.Check asked table policy) file.Policy = Some policy
 file_of (request.OfThree asked table policy third) file.Table = Some table
@@ -60,6 +65,7 @@ file_name_of names kind = option_map_or (λ name. name.now) (file_of names kind)
 abbrev pub label_of : {N : Type 0} → Request N → Asked → List ℕ
 label_of (request.OfSystem (Why form actor object) taken system) label.Actor = actor.now
 label_of (request.OfSystem (Why form actor object) taken system) label.Object = object.now
+label_of (request.OfSystem (Users usage object) taken system) label.Object = object.now
 label_of (request.OfSystem (Show search actor object) taken system) label.Actor = actor.now
 label_of (request.OfSystem (Show search actor object) taken system) label.Object = object.now
 label_of (request.OfSystem (Flows from to) taken system) label.Actor = from.now

@@ -1,15 +1,15 @@
 //! Which request the words of a command line make.
 ghost use Rattle.std.specs.Prelude.{◌≡◌, ◌≢◌, ◌≤◌, IfNone, IfSome};
 ghost use Rattle.requests.specs.Requests.{IsWithinLimits, OnInTurn};
-ghost use Rattle.requests.specs.Meaning.{closing_of, command_line_of, drawing_of, flows_of, form_of, format_beside, format_for, format_of};
+ghost use Rattle.requests.specs.Meaning.{closing_of, command_line_of, diff_of, drawing_of, flows_of, form_of, format_beside, format_for, format_of};
 ghost use Rattle.requests.specs.Meaning.{imported_of, in_turn, manner_of, minting_of, number_in, of_policy, of_system, of_three};
 ghost use Rattle.requests.specs.Meaning.{on_accept_of, on_close_of, on_import_of, picture_of, rights_of, rules_of, search_of};
-ghost use Rattle.requests.specs.Meaning.{seconds_of, set_of, split_of, taken_of, verb_name, why_of};
+ghost use Rattle.requests.specs.Meaning.{seconds_of, set_of, split_of, taken_of, taken_of_two, usage_of, users_of, verb_name, why_of, why_one};
 
 use crate::request::{Check, CommandLine, Format, Invocation, Manner, OfThree, Request, SplitRun};
 use commands::{
     Form, Imported, Minting, OfPolicy, OfSystem, OnAccept, OnClose, OnImport, Picture, Rules,
-    Search, Taken,
+    Search, Taken, Use,
 };
 use words::decimal_of;
 
@@ -27,6 +27,7 @@ pub enum Verb {
     Draw,
     Summary,
     Flows,
+    Diff,
     Claims,
     List,
 }
@@ -49,6 +50,7 @@ impl Verb {
             "draw" => Some(Verb::Draw),
             "summary" => Some(Verb::Summary),
             "flows" => Some(Verb::Flows),
+            "diff" => Some(Verb::Diff),
             "claims" => Some(Verb::Claims),
             "list" => Some(Verb::List),
             _ => None,
@@ -60,7 +62,7 @@ impl Verb {
         ensures { result ≡ format_for self word.now }
     {
         match self {
-            Verb::Why | Verb::Summary => Format::beside(word),
+            Verb::Why | Verb::Summary | Verb::Diff => Format::beside(word),
             _ => Format::from_name(word),
         }
     }
@@ -72,6 +74,8 @@ pub struct Words<'a> {
     pub verb: Verb,
     /// The first file: a description, a system or a table.
     pub system: Option<&'a str>,
+    /// The second system of a comparison.
+    pub newer: Option<&'a str>,
     pub policy: Option<&'a str>,
     pub certificate: Option<&'a str>,
     pub script: Option<&'a str>,
@@ -93,6 +97,7 @@ pub struct Words<'a> {
     pub split: bool,
     pub all: bool,
     pub take: bool,
+    pub reads: bool,
     pub as_claims: bool,
 }
 
@@ -134,6 +139,7 @@ impl<'a> Words<'a> {
             Verb::Draw => self.draw(),
             Verb::Summary => self.of_system(OfSystem::Summary(self.form()?)),
             Verb::Flows => self.flows(),
+            Verb::Diff => self.diff(),
             Verb::Claims if self.all => self.of_system(OfSystem::Strongest),
             Verb::Claims => self.in_turn(Request::OfClaims(
                 self.taken()?,
@@ -199,9 +205,44 @@ impl<'a> Words<'a> {
         }
     }
 
-    // What threads of a label may do, in runs of the table or by a policy.
+    // What threads of a label may do, or of all labels.
     fn why(self, form: Form, actor: &'a str, object: &'a str) -> Option<CommandLine<'a>>
         ensures meaning { result ≡ why_of self.entry form actor.entry object.entry }
+        ensures limits { IfSome result (λ line. OnInTurn line IsWithinLimits) }
+    {
+        if actor == "*" {
+            self.users(form, object)
+        } else if self.reads {
+            None
+        } else {
+            self.why_one(form, actor, object)
+        }
+    }
+
+    // Which labels use one, in runs of the table.
+    fn users(self, form: Form, object: &'a str) -> Option<CommandLine<'a>>
+        ensures meaning { result ≡ users_of self.entry form object.entry }
+        ensures limits { IfSome result (λ line. OnInTurn line IsWithinLimits) }
+    {
+        match (form, self.policy) {
+            (Form::Text, None) => {
+                let usage = self.usage();
+                self.of_system(OfSystem::Users { usage, object })
+            }
+            _ => None,
+        }
+    }
+
+    // Which users `why` lists.
+    fn usage(self) -> Use
+        ensures { result ≡ usage_of self.entry }
+    {
+        if self.reads { Use::Reads } else { Use::Changes }
+    }
+
+    // What threads of a label may do, in runs of the table or by a policy.
+    fn why_one(self, form: Form, actor: &'a str, object: &'a str) -> Option<CommandLine<'a>>
+        ensures meaning { result ≡ why_one self.entry form actor.entry object.entry }
         ensures limits { IfSome result (λ line. OnInTurn line IsWithinLimits) }
     {
         match self.policy {
@@ -241,6 +282,19 @@ impl<'a> Words<'a> {
         }
     }
 
+    // What changes from one system to another.
+    fn diff(self) -> Option<CommandLine<'a>>
+        ensures meaning { result ≡ diff_of self.entry }
+        ensures limits { IfSome result (λ line. OnInTurn line IsWithinLimits) }
+    {
+        self.in_turn(Request::OfTwo(
+            self.form()?,
+            self.taken_of_two()?,
+            self.system?,
+            self.newer?,
+        ))
+    }
+
     // A command of a system alone.
     fn of_system(self, asked: OfSystem<'a>) -> Option<CommandLine<'a>>
         ensures meaning { result ≡ of_system self.entry asked.entry }
@@ -272,6 +326,16 @@ impl<'a> Words<'a> {
         match self.rights {
             Some(word) => Some(Taken::System(Some(minting(word)?))),
             None => Some(Taken::System(None)),
+        }
+    }
+
+    // As what one of two systems is read.
+    fn taken_of_two(self) -> Option<Taken>
+        ensures { result ≡ taken_of_two self.entry }
+    {
+        match self.rights {
+            Some(word) => Some(Taken::Either(Some(minting(word)?))),
+            None => Some(Taken::Either(None)),
         }
     }
 

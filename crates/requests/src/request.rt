@@ -2,7 +2,7 @@
 ghost use Rattle.std.specs.Prelude.{◌≡◌, option_copied};
 ghost use Rattle.requests.specs.Requests.{file_name_of, file_of, label_of, names_of};
 
-use commands::{Asked, File, OfPolicy, OfSystem, OnAccept, OnImport, Rules, Taken};
+use commands::{Asked, File, Form, OfPolicy, OfSystem, OnAccept, OnImport, Rules, Taken};
 
 /// A command line that was read.
 #[derive(Clone, Copy)]
@@ -78,6 +78,8 @@ pub enum Request<'a, N> {
     OfPolicy(OfPolicy<'a>, Taken, N, N),
     /// Reports whether claims hold of a system.
     OfClaims(Taken, N, N),
+    /// Reports what changes from one system to another, in this form.
+    OfTwo(Form, Taken, N, N),
     /// Checks a table against a policy.
     Check(Check, N, N),
     /// A command of a table, a policy and a third file.
@@ -115,7 +117,8 @@ impl<'a, N> Request<'a, N> {
             (
                 Request::OfSystem(_, _, system)
                 | Request::OfPolicy(_, _, system, _)
-                | Request::OfClaims(_, system, _),
+                | Request::OfClaims(_, system, _)
+                | Request::OfTwo(_, _, system, _),
                 File::Table | File::Description,
             ) => Some(system),
             (Request::Check(_, table, _) | Request::OfThree(_, table, _, _), File::Table) => Some(
@@ -128,6 +131,7 @@ impl<'a, N> Request<'a, N> {
                 File::Policy,
             ) => Some(policy),
             (Request::OfClaims(_, _, claims), File::Claims) => Some(claims),
+            (Request::OfTwo(_, _, _, new), File::New) => Some(new),
             (Request::OfThree(_, _, _, third), _) => Some(third),
             _ => None,
         }
@@ -148,7 +152,9 @@ impl<'a, N> Request<'a, N> {
             (
                 Asked::Object,
                 Request::OfSystem(
-                    OfSystem::Why { object, .. } | OfSystem::Show { object, .. },
+                    OfSystem::Why { object, .. }
+                    | OfSystem::Users { object, .. }
+                    | OfSystem::Show { object, .. },
                     _,
                     _,
                 )

@@ -107,6 +107,13 @@ const VERIFIED: &str = "{\"verdict\":\"accept\"}\n";
 
 const LEAST: &str = "confine-policy 1\nedge a context a\nedge a runs a\nend\n";
 
+/// A table of labels alone, and what changes from it to the table above, and back.
+const LABELS: &str = "confine-table 1\nlabel a\nlabel b\nend\n";
+
+const ADDED: &str = "~ a label program\n~ b label program\n+ a b S\n";
+
+const REMOVED: &str = "~ a program label\n~ b program label\n- a b S\n";
+
 const REASON: &str = "full\nedge a notify b\n";
 
 /// The summary of labels alone.
@@ -196,6 +203,8 @@ const FAULTY_LOG: &str = "{\"fault\":50,\"file\":\"log\",\"line\":1}\n";
 
 const FAULTY_CLAIMS: &str = "{\"fault\":50,\"file\":\"claims\",\"line\":1}\n";
 
+const FAULTY_NEW: &str = "{\"fault\":50,\"file\":\"new system\",\"line\":1}\n";
+
 const FAULTY_DESCRIPTION: &str = "{\"fault\":50,\"file\":\"description\",\"line\":1}\n";
 
 const NO_TABLE: &str = "confine: cannot read table";
@@ -203,6 +212,8 @@ const NO_TABLE: &str = "confine: cannot read table";
 const NO_POLICY: &str = "confine: cannot read policy";
 
 const NO_SCRIPT: &str = "confine: cannot read script";
+
+const NO_NEW: &str = "confine: cannot read new system";
 
 const NO_CERTIFICATE: &str = "confine: cannot read certificate";
 
@@ -242,7 +253,7 @@ const LIST_OF_DESCRIPTION: Command = Command::AskedOfDescription(OfSystem::List)
 const ALL_CLAIMS: Command = Command::Asked(OfSystem::Strongest);
 
 /// The files that each command reads, with what is told where one can't be read.
-const MESSAGES: [(Command, File, &str); 29] = [
+const MESSAGES: [(Command, File, &str); 31] = [
     (Command::Check(OnAccept::Report), File::Table, NO_TABLE),
     (Command::Check(OnAccept::Report), File::Policy, NO_POLICY),
     (Command::Check(OnAccept::Certificate), File::Table, NO_TABLE),
@@ -274,6 +285,8 @@ const MESSAGES: [(Command, File, &str); 29] = [
     (Command::Claims, File::Table, NO_TABLE),
     (Command::Claims, File::Claims, NO_CLAIMS),
     (ALL_CLAIMS, File::Table, NO_TABLE),
+    (Command::Diff, File::Table, NO_TABLE),
+    (Command::Diff, File::New, NO_NEW),
     (
         Command::Import(Imported::Table),
         File::Description,
@@ -293,6 +306,7 @@ fn files_for(command: Command) -> Files<'static> {
         Command::Verify => CERTIFICATE,
         Command::Split => POLLS,
         Command::Claims => CLAIMS,
+        Command::Diff => LABELS,
         Command::Import(_) => DESCRIPTION,
         _ => SCRIPT,
     };
@@ -382,7 +396,7 @@ fn answers_of_splits() -> [Answered; 3] {
 /// Labels, and neither threads nor edges.
 fn labels_for(command: Command) -> Files<'static> {
     Files {
-        table: Given::text("confine-table 1\nlabel a\nlabel b\nend\n"),
+        table: Given::text(LABELS),
         policy: empty_policy(),
         ..files_for(command)
     }
@@ -439,6 +453,18 @@ fn answers_of_claims() -> [Answered; 4] {
         (files.with(File::Claims, Given::text(BROADER)), 1, BREACHES),
         (files.with(File::Claims, faulty()), 2, FAULTY_CLAIMS),
         (files_for(ALL_CLAIMS), 0, STRONGEST),
+    ]
+}
+
+/// Files of each kind of answer of `diff`.
+fn answers_of_diffs() -> [Answered; 4] {
+    let files = files_for(Command::Diff);
+    let turned = labels_for(Command::Diff).with(File::New, Given::text(TABLE));
+    [
+        (files, 0, REMOVED),
+        (turned, 1, ADDED),
+        (files.with(File::Table, faulty()), 2, FAULTY_TABLE),
+        (files.with(File::New, faulty()), 2, FAULTY_NEW),
     ]
 }
 
@@ -517,7 +543,7 @@ fn read_up_to(file: File) -> [bool; 3] {
         File::Policy => [true, true, false],
         File::Certificate | File::Script | File::Log => [true, true, true],
         // They come after the table alone.
-        File::Claims => [true, false, true],
+        File::Claims | File::New => [true, false, true],
         // It is read alone.
         File::Description => [false, false, true],
     }
@@ -672,6 +698,11 @@ fn claims_whose_answer_cannot_be_written_have_none(rt: HostRuntime) -> Result<()
     none_is_written(&rt, &answers_of_claims())
 }
 
+#[test]
+fn a_comparison_that_cannot_be_written_is_no_answer(rt: HostRuntime) -> Result<(), Fail> {
+    none_is_written(&rt, &answers_of_diffs())
+}
+
 /// How many bytes the files give a read, and the page takes a write, at most.
 const AMOUNTS: [(usize, usize); 9] = [
     (usize::MAX, usize::MAX),
@@ -714,5 +745,6 @@ fn how_many_bytes_a_device_moves_changes_no_answer(rt: HostRuntime) -> Result<()
     all_are_given(&rt, &answers_of_imports())?;
     all_are_given(&rt, &answers_of_descriptions())?;
     all_are_given(&rt, &answers_of_claims())?;
+    all_are_given(&rt, &answers_of_diffs())?;
     all_are_given(&rt, &answers_of_others())
 }

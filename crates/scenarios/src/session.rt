@@ -3,9 +3,9 @@ ghost use Rattle.std.specs.Prelude.{◌≡◌, false};
 
 use crate::failing::{Given, Page};
 use report::{
-    End, File, Imported, Minting, OfPolicy, OfSystem, OnAccept, OnClose, OnImport, Open, Rules,
-    Silence, Sink, Source, Taken, Watched, ask, ask_policy, check, check_claims, import, replay,
-    run, run_split, verify,
+    End, File, Form, Imported, Minting, OfPolicy, OfSystem, OnAccept, OnClose, OnImport, Open,
+    Rules, Silence, Sink, Source, Taken, Watched, ask, ask_policy, check, check_claims, compare,
+    import, replay, run, run_split, verify,
 };
 use std::alloc::AllocGlobal;
 use std::sync::Wait;
@@ -26,11 +26,13 @@ pub enum Command {
     /// The same, of a description, whose capabilities have the least rights.
     AskedOfDescription(OfSystem<'static>),
     Claims,
+    /// What changes from one table to another.
+    Diff,
     Import(Imported),
 }
 
 /// A command and its files. The third is the script of a run, the log of a replay, a certificate,
-/// claims or a description, where the command reads one.
+/// claims, a new system or a description, where the command reads one.
 #[derive(Clone, Copy)]
 pub struct Files<'a> {
     pub command: Command,
@@ -45,8 +47,12 @@ impl<'a> Files<'a> {
         match file {
             File::Table => self.table,
             File::Policy => self.policy,
-            File::Certificate | File::Script | File::Log | File::Claims | File::Description =>
-                self.third,
+            File::Certificate
+            | File::Script
+            | File::Log
+            | File::Claims
+            | File::New
+            | File::Description => self.third,
         }
     }
 
@@ -61,11 +67,15 @@ impl<'a> Files<'a> {
                 policy: given,
                 ..self
             },
-            File::Certificate | File::Script | File::Log | File::Claims | File::Description =>
-                Files {
-                    third: given,
-                    ..self
-                },
+            File::Certificate
+            | File::Script
+            | File::Log
+            | File::Claims
+            | File::New
+            | File::Description => Files {
+                third: given,
+                ..self
+            },
         }
     }
 
@@ -182,6 +192,15 @@ where
             out,
         ),
         Command::Claims => check_claims(rt.alloc(), TABLE, table, third, &mut Silence, out),
+        Command::Diff => compare(
+            rt.alloc(),
+            Form::Text,
+            Taken::Either(None),
+            table,
+            third,
+            &mut Silence,
+            out,
+        ),
         Command::Import(imported) => import(
             rt.alloc(),
             with_least(imported),

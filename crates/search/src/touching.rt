@@ -24,7 +24,7 @@ pub fn touched(
     event: &Event,
 ) -> Result<Vec<ObjId>, AllocError> {
     let mut ids = Vec::new(alloc);
-    if let Call::Delete { .. } | Call::Revoke { .. } = event.call {
+    if let Call::Delete { .. } | Call::Revoke { .. } | Call::ClearSpace { .. } = event.call {
         push_from(&mut ids, 0, new)?;
         return Ok(ids);
     }

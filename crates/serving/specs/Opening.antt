@@ -2,8 +2,8 @@
 use Rattle.std.specs.{declared.io.Error.Error, Borrow.Bor, Global.Vec, Prelude.{[], ℕ, ◌≡◌, ◌⊎◌, List, Option, Result, Some, false}}
 use Rattle.devices.specs.{declared.{opened.Unopened.Unopened, watched.Watched.Watched}, Opened.{bytes_left, opened}, Watched.device_of}
 use Rattle.devices.specs.Watched.{failed_of, is_flushed_of}
-use Rattle.commands.specs.{declared.end.End.End, Commands.{Input, Output, input, output}, Ends.status_of}
-use Rattle.report.specs.{Answers.{IsChecked, IsRun, IsRunSplit, IsVerifiedWith}, Claimed.AreJudged, Imports.IsImported}
+use Rattle.commands.specs.{declared.end.End.End, Commands.{Input, IsDoneOnTwo, Output, input, output}, Ends.status_of}
+use Rattle.report.specs.{Answers.{IsChecked, IsRun, IsRunSplit, IsVerifiedWith}, Claimed.AreJudged, Compared.Compares, Imports.IsImported}
 use Rattle.report.specs.{Replays.IsReplayed, Systems.{IsAsked, IsAskedOfPolicy}}
 use Rattle.requests.specs.declared.request.OfThree.{OfThree, TheVariants.{Replay, Run, Verify}}
 use Rattle.requests.specs.{declared.request.Request.{Request, Request as request}, Requests.OnEach}
@@ -51,6 +51,8 @@ Serves remaining out (request.OfPolicy asked taken system policy) (request.OfPol
     IsAskedOfPolicy asked taken (read remaining system s) (read remaining policy p) out end
 Serves remaining out (request.OfClaims taken system claims) (request.OfClaims how s c) end =
     AreJudged taken (read remaining system s) (read remaining claims c) out end
+Serves remaining out (request.OfTwo form taken old new) (request.OfTwo also how o n) end =
+    IsDoneOnTwo taken (Compares form) (read remaining old o) (read remaining new n) out end
 Serves remaining out (request.Check asked table policy) (request.Check also t p) end =
     IsChecked asked.rules asked.on_accept (read remaining table t) (read remaining policy p) out end
 Serves remaining out (request.OfThree asked table policy third) (request.OfThree also t p x) end =

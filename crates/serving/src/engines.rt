@@ -7,8 +7,8 @@ ghost use Rattle.serving.specs.Opening.{AreSound, Serves, ServesThree, written};
 
 use crate::opening::Opened;
 use report::{
-    End, Gate, Listener, Sink, Source, Watched, ask, ask_policy, check, check_claims, import,
-    replay, run, verify,
+    End, Gate, Listener, Sink, Source, Watched, ask, ask_policy, check, check_claims, compare,
+    import, replay, run, verify,
 };
 use requests::{OfThree, Request};
 use std::io::{Read, Write};
@@ -52,6 +52,10 @@ where
         Request::OfClaims(taken, mut system, mut claims) => {
             let end = check_claims(alloc, taken, &mut system, &mut claims, listener, out);
             (end, Request::OfClaims(taken, system, claims))
+        }
+        Request::OfTwo(form, taken, mut old, mut new) => {
+            let end = compare(alloc, form, taken, &mut old, &mut new, listener, out);
+            (end, Request::OfTwo(form, taken, old, new))
         }
         Request::Check(asked, mut table, mut policy) => {
             let end = check(

@@ -1,30 +1,32 @@
 //! What a person is told on standard error: the sentences on what a command finds, and with `--explain` the reasons, runs and notes.
 use crate::opening::Opened;
-use crate::sheets::Sourced;
-use crate::swapped::Swapped;
+use crate::sheets::{Sourced, minting_of};
+use crate::swapped::{Swapped, is_description};
 use base::Refusal;
 use breaches::{
-    Judged, Lead, breach_lines, explain_breach, explain_breaches, explain_escape, explain_flows,
-    explain_flows_beside, explain_run, explain_shared_memory,
+    Judged, Lead, breach_lines, explain_breach, explain_breaches, explain_changers,
+    explain_difference, explain_differences, explain_escape, explain_flows, explain_flows_beside,
+    explain_readers, explain_run, explain_shared_memory, may_be_shown,
 };
-use captext::object_name;
+use captext::{PolicyDraft, object_name};
 use causes::{Caller, explain_illegal, explain_refusal};
 use claims::{Broken, ClaimLines, Failure};
+use diff::changes;
 use explain::{
-    Names, explain_closing, explain_denial, explain_outside, explain_unlabelled, explain_why,
-    explain_why_allowed,
+    Names, explain_closing, explain_denial, explain_outside, explain_surplus, explain_unlabelled,
+    explain_why, explain_why_allowed,
 };
 use machine::{Event, Outcome};
 use notes::{explain_changes, explain_notes};
 use policy::Policy;
-use reach::Reach;
-use remarks::{explain_notes as explain_left_out, notes_of};
+use reach::{Extent, Reach};
+use remarks::{Note, explain_notes as explain_left_out, notes_of, notes_on_label};
 use report::{
-    Answer, Asked, Described, End, Fault, File, Files, Finding, Given, Listener, Made, OfPolicy,
-    OfSystem, OnClose, Open, Rules, answer_at,
+    Answer, Asked, Described, End, Fault, File, Files, Finding, Given, Listener, Made, Minting,
+    OfPolicy, OfSystem, OnClose, Open, Rules, Use, answer_at,
 };
 use requests::{Format, Invocation, OfThree, Request};
-use slips::explain_fault;
+use slips::{DroppedEdge, explain_dropped, explain_fault};
 use sources::Sheet;
 use std::alloc::{AllocError, Global};
 use std::fmt;
@@ -102,33 +104,71 @@ impl<'a, R: AllocGlobal + Clock + Eprint> Explainer<'a, R> {
         }
     }
 
-    /// Tells how much the table of a description doesn't show, or all of it if an import is to be explained.
-    fn tell_left_out(&self, Described { description, table }: &Described, is_imported: bool) {
+    /// Tells what the table of a description that is imported doesn't show: all of it, if that is to be explained, or
+    /// how much.
+    fn tell_left_out(&self, described: &Described) {
         let alloc = self.rt.alloc();
-        let manner = self.invocation.manner;
-        if manner.is_quiet {
+        if self.invocation.manner.is_quiet {
             return;
         }
-        if let Ok(notes) = notes_of(alloc, description, table) {
-            let file = self.invocation.request.name_of(File::Description);
-            if is_imported && manner.explains {
+        if let Ok(notes) = self.notes_on(described) {
+            if self.invocation.manner.explains {
+                let file = self.invocation.request.name_of(File::Description);
                 self.tell_lines(explain_left_out(alloc, file, &notes));
             } else {
-                let count = notes.len();
-                let (notes, them) = if count == 1 {
-                    ("note", "it")
-                } else {
-                    ("notes", "them")
-                };
-                let by = if is_imported {
-                    "--explain"
-                } else {
-                    "confine import --explain"
-                };
-                self.tell(format!(in alloc;
-                    "{file}: {count} {notes} on what the table doesn't show. `{by}` prints {them}."
-                ));
+                self.tell_counted(File::Description, &notes, "--explain");
             }
+        }
+    }
+
+    /// Tells how much the table of a description, in this file, doesn't show.
+    fn tell_how_much_is_left_out(&self, file: File, described: &Described) {
+        if self.invocation.manner.is_quiet {
+            return;
+        }
+        if let Ok(notes) = self.notes_on(described) {
+            self.tell_counted(file, &notes, "confine import --explain");
+        }
+    }
+
+    /// Tells how many notes on a description there are, and which option prints them.
+    fn tell_counted(&self, file: File, notes: &[Note<'_>], option: &str) {
+        let alloc = self.rt.alloc();
+        let file = self.invocation.request.name_of(file);
+        let them = if notes.len() == 1 { "it" } else { "them" };
+        let counted = Counted {
+            notes: notes.len(),
+            on_memory: notes.iter().filter(|note| note.is_on_memory()).count(),
+        };
+        self.tell(format!(in alloc; "{file}: {counted}. `{option}` prints {them}."));
+    }
+
+    /// Returns the notes on what the table of a description doesn't show.
+    fn notes_on<'b>(&self, described: &'b Described) -> Result<Vec<Note<'b>>, AllocError> {
+        let minting = minting_of(&self.invocation.request).unwrap_or(Minting::Least);
+        notes_of(
+            self.rt.alloc(),
+            &described.description,
+            minting,
+            &described.table,
+        )
+    }
+
+    /// Tells which lines of a policy were dropped.
+    fn tell_dropped(&self, table: &Table, draft: &PolicyDraft) {
+        if !self.tells() {
+            return;
+        }
+        let alloc = self.rt.alloc();
+        let name = self.invocation.request.name_of(File::Policy);
+        for line in draft.dropped() {
+            let dropped = DroppedEdge {
+                line: line.line(),
+                from: line.from(),
+                kind: line.kind(),
+                to: line.to(),
+            };
+            self.tell(explain_dropped(alloc, name, table, dropped));
         }
     }
 
@@ -350,7 +390,12 @@ impl<'a, R: AllocGlobal + Clock + Eprint> Explainer<'a, R> {
         }
         match file {
             File::Description => remarks::explain_fault(alloc, name, text, fault),
-            _ => explain_fault(alloc, file, name, text, table, fault),
+            File::New if is_description(text) => remarks::explain_fault(alloc, name, text, fault),
+            File::New => explain_fault(alloc, File::Table, name, name, text, table, fault),
+            _ => {
+                let system = request.name_of(File::Table);
+                explain_fault(alloc, file, name, system, text, table, fault)
+            }
         }
     }
 
@@ -474,6 +519,9 @@ impl<'a, R: AllocGlobal + Clock + Eprint> Explainer<'a, R> {
             OfSystem::Why { actor, object, .. } => {
                 self.tell_lines(self.why_told(sheet, actor, object));
             }
+            OfSystem::Users { usage, object } => {
+                self.tell_lines(self.users_told(sheet, usage, object));
+            }
             OfSystem::Flows { from, to } => {
                 self.tell_lines(self.flows_told(sheet, from, to));
             }
@@ -498,11 +546,49 @@ impl<'a, R: AllocGlobal + Clock + Eprint> Explainer<'a, R> {
         self.tell_lines(explain_closing(leave, alloc, rules, sheet, policy));
     }
 
-    /// Returns where the edges of a reason come from, by the reach of the table.
+    /// Returns where the edges of a reason come from, by the reach of the table. If there is no reason, notes on devices
+    /// follow.
     fn why_told(&self, sheet: Sheet<'_>, actor: &str, object: &str) -> Result<String, Refusal> {
         let alloc = self.rt.alloc();
         let reach = Reach::of(alloc, sheet.table)?;
-        explain_why(alloc, sheet, &reach, actor, object)
+        let mut lines = explain_why(alloc, sheet, &reach, actor, object)?;
+        if !self.invocation.manner.is_quiet {
+            lines.push_str(&self.devices_told(sheet, &reach, actor, object)?)?;
+        }
+        Ok(lines)
+    }
+
+    /// Returns the notes on regions with the label `object` that devices may write, if the label `actor` may not.
+    fn devices_told(
+        &self,
+        sheet: Sheet<'_>,
+        reach: &Reach<'_>,
+        actor: &str,
+        object: &str,
+    ) -> Result<String, Refusal> {
+        let alloc = self.rt.alloc();
+        let table = sheet.table;
+        if let (Some(made), Some(actor), Some(object)) = (
+            sheet.made,
+            table.label_named(actor),
+            table.label_named(object),
+        ) {
+            if reach.extent(actor, object) == Extent::Nothing {
+                let notes = notes_on_label(alloc, made.description, made.origins, table, object)?;
+                return Ok(explain_left_out(alloc, sheet.file, &notes)?);
+            }
+        }
+        Ok(String::new(alloc))
+    }
+
+    /// Returns where the edges come from by which labels use one, by the reach of the table.
+    fn users_told(&self, sheet: Sheet<'_>, usage: Use, object: &str) -> Result<String, Refusal> {
+        let alloc = self.rt.alloc();
+        let reach = Reach::of(alloc, sheet.table)?;
+        match usage {
+            Use::Changes => explain_changers(alloc, sheet, &reach, object),
+            Use::Reads => explain_readers(alloc, sheet, &reach, object),
+        }
     }
 
     /// Returns by which edges the flows of a chain go, and where these come from.
@@ -512,15 +598,24 @@ impl<'a, R: AllocGlobal + Clock + Eprint> Explainer<'a, R> {
         explain_flows(alloc, sheet, &reach, from, to)
     }
 
-    /// Tells what may not be meant in the table of an accepted system, and whom each label may change.
-    fn tell_accepted(&self, sheet: Sheet<'_>) {
+    /// Tells what may not be meant in an accepted system, and whom each label may change.
+    fn tell_accepted(&self, sheet: Sheet<'_>, policy: &Policy) {
         let alloc = self.rt.alloc();
         if let Ok(reach) = Reach::of(alloc, sheet.table) {
             if !self.invocation.manner.is_quiet {
                 self.tell_lines(explain_notes(alloc, sheet, &reach));
+                self.tell_lines(self.surplus_told(sheet.table, policy));
             }
             self.tell_lines(explain_changes(alloc, sheet.file, &reach));
         }
+    }
+
+    /// Returns a note on the edges of an accepted policy that aren't needed.
+    fn surplus_told(&self, table: &Table, policy: &Policy) -> Result<String, Refusal> {
+        let alloc = self.rt.alloc();
+        let table_file = self.invocation.request.name_of(File::Table);
+        let policy_file = self.invocation.request.name_of(File::Policy);
+        explain_surplus(alloc, table_file, policy_file, self.rules(), table, policy)
     }
 
     /// Tells more of a system and a policy that aren't wrong.
@@ -556,9 +651,14 @@ impl<'a, R: AllocGlobal + Clock + Eprint> Explainer<'a, R> {
                     self.tell_of_policy(leave, asked, system.sheet(), policy);
                 }
             }
-            (Request::Check(..), Files::Policy(given, _)) => {
+            (Request::OfPolicy(asked, _, _, _), Files::Draft(given, draft)) => {
                 if let Ok(system) = self.sourced(given) {
-                    self.tell_accepted(system.sheet());
+                    self.tell_of_policy(leave, asked, system.sheet(), draft.policy());
+                }
+            }
+            (Request::Check(..), Files::Policy(given, policy)) => {
+                if let Ok(system) = self.sourced(given) {
+                    self.tell_accepted(system.sheet(), policy);
                 }
             }
             (_, Files::Script(table, _, events)) => {
@@ -572,8 +672,38 @@ impl<'a, R: AllocGlobal + Clock + Eprint> Explainer<'a, R> {
                     self.tell_lines(self.flows_beside_told(given, lines));
                 }
             }
+            (_, Files::Compared(old, new)) => {
+                let _ = self.tell_compared(old, new);
+            }
             _ => {}
         }
+    }
+
+    /// Tells by what the new system adds to the old one, and runs that show it, each as it is found, as long as there is
+    /// time.
+    fn tell_compared(&self, old: &Given, new: &Given) -> Result<(), Refusal> {
+        let alloc = self.rt.alloc();
+        let request = self.invocation.request;
+        let system = Sourced::of(alloc, &request, request.name_of(File::New), new)?;
+        let before = Reach::of(alloc, old.table())?;
+        let reach = Reach::of(alloc, new.table())?;
+        let found = changes(alloc, &before, &reach)?;
+        self.tell_lines(explain_differences(alloc, &before, system.sheet(), &reach, &found));
+        let begun = Instant::now(self.rt);
+        let mut searched: usize = 0;
+        for change in &found {
+            if may_be_shown(change) && searched < SEARCHES && !self.is_late(&begun) {
+                self.tell_lines(explain_difference(
+                    alloc,
+                    old.table(),
+                    system.sheet(),
+                    &reach,
+                    change,
+                ));
+                searched = searched.saturating_add(1);
+            }
+        }
+        Ok(())
     }
 }
 
@@ -586,16 +716,18 @@ impl<R: AllocGlobal + Clock + Eprint + Threads + Sync> Listener for Explainer<'_
 
     fn hear_answer(&mut self, files: Files<'_>, answer: &Answer) {
         self.warn();
-        if let Files::Description(described) = files {
-            self.tell_left_out(described, true);
+        match files {
+            Files::Description(described) => self.tell_left_out(described),
+            Files::Draft(given, draft) => self.tell_dropped(given.table(), draft),
+            _ => {}
         }
         let leave = Leave::<R> { of: PhantomData };
         match &answer.finding {
             Some(finding) => self.tell_finding(&leave, files, finding),
             None if self.invocation.manner.explains => {
                 self.tell_more(&leave, files, answer);
-                if let Some(described) = described_of(files) {
-                    self.tell_left_out(described, false);
+                if let Some((file, described)) = described_of(files) {
+                    self.tell_how_much_is_left_out(file, described);
                 }
             }
             None => {}
@@ -650,15 +782,40 @@ fn is_sharp(
     matches!(&answer, Ok(Ok(())))
 }
 
-/// The description of which a question is asked, if it is asked of one.
-fn described_of(files: Files<'_>) -> Option<&Described> {
-    let given = match files {
-        Files::System(given) | Files::Policy(given, _) | Files::Claims(given, _) => given,
+/// The description of which a question is asked, if it is asked of one, and the file that it is in. Of two systems it
+/// is the new one's.
+fn described_of(files: Files<'_>) -> Option<(File, &Described)> {
+    let (file, given) = match files {
+        Files::System(given)
+        | Files::Policy(given, _)
+        | Files::Draft(given, _)
+        | Files::Claims(given, _) => (File::Description, given),
+        Files::Compared(_, new) => (File::New, new),
         _ => return None,
     };
     match given {
-        Given::Description(described) => Some(described),
+        Given::Description(described) => Some((file, described)),
         Given::Table(_) => None,
+    }
+}
+
+/// How many notes there are on what a table doesn't show, and how many of them are on regions that devices may write.
+#[derive(Clone, Copy)]
+struct Counted {
+    notes: usize,
+    on_memory: usize,
+}
+
+impl fmt::Display for Counted {
+    fn fmt<W: fmt::Write>(&self, f: &mut fmt::Formatter<W>) -> fmt::Result {
+        match self.notes {
+            1 => f.write_str("1 note on what the table doesn't show")?,
+            notes => write!(f, "{notes} notes on what the table doesn't show")?,
+        }
+        match self.on_memory {
+            0 => Ok(()),
+            regions => write!(f, ", {regions} on DMA"),
+        }
     }
 }
 

@@ -74,6 +74,9 @@ pub(crate) fn open_all<'a, F, O: Fn(&str) -> io::Result<F>>(
         Request::OfClaims(taken, system, claims) => {
             Request::OfClaims(taken, open_by(opener, system), open_by(opener, claims))
         }
+        Request::OfTwo(form, taken, old, new) => {
+            Request::OfTwo(form, taken, open_by(opener, old), open_by(opener, new))
+        }
         Request::Check(check, table, policy) => {
             Request::Check(check, open_by(opener, table), open_by(opener, policy))
         }

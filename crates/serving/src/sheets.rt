@@ -53,12 +53,14 @@ impl<'a> Sourced<'a> {
     }
 }
 
-/// Which rights a request gives the capabilities of a description.
-fn minting_of(request: &Request<'_, &str>) -> Option<Minting> {
+/// Returns which rights a request gives the capabilities of a description.
+pub(crate) fn minting_of(request: &Request<'_, &str>) -> Option<Minting> {
     match *request {
+        Request::OfDescription(asked, _) => Some(asked.minting),
         Request::OfSystem(_, Taken::System(rights), _)
         | Request::OfPolicy(_, Taken::System(rights), _, _)
-        | Request::OfClaims(Taken::System(rights), _, _) => rights,
+        | Request::OfClaims(Taken::System(rights), _, _)
+        | Request::OfTwo(_, Taken::Either(rights), _, _) => rights,
         _ => None,
     }
 }

@@ -69,8 +69,8 @@ fn is_table(text: &[u8]) -> bool {
     text.starts_with(b"confine-table ")
 }
 
-/// Whether a text is one of a description: its first byte that isn't white space is `<`.
-fn is_description(text: &[u8]) -> bool {
+/// Returns whether a text is one of a description: its first byte that isn't white space is `<`.
+pub(crate) fn is_description(text: &[u8]) -> bool {
     for byte in text {
         match *byte {
             b' ' | b'\t' | b'\n' | b'\r' => {}

@@ -13,11 +13,11 @@ pub(crate) enum ClaimFlaw<'a> {
     Others,
     /// `*` in place of both ends.
     OthersTwice,
-    /// The first label of `only` among the others.
+    /// The first label of `only`, `within` or `readers` among the others.
     Among(&'a str),
     /// An end of `through` among the labels that follow.
     End(&'a str),
-    /// A label that `only` or `through` has twice.
+    /// A label that `only`, `within`, `readers` or `through` has twice.
     LabelTwice(&'a str),
     /// The line that has the same claim.
     Twice(u64),
@@ -47,7 +47,7 @@ fn syntax_flaw<'a>(form: Form, row: Row<'a>) -> Option<Flaw<'a>> {
     }
     let first = row.word(1);
     Some(Flaw::Claim(match form {
-        Form::ClaimOnly => ClaimFlaw::Among(first),
+        Form::ClaimOnly | Form::ClaimWithin | Form::ClaimReaders => ClaimFlaw::Among(first),
         Form::ClaimThrough if first != row.word(2) => ClaimFlaw::End(end_among(row)),
         _ if first == "*" => ClaimFlaw::OthersTwice,
         _ => ClaimFlaw::Itself(first),
@@ -72,13 +72,21 @@ fn unknown_flaw<'a>(declared: Option<Declared<'a>>, form: Form, row: Row<'a>) ->
 // Of what is given twice: 52.
 fn twice_flaw<'a>(text: &[u8], form: Form, row: Row<'a>) -> Option<Flaw<'a>> {
     let twice = match form {
-        Form::ClaimOnly | Form::ClaimThrough => label_twice(row.text),
+        form if has_list(form) => label_twice(row.text),
         _ => None,
     };
     Some(Flaw::Claim(match twice {
         Some(label) => ClaimFlaw::LabelTwice(label),
         None => ClaimFlaw::Twice(same_line(text, row)?),
     }))
+}
+
+/// Whether lines of this form have any number of labels.
+pub(crate) fn has_list(form: Form) -> bool {
+    matches!(
+        form,
+        Form::ClaimOnly | Form::ClaimWithin | Form::ClaimReaders | Form::ClaimThrough
+    )
 }
 
 // The first label of a line that stands before in it.

@@ -6,6 +6,7 @@ use crate::edges::edge_flaw;
 use crate::flaws::Flaw;
 use crate::limits::{event_flaw, limit_flaw};
 use crate::memory::placed_flaw;
+use crate::mending::Mending;
 use crate::names::{known_flaw, twice_flaw};
 use crate::near::near_flaw;
 use crate::numbers::event_word_flaw;
@@ -21,7 +22,7 @@ use words::Fault;
 
 /// Says which line of a file has a fault, and which condition the line doesn't meet.
 ///
-/// `text` is all of the file called `name`, and the line is found in it. `table` is the table by which any other file
+/// `text` is all of the file called `name`, and the line is found in it. `system` is the name of the system's file. `table` is the table by which any other file
 /// was read. For a table it doesn't matter. The faults of a description are explained by the crate `remarks`, since it
 /// is XML: here no condition of its lines is known.
 ///
@@ -34,6 +35,7 @@ pub fn explain_fault(
     alloc: Global,
     file: File,
     name: &str,
+    system: &str,
     text: &[u8],
     table: Option<&Table>,
     fault: Fault,
@@ -49,7 +51,13 @@ pub fn explain_fault(
             let before = before_of(line_at(text, number.saturating_sub(1)));
             let flaw = flaw_of(file, text, declared, fault, line, before);
             let flaw = near_flaw(alloc, flaw)?;
-            format!(in alloc; "{name}:{number}: `{shown}`: {flaw}")
+            let mending = Mending {
+                file,
+                flaw,
+                system,
+                policy: name,
+            };
+            format!(in alloc; "{name}:{number}: `{shown}`: {flaw}{mending}")
         }
         None => {
             let flaw = Flaw::NoLine(file, number);
@@ -76,7 +84,7 @@ fn declared<'a>(
         File::Policy | File::Certificate | File::Claims | File::Script | File::Log => {
             Some(Declared::Table(table?))
         }
-        File::Description => None,
+        File::Description | File::New => None,
     }
 }
 

@@ -188,7 +188,9 @@ impl fmt::Display for ClaimFlaw<'_> {
                     "a claim needs two different labels, but both are `{label}`"
                 )
             }
-            ClaimFlaw::Others => f.write_str("`*` can only stand in a `none` or a `take` line"),
+            ClaimFlaw::Others => f.write_str(
+                "`*` can only stand in a `none`, `take` or `without` line",
+            ),
             ClaimFlaw::OthersTwice => f.write_str(
                 "`*` can stand for one of the two labels, but not for both",
             ),

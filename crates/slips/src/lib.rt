@@ -11,6 +11,7 @@ mod faults;
 mod flaws;
 mod limits;
 mod memory;
+mod mending;
 mod names;
 mod near;
 mod numbers;
@@ -18,3 +19,4 @@ mod order;
 mod tree;
 
 pub use faults::explain_fault;
+pub use mending::{DroppedEdge, explain_dropped};

@@ -1,4 +1,5 @@
 //! Whether names are known, 51, and new, 52.
+use crate::claims::has_list;
 use crate::declared::{Declared, Row, Rows, Sought};
 use forms::Form;
 
@@ -32,7 +33,7 @@ pub(crate) fn known_flaw<'a>(
     form: Form,
     row: Row<'a>,
 ) -> Option<KnownFlaw<'a>> {
-    if form == Form::ClaimOnly || form == Form::ClaimThrough {
+    if has_list(form) {
         return labels_flaw(declared, row.text);
     }
     let mut at = 1u64;

@@ -1,20 +1,20 @@
-use Rattle.commands.proofs.Carried.{carried_out}
+-- By what is asked.
 use Rattle.report.proofs.asking.ask_policy.Goals as goal
 
-pub returns-clause-asked : goal.returns-clause-asked
-returns-clause-asked g c = record {
-  done = carried_out c.load_with-with.result c.load_with-with.ensures.loaded c.load_with-with.ensures.unread c.load_with-with.ensures.labels c.answered_of_policy-answer.ensures c.tell.ensures.told;
-  second_waits = c.load_with-with.ensures.second_waits;
-}
+pub returns-in-Close-clause-asked : goal.returns-in-Close-clause-asked
+returns-in-Close-clause-asked g c = rw c.in-Close.is (rw c.in-Close.is at c.ask_as.ensures.asked)
 
-pub returns-clause-heard : goal.returns-clause-heard
-returns-clause-heard g c = record {
-  loaded = c.load_with-with.result;
-  answer = c.answered_of_policy-answer.result;
-  between = c.load_with-with.new.listener;
-  gives = c.load_with-with.ensures.loaded;
-  judged = c.answered_of_policy-answer.ensures;
-  told = c.tell.ensures.told;
-  fault = c.load_with-with.ensures.heard;
-  answered = c.tell.ensures.heard;
-}
+pub returns-in-Close-clause-heard : goal.returns-in-Close-clause-heard
+returns-in-Close-clause-heard g c = rw c.in-Close.is (rw c.in-Close.is at c.ask_as.ensures.heard)
+
+pub returns-in-Why-clause-asked : goal.returns-in-Why-clause-asked
+returns-in-Why-clause-asked g c = rw c.in-Why.is (rw c.in-Why.is at c.ask_as-in-Why.ensures.asked)
+
+pub returns-in-Why-clause-heard : goal.returns-in-Why-clause-heard
+returns-in-Why-clause-heard g c = rw c.in-Why.is (rw c.in-Why.is at c.ask_as-in-Why.ensures.heard)
+
+pub returns-in-Draw-clause-asked : goal.returns-in-Draw-clause-asked
+returns-in-Draw-clause-asked g c = rw c.in-Draw.is (rw c.in-Draw.is at c.ask_as-in-Draw.ensures.asked)
+
+pub returns-in-Draw-clause-heard : goal.returns-in-Draw-clause-heard
+returns-in-Draw-clause-heard g c = rw c.in-Draw.is (rw c.in-Draw.is at c.ask_as-in-Draw.ensures.heard)

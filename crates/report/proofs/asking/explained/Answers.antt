@@ -11,7 +11,8 @@ returns c =
       record {
         so = rw plain.text (record {
           reach = c.in_ok-reach.reach;
-          is_reach = record { of_table = c.in_ok-reach.ensures.table; is = c.in_ok-reach.ensures.reach };
+          is_reach = c.in_ok-reach.ensures.reach;
+          kept = c.in_ok-reach.ensures.kept;
           so = record {
             of_actor = c.in-Some.actor;
             of_object = c.in-Some-label_named.object;

@@ -7,7 +7,8 @@ returns-clause-text c =
     IfOk-weaker c.picture_text.result _ _
     (λ text drawn. record {
       reach = c.in_ok-reach.reach;
-      is_reach = record { of_table = c.in_ok-reach.ensures.table; is = c.in_ok-reach.ensures.reach };
+      is_reach = c.in_ok-reach.ensures.reach;
+      kept = c.in_ok-reach.ensures.kept;
       so = rw (c.policy.ensures.policy, c.actors.ensures.actors) at drawn;
     })
     c.picture_text.ensures.text

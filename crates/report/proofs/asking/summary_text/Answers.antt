@@ -7,7 +7,8 @@ returns-clause-text c =
     IfOk-weaker c.summary_in.result _ _
     (λ text sums. record {
       reach = c.in_ok-reach.reach;
-      is_reach = record { of_table = c.in_ok-reach.ensures.table; is = c.in_ok-reach.ensures.reach };
+      is_reach = c.in_ok-reach.ensures.reach;
+      kept = c.in_ok-reach.ensures.kept;
       sums = sums;
     })
     c.summary_in.ensures.text

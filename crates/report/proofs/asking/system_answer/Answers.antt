@@ -15,6 +15,9 @@ returns-in_ok-write_objects-in-List c = rw c.in-List.is (said c.in_ok-write_obje
 pub returns-in-Why : goal.returns-in-Why
 returns-in-Why c = rw c.in-Why.is c.explained.ensures
 
+pub returns-in-Users : goal.returns-in-Users
+returns-in-Users c = rw c.in-Users.is c.users_told.ensures
+
 pub returns-in-Show : goal.returns-in-Show
 returns-in-Show c = rw c.in-Show.is c.shown.ensures
 

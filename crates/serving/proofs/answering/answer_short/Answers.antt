@@ -2,7 +2,7 @@
 use Rattle.std.{specs.Global.Vec, proofs.Common.{ℕ, ◌<◌, ◌∙◌, ◌≡◌, ◌⊎◌, ap, inl, inr, subst, sym}}
 use Rattle.devices.specs.{declared.watched.Watched.Watched, Watched.device_of}
 use Rattle.commands.specs.{declared.end.End.End, Ends.status_of}
-use Rattle.requests.specs.declared.request.{Check.{Check as CheckOf}, Request.{Request, TheVariants.{Check, OfClaims, OfDescription, OfPolicy, OfSystem, OfThree}}}
+use Rattle.requests.specs.declared.request.{Check.{Check as CheckOf}, Request.{Request, TheVariants.{Check, OfClaims, OfDescription, OfPolicy, OfSystem, OfThree, OfTwo}}}
 use Rattle.requests.specs.Requests.{HaveArrived, OnEach}
 use Rattle.serving.proofs.answering.answer_short.Goals as goal
 
@@ -19,11 +19,13 @@ has_arrived R arrived (OfDescription asked d) files each have = tt
 has_arrived R arrived (OfSystem asked taken s) files each have = tt
 has_arrived R arrived (OfPolicy asked taken s p) files each have = tt
 has_arrived R arrived (OfClaims taken s c) files each have = tt
+has_arrived R arrived (OfTwo form taken o n) files each have = tt
 has_arrived R arrived (Check asked t p) (Check also u q) each have = subst (λ (check : CheckOf). (worker : ℕ) → worker < check.workers → arrived worker) (sym each.0) have
 has_arrived R arrived (Check asked t p) (OfDescription also d) each have = absurd each
 has_arrived R arrived (Check asked t p) (OfSystem also taken s) each have = absurd each
 has_arrived R arrived (Check asked t p) (OfPolicy also taken s q) each have = absurd each
 has_arrived R arrived (Check asked t p) (OfClaims taken s c) each have = absurd each
+has_arrived R arrived (Check asked t p) (OfTwo form taken o n) each have = absurd each
 has_arrived R arrived (Check asked t p) (OfThree also u q x) each have = absurd each
 has_arrived R arrived (OfThree asked t p x) files each have = tt
 

@@ -1,0 +1,46 @@
+//! What the command `why` lists of all users of a label.
+ghost use Rattle.std.specs.Prelude.{◌≡◌, IfErr, IfOk};
+ghost use Rattle.base.specs.Refusals.{out_of_memory};
+ghost use Rattle.commands.specs.Commands.{IsJudgedSo, Says};
+ghost use Rattle.report.specs.Using.{IsUsersText, TellsUsers, unlabelled_object};
+
+use crate::reaching::kept_reach;
+use crate::{Asked, Use};
+use base::{Label, Refusal};
+use commands::{Answer, Stop};
+use reach::Reach;
+use std::alloc::Global;
+use table::Table;
+use usertext::{changers_text, readers_text};
+
+/// The labels that use one so; or that its name is no label of the table.
+pub(crate) fn users_told(
+    alloc: Global,
+    table: &Table,
+    usage: Use,
+    object: &str,
+) -> Result<Answer, Stop>
+    ensures { IsJudgedSo (unlabelled_object table.now object.now) (Says (TellsUsers usage object.now table.now)) result }
+{
+    let Some(object) = table.label_named(object) else {
+        return Err(Stop::NoLabel(Asked::Object));
+    };
+    let reach = kept_reach(alloc, table)?;
+    Ok(Answer::plain(users_text(alloc, &reach, usage, object)?, 0))
+}
+
+// The lines of the labels that use one so.
+fn users_text(
+    alloc: Global,
+    reach: &Reach<'_>,
+    usage: Use,
+    object: Label,
+) -> Result<Vec<u8>, Refusal>
+    ensures text { IfOk result (λ text. IsUsersText usage reach.now object text.items) }
+    ensures memory { IfErr result (λ refusal. refusal ≡ out_of_memory) }
+{
+    match usage {
+        Use::Changes => changers_text(alloc, reach, object),
+        Use::Reads => readers_text(alloc, reach, object),
+    }
+}

@@ -1,0 +1,8 @@
+use Rattle.std.proofs.Common.{◌≡◌, map, take}
+use Rattle.reptext.specs.Differences.{change_data}
+use Rattle.reptext.proofs.differences.values_of.Given as goal
+use Rattle.serde_json.specs.View.{view}
+
+-- the changes so far are kept
+abbrev pub invariant-loop-change : goal.invariant-loop-change
+invariant-loop-change l = map view l.values.items ≡ map (change_data l.old l.new) (take l.change-index l.changes)

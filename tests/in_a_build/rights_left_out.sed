@@ -1,0 +1,2 @@
+# A map without perms: it may write.
+/name="broker"/,/<\/protection_domain>/ s/\(mr="readings".*\) perms="r"/\1/
