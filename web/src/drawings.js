@@ -12,10 +12,13 @@ function drawn(name, attributes = {}, ...children) {
   return made;
 }
 
+let pictures = 0; // how many there were: each has a head of arrows of its own
 function picture(title, width, height, ...parts) {
+  pictures++;
   const head = drawn(
     "marker",
-    { id: `head-${title.length}`, viewBox: "0 0 8 8", refX: 7, refY: 4, markerWidth: 7, markerHeight: 7, orient: "auto-start-reverse" },
+    { id: `head-${pictures}`, viewBox: "0 0 8 8", refX: 7, refY: 4, markerWidth: 10, markerHeight: 10,
+      markerUnits: "userSpaceOnUse", orient: "auto-start-reverse" },
     drawn("path", { d: "M0 0 L8 4 L0 8 z", class: "head" }),
   );
   const whole = drawn("svg", { viewBox: `0 0 ${width} ${height}`, width, height, role: "img" });
@@ -37,7 +40,7 @@ const WIDEST = 900; // a circle; where long names need a wider one, there is a t
 const MOST_IN_TABLE = 64;
 
 function drawLabels(graph, ask) {
-  return (graph.isFolded && programPicture(graph, ask)) || labelDrawing(graph, ask);
+  return (graph.isFolded && programPicture(withoutTwins(graph), ask)) || labelDrawing(graph, ask);
 }
 
 function labelDrawing(graph, ask) {
@@ -49,6 +52,7 @@ function labelDrawing(graph, ask) {
 const HELD = { full: "may change", take: "may take from", memory: "shares memory with" };
 const inSentence = ({ from, to, held }) => `${from} ${HELD[held]} ${to}`;
 const reasonIn = ({ edge, words }) => edge ?? words?.join(", ");
+const asksOf = ({ from, to, first }) => first ?? [from, to]; // of a box that stands for several programs, the first
 const withReason = (one) => (reasonIn(one) ? `${inSentence(one)}: ${reasonIn(one)}` : inSentence(one));
 
 // How wide a label's box is, half of the circle, and the picture.
@@ -82,19 +86,22 @@ function placeOf(at, count, [x, y], across) {
 
 const STROKES = { full: "", take: "dash", memory: "dots" };
 
-// An arrow that can be chosen by mouse and keys; its line is thin, so that what is chosen is broader.
-function asButton(one, way, ask) {
+// An arrow that can be chosen by mouse and keys; its line is thin, so that what is chosen is broader, and may lie beside it.
+function asButton(one, way, ask, broad = way) {
   const whole = drawn("g", { class: "way", tabindex: 0, role: "button", "aria-label": `${withReason(one)}. Why?` });
-  whole.append(drawn("title", {}, withReason(one)), drawn("path", { d: way, class: "broad" }));
-  whole.append(arrow(way, STROKES[one.held]));
-  whole.addEventListener("click", () => ask(one.from, one.to));
+  whole.append(drawn("title", {}, withReason(one)), drawn("path", { d: broad, class: "broad" }));
+  whole.append(arrow(way, `${STROKES[one.held]} ${reasonsOf(one).length > 1 ? "strong" : ""}`));
+  whole.addEventListener("click", () => ask(...asksOf(one)));
   whole.addEventListener("keydown", (event) => {
     if (event.ctrlKey || event.metaKey || (event.key !== "Enter" && event.key !== " ")) return;
     event.preventDefault();
-    ask(one.from, one.to);
+    ask(...asksOf(one));
   });
   return whole;
 }
+
+// By what an arrow of a folded graph is, besides memory.
+const reasonsOf = ({ words }) => words?.filter((word) => !word.includes(" ")) ?? [];
 
 // The arrows' lines: each is bent to the middle, so that it passes by the boxes between the two, and runs a little to the right of the way,
 // so that the way back has room. Where several meet at a box, they are put apart. `half` is half of a box's width and height.
@@ -156,7 +163,7 @@ function putApart(ends, whole) {
 }
 
 // What a cell says: in a folded graph, by what.
-const inCell = ({ held, words }) => words?.filter((word) => held !== "memory" && !word.includes(" ")).join(", ") || held;
+const inCell = (one) => (one.held === "memory" ? "" : reasonsOf(one).join(", ")) || one.held;
 
 function labelTable({ labels, arrows }, ask) {
   const held = new Map(arrows.map((one) => [`${one.from} ${one.to}`, one]));
@@ -180,13 +187,74 @@ const MOST_PROGRAMS = 24;
 const WIDE = 1330, HIGH = 640; // what a screen of 1,400 pixels has room for
 const LEAST_GAP = 96, MOST_GAP = 300; // between two columns
 const WORDS_HIGH = 13, LETTER = 5.9; // of the words at arrows
+const NAME_HIGH = 16; // of a program's name
 const APART = 22; // between two boxes of a column
 const END = 15; // between the ends of two lines at a box
 
-// Draws programs, unless there are too many of them, or of the words between them, for a screen.
+// Draws programs, with what a screen has room for at the arrows: all words, or the letters of the summary, or those of the largest arrows
+// alone. If there are too many arrows even so, only the largest are drawn. Or gives null, if there are too many programs.
 function programPicture(graph, ask) {
   if (graph.labels.length > MOST_PROGRAMS) return null;
-  const parts = partsOf(graph).map((labels) => placedPart(graph, labels));
+  const inOrder = { ...graph, arrows: graph.arrows.toSorted((one, other) => sizeOf(other) - sizeOf(one)) };
+  const whole = ["words", "letters", "some"].reduce((drawing, told) => drawing ?? pictureOfParts(inOrder, told, ask), null);
+  return whole ?? largestPicture(inOrder, ask);
+}
+
+// Draws as many of the largest arrows as there is room for, and says how many are left out.
+function largestPicture(graph, ask) {
+  const sizes = [...new Set(graph.arrows.map(sizeOf))].toReversed();
+  for (const least of sizes.slice(1)) {
+    const arrows = graph.arrows.filter((one) => sizeOf(one) >= least);
+    const drawing = pictureOfParts({ ...graph, arrows }, "letters", ask);
+    const words = wordsOnLeft(graph.arrows.length - arrows.length);
+    if (drawing) return element("div", {}, drawing, element("p", { class: "small left" }, words));
+  }
+  return null;
+}
+
+const wordsOnLeft = (count) => (count === 1 ? "1 smaller arrow is left out. The matrix has it." :
+  `${count} smaller arrows are left out. The matrix has them.`);
+
+// How much an arrow is: authority to change is more than that to take, and that more than memory; then it is by how many reasons.
+const sizeOf = (one) => 100 * ["memory", "take", "full"].indexOf(one.held) + 10 * reasonsOf(one).length + one.words.length;
+
+// Programs with the same neighbours, and the same arrows to and from each, become one box with all their names. Few programs stay as they
+// are.
+const MOST_ALONE = 8;
+
+function withoutTwins({ labels, arrows, within, isFolded }) {
+  if (labels.length <= MOST_ALONE) return { labels, arrows, within, isFolded };
+  const alike = Object.values(Object.groupBy(labels, (label) => `${arrows.flatMap((one) => atEnd(one, label)).sort()}`));
+  const names = new Map(alike.flatMap((group) => group.map((label) => [label, group.join(", ")])));
+  const folded = new Map();
+  for (const one of arrows) {
+    const [from, to] = [names.get(one.from), names.get(one.to)];
+    const before = folded.get(`${from} > ${to}`);
+    const words = before ? sharedWords(before, one) : one.words;
+    folded.set(`${from} > ${to}`, { ...one, from, to, words, first: before?.first ?? asksOf(one) });
+  }
+  const withinAll = (group) => group.map((label) => within.get(label)).filter(Boolean).join(", ");
+  const inside = new Map(alike.map((group) => [group.join(", "), withinAll(group)]));
+  return { labels: [...new Set(names.values())], arrows: [...folded.values()], within: inside, isFolded };
+}
+
+// What an arrow is at one of its ends, besides the memory that it names.
+function atEnd(one, label) {
+  const what = `${one.held} ${reasonsOf(one)} ${one.words.length}`;
+  return [...(one.from === label ? [`to ${one.to} ${what}`] : []), ...(one.to === label ? [`from ${one.from} ${what}`] : [])];
+}
+
+// The words of two arrows that became one: of memory, only what happens to it, if they name other memory.
+function sharedWords(one, other) {
+  if (`${one.words}` === `${other.words}`) return one.words;
+  return [...reasonsOf(one), ...new Set(memoryWords(one).map((word) => `${word.split(" ")[0]} memory`))];
+}
+
+const memoryWords = ({ words }) => words.filter((word) => word.includes(" "));
+
+function pictureOfParts(graph, told, ask) {
+  if (graph.arrows.length > MOST_ARROWS * graph.labels.length) return null;
+  const parts = partsOf(graph).map((labels) => placedPart(graph, labels, told));
   const rows = [];
   for (const part of parts) {
     const row = rows.at(-1);
@@ -202,7 +270,7 @@ function programPicture(graph, ask) {
   for (const row of rows) {
     let left = 0;
     for (const part of row.parts) {
-      const moved = drawn("g", { transform: `translate(${left} ${top})` }, ...drawnPart(part, ask));
+      const moved = drawn("g", { transform: `translate(${left} ${top - part.top})` }, ...drawnPart(part, ask));
       drawnParts.push(moved);
       left += part.width;
     }
@@ -227,7 +295,7 @@ function partsOf({ labels, arrows }) {
 
 // Programs in columns, with the place of each box, and the lines between them. Of all programs that can stand alone at the left, it is the
 // one with which fewest lines cross.
-function placedPart(graph, labels) {
+function placedPart(graph, labels, told) {
   const arrows = graph.arrows.filter(({ from }) => labels.includes(from));
   const near = new Map(labels.map((label) => [label, new Set()]));
   for (const { from, to } of arrows) {
@@ -239,7 +307,7 @@ function placedPart(graph, labels) {
   const { columns } = tries.reduce((best, one) => (one.cost < best.cost ? one : best));
   const wides = columns.map((column) => Math.max(...column.map((label) => boxes.get(label).wide)));
   const gap = Math.max(LEAST_GAP, Math.min(MOST_GAP, (WIDE - 20 - sum(wides)) / Math.max(1, columns.length - 1)));
-  const pairs = pairsOf(columns, arrows, gap);
+  const pairs = pairsOf(columns, arrows, gap, told);
   for (const box of boxes.values()) {
     const ends = pairs.flatMap(endsOf).filter(({ label }) => label === box.label);
     const most = Math.max(...[1, -1].map((side) => ends.filter((end) => end.side === side).length));
@@ -252,17 +320,21 @@ function placedPart(graph, labels) {
     left += wides[at] + gap;
   });
   const isWider = pairs.some(({ gapAt }) => gapAt === columns.length - 1); // lines beside the last column
-  placeLines(pairs, boxes, columns, wides, gap, height);
-  return { boxes, pairs, labels, width: left - gap + (isWider ? gap : 0) + 10, height };
+  placeLines(pairs, boxes, columns, wides, gap, height, told);
+  const things = [...boxes.values(), ...pairs];
+  const top = Math.min(...things.map(({ y, high }) => y - high / 2)) - 4;
+  const end = Math.max(...things.map(({ y, high }) => y + high / 2)) + 4;
+  return { boxes, pairs, labels, width: left - gap + (isWider ? gap : 0) + 10, top, height: end - top };
 }
 
 const sum = (numbers) => numbers.reduce((one, other) => one + other, 0);
 
-// A program's box: its name, and beneath the labels that it alone uses.
+// A program's box: its name, or those of several programs, and beneath the labels that it alone uses.
 function boxOf(label, within) {
   const lines = within ? wrapped(within, 24).slice(0, 4) : [];
-  const wide = Math.max(84, 8 * label.length + 20, ...lines.map((line) => LETTER * line.length + 18));
-  return { label, lines, wide, high: 30 + WORDS_HIGH * lines.length };
+  const names = label.split(", ");
+  const wide = Math.max(84, ...names.map((name) => 8 * name.length + 20), ...lines.map((line) => LETTER * line.length + 18));
+  return { label, names, lines, wide, high: 14 + NAME_HIGH * names.length + WORDS_HIGH * lines.length };
 }
 
 // A text in lines of so many letters.
@@ -308,7 +380,7 @@ function costOf(columns, near, boxes) {
     const ends = column.flatMap((label, from) => next.flatMap((other, to) => (near.get(label).has(other) ? [[from, to]] : [])));
     for (const one of ends) for (const other of ends) cost += one[0] < other[0] && one[1] > other[1] ? 3 : 0;
     column.forEach((label, from) => column.slice(from + 1).forEach((other, by) => {
-      if (near.get(label).has(other)) cost += 4 + 2 * by;
+      if (near.get(label).has(other)) cost += 8 + 4 * by;
     }));
   });
   const wide = sum(columns.map((column) => Math.max(...column.map((label) => boxes.get(label).wide)))) + LEAST_GAP * (columns.length - 1);
@@ -318,7 +390,7 @@ function costOf(columns, near, boxes) {
 
 // The pairs of programs with arrows, from left to right: the arrows of both ways, the gap between columns in which the words stand, and
 // these words. What both ways have in common is said once.
-function pairsOf(columns, arrows, gap) {
+function pairsOf(columns, arrows, gap, told) {
   const columnOf = new Map(columns.flatMap((column, at) => column.map((label) => [label, at])));
   const order = columns.flat();
   const pairs = [];
@@ -329,24 +401,51 @@ function pairsOf(columns, arrows, gap) {
       if (!there && !back) continue;
       const [one, other] = [columnOf.get(left), columnOf.get(right)];
       const most = Math.max(10, Math.floor((gap - 44) / LETTER));
-      const ways = [there, back].filter(Boolean).map((arrow) => ({ arrow, sign: arrow === there ? "\u2192" : "\u2190" }));
-      const isSame = there && back && there.held === back.held && `${there.words}` === `${back.words}`;
-      if (one === other) [ways[0].sign, ways.at(-1).sign] = [there ? "\u2193" : "\u2191", back ? "\u2191" : "\u2193"];
-      if (isSame) ways[0].sign = one === other ? "\u2195" : "\u2194";
-      ways.forEach((way, at) => {
-        way.lines = isSame && at > 0 ? [] : wayLines(way, most);
-      });
-      const high = WORDS_HIGH * sum(ways.map(({ lines }) => lines.length)) + 4;
-      pairs.push({ left, right, ways, gapAt: one, isBeside: one === other, high });
+      const [ahead, behind, both] = one === other ? ["\u2193", "\u2191", "\u2195"] : ["\u2192", "\u2190", "\u2194"];
+      const ways = [{ arrow: there, sign: ahead }, { arrow: back, sign: behind }].filter(({ arrow }) => arrow);
+      if (told === "words") putWords(ways, both, most);
+      else putLetters(ways, both);
+      pairs.push({ left, right, ways, gapAt: one, isBeside: one === other });
     }
   });
+  if (told === "some") for (const gapAt of columns.keys()) keepLargest(pairs.filter((pair) => pair.gapAt === gapAt));
+  for (const pair of pairs) pair.high = WORDS_HIGH * sum(pair.ways.map(({ lines }) => lines.length)) + 4;
   return pairs;
 }
 
+// Puts words to the ways of a pair.
+function putWords(ways, both, most) {
+  const [one, other] = ways.map(({ arrow }) => `${arrow.held} ${arrow.words}`);
+  ways.forEach((way, at) => {
+    way.lines = one !== other ? wayLines(way.arrow, way.sign, most) : at === 0 ? wayLines(way.arrow, both, most) : [];
+  });
+}
+
+// Puts the letters that the summary has to the ways of a pair, in one line.
+function putLetters(ways, both) {
+  const [one, other] = ways.map(({ arrow }) => lettersOf(arrow));
+  for (const way of ways) way.lines = [];
+  ways.at(-1).lines = [one === other ? `${both}${one}` : ways.map(({ arrow, sign }) => `${sign}${lettersOf(arrow)}`).join(" ")];
+}
+
+function lettersOf(arrow) {
+  const letters = reasonsOf(arrow).map((word) => Object.keys(LETTERS).find((letter) => LETTERS[letter].includes(word)) ?? word);
+  return `${letters.join("")}${memoryWords(arrow).length > 0 ? "m" : ""}`;
+}
+
+// Leaves in a gap the words of as many arrows as it has room for, the largest first.
+function keepLargest(pairs) {
+  let room = HIGH - 40;
+  for (const pair of pairs.toSorted((one, other) => sizeOf(other.ways[0].arrow) - sizeOf(one.ways[0].arrow))) {
+    room -= WORDS_HIGH * sum(pair.ways.map(({ lines }) => lines.length)) + 8;
+    if (room < 0) for (const way of pair.ways) way.lines = [];
+  }
+}
+
 // The words of an arrow in lines: by what, and then what happens to memory.
-function wayLines({ arrow, sign }, most) {
-  const reasons = arrow.words.filter((words) => !words.includes(" "));
-  const memory = arrow.words.filter((words) => words.includes(" "));
+function wayLines(arrow, sign, most) {
+  const reasons = reasonsOf(arrow);
+  const memory = memoryWords(arrow);
   const groups = [...(reasons.length > 0 ? [reasons.join(", ")] : []), ...memory];
   return groups.flatMap((group, at) => wrapped(at === 0 ? `${sign} ${group}` : group, most));
 }
@@ -410,14 +509,18 @@ const endsOf = (pair) => [
 ];
 
 // Gives each pair the place of its words, and each way its line. Lines leave a box beneath each other.
-function placeLines(pairs, boxes, columns, wides, gap, height) {
+function placeLines(pairs, boxes, columns, wides, gap, height, told) {
   for (const gapAt of columns.keys()) {
     const here = pairs.filter((pair) => pair.gapAt === gapAt);
     for (const pair of here) pair.y = (boxes.get(pair.left).y + boxes.get(pair.right).y) / 2;
     here.sort((one, other) => one.y - other.y);
     keepApart(here, 4, height);
     const from = boxes.get(columns[gapAt][0]).middle + wides[gapAt] / 2;
+    const beside = here.filter(({ isBeside }) => isBeside).sort((one, other) => lengthOf(one, boxes) - lengthOf(other, boxes));
     for (const pair of here) pair.x = from + gap / 2;
+    beside.forEach((pair, at) => {
+      pair.x = from + (gap * (at + 1)) / (beside.length + 1);
+    });
   }
   const ends = pairs.flatMap(endsOf);
   for (const [label, box] of boxes) {
@@ -431,12 +534,19 @@ function placeLines(pairs, boxes, columns, wides, gap, height) {
   pairs.forEach((pair, at) => {
     const [start, end] = [ends[2 * at].point, ends[2 * at + 1].point];
     pair.ways.forEach((way) => {
-      const aside = pair.ways.length === 1 ? 0 : way.arrow.from === pair.left ? -3 : 3;
-      const line = pair.isBeside ? lineBeside(start, end, pair, aside) : lineBetween(start, end, pair, aside);
-      way.line = way.arrow.from === pair.left ? line : line.toReversed();
+      const isAhead = way.arrow.from === pair.left;
+      const lineAt = (aside) => {
+        const line = pair.isBeside ? lineBeside(start, end, pair, aside) : lineBetween(start, end, pair, aside);
+        return isAhead ? line : line.toReversed();
+      };
+      const aside = pair.ways.length === 1 ? 0 : isAhead ? -3 : 3;
+      way.line = lineAt(told === "words" ? aside : 0); // with letters, the lines of both ways are one
+      way.broad = lineAt(2 * aside);
     });
   });
 }
+
+const lengthOf = ({ left, right }, boxes) => Math.abs(boxes.get(left).y - boxes.get(right).y);
 
 // The points of a line, for two curves: through the place of its words to the next column, or round to another box of the same column.
 function lineBetween([x1, y1], [x2, y2], { x, y }, aside) {
@@ -446,8 +556,13 @@ function lineBetween([x1, y1], [x2, y2], { x, y }, aside) {
 }
 
 function lineBeside([x1, y1], [x2, y2], { x, y }, aside) {
-  const far = Math.max(x1, x2) + (x - Math.max(x1, x2)) * 0.7 + aside;
+  const far = x + aside;
   return [[x1, y1 + aside], [far, y1 + aside], [far, y1 + aside], [far, y], [far, y2 + aside], [far, y2 + aside], [x2, y2 + aside]];
+}
+
+function curveOf(line) {
+  const [first, ...rest] = line.map((point) => point.map((part) => Math.round(part)).join(" "));
+  return `M${first} C${rest.slice(0, 3)} ${rest.slice(3)}`;
 }
 
 // The lines, then the words over them, which can be chosen by mouse as their line can, and then the boxes.
@@ -455,25 +570,25 @@ function drawnPart({ boxes, pairs }, ask) {
   const lines = [], words = [];
   for (const pair of pairs) {
     let y = pair.y - pair.high / 2 + WORDS_HIGH - 1;
-    for (const { arrow, line, lines: told } of pair.ways) {
-      const [first, ...rest] = line.map((point) => point.map((part) => Math.round(part)).join(" "));
-      lines.push(asButton(arrow, `M${first} C${rest.slice(0, 3)} ${rest.slice(3)}`, ask));
+    for (const { arrow, line, broad, lines: told } of pair.ways) {
+      lines.push(asButton(arrow, curveOf(line), ask, curveOf(broad)));
       if (told.length === 0) continue;
       const wide = LETTER * Math.max(...told.map((one) => one.length)) + 6;
       const said = drawn("g", { class: "said" }, drawn("title", {}, withReason(arrow)));
       said.append(boxAt(pair.x - wide / 2, y - 10, wide, WORDS_HIGH * told.length, "paper", 3));
       said.append(...told.map((one, at) => textAt(pair.x, y + WORDS_HIGH * at, one, "words", "middle")));
-      said.addEventListener("click", () => ask(arrow.from, arrow.to));
+      said.addEventListener("click", () => ask(...asksOf(arrow)));
       words.push(said);
       y += WORDS_HIGH * told.length;
     }
   }
-  const drawnBoxes = [...boxes.values()].flatMap(({ label, lines, wide, high, middle, y }) => {
-    const top = y - (30 + WORDS_HIGH * lines.length) / 2;
+  const drawnBoxes = [...boxes.values()].flatMap(({ names, lines, wide, high, middle, y }) => {
+    const top = y - (14 + NAME_HIGH * names.length + WORDS_HIGH * lines.length) / 2;
+    const below = top + 17 + NAME_HIGH * names.length;
     return [
       boxAt(middle - wide / 2, y - high / 2, wide, high, "label tint-0", 8),
-      textAt(middle, top + 19, label, "name bold", "middle"),
-      ...lines.map((line, at) => textAt(middle, top + 33 + WORDS_HIGH * at, line, "small", "middle")),
+      ...names.map((name, at) => textAt(middle, top + 19 + NAME_HIGH * at, name, "name bold", "middle")),
+      ...lines.map((line, at) => textAt(middle, below + WORDS_HIGH * at, line, "small", "middle")),
     ];
   });
   return [...lines, ...words, ...drawnBoxes];
@@ -500,7 +615,7 @@ function matrix(summary, before, ask) {
   const rows = summary.labels.map((one, down) => {
     return element("tr", {}, element("th", { scope: "row" }, one), ...summary.labels.map((_, at) => cell(one, at, down)));
   });
-  const whole = element("table", { class: "matrix" }, element("tr", {}, corner, ...heads), ...rows);
+  const whole = element("table", { class: "matrix", style: `--count: ${summary.labels.length}` }, element("tr", {}, corner, ...heads), ...rows);
   whole.querySelector("button")?.setAttribute("tabindex", 0);
   whole.addEventListener("keydown", (event) => stepInMatrix(whole, event));
   return whole;

@@ -17,6 +17,7 @@ const GROUPS = [
   ] },
   { title: "Who can touch whom", commands: [
     { name: "summary", reads: TABLE, asks: "all programs at once", shows: "summary" },
+    { name: "diff", reads: TABLE, asks: "what do your changes add to the example?", shows: "summary" },
     { name: "why", reads: TABLE, pair: true, asks: "by which edges?" },
     { name: "show", reads: TABLE, pair: true, asks: "by which calls does A change B?", gives: "script" },
     { name: "show", option: "--take", reads: TABLE, pair: true, asks: "by which calls does A take from B?", gives: "script" },
@@ -40,8 +41,9 @@ const GROUPS = [
 const COMMANDS = GROUPS.flatMap(({ commands }) => commands);
 const commandOf = (name, option) => COMMANDS.find((command) => command.name === name && command.option === option);
 const IMPORT = commandOf("import"), CHECK = commandOf("check"), SUMMARY = commandOf("summary"), WHY = commandOf("why");
-const CLAIMS = commandOf("claims");
+const CLAIMS = commandOf("claims"), DIFF = commandOf("diff"), FLOWS = COMMANDS.find(({ name, pair }) => name === "flows" && pair);
 const DRAW = commandOf("draw"), DRAW_ALL = commandOf("draw", "--all");
+const DRAWN = [SUMMARY, DRAW, DRAW_ALL]; // what the page shows in another form, too: as text it is folded
 const STRONGEST = commandOf("claims", "--all"), DESIGN = commandOf("import", "--claims");
 const FILES = [...new Set(COMMANDS.flatMap((command) => command.reads))];
 // What the page begins with, and the texts that are there in each view. All others stand in the third place, behind the summary.
@@ -79,6 +81,7 @@ let summed = null; // the summary that is shown
 // ---- Texts, and the example that is chosen.
 
 function layOut() {
+  const isWide = matchMedia("(min-width: 901px)");
   const place = (name, ...parts) => element("div", { class: "place-of", id: `place-${name}` }, ...parts);
   const alone = (name) => place(name, element("div", { class: "head" }, name, space(), opener(() => name)), texts[name].box);
   offerReadings();
@@ -98,6 +101,13 @@ function layOut() {
   design.addEventListener("click", () => takeClaims(DESIGN));
   texts.claims.box.append(element("div", { class: "start small" }, find("claim-words"), strongest, design));
   show(shown);
+  unfold(isWide.matches);
+  isWide.addEventListener("change", () => unfold(isWide.matches));
+}
+
+// Opens what is folded on a narrow screen alone, or folds it.
+function unfold(isWide) {
+  for (const part of document.querySelectorAll("details.fold")) part.open = isWide;
 }
 
 // Tabs, of which the arrow keys choose the next and the one before; each shows what it stands for.
@@ -277,9 +287,9 @@ function offerPair() {
   return element("div", { class: "pair" }, "A:", choices[0], "B:", choices[1]);
 }
 
-// The words of the command line. `close` takes a table alone, too.
+// The words of the command line. `close` takes a table alone, too, and `diff` the table of the example before it.
 function wordsFor(command, given) {
-  const words = [command.name, ...command.reads];
+  const words = [command.name, ...(command === DIFF ? ["example"] : []), ...command.reads];
   if (command.name === "close" && given.policy === "") words.pop();
   if (command.pair) words.push(find("label-A").value, find("label-B").value);
   if (command.name === "import") for (const option of Object.keys(READINGS)) words.push(`--${option}`, chosen(option));
@@ -304,6 +314,7 @@ async function ask(command) {
   command.button.setAttribute("aria-current", "true");
   for (const name of [...command.reads, command.shows]) show(name);
   let given = allTexts();
+  if (command === DIFF) given.example = chosenExample?.table ?? given.table;
   const words = wordsFor(command, given);
   const lines = [words];
   const clock = startClock();
@@ -317,6 +328,7 @@ async function ask(command) {
   const took = performance.now() - began;
   clock.stop();
   if (turn !== asked) return null;
+  find("answer").hidden = false;
   find("line").textContent = lines.map((words) => `confine ${words.join(" ")}`).join("\n");
   if (!answer) {
     showStopped();
@@ -325,12 +337,14 @@ async function ask(command) {
   const output = decoded(answer.output);
   const report = reportOf(output);
   showAnswer(command, given, answer, output, report, took);
-  if (command === WHY) showReason(given, words.slice(1 + WHY.reads.length), answer, output);
+  const pair = words.slice(1 + command.reads.length);
+  if (command === WHY) showReason(given, pair, answer, output);
   await offerMissing(turn, given, answer, report);
   await markClaims(turn, given, command === CLAIMS ? report : null);
   if (command !== IMPORT) await showSystem(turn, given, command, answer);
   await listObjects(turn, allTexts());
-  if (command === WHY) await showThrough(turn, given, words.slice(1 + WHY.reads.length));
+  if (command === WHY) await showThrough(turn, given, pair);
+  await showFlow(turn, given, command, pair, output);
   if (turn !== asked) return null;
   document.body.dataset.answered = turn;
   return answer;
@@ -342,7 +356,7 @@ function showStopped() {
   find("words").textContent = "stopped";
   find("words").className = "faulty";
   for (const id of ["status", "sentences", "output"]) find(id).textContent = "";
-  for (const id of ["missing", "claimed", "keeping"]) find(id).hidden = true;
+  for (const id of ["missing", "claimed", "flowing", "whole", "keeping"]) find(id).hidden = true;
 }
 
 function showAnswer(command, given, answer, output, report, took) {
@@ -355,6 +369,9 @@ function showAnswer(command, given, answer, output, report, took) {
   const lines = output.split("\n");
   const isLong = lines.length > MOST_SHOWN;
   find("output").classList.toggle("unwrapped", command === SUMMARY || command.name === "flows");
+  find("whole").hidden = output === "";
+  find("whole").classList.toggle("folded", DRAWN.includes(command) && answer.status === 0);
+  find("whole").open = !find("whole").classList.contains("folded");
   find("output").textContent = isLong ? `${lines.slice(0, MOST_SHOWN).join("\n")}\n.. ${lines.length - 1} lines in all` : output;
   for (const name of FILES.filter((name) => name !== "description")) texts[name].unmark();
   const named = namedLine(report, given);
@@ -481,11 +498,20 @@ async function readLink() {
   }
 }
 
+// Shows the answers that are stored in the page for its first example, until the program has answered, unless there is a link to read.
+function showStored() {
+  const isFirst = location.hash === "";
+  showSummary(isFirst ? summaryOf(find("stored").textContent.trimStart()) : null, "");
+  const graph = find("stored-graph").textContent.trimStart();
+  showGraph(isFirst ? graphOf(graph) : null, graph, "");
+}
+
 // ---- What is done at once.
 
 offerExamples();
 offerCommands();
 layOut();
+showStored();
 texts.table.changed = takeTable;
 texts.description.changed = takeDescription;
 texts.claims.changed = takeClaimed;

@@ -34,6 +34,7 @@ function inWords(command, answer, report) {
   if (report?.run) return [`none found in ${report.steps} calls`, "faulty"];
   if (command.option === "--missing") return answer.status === 0 ? ["nothing is missing", "good"] : ["edges are missing", "bad"];
   if (command.option === "--surplus") return answer.status === 0 ? ["nothing is surplus", "good"] : ["edges are surplus", ""];
+  if (command.name === "diff") return answer.status === 0 ? ["nothing is added", "good"] : ["something is added", "bad"];
   if (command.name === "show") return ["a run that does it", ""];
   if (command.name === "summary") return ["no fault", "good"];
   if (command.name === "run") return ["accepted, and run", "good"];
@@ -149,11 +150,10 @@ function summaryOf(text) {
   if (text === "no label has a thread\n") return { signs: "", labels: [], rows: [], others: [] };
   if (!text.startsWith("who may change whom")) return null;
   const [head, ...lines] = text.trimEnd().split("\n");
-  const rows = new Map(), others = [];
+  const rows = rowsOf(lines), others = [];
   for (const line of lines) {
-    const [, label, cells] = /^ *\d+ ([a-z]\w*) +(.*)$/.exec(line) ?? [];
-    if (label) rows.set(label, [...(rows.get(label) ?? []), ...cells.split(/ +/)]);
-    else if (line.startsWith("    ") && /[a-z]/.test(line)) others.at(-1).users = line.trim();
+    if (ROW.test(line)) continue;
+    if (line.startsWith("    ") && /[a-z]/.test(line)) others.at(-1).users = line.trim();
     else if (/^[a-z]/.test(line)) others.push({ labels: line.split(", "), users: "" });
   }
   for (const other of others) {
@@ -164,11 +164,24 @@ function summaryOf(text) {
   return { signs: head.slice(head.indexOf(": ") + 2), labels: [...rows.keys()], rows: [...rows.values()], others };
 }
 
-// What `flows` writes of two labels: whether the one flows to the other, and the sets of programs through which all of it goes.
+// The rows of a matrix: of each label the signs of its cells. A wide matrix has a label's cells in several lines.
+const ROW = /^ *\d+ ([a-z]\w*) +(.*)$/;
+function rowsOf(lines) {
+  const rows = new Map();
+  for (const line of lines) {
+    const [, label, cells] = ROW.exec(line) ?? [];
+    if (label) rows.set(label, [...(rows.get(label) ?? []), ...cells.split(/ +/)]);
+  }
+  return rows;
+}
+
+// What `flows` writes of two labels: whether the one flows to the other, the sets of programs through which all of it goes, and the links
+// of a shortest chain.
 function flowOf(text) {
   const lines = text.trimEnd().split("\n");
-  const sets = lines.filter((line) => line.startsWith("through ")).map((line) => line.split(" ").slice(1));
-  return { isThere: lines[0] !== "none", sets, isLarge: lines[0] === "more than 5" };
+  const wordsAfter = (first) => wordsOf(text, first).map((words) => words.slice(1));
+  return { isThere: lines[0] !== "none", isLarge: lines[0] === "more than 5", isMore: lines.includes("and more"),
+    sets: wordsAfter("through"), links: wordsAfter("link") };
 }
 
 const LETTERS = { C: "calls", A: "answers", S: "signals", F: "changes for another reason", t: "only takes away", m: "shares memory" };

@@ -9,8 +9,29 @@ async function showSystem(turn, given, command, answer) {
   if (turn !== asked || !told) return;
   const lacking = told.status === 0 ? "" : whatLacks(told);
   showSummary(lacking ? null : summaryOf(decoded(told.output)), lacking);
+  await showDifference(turn, given);
   await tellClaims(turn, given, lacking !== "");
   await draw(turn, given, lacking, command, answer);
+}
+
+// Shows beside an example that was edited what changed, as `diff` tells it of the example's table and this one.
+async function showDifference(turn, given) {
+  const old = chosenExample?.table ?? given.table;
+  const told = given.table === old ? null : await program.answer(["diff", "example", "table"], { ...given, example: old }).catch(failed);
+  if (turn !== asked) return;
+  const lines = [0, 1].includes(told?.status) ? decoded(told.output).trimEnd() : "";
+  find("difference").hidden = lines === "";
+  if (lines === "") return;
+  const [words, look] = inWords(DIFF, told, null);
+  const title = element("p", {}, "What changed from the example, as ", element("code", {}, "confine diff"), " says it: ");
+  title.append(element("b", { class: look }, words));
+  find("difference").replaceChildren(title, element("pre", { tabindex: 0 }, ...lines.split("\n").map(asChange)));
+}
+
+// A line of `diff`, by its sign: what only the new system has, what only the old one has, or what differs.
+function asChange(line, at) {
+  const look = { "+": "bad", "-": "good", "~": "faulty" }[line[0]];
+  return element("span", { class: look ?? "" }, at === 0 ? line : `\n${line}`);
 }
 
 // Why a table has no summary, in words.
@@ -27,22 +48,24 @@ function showSummary(summary, lacking) {
     summed = null;
     find("reason").hidden = true;
     find("matrix").replaceChildren(element("p", { class: "small" }, summary ? "No label has a thread." : lacking));
-    find("others").replaceChildren();
+    find("others").hidden = true;
     find("changed").hidden = true;
     return;
   }
   const isSame = summed && JSON.stringify(summed) === JSON.stringify(summary);
   if (isSame) return;
   find("reason").hidden = true;
-  const whole = matrix(summary, summed, (one, other) => askWhy(find("others"), one, other));
+  const whole = matrix(summary, summed, (one, other) => askWhy((reason) => find("texts").append(reason), one, other));
   summed = summary;
-  find("matrix").replaceChildren(whole, element("p", { class: "small" }, `${summary.signs}. Choose a cell to ask why.`));
+  const words = `${summary.signs}. Choose a cell to ask why, and what flows through whom.`;
+  find("matrix").replaceChildren(whole, element("p", { class: "small" }, words));
   const count = whole.querySelectorAll(".changed").length;
   find("changed").hidden = count === 0;
   find("changed").textContent = count === 1 ? "1 cell differs from the answer before." : `${count} cells differ from the answer before.`;
   const rows = summary.others.map(({ labels, users }) => element("li", {}, element("code", {}, labels.join(", ")), ` ${users}`));
   find("others").hidden = rows.length === 0;
-  find("others").replaceChildren(element("b", {}, "Memory and other labels without a thread"), element("ul", {}, ...rows));
+  find("others").querySelector("summary").textContent = `Memory and other labels without a thread (${rows.length})`;
+  find("others").querySelector("ul").replaceChildren(...rows);
 }
 
 // Draws what belongs to the table, or says what it lacks.
@@ -57,6 +80,7 @@ async function draw(turn, given, lacking, command, answer) {
   const objects = lacking ? null : drawObjects(given.table);
   frame("objects", objects, lacking || "The table has too many objects to be drawn.");
   find("objects").hidden = !lacking && !objects;
+  find("objects").querySelector("details").open = !objects || objects.height.baseVal.value <= HIGH;
   find("signs").hidden = !objects;
 }
 
@@ -87,16 +111,18 @@ function showGraph(graph, text, lacking) {
     (graph?.labels.length === 0 ? "No label has a thread." :
     graph ? `More than ${MOST_IN_TABLE} labels aren't drawn here.` :
     "The program gave no graph.");
-  frame("labels", isDrawn ? drawLabels(graph, (one, other) => askWhy(find("kept"), one, other)) : null, why);
+  frame("labels", isDrawn ? drawLabels(graph, (one, other) => askWhy((reason) => find("kept").before(reason), one, other)) : null, why);
   find("kept").hidden = !isDrawn;
+  find("never").hidden = document.querySelector("#labels .left") !== null;
   find("graph").hidden = !graph || text === "";
   find("graph").querySelector("pre").textContent = text;
 }
 
-// Asks `why` of two labels that were chosen in the matrix or in the drawing; the reason is shown before something else.
-async function askWhy(place, one, other) {
-  place.before(find("reason"));
+// Asks `why` of two labels that were chosen in the matrix or in the drawing, beneath which the reason is put.
+async function askWhy(put, one, other) {
+  put(find("reason"));
   await askOf(WHY, one, other);
+  find("reason").scrollIntoView({ block: "nearest" });
   for (const button of document.querySelectorAll(".matrix [aria-current]")) button.removeAttribute("aria-current");
   const [down, at] = [one, other].map((label) => summed?.labels.indexOf(label));
   document.querySelector(`.matrix [data-at="${down} ${at}"]`)?.setAttribute("aria-current", "true");
@@ -117,7 +143,9 @@ function copyGraph() {
 
 // Puts a drawing into its frame, or says why there is none.
 function frame(id, drawing, why) {
-  find(id).querySelector(".drawing").replaceChildren(drawing ?? element("p", { class: "small" }, why));
+  const box = find(id).querySelector(".drawing");
+  box.replaceChildren(drawing ?? element("p", { class: "small" }, why));
+  box.scrollLeft = (box.scrollWidth - box.clientWidth) / 2; // of a wide one, the middle
 }
 
 // Shows what threads of A may do to objects of B beneath the matrix or the drawing, where the two were chosen: the edges of a reason, each
@@ -138,7 +166,8 @@ function showReason(given, [one, other], answer, output) {
   const sentences = decoded(answer.error).split("\n").filter(Boolean).map((line) => element("p", { class: "small" }, ...withPlaces(line)));
   const shared = summed ? memoryOf(summed, given.table, one, other) : [];
   const memory = shared.length > 0 ? [element("p", {}, "Memory of both: ", element("code", {}, shared.join(", ")), ".")] : [];
-  find("reason").replaceChildren(title, element("ul", {}, ...edges.map(offer)), ...sentences, ...memory, offerNext(one, other, held));
+  const parts = [title, element("ul", {}, ...edges.map(offer)), ...sentences, ...memory, offerNext(one, other, held)];
+  find("reason").replaceChildren(element("div", {}, ...parts));
   find("reason").hidden = false;
 }
 
@@ -161,20 +190,6 @@ function offerClaim(claim) {
   const button = element("button", {}, "Claim ", element("code", {}, claim));
   button.addEventListener("click", () => putClaim(claim));
   return button;
-}
-
-// Shows with the reason through which programs what A does flows to B, and lets that become a claim. It is asked last: it may take long.
-async function showThrough(turn, given, [one, other]) {
-  const told = one === other ? null : await program.answer(["flows", "table", one, other], given).catch(failed);
-  if (turn !== asked || told?.status !== 0) return;
-  const { isThere, sets, isLarge } = flowOf(decoded(told.output));
-  const ways = sets.flatMap((set, at) => [at === 0 ? " only through " : ", or through ", element("code", {}, set.join(", "))]);
-  const words = sets.length > 0 ? ways : [!isThere ? "" : isLarge ? " through more than 5 programs" : " directly"];
-  const [from, to] = [one, other].map((label) => element("code", {}, label));
-  const next = find("reason").querySelector(".next");
-  next.before(element("p", { class: "through" }, isThere ? "What " : "Nothing that ", from, " does flows to ", to, ...words, "."));
-  if (!isThere) next.append(offerClaim(`apart ${one} ${other}`));
-  if (sets.length > 0) next.append(offerClaim(`through ${one} ${other} ${sets[0].join(" ")}`));
 }
 
 // Asks a command of two labels, and brings the answer into sight.

@@ -116,12 +116,14 @@ class Margin {
   constructor(text) {
     this.text = text;
     this.list = element("ul");
-    this.box = element("div", { class: "margin", tabindex: 0, "aria-label": `Notes on the ${text.area.id}` }, this.list);
+    this.notes = element("div", { class: "notes", tabindex: 0, "aria-label": `Notes on the ${text.area.id}` }, this.list);
+    this.count = element("summary");
+    this.box = element("details", { class: "margin fold" }, this.count, this.notes);
     this.lines = []; // the lines of the notes
     text.area.addEventListener("scroll", () => {
-      this.box.scrollTop = text.area.scrollTop;
+      this.notes.scrollTop = text.area.scrollTop;
     });
-    new ResizeObserver(() => this.place()).observe(this.box);
+    new ResizeObserver(() => this.place()).observe(this.notes);
   }
 
   // Takes other notes, each with its line, or 0 where it is of the whole text, its words, and whether it says what is wrong.
@@ -136,6 +138,8 @@ class Margin {
       return made;
     };
     this.list.replaceChildren(...notes.map(item));
+    this.count.textContent = notes.length === 1 ? "1 note on its lines" : `${notes.length} notes on its lines`;
+    if (notes.some(({ isBad }) => isBad)) this.box.open = true;
     this.place();
   }
 
@@ -147,7 +151,7 @@ class Margin {
       end = top + item.offsetHeight + 6;
     });
     this.list.style.height = `${Math.max(end, this.text.area.scrollHeight)}px`;
-    this.box.scrollTop = this.text.area.scrollTop;
+    this.notes.scrollTop = this.text.area.scrollTop;
   }
 }
 
