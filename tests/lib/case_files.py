@@ -266,8 +266,9 @@ def fault(words, file, line):
     return report(fault=int(told[2]), file="new system" if file == "new" else file, line=int(told[3] or line))
 
 
-def expected(words, system, script, file, line):
-    """Status and standard output that an answer says, of a system's files, with this script, and one of them changed in a line."""
+def expected(words, system, script, kept, file, line):
+    """Status and standard output that an answer says, of a system's files, with this script, what claims bound that hold, and one of the files
+    changed in a line."""
     word, _, rest = words.partition(" ")
     if words in ("log", "report", "certificate", "policy", "claims", "table"):
         return 0, system.get(words, b"")
@@ -303,9 +304,9 @@ def expected(words, system, script, file, line):
     if word == "each":
         return 0, each(script, rest)
     if word == "hold":
-        return 0, report(claims=number_in(rest), verdict="hold")
+        return 0, report(claims=number_in(rest), kept=kept, verdict="hold")
     if word == "breaks":
-        return 1, report(broken=list(breaches_in(rest)), verdict="broken")
+        return 1, report(broken=list(breaches_in(rest)), kept=kept, verdict="broken")
     if word == "within":
         return 0, report(entries=number_in(rest), state="within", verdict="legal")
     if word == "outside":
@@ -386,6 +387,8 @@ class Session:
         self.asker = asker
         self.files = dict.fromkeys([*TEXTS, "report"], b"")
         self.asked = ["run"]
+        # What the reports of claims say that claims on flows bound.
+        self.kept = "changes"
         # What the indented lines are that follow, what they are so far, and the line that they follow.
         self.block, self.lines, self.begun = None, [], None
         # The lines of the log that is told, and the state that it leaves.
@@ -419,10 +422,12 @@ class Session:
             asked, answer = (f"{word} {more}", answer) if f"{word} {more}" in ASKED else (word, rest)
             yield self.asked_of(number, line, ASKED[asked], self.files, answer, "table", 1)
         elif word == "system":
-            self.files, self.asked = system_of(rest), ["run"]
+            self.files, self.asked, self.kept = system_of(rest), ["run"], "changes"
             keep_log(self.asker, rest)
         elif word == "asks":
             self.asked = command_of(rest)
+        elif line in ("kept calls", "kept changes"):
+            self.kept = rest
         elif word == "beginnings":
             yield from self.beginnings(number, line, rest.removeprefix("of "))
         elif line in ("events", "each event", "then", "leaves"):
@@ -486,7 +491,7 @@ class Session:
 
     def asked_of(self, number, line, asked, files, answer, file, at):
         """The case that files of which one was changed, from this line on, have this answer."""
-        wanted, came = expected(answer, self.files, files["script"], file, at), self.asker.answer(asked, files)
+        wanted, came = expected(answer, self.files, files["script"], self.kept, file, at), self.asker.answer(asked, files)
         if came is None:  # who is asked doesn't tell such an answer
             came = wanted
         elif answer == "shows" and came[0] == 0 and self.asker.is_shown(asked, files, came[1]):

@@ -86,7 +86,7 @@ def make_shared(r, count, ways):
             users[user] += [f"<map mr='{name}' vaddr='0x2000000' perms='{one}'/>" for one in perms]
     for user, maps in users.items():
         inner = ["<virtual_machine name='guest'>", "<vcpu id='1'/>", *maps, "</virtual_machine>"] if user == 0 else maps
-        lines += [f"<protection_domain name='d{user}' priority='{user}'>", *inner, "</protection_domain>"]
+        lines += [f"<protection_domain name='d{user}' priority='{user}'><program_image path='a.elf'/>", *inner, "</protection_domain>"]
     lines += ["<channel><end pd='d1' id='1' pp='true'/><end pd='d2' id='2'/></channel>"]
     return "\n".join(["<system>", *lines, "</system>", ""])
 

@@ -272,14 +272,21 @@ def users(table, b, reads=False):
     return 0, "".join(f"{table.labels[a]} {how}\n" for a, how in told if how != "none") or "none\n"
 
 
+def is_fixed(table):
+    """Whether no CNode holds a capability for a CNode or a thread."""
+    kinds = [(table.objects[holder].kind, table.objects[cap.object].kind) for (holder, _), cap in table.caps.items()]
+    return not {("cnode", "cnode"), ("cnode", "tcb")} & set(kinds)
+
+
 def claims(table, claimed=None):
     """Whether these claims hold; where there are none, the strongest that do."""
     edges, acts = limits(table)
     if claimed is None:
         return 0, texts.text_of(claim_lists.HEADER, claim_lists.strongest(table, edges, acts))
+    kept = "calls" if is_fixed(table) else "changes"
     if broken := list(claim_lists.broken(claimed, table, edges, acts)):
-        return 1, report(broken=broken, verdict="broken")
-    return 0, report(claims=len(claimed), verdict="hold")
+        return 1, report(broken=broken, kept=kept, verdict="broken")
+    return 0, report(claims=len(claimed), kept=kept, verdict="hold")
 
 
 def summary(table):

@@ -191,6 +191,9 @@ def read_description(text):
     nodes = elements(text)
     for node in nodes:
         judge_form(node)
+    with_images = [node.outer for node in nodes if node.tag == "program_image"]
+    for node in nodes:
+        unless(50, node.line, node.tag != "protection_domain" or any(one is node for one in with_images))
     d = SimpleNamespace(regions=[], domains=[], machines=[], processors=[], maps=[], channels=[])
     d.irqs, d.ids, d.children, d.begun = set(), set(), set(), None
     for readers in READERS:

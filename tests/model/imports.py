@@ -85,10 +85,10 @@ def is_called(d, n):
     return n in below or any(own.calls and other.domain == n for own, other in ends(d))
 
 
-def objects(d, every):
+def objects(d):
     domains, machines, processors = (range(len(items)) for items in (d.domains, d.machines, d.processors))
     counted = {"space": domains, "guest_space": machines, "main": domains, "vcpu": processors, "bell": domains}
-    counted |= {"answer": [n for n in domains if every or is_called(d, n)], "entry": [n for n in domains if is_called(d, n)]}
+    counted |= {"answer": domains, "entry": [n for n in domains if is_called(d, n)]}
     counted |= {"time": domains, "vcpu_time": processors, "frame": sorted({region for _, region, _ in d.maps})}
     return [(form, n) for form, numbers in counted.items() for n in numbers]
 
@@ -122,8 +122,7 @@ def low_caps(d, every, n):
         held[2] = fault_cap(every, d.domains[n].parent)
     if called:
         held[3] = own_bell
-    if called or every:
-        held[4] = ("answer", n), ""
+    held[4] = ("answer", n), ""
     for own, other in ends(d):
         if own.domain == n and own.notifies:
             held[BELLS + own.id] = cap(every, "bell", other.domain, "w", 1 << other.id)
@@ -171,7 +170,7 @@ def table_text(d, every):
             unless(54, item_of(d, there[most]).line, False)
     names, spaces = dict(zip(leads, labels(d))), filled(d, every)
     called, radix, free, lines, slots, threads = {}, {}, 0x1000, [], 0, 0
-    for form, n in objects(d, every):
+    for form, n in objects(d):
         subject, ending, line = owner(d, form, n)
         kind, more, size = KINDS[form], "", texts.SIZES.get(KINDS[form])
         if kind == "cnode":
@@ -220,7 +219,7 @@ def joins(d):
 
     def may_answer(one, called):
         """Whether a user has a reply, and somebody may receive with it what calls the other one: whoever both stand in."""
-        return one[0] == "domain" and is_called(d, one[1]) and lineage(d, one)[-1] == lineage(d, called)[-1]
+        return one[0] == "domain" and lineage(d, one)[-1] == lineage(d, called)[-1]
 
     def may_wait(one, n):
         """Whether a user calls a domain, by its faults too, or what stands in it does; or may answer such a call."""

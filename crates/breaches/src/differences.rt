@@ -39,14 +39,14 @@ pub fn explain_differences(
 }
 
 /// Returns the calls of a run that shows a change which adds authority; nothing, if none is found. The sheet and the reach
-/// are those of the new system.
+/// are those of the new system. Calls by edges that the old system lacks are tried first.
 ///
 /// # Errors
 ///
 /// 40 where memory is refused.
 pub fn explain_difference(
     alloc: Global,
-    old: &Table,
+    old: &Reach<'_>,
     sheet: Sheet<'_>,
     reach: &Reach<'_>,
     change: &Change,
@@ -59,10 +59,13 @@ pub fn explain_difference(
             object,
             taking: matches!(&why, Why::Take(_)),
         };
-        let reason = edges_of(alloc, why);
+        let mut reason = reason_of(alloc, old, reach, change)?;
+        if reason.is_empty() {
+            reason = edges_of(alloc, why);
+        }
         let found = find(alloc, sheet.table, &question, &reason, STEPS)?;
         if let Some(script) = &found.script {
-            push_change(alloc, &mut lines, old, sheet.table, change)?;
+            push_change(alloc, &mut lines, old.table(), sheet.table, change)?;
             lines.push_str(": a run that shows it:\n")?;
             push_run(alloc, &mut lines, sheet, script)?;
         }

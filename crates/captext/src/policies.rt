@@ -121,8 +121,8 @@ pub fn read_policy(alloc: Global, text: &[u8], table: &Table) -> Result<Policy, 
         → IsFirstFault (policies.policy_format table.now) (lines_of text.now) line wrong
         → Reads (λ policy. policy) result (Err (fault_at line wrong)) }
 {
-    // That no two labels have one name is a rule of the table's own, which it tells with its objects.
-    let _ = table.objects();
+    // A rule of tables: no two labels have one name.
+    table.keeps_rules();
     edges_of(alloc, text, table)
 }
 

@@ -37,8 +37,7 @@ pub fn write_table(alloc: Global, table: &Table) -> Result<Vec<u8>, Refusal>
     ensures read_back { IfOk result (λ text. read_table_of text.items ≡ Ok table.now) }
 {
     tables_are_read_back();
-    // Which rules a table keeps, it tells with its objects.
-    let _ = table.objects();
+    table.keeps_rules();
     Ok(table_string(alloc, table)?.into_bytes())
 }
 
@@ -58,7 +57,7 @@ pub fn write_policy(alloc: Global, policy: &Policy, table: &Table) -> Result<Vec
     ensures read_back { AllByRecursion (IsEdgeOf table.now) policy.now
         → IfOk result (λ text. read_policy_of table.now text.items ≡ Ok policy.now) }
 {
-    let _ = table.objects();
+    table.keeps_rules();
     policy.edges_rise();
     let edges = policy.edges(alloc)?;
     Ok(policy_string(alloc, &edges, table)?.into_bytes())

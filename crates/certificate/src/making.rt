@@ -24,7 +24,7 @@ pub fn make(alloc: Global, table: &Table) -> Result<Certificate, Refusal>
     // So it is a certificate for the table, and has a text.
     ensures spelled { IfOk result (λ lines. IsCertificateOf table.now lines) }
 {
-    let _ = table.objects();
+    table.keeps_rules();
     Ok(Certificate::of(right_lines(alloc, table)?))
 }
 

@@ -216,8 +216,8 @@ pub fn read(alloc: Global, text: &[u8], table: &Table) -> Result<Certificate, Fa
         → IsFirstFault (reading.certificate_format table.now) (lines_of text.now) line wrong
         → Reads (λ lines. lines) result (Err (fault_at line wrong)) }
 {
-    // That no two names are the same is a rule of the table's own, which it tells with its objects.
-    let _ = table.objects();
+    // A rule of tables: no two names are the same.
+    table.keeps_rules();
     lines_of(alloc, text, table)
 }
 

@@ -27,7 +27,7 @@ pub fn write(alloc: Global, certificate: &Certificate, table: &Table) -> Result<
     ensures read_back { IsCertificateOf table.now certificate.now
         → IfOk result (λ text. read_certificate_of table.now text.items ≡ Ok certificate.now) }
 {
-    let _ = table.objects();
+    table.keeps_rules();
     Ok(certificate_string(alloc, certificate.lines(), table)?.into_bytes())
 }
 

@@ -1,5 +1,6 @@
 mod Joined
-mod Kept
+mod Promised
+mod Learnt
 mod Gathered
 mod FirstBreach
 mod FirstEdge

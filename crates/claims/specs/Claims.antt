@@ -2,6 +2,7 @@
 use Rattle.std.specs.{Cmp.Lexicographic.pointwise, List.list_any, Prelude.{ℕ, ◌&&◌, ◌==◌, Bool, List, codes, false, true}}
 use Rattle.base.specs.Kinds.{kind_number}
 use Rattle.claims.specs.declared.claim.{Claim.{Claim, Claim as claim}, Most.{Most, Most as most}, Who.{Who, Who as who}}
+use Rattle.claims.specs.declared.keeping.Kept.{Kept, Kept as kept}
 
 -- whether a label is one of these
 abbrev pub is_one_of : List ℕ → ℕ → Bool
@@ -11,6 +12,11 @@ is_one_of labels label = list_any (λ other. other == label) labels
 abbrev pub most_word : Most → List ℕ
 most_word most.Nothing = codes "none"
 most_word most.Take = codes "take"
+
+-- the word of what is kept
+abbrev pub kept_word : Kept → List ℕ
+kept_word kept.Calls = codes "calls"
+kept_word kept.Changes = codes "changes"
 
 abbrev pub same_most : Most → Most → Bool
 same_most most.Nothing most.Nothing = true

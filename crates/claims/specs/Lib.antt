@@ -2,6 +2,7 @@ pub mod Claims
 pub mod Lines
 pub mod Reading
 pub mod Holding
+pub mod Learning
 pub mod Strongest
 pub mod Rows
 pub mod Breaches

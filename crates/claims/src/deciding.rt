@@ -5,11 +5,12 @@ ghost use Rattle.machine.specs.Layout.{Layout};
 ghost use Rattle.policy.specs.Policy.{allows};
 ghost use Rattle.table.specs.Names.{AreLabelsOf};
 ghost use Rattle.reach.specs.Extents.{Limits, limits_of};
+ghost use Rattle.fixed.specs.Fixed.{IsFixed};
 ghost use Rattle.flows.specs.Flowing.{IsClosedOff, Leads};
 ghost use Rattle.claims.specs.Claims.{is_one_of};
 ghost use Rattle.claims.specs.{declared.claim.Claim.Claim as ClaimOf, Holding.AreBroken};
 ghost use Rattle.claims.specs.Holding.{Fails, FailsOnEdge, FailsOnPair, Holds, HoldsOnEdges, HoldsOnPairs, IsKept};
-ghost use Rattle.claims.specs.Rows.{AreRows};
+ghost use Rattle.claims.specs.{Learning.IsKeptInCalls, Rows.AreRows};
 ghost use Rattle.claims.specs.declared.lines.TheConstants.ClaimLines as ClaimLines;
 
 use crate::breaches::{Breach, first_breach};
@@ -19,6 +20,7 @@ use crate::lines::ClaimLines;
 use crate::rows::Rows;
 use base::{Edge, Label, Labels, Refusal};
 use flows::Flows;
+use noninterference::{others_act_through_filters, others_make_no_difference};
 use policy::Policy;
 use reach::Reach;
 use std::alloc::Global;
@@ -69,10 +71,21 @@ pub fn all_broken(
         → IsKept reach.now.table (limits_of reach.now) claim }
     ensures all_kept { IfOk result (λ broken. broken.items ≡ []
         → (claim : ClaimOf) → Contains lines.now (Some claim) → IsKept reach.now.table (limits_of reach.now) claim) }
+
+    // In a fixed system `through A B F ..` and `apart A B` also bound what calls return: by the set of labels that decides
+    // the claim. `apart`: in two runs from the boot state whose scripts differ, position by position, only in events of
+    // threads of other labels, each event of a thread of the set has the same outcome. `through`: the same, if what each F
+    // shows to the set is alike in both runs at each position.
+    ensures calls { IsFixed reach.now.table → (claim : ClaimOf) → Holds reach.now.table (limits_of reach.now) claim
+        → IsKeptInCalls reach.now.table (limits_of reach.now) claim }
+    ensures all_calls { IfOk result (λ broken. IsFixed reach.now.table → broken.items ≡ []
+        → (claim : ClaimOf) → Contains lines.now (Some claim) → IsKeptInCalls reach.now.table (limits_of reach.now) claim) }
     ensures memory { IfErr result (λ refusal. refusal ≡ out_of_memory) }
 {
     // That every run keeps to it, a reach tells with its policy.
     reach.policy();
+    others_make_no_difference();
+    others_act_through_filters();
     let broken = broken_by(alloc, reach, lines.as_slice())?;
     Ok(broken)
 }

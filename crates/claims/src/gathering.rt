@@ -46,8 +46,8 @@ pub fn strongest(alloc: Global, reach: &Reach<'_>) -> Result<ClaimLines, Refusal
 fn strongest_by(alloc: Global, table: &Table, reach: &Reach<'_>) -> Result<ClaimLines, AllocError>
     ensures { IfOk result (AreStrongest table.now (limits_of reach.now)) }
 {
-    // That its labels are few is a rule of the table's own, which it tells with its objects.
-    let _ = table.objects();
+    // A rule of tables: their labels are few.
+    table.keeps_rules();
     let rows = Rows::of(alloc, reach)?;
     let programs = programs(alloc, table)?;
     let others = others(alloc, table)?;
@@ -133,8 +133,8 @@ fn users_of(
 ) -> Result<LabelList, AllocError>
     ensures { IfOk result (λ users. users ≡ users_of (extents_of rows.now) (labels_of table.now) object) }
 {
-    // That its labels are few is a rule of the table's own, which it tells with its objects.
-    let _ = table.objects();
+    // A rule of tables: their labels are few.
+    table.keeps_rules();
     let mut users = LabelList::new(alloc);
     for number in 0..table.label_count() {
         if let Some(actor) = Label::new(number as u16) {

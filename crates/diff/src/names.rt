@@ -76,7 +76,7 @@ pub(crate) fn names_of(alloc: Global, old: &Table, new: &Table) -> Result<Vec<Na
 fn push_new(names: &mut Vec<Named>, old: &Table, new: &Table) -> Result<(), AllocError>
     ensures { OnOk result (names.new.items ≡ names.old.items ++ flat_map (new_name old.now new.now) (labels_of new.now)) }
 {
-    let _ = new.objects();
+    new.keeps_rules();
     for number in 0..new.label_count() {
         if let Some(label) = Label::new(number as u16) {
             names.push(named_in_new(old, new, label))?;
@@ -90,7 +90,7 @@ fn push_new(names: &mut Vec<Named>, old: &Table, new: &Table) -> Result<(), Allo
 fn push_old(names: &mut Vec<Named>, old: &Table, new: &Table) -> Result<(), AllocError>
     ensures { OnOk result (names.new.items ≡ names.old.items ++ flat_map (old_name old.now new.now) (labels_of old.now)) }
 {
-    let _ = old.objects();
+    old.keeps_rules();
     for number in 0..old.label_count() {
         if let Some(label) = Label::new(number as u16) {
             push_old_name(names, old, new, label)?;

@@ -24,8 +24,9 @@ const SEEN: [Kind; 7] = [
 ///
 /// On these objects it depends what the calls return, whether the thread waits, and which thread it meets.
 /// It doesn't depend on frames that the thread only writes, nor on notifications that it only signals,
-/// unless threads of two labels may wait there. The labels are those of the definition. No law about runs
-/// says yet that calls depend on no other object.
+/// unless threads of two labels may wait there. The labels are those of the definition. In fixed
+/// systems calls depend on no other object, but for how threads wait at an endpoint to which it sends: see the
+/// laws of the crate `noninterference`.
 pub fn sees(reach: &Reach<'_>, actor: Label) -> Labels
     ensures { (l : ℕ) → (is_in result l ≡ true) ↔ Sees (limits_of reach.now) actor l }
 {

@@ -48,20 +48,20 @@ filled_come d pieces grants t u e =
     (grants_come d pieces (roots_of d grants) one.0 two.0 two.1)
 
 table_come : (d : Description) (minting : Minting) (names : List (List ℕ)) (t : Layout)
-    → table_by (pieces_of d minting) (plan_for d names (grants_of d minting)) ≡ Ok t
-    → AllZip (ComesFrom (pieces_of d minting)) (map (filled_at (pieces_of d minting)) (origins_of d minting)) (origins_of d minting)
+    → table_by (pieces_of d) (plan_for d names (grants_of d minting)) ≡ Ok t
+    → AllZip (ComesFrom (pieces_of d)) (map (filled_at (pieces_of d)) (origins_of d minting)) (origins_of d minting)
 unfolding table_by
 table_come d minting names t e =
     let one = stepped _ _ t e in
     let two = stepped _ _ t one.2 in
-    filled_come d (pieces_of d minting) (grants_of d minting) one.0 two.0 two.1
+    filled_come d (pieces_of d) (grants_of d minting) one.0 two.0 two.1
 
 pub caps_come : (d : Description) (minting : Minting) (t : Layout) → table_at d minting ≡ Ok t
-    → AllZip (ComesFrom (pieces_of d minting)) t.caps (origins_of d minting)
+    → AllZip (ComesFrom (pieces_of d)) t.caps (origins_of d minting)
 unfolding table_at
 caps_come d minting t e =
     let one = stepped _ _ t e in
     let plan = planned_was d minting one.0 one.1 in
-    let built = subst (λ p. table_by (pieces_of d minting) p ≡ Ok t) plan.2 one.2 in
-    subst (λ (caps : List Filled). AllZip (ComesFrom (pieces_of d minting)) caps (origins_of d minting))
+    let built = subst (λ p. table_by (pieces_of d) p ≡ Ok t) plan.2 one.2 in
+    subst (λ (caps : List Filled). AllZip (ComesFrom (pieces_of d)) caps (origins_of d minting))
     (sym (table_whole d minting t e).caps) (table_come d minting plan.0 t built)

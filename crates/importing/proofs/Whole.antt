@@ -240,11 +240,11 @@ planned_was d minting plan e =
     (three.0, three.1, sym (same_ok _ plan three.2))
 
 by_plan : (d : Description) (minting : Minting) (names : List (List ℕ)) (t : Layout) → names_of d ≡ Ok names
-    → table_by (pieces_of d minting) (plan_for d names (grants_of d minting)) ≡ Ok t
+    → table_by (pieces_of d) (plan_for d names (grants_of d minting)) ≡ Ok t
     → IsTableOf d minting t
 unfolding table_by
 by_plan d minting names t named e =
-    let pieces : List Piece = pieces_of d minting in
+    let pieces : List Piece = pieces_of d in
     let grants : List Grant = grants_of d minting in
     let plan : Plan = plan_for d names grants in
     let one = stepped _ _ t e in
@@ -291,4 +291,4 @@ unfolding table_at
 table_whole d minting t e =
     let one = stepped _ _ t e in
     let plan = planned_was d minting one.0 one.1 in
-    by_plan d minting plan.0 t plan.1 (subst (λ p. table_by (pieces_of d minting) p ≡ Ok t) plan.2 one.2)
+    by_plan d minting plan.0 t plan.1 (subst (λ p. table_by (pieces_of d) p ≡ Ok t) plan.2 one.2)

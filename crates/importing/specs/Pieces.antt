@@ -3,9 +3,8 @@ use Rattle.std.specs.{List.{list_any, range_with_len}, Option.{option_map_or}}
 use Rattle.std.specs.Prelude.{ℕ, ◌&&◌, ◌++◌, ◌==◌, ◌||◌, Bool, List, false, filter, length, map, true}
 use Rattle.microkit.specs.{Description.{Description, Domain, Machine}, Labels.{is_mapped as is_mapped_by}}
 use Rattle.microkit.specs.declared.description.{Channel.{Channel}, Id.{Id}, Map.{Map}}
-use Rattle.importing.specs.declared.pieces.{Form.{Form}, Minting.{Minting}, Piece.{Piece}}
+use Rattle.importing.specs.declared.pieces.{Form.{Form}, Piece.{Piece}}
 use Rattle.importing.specs.declared.pieces.Form.TheVariants as form
-use Rattle.importing.specs.declared.pieces.Minting.TheVariants as minting
 
 -- the place of a form among the objects
 abbrev pub form_code : Form → ℕ
@@ -47,11 +46,6 @@ has_guest machines domain = list_any (λ (machine : Machine). machine.domain == 
 unfoldable pub is_called : Description → ℕ → Bool
 is_called d domain = is_called_by d.channels domain || (has_children d.domains domain || has_guest d.machines domain)
 
--- a domain has a reply object: if it is called, or where all rights are given
-unfoldable pub answers : Description → Minting → ℕ → Bool
-answers d minting.Least domain = is_called d domain
-answers d minting.All domain = true
-
 -- somebody maps a region
 abbrev pub is_mapped : List Map → ℕ → Bool
 is_mapped maps region = is_mapped_by maps region
@@ -72,11 +66,11 @@ holders_of d =
     ++ (each form.Main (length d.domains)
     ++ each form.Processor (length d.processors)))
 
--- the notifications, replies and endpoints
-unfoldable pub messages_of : Description → Minting → List Piece
-messages_of d minting =
+-- the notifications, replies and endpoints. Each domain has a reply object, also where nobody calls it
+unfoldable pub messages_of : Description → List Piece
+messages_of d =
     each form.Bell (length d.domains)
-    ++ (those form.Answer (answers d minting) (length d.domains)
+    ++ (each form.Answer (length d.domains)
     ++ those form.Entry (is_called d) (length d.domains))
 
 -- the contexts and frames
@@ -87,5 +81,5 @@ kept_of d =
     ++ those form.Frame (is_mapped d.maps) (length d.regions))
 
 -- all objects, in the order of their numbers
-unfoldable pub pieces_of : Description → Minting → List Piece
-pieces_of d minting = holders_of d ++ (messages_of d minting ++ kept_of d)
+unfoldable pub pieces_of : Description → List Piece
+pieces_of d = holders_of d ++ (messages_of d ++ kept_of d)

@@ -6,7 +6,7 @@ use Rattle.base.specs.{declared.rights.Rights.Rights, Rights.rights_with}
 use Rattle.microkit.specs.{declared.description.{Channel.Channel, End.End, Id.Id, Processor.Processor}, Description.{Description, Domain}}
 use Rattle.machine.specs.declared.cap.Detail.{Detail, Detail as detail}
 use Rattle.importing.specs.declared.{pieces.{Form.Form, Minting.Minting}, slots.{Held.Held, TheConstants.{BELLS, CALLS}}}
-use Rattle.importing.specs.{declared.slots.TheConstants.{CHILDREN, IDS, PROCESSORS}, Pieces.{answers, is_called}}
+use Rattle.importing.specs.{declared.slots.TheConstants.{CHILDREN, IDS, PROCESSORS}, Pieces.is_called}
 use Rattle.importing.specs.Plan.{domain_line, processor_line}
 use Rattle.importing.specs.declared.pieces.Form.TheVariants as form
 use Rattle.importing.specs.declared.pieces.Minting.TheVariants as minting
@@ -57,9 +57,8 @@ unfoldable pub own_bell_held : Description → Minting → ℕ → Option Held
 own_bell_held d minting n = if is_called d n then Some (bell_held minting (domain_line d n) n 1 0) else None
 
 -- slot 4: the domain's reply object
-unfoldable pub answer_held : Description → Minting → ℕ → Option Held
-answer_held d minting n =
-    if answers d minting n then Some (capability (domain_line d n) form.Answer n detail.Reply) else None
+abbrev pub answer_held : Description → ℕ → Held
+answer_held d n = capability (domain_line d n) form.Answer n detail.Reply
 
 -- an end has this id in a domain, and the other end's id is one
 abbrev pub is_end : ℕ → ℕ → End → End → Bool
@@ -135,4 +134,4 @@ slot_held d minting n index =
     if index == 1 then Some (input_held d minting n) else
     if index == 2 then fault_held d minting n else
     if index == 3 then own_bell_held d minting n else
-    if index == 4 then answer_held d minting n else id_held d minting n index
+    if index == 4 then Some (answer_held d n) else id_held d minting n index

@@ -159,4 +159,4 @@ table_by pieces plan = do
 
 -- the table of a description, or its first fault
 unfoldable pub table_at : Description → Minting → Result Layout Fault
-table_at d minting = planned d minting >>= λ plan. table_by (pieces_of d minting) plan
+table_at d minting = planned d minting >>= λ plan. table_by (pieces_of d) plan

@@ -40,10 +40,10 @@ pub record IsTableOf (d : Description) (minting : Minting) (t : Layout) : Type 0
   pub called : names_of d ≡ Ok all
   pub labels : t.labels ≡ labels_at all (places_of (uses_in d) (subjects_of d))
   pub version : t.version ≡ version_for (length t.labels)
-  pub names : t.names ≡ map (piece_name (plan_by d minting all)) (pieces_of d minting)
-  pub objects : AreOfPieces (plan_by d minting all) 4096 (pieces_of d minting) t.objects
+  pub names : t.names ≡ map (piece_name (plan_by d minting all)) (pieces_of d)
+  pub objects : AreOfPieces (plan_by d minting all) 4096 (pieces_of d) t.objects
   pub caps :
       t.caps
-      ≡ map (filled_at (pieces_of d minting)) (grants_of d minting ++ roots_of d (grants_of d minting))
+      ≡ map (filled_at (pieces_of d)) (grants_of d minting ++ roots_of d (grants_of d minting))
   pub pairs : t.pairs ≡ []
-  pub bindings : t.bindings ≡ map (binding_at (pieces_of d minting)) (bonds_of d)
+  pub bindings : t.bindings ≡ map (binding_at (pieces_of d)) (bonds_of d)

@@ -10,5 +10,5 @@ ghost use Rattle.importing.specs.declared.pieces.Minting.{Minting};
 /// So the element that a filled slot comes from is found by the slot's place in the table.
 pub fn capabilities_come_from_their_elements()
     ensures { (d : DescriptionOf) (minting : Minting) (t : Layout) → table_at d minting ≡ Ok t
-        → AllZip (ComesFrom (pieces_of d minting)) t.caps (origins_of d minting) }
+        → AllZip (ComesFrom (pieces_of d)) t.caps (origins_of d minting) }
 {}

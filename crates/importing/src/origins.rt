@@ -30,11 +30,11 @@ pub fn origins_of(
     minting: Minting,
 ) -> Result<Origins, AllocError>
     ensures pieces { IfOk result (λ origins. origins.pieces.items
-        ≡ pieces_of (description_of description.now) minting) }
+        ≡ pieces_of (description_of description.now)) }
     ensures grants { IfOk result (λ origins. origins.grants.items
         ≡ origins_of (description_of description.now) minting) }
 {
-    let pieces = pieces_of(alloc, description, minting)?;
+    let pieces = pieces_of(alloc, description)?;
     let mut grants = grants_of(alloc, description, minting)?;
     let roots = roots_of(alloc, description, &grants)?;
     grants.extend_from_slice(&roots)?;

@@ -2,7 +2,7 @@
 ghost use Rattle.std.specs.{List.{list_any, range_with_len}, Prelude.{◌++◌, ◌==◌, ◌≡◌, IfOk, filter, length, map}};
 ghost use Rattle.microkit.specs.{Description.{Domain as DomainOf, Machine as MachineOf}, View.description_of};
 ghost use Rattle.microkit.specs.View.{domain_of, machine_of};
-ghost use Rattle.importing.specs.Pieces.{answers, each, form_code, has_children, has_guest, has_parent, holders_of};
+ghost use Rattle.importing.specs.Pieces.{each, form_code, has_children, has_guest, has_parent, holders_of};
 ghost use Rattle.importing.specs.Pieces.{is_called, is_called_by, is_mapped, kept_of, messages_of, pieces_of};
 ghost use Rattle.importing.specs.Pieces.{same_piece, those};
 
@@ -92,15 +92,11 @@ pub(crate) fn same_piece(one: Piece, other: Piece) -> bool
 
 /// Returns the objects that a description becomes, in their order.
 #[tactic(auto, unfolding(crate::specs::Pieces::pieces_of))]
-pub(crate) fn pieces_of(
-    alloc: Global,
-    description: &Description,
-    minting: Minting,
-) -> Result<Vec<Piece>, AllocError>
-    ensures { IfOk result (λ pieces. pieces.items ≡ pieces_of (description_of description.now) minting) }
+pub(crate) fn pieces_of(alloc: Global, description: &Description) -> Result<Vec<Piece>, AllocError>
+    ensures { IfOk result (λ pieces. pieces.items ≡ pieces_of (description_of description.now)) }
 {
     let mut pieces = holders_of(alloc, description)?;
-    let messages = messages_of(alloc, description, minting)?;
+    let messages = messages_of(alloc, description)?;
     pieces.extend_from_slice(&messages)?;
     let kept = kept_of(alloc, description)?;
     pieces.extend_from_slice(&kept)?;
@@ -122,17 +118,13 @@ fn holders_of(alloc: Global, description: &Description) -> Result<Vec<Piece>, Al
     Ok(pieces)
 }
 
-// The notifications, replies and endpoints.
+// The notifications, replies and endpoints. Each domain has a reply object, also where nobody calls it.
 #[tactic(auto, unfolding(crate::specs::Pieces::messages_of))]
-fn messages_of(
-    alloc: Global,
-    description: &Description,
-    minting: Minting,
-) -> Result<Vec<Piece>, AllocError>
-    ensures { IfOk result (λ pieces. pieces.items ≡ messages_of (description_of description.now) minting) }
+fn messages_of(alloc: Global, description: &Description) -> Result<Vec<Piece>, AllocError>
+    ensures { IfOk result (λ pieces. pieces.items ≡ messages_of (description_of description.now)) }
 {
     let mut pieces = each(alloc, Form::Bell, description.domains.len())?;
-    let answers = answers_of(alloc, description, minting)?;
+    let answers = each(alloc, Form::Answer, description.domains.len())?;
     pieces.extend_from_slice(&answers)?;
     let entries = entries_of(alloc, description)?;
     pieces.extend_from_slice(&entries)?;
@@ -161,23 +153,6 @@ fn each(alloc: Global, form: Form, count: usize) -> Result<Vec<Piece>, AllocErro
         .collect(alloc)
 }
 
-fn answers_of(
-    alloc: Global,
-    description: &Description,
-    minting: Minting,
-) -> Result<Vec<Piece>, AllocError>
-    ensures { IfOk result (λ pieces. pieces.items ≡ those Form.Answer
-        (answers (description_of description.now) minting) (length description.now.domains.items)) }
-{
-    (0..description.domains.len())
-        .filter(|n| answers(description, minting, *n))
-        .map(|n| Piece {
-            form: Form::Answer,
-            number: n,
-        })
-        .collect(alloc)
-}
-
 fn entries_of(alloc: Global, description: &Description) -> Result<Vec<Piece>, AllocError>
     ensures { IfOk result (λ pieces. pieces.items ≡ those Form.Entry
         (is_called (description_of description.now)) (length description.now.domains.items)) }
@@ -201,17 +176,6 @@ fn frames_of(alloc: Global, maps: &[Map], count: usize) -> Result<Vec<Piece>, Al
             number: n,
         })
         .collect(alloc)
-}
-
-/// Returns whether a domain has a reply object.
-#[tactic(auto, unfolding(crate::specs::Pieces::answers))]
-pub(crate) fn answers(description: &Description, minting: Minting, domain: usize) -> bool
-    ensures { result ≡ answers (description_of description.now) minting domain }
-{
-    match minting {
-        Minting::Least => is_called(description, domain),
-        Minting::All => true,
-    }
 }
 
 /// Returns whether a domain is called: by another one, or by a fault of a child or of a virtual

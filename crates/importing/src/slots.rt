@@ -9,7 +9,7 @@ ghost use Rattle.importing.specs.Slots.{fault_held, id_held, input_held, is_chil
 ghost use Rattle.importing.specs.Slots.{notified_held, notify_held, own_bell_held, parent_held, processor_held};
 ghost use Rattle.importing.specs.Slots.{processor_number, slot_held};
 
-use crate::pieces::{Form, Minting, Piece, answers, is_called};
+use crate::pieces::{Form, Minting, Piece, is_called};
 use crate::plan::{domain_line, processor_line};
 use base::Rights;
 use bitflags::Flags;
@@ -57,7 +57,7 @@ pub(crate) fn slot_held(
         1 => Some(input_held(description, minting, domain)),
         2 => fault_held(description, minting, domain),
         3 => own_bell_held(description, minting, domain),
-        4 => answer_held(description, minting, domain),
+        4 => Some(answer_held(description, domain)),
         _ => id_held(description, minting, domain, index),
     }
 }
@@ -217,16 +217,11 @@ fn own_bell_held(description: &Description, minting: Minting, domain: usize) -> 
     }
 }
 
-#[tactic(auto, unfolding(crate::specs::Slots::answer_held))]
-fn answer_held(description: &Description, minting: Minting, domain: usize) -> Option<Held>
-    ensures { result ≡ answer_held (description_of description.now) minting domain }
+fn answer_held(description: &Description, domain: usize) -> Held
+    ensures { result ≡ answer_held (description_of description.now) domain }
 {
-    if answers(description, minting, domain) {
-        let line = domain_line(description, domain);
-        Some(capability(line, Form::Answer, domain, Detail::Reply))
-    } else {
-        None
-    }
+    let line = domain_line(description, domain);
+    capability(line, Form::Answer, domain, Detail::Reply)
 }
 
 // The badge of a notification for an id.

@@ -358,6 +358,6 @@ fn table_at(alloc: Global, description: &Description, minting: Minting) -> Resul
     ensures { Reads (λ table. table) result (table_at (description_of description.now) minting) }
 {
     let plan = planned(alloc, description, minting)?;
-    let pieces = pieces_of(alloc, description, minting)?;
+    let pieces = pieces_of(alloc, description)?;
     table_by(alloc, &plan, &pieces)
 }

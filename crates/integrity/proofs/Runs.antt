@@ -151,10 +151,10 @@ step_acts t allowed m next event outcome sound others step = elim (step_admits m
 ]
 
 -- what the machines of a run keep: they are sound, each thread sleeps whose label may not act, and who called is served
-record IsKept (t : Layout) (allowed : EdgeTest) (m : Machine) : Type 0 where
-  sound : IsSound t allowed m
-  others : OthersSleep t allowed m
-  served : CallersAreServed t allowed m
+pub record IsKept (t : Layout) (allowed : EdgeTest) (m : Machine) : Type 0 where
+  pub sound : IsSound t allowed m
+  pub others : OthersSleep t allowed m
+  pub served : CallersAreServed t allowed m
 
 -- the label of a thread that may act is awake in such a machine, by each test that holds of all who may act and may have threads
 abbrev awake_at :
@@ -251,7 +251,7 @@ StartsKept t allowed =
     (boot : Machine) → IsBoot t boot → IsSound t allowed boot × OthersSleep t allowed boot × CallersAreServed t allowed boot
 
 -- so is each machine that a run from there reaches
-kept_at : (t : Layout) (allowed : EdgeTest) → IsSharp t allowed → StartsKept t allowed → (m : Machine) → IsReached t m → IsKept t allowed m
+pub kept_at : (t : Layout) (allowed : EdgeTest) → IsSharp t allowed → StartsKept t allowed → (m : Machine) → IsReached t m → IsKept t allowed m
 kept_at t allowed closed at_boot m reached =
     let first = at_boot reached.boot reached.booted in
     run_kept t allowed closed reached.boot m reached.events reached.outcomes

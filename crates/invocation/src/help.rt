@@ -605,7 +605,7 @@ confine claims table claims
 
 The one claim holds, with status 0:
 
-{\"claims\":1,\"verdict\":\"hold\"}
+{\"claims\":1,\"kept\":\"calls\",\"verdict\":\"hold\"}
 
 So no call of a thread of `b` ever changes an object of `a`, whatever else is called before. What
 may be claimed at all, `--all` tells:
@@ -626,7 +626,7 @@ confine claims table claims --explain
 
 It prints the claims that don't hold and what authority there is, and ends with status 1:
 
-{\"broken\":[{\"authority\":\"full\",\"claim\":\"take a b\",\"line\":3}],\"verdict\":\"broken\"}
+{\"broken\":[{\"authority\":\"full\",\"claim\":\"take a b\",\"line\":3}],\"kept\":\"calls\",\"verdict\":\"broken\"}
 
 Standard error says by which edges. With `--explain` it says too where each edge is from, and which
 calls show it:

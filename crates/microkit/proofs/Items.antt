@@ -1,5 +1,7 @@
 -- A test of what a list shows is a test of the list.
-use Rattle.std.{specs.{List.{list_all, list_any, position, position_or_len}, Str.{bytes_eq}}, proofs.Common.{[], ℕ, ◌&&◌, ◌++◌, ◌+◌, ◌∙◌, ◌∷◌, ◌≡◌, ◌||◌, Bool, List, None, Some, ap, cond, length, map, nat_lt, not, refl, suc, sym, take, zero}}
+use Rattle.std.specs.{List.{find, list_any, position, position_or_len}, Str.{bytes_eq}}
+use Rattle.std.proofs.Common.{[], ℕ, ◌++◌, ◌+◌, ◌∙◌, ◌∷◌, ◌≡◌, ◌||◌, Bool, List, None, Some, ap, cond, false, length, map, nat_lt, not}
+use Rattle.std.proofs.Common.{refl, suc, sym, take, true, zero}
 use Rattle.std.specs.{Option.{option_map}, Prelude.{slice_get}}
 use Rattle.xml.specs.{declared.element.Attribute.{Attribute}, Tag.Pair, View.{pairs_of}}
 
@@ -15,19 +17,18 @@ pub any_seen : {X Y : Type 0} (see : X → Y) (test : Y → Bool) (xs : List X)
 any_seen see test [] = refl
 any_seen see test (x ∷ xs) = ap (λ b. test (see x) || b) (any_seen see test xs)
 
-pub all_seen : {X Y : Type 0} (see : X → Y) (test : Y → Bool) (xs : List X)
-    → list_all test (map see xs) ≡ list_all (λ x. test (see x)) xs
-all_seen see test [] = refl
-all_seen see test (x ∷ xs) = ap (λ b. test (see x) && b) (all_seen see test xs)
-
--- what is found by each of what is seen
-pub all_any_seen : {X Y A B : Type 0} (see : X → Y) (show : A → B) (test : Y → B → Bool) (rows : List A) (xs : List X)
-    → list_all (λ x. list_any (λ a. test (see x) (show a)) rows) xs
-    ≡ list_all (λ y. list_any (test y) (map show rows)) (map see xs)
-all_any_seen see show test rows [] = refl
-all_any_seen see show test rows (x ∷ xs) =
-    ap (λ b. b && list_all (λ x. list_any (λ a. test (see x) (show a)) rows) xs) (sym (any_seen show (test (see x)) rows))
-    ∙ ap (λ b. list_any (test (see x)) (map show rows) && b) (all_any_seen see show test rows xs)
+-- what is shown of the first of what is seen
+pub find_seen : {X Y Z : Type 0} (see : X → Y) (show : Y → Z) (test : Y → Bool) (xs : List X)
+    → option_map show (find test (map see xs)) ≡ option_map (λ x. show (see x)) (find (λ x. test (see x)) xs)
+find_seen see show test [] = refl
+find_seen {X = X} see show test (x ∷ xs) = by_test (find_seen see show test xs) (test (see x))
+  where
+    by_test : option_map show (find test (map see xs)) ≡ option_map (λ x. show (see x)) (find (λ x. test (see x)) xs)
+        → (t : Bool)
+        → option_map show (cond t (Some (see x)) (find test (map see xs)))
+        ≡ option_map (λ x. show (see x)) (cond t (Some x) (find (λ x. test (see x)) xs))
+    by_test later true = refl
+    by_test later false = later
 
 -- the place of what is seen
 pub position_seen : {X Y : Type 0} (see : X → Y) (test : Y → Bool) (xs : List X)
@@ -44,6 +45,26 @@ position_seen {X = X} see test xs =
     length_seen : (ys : List X) → length (map see ys) ≡ length ys
     length_seen [] = refl
     length_seen (y ∷ ys) = ap suc (length_seen ys)
+
+-- tests that are the same have the same place
+position_same : {X : Type 0} (one other : X → Bool) → ((x : X) → one x ≡ other x) → (xs : List X) → position one xs ≡ position other xs
+position_same {X = X} one other same xs =
+    ap (λ n. cond (nat_lt n (length xs)) (Some n) None) (before xs)
+  where
+    before : (ys : List X) → position_or_len one ys ≡ position_or_len other ys
+    before [] = refl
+    before (y ∷ ys) =
+        ap (λ b. cond (not b) (1 + position_or_len one ys) 0) (same y)
+        ∙ ap (λ n. cond (not (other y)) (1 + n) 0) (before ys)
+
+-- the first of what is seen that none of what is shown passes
+pub none_seen : {X Y A B : Type 0} (see : X → Y) (show : A → B) (test : Y → B → Bool) (rows : List A) (xs : List X)
+    → position (λ x. not (list_any (λ a. test (see x) (show a)) rows)) xs
+    ≡ position (λ y. not (list_any (test y) (map show rows))) (map see xs)
+none_seen see show test rows xs =
+    sym
+    (position_seen see (λ y. not (list_any (test y) (map show rows))) xs
+    ∙ position_same _ _ (λ x. ap (λ b. not b) (any_seen show (test (see x)) rows)) xs)
 
 -- what stands at a place of what is seen
 pub get_seen : {X Y : Type 0} (see : X → Y) (xs : List X) (n : ℕ)

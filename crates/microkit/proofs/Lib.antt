@@ -2,8 +2,14 @@ mod Digits
 mod Pairs
 mod Items
 mod Steps
+mod ImageSteps
 mod Parts
 mod LabelSteps
 mod Distinct
 mod LabelNames
 mod Sound
+mod Within
+mod Around
+mod Saying
+mod EndsSaid
+mod Outlined

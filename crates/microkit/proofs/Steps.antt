@@ -1,37 +1,39 @@
 -- How the elements are taken one after another.
 use Rattle.std.proofs.Common.{ℕ, ◌+◌, ◌<◌, ◌∙◌, ◌∷◌, ◌≡◌, ◌≤◌, Err, List, Ok, add-one, ap, drop, drop-cons, get_or, length, sym}
 use Rattle.std.proofs.lemmas.List.{drop_all}
-use Rattle.words.specs.{Reading.{bind}, declared.faults.Fault.{Fault}}
-use Rattle.microkit.specs.{Draft.{Draft}, Reading.{element_at, elements_at}, declared.reading.Phase.{Phase}}
+use Rattle.words.specs.Reading.{bind}
+use Rattle.microkit.specs.{Draft.{Draft}, Flaws.{spot_of}, Reading.{element_at, elements_at}}
+use Rattle.microkit.specs.declared.{flaws.ElementFault.{ElementFault}, reading.Phase.{Phase}}
 use Rattle.xml.specs.{View.{node_of, nodes_of}, declared.element.Element.{Element}}
 
 -- the elements from one on
-elements_from : (elements : List Element) (i : ℕ) (element : Element) → i < length elements
+pub elements_from : (elements : List Element) (i : ℕ) (element : Element) → i < length elements
     → element ≡ get_or elements i element → drop i elements ≡ element ∷ drop (i + 1) elements
 elements_from elements i element below is =
     rw add-one (drop-cons elements i element below) ∙ ap (λ e. e ∷ drop (i + 1) elements) (sym is)
 
 -- no element is left
 pub none_left : (phase : Phase) (elements : List Element) (i : ℕ) (draft : Draft) → length elements ≤ i
-    → elements_at phase (nodes_of (drop i elements)) draft ≡ Ok draft
+    → elements_at phase i (nodes_of (drop i elements)) draft ≡ Ok draft
 unfolding elements_at
 none_left phase elements i draft past =
-    ap (λ left. elements_at phase (nodes_of left) draft) (drop_all i elements past)
+    ap (λ left. elements_at phase i (nodes_of left) draft) (drop_all i elements past)
 
 -- one is taken
 pub one_taken : (phase : Phase) (elements : List Element) (i : ℕ) (element : Element) (draft next : Draft) → i < length elements
-    → element ≡ get_or elements i element → element_at phase (node_of element) draft ≡ Ok next
-    → elements_at phase (nodes_of (drop i elements)) draft ≡ elements_at phase (nodes_of (drop (i + 1) elements)) next
+    → element ≡ get_or elements i element → element_at phase (spot_of i (node_of element)) (node_of element) draft ≡ Ok next
+    → elements_at phase i (nodes_of (drop i elements)) draft ≡ elements_at phase (i + 1) (nodes_of (drop (i + 1) elements)) next
 unfolding elements_at bind
 one_taken phase elements i element draft next below is taken =
-    ap (λ left. elements_at phase (nodes_of left) draft) (elements_from elements i element below is)
-    ∙ ap (λ step. bind step (λ d. elements_at phase (nodes_of (drop (i + 1) elements)) d)) taken
+    ap (λ left. elements_at phase i (nodes_of left) draft) (elements_from elements i element below is)
+    ∙ ap (λ step. bind step (λ d. elements_at phase (i + 1) (nodes_of (drop (i + 1) elements)) d)) taken
 
 -- or refused
-pub one_refused : (phase : Phase) (elements : List Element) (i : ℕ) (element : Element) (draft : Draft) (fault : Fault)
-    → i < length elements → element ≡ get_or elements i element → element_at phase (node_of element) draft ≡ Err fault
-    → elements_at phase (nodes_of (drop i elements)) draft ≡ Err fault
+pub one_refused : (phase : Phase) (elements : List Element) (i : ℕ) (element : Element) (draft : Draft) (fault : ElementFault)
+    → i < length elements → element ≡ get_or elements i element
+    → element_at phase (spot_of i (node_of element)) (node_of element) draft ≡ Err fault
+    → elements_at phase i (nodes_of (drop i elements)) draft ≡ Err fault
 unfolding elements_at bind
 one_refused phase elements i element draft fault below is refused =
-    ap (λ left. elements_at phase (nodes_of left) draft) (elements_from elements i element below is)
-    ∙ ap (λ step. bind step (λ d. elements_at phase (nodes_of (drop (i + 1) elements)) d)) refused
+    ap (λ left. elements_at phase i (nodes_of left) draft) (elements_from elements i element below is)
+    ∙ ap (λ step. bind step (λ d. elements_at phase (i + 1) (nodes_of (drop (i + 1) elements)) d)) refused

@@ -1,7 +1,7 @@
 -- Descriptions of systems, as values: regions, domains, virtual machines and channels, each with the line of its element.
 use Rattle.std.specs.Prelude.{ℕ, Bool, List, Option}
-use Rattle.microkit.specs.declared.description.{Channel.{Channel}, Id.{Id}, Interrupt.{Interrupt}, Map.{Map}, Page.{Page}, Port.{Port}, Processor.{Processor}}
-use Rattle.microkit.specs.declared.description.Schedule.{Schedule}
+use Rattle.microkit.specs.declared.description.{Channel.{Channel}, Id.{Id}, Interrupt.{Interrupt}, Map.{Map}, Page.{Page}, Port.{Port}}
+use Rattle.microkit.specs.declared.description.{Processor.{Processor}, Schedule.{Schedule}, Variable.{Variable}}
 
 -- a memory region
 pub record Region : Type 0 where
@@ -38,4 +38,5 @@ pub record Description : Type 0 where
   pub maps : List Map
   pub interrupts : List Interrupt
   pub ports : List Port
+  pub variables : List Variable
   pub channels : List Channel

@@ -1,20 +1,22 @@
 -- A description of which a part was read, and the place where an element stands (confine's own).
-use Rattle.std.specs.{List.{list_any}, Prelude.{[], ℕ, ◌&&◌, ◌++◌, ◌-◌, ◌==◌, ◌∷◌, Bool, Err, List, None}}
-use Rattle.std.specs.Prelude.{Ok, Option, Result, Some, if◌then◌else◌, length, slice_get, take, unwrap_or}
-use Rattle.words.specs.{Fault.{fault_at}, Reading.{◌>>=◌}, declared.faults.{Fault.Fault, Wrong.{TheVariants.{Double, Syntax, UnknownName}}}}
-use Rattle.microkit.specs.{Description.{Description}, Kinds.{kind_within}}
-use Rattle.microkit.specs.declared.{description.Id.{Id}, draft.{Begun.{Begun}, Place.{Place}}, kinds.Kind.{Kind}}
+use Rattle.std.specs.{List.{find}, Option.{option_map}, Prelude.{[], ℕ, ◌&&◌, ◌++◌, ◌-◌, ◌==◌, ◌∷◌, Err, List, None}}
+use Rattle.std.specs.Prelude.{Ok, Option, Result, Some, length, slice_get, take, unwrap_or}
+use Rattle.words.specs.Reading.{◌>>=◌}
+use Rattle.microkit.specs.{Description.{Description}, Flaws.{unless_found}, Kinds.{kind_within}}
+use Rattle.microkit.specs.declared.{description.Id.{Id}, draft.{Begun.{Begun}, Place.{Place}, Taken.{Taken}}}
+use Rattle.microkit.specs.declared.{flaws.Flaw.{Flaw}, kinds.Kind.{Kind}}
+use Rattle.microkit.specs.declared.flaws.Flaw.TheVariants as flaw
 use Rattle.microkit.specs.declared.kinds.Kind.TheVariants as kind
 use Rattle.xml.specs.Document.{Node}
 
 -- what was read so far: the description, the elements that the next one may stand in, outermost first, a channel that hasn't its two
--- ends yet, the ids of interrupts and channels, and those of children and virtual processors
+-- ends yet, the ids of interrupts and channels, and those of children and virtual processors, each with the line that has it
 pub record Draft : Type 0 where
   pub description : Description
   pub path : List Place
   pub begun : Option Begun
-  pub ids : List Id
-  pub children : List Id
+  pub ids : List Taken
+  pub children : List Taken
 
 -- nothing was read so far
 unfoldable pub no_draft : Draft
@@ -28,6 +30,7 @@ no_draft =
         maps = [];
         interrupts = [];
         ports = [];
+        variables = [];
         channels = [];
       };
       path = [];
@@ -58,32 +61,34 @@ inside description place = by_kind place.kind
     by_kind kind.Machine = record place { machine = length description.machines }
     by_kind _ = place
 
--- a kind, or a fault of form
-unfoldable pub known_kind : ℕ → Option Kind → Result Kind Fault
-known_kind line (Some kind) = Ok kind
-known_kind line None = Err (fault_at line Syntax)
+-- the kind of an element that may stand in one of this kind
+unfoldable pub known_kind : Kind → Option Kind → Result Kind Flaw
+known_kind outer (Some kind) = Ok kind
+known_kind outer None = Err (flaw.Element outer)
 
 -- an element of this place is entered
 abbrev pub entered : ℕ → Place → Draft → Draft
 entered level place draft = record draft { path = outer_path level draft ++ inside draft.description place ∷ [] }
 
 -- the place of an element, and the draft with it on the path
-unfoldable pub place_at : Node → Draft → Result (Place × Draft) Fault
+unfoldable pub place_at : Node → Draft → Result (Place × Draft) Flaw
 place_at node draft = do
   let outer : Place = innermost (outer_path node.level draft)
-  kind ← known_kind node.line (kind_within outer.kind node.name)
+  kind ← known_kind outer.kind (kind_within outer.kind node.name)
   let place : Place = record outer { kind = kind }
   Ok (place, entered node.level place draft)
 
--- a number, or the fault of an unknown name
-abbrev pub known_number : ℕ → Option ℕ → Result ℕ Fault
-known_number line None = Err (fault_at line UnknownName)
-known_number line (Some number) = Ok number
+-- a number, where something of this name is known
+abbrev pub known_number : Flaw → Option ℕ → Result ℕ Flaw
+known_number flaw None = Err flaw
+known_number flaw (Some number) = Ok number
 
--- whether an id was given
-abbrev pub is_taken : List Id → Id → Bool
-is_taken ids id = list_any (λ (one : Id). one.domain == id.domain && one.number == id.number) ids
+-- the line that has an id
+abbrev pub line_of_id : List Taken → Id → Option ℕ
+line_of_id ids id =
+    option_map (λ (one : Taken). one.line)
+    (find (λ (one : Taken). one.id.domain == id.domain && one.id.number == id.number) ids)
 
 -- an id must not be given twice
-unfoldable pub free_at : ℕ → List Id → Id → Result (Unit {0}) Fault
-free_at line ids id = if is_taken ids id then Err (fault_at line Double) else Ok tt
+unfoldable pub free_at : List Taken → Id → Result (Unit {0}) Flaw
+free_at ids id = unless_found flaw.Id (line_of_id ids id)

@@ -1,10 +1,12 @@
 -- Which attributes an element has, and of which form their values are (Microkit user manual, "System Description File").
-use Rattle.std.specs.{List.{list_all, list_any}, Prelude.{[], ℕ, ◌&&◌, ◌==◌, ◌||◌, ◌∷◌, Bool, Err, List, None, Ok, Option, Result, Some}}
-use Rattle.std.specs.{Prelude.{codes, false, if◌then◌else◌, is_some, nat_le, not, true}, Str.bytes_eq}
-use Rattle.words.specs.{declared.faults.{Fault.Fault, Wrong.TheVariants.{Limit, Syntax}}, Fault.fault_at}
+use Rattle.std.specs.{List.{list_all, list_any, position}, Prelude.{[], ℕ, ◌&&◌, ◌==◌, ◌||◌, ◌∷◌, Bool, Err, List, None, Ok, Option}}
+use Rattle.std.specs.{Prelude.{Result, Some, codes, false, if◌then◌else◌, is_some, nat_lt, not, true}, Str.bytes_eq}
 use Rattle.xml.specs.{Document.Node, Tag.{Pair, is_given}}
-use Rattle.microkit.specs.declared.{forms.TheConstants.{MAX_ID, MAX_PRIORITY}, kinds.Kind.Kind, rules.{Form.Form, Need.Need}}
-use Rattle.microkit.specs.{declared.rules.Need.TheVariants.{Optional, Required}, Attributes.number_or, Values.{flag_of, number_of}}
+use Rattle.words.specs.Reading.{◌>>=◌}
+use Rattle.microkit.specs.declared.{forms.TheConstants.{MAX_ID, MAX_PRIORITY}, flaws.Flaw.Flaw, kinds.Kind.Kind}
+use Rattle.microkit.specs.declared.rules.{Form.Form, Need.{Need, TheVariants.{Optional, Required}}}
+use Rattle.microkit.specs.{Attributes.number_or, Flaws.unless_found, Values.{flag_of, number_of}}
+use Rattle.microkit.specs.declared.flaws.Flaw.TheVariants as flaw
 use Rattle.microkit.specs.declared.rules.Form.TheVariants as form
 use Rattle.microkit.specs.declared.kinds.Kind.TheVariants as kind
 
@@ -52,6 +54,21 @@ required name form = record { name = name; form = form; need = Required }
 abbrev pub optional : List ℕ → Form → Rule
 optional name form = record { name = name; form = form; need = Optional }
 
+-- what is said of a domain
+abbrev pub domain_rules : List Rule
+domain_rules =
+    required (codes "name") form.Name
+    ∷ optional (codes "priority") form.Number
+    ∷ optional (codes "budget") form.Number
+    ∷ optional (codes "period") form.Number
+    ∷ optional (codes "passive") form.Flag
+    ∷ optional (codes "stack_size") form.Number
+    ∷ optional (codes "smc") form.Flag
+    ∷ optional (codes "cpu") form.Number
+    ∷ optional (codes "fpu") form.Flag
+    ∷ optional (codes "pp") form.Flag
+    ∷ []
+
 -- what may be mapped, by a domain or by a virtual machine
 abbrev pub map_rules : List Rule
 map_rules =
@@ -74,32 +91,8 @@ rules_of kind.Region =
     ∷ optional (codes "phys_addr") form.Number
     ∷ optional (codes "prefill_path") form.Text
     ∷ []
-rules_of kind.Domain =
-    required (codes "name") form.Name
-    ∷ optional (codes "priority") form.Number
-    ∷ optional (codes "budget") form.Number
-    ∷ optional (codes "period") form.Number
-    ∷ optional (codes "passive") form.Flag
-    ∷ optional (codes "stack_size") form.Number
-    ∷ optional (codes "smc") form.Flag
-    ∷ optional (codes "cpu") form.Number
-    ∷ optional (codes "fpu") form.Flag
-    ∷ optional (codes "pp") form.Flag
-    ∷ []
-rules_of kind.Child =
-    required (codes "id") form.Number
-    ∷ optional (codes "setvar_id") form.Text
-    ∷ required (codes "name") form.Name
-    ∷ optional (codes "priority") form.Number
-    ∷ optional (codes "budget") form.Number
-    ∷ optional (codes "period") form.Number
-    ∷ optional (codes "passive") form.Flag
-    ∷ optional (codes "stack_size") form.Number
-    ∷ optional (codes "smc") form.Flag
-    ∷ optional (codes "cpu") form.Number
-    ∷ optional (codes "fpu") form.Flag
-    ∷ optional (codes "pp") form.Flag
-    ∷ []
+rules_of kind.Domain = domain_rules
+rules_of kind.Child = required (codes "id") form.Number ∷ optional (codes "setvar_id") form.Text ∷ domain_rules
 rules_of kind.Image = required (codes "path") form.Text ∷ optional (codes "path_for_symbols") form.Text ∷ []
 rules_of kind.Map = map_rules
 rules_of kind.MachineMap = map_rules
@@ -150,18 +143,23 @@ is_met pairs rule = need_is_met rule.need
     need_is_met Optional = true
     need_is_met Required = is_given pairs rule.name
 
--- each attribute follows a rule, and none is missing that is required
-unfoldable pub is_formed : List Rule → List Pair → Bool
-is_formed rules pairs =
-    list_all (λ (pair : Pair). list_any (follows pair) rules) pairs && list_all (is_met pairs) rules
+-- the first attribute that follows no rule
+abbrev pub first_stray : List Rule → List Pair → Option ℕ
+first_stray rules pairs = position (λ (pair : Pair). not (list_any (follows pair) rules)) pairs
+
+-- the first rule that isn't met
+abbrev pub first_unmet : List Rule → List Pair → Option ℕ
+first_unmet rules pairs = position (λ (rule : Rule). not (is_met pairs rule)) rules
 
 -- ids and priorities keep to their limits
-unfoldable pub is_within : Node → Bool
-is_within node =
-    nat_le (number_or node (codes "id") 0) MAX_ID && nat_le (number_or node (codes "priority") 0) MAX_PRIORITY
+unfoldable pub limits_at : Node → Result (Unit {0}) Flaw
+limits_at node =
+    if nat_lt MAX_ID (number_or node (codes "id") 0) then Err flaw.LargeId else
+    if nat_lt MAX_PRIORITY (number_or node (codes "priority") 0) then Err flaw.LargePriority else Ok tt
 
--- an element has its form: 50 where an attribute is unknown, missing or malformed, 54 where a limit is passed
-unfoldable pub form_at : Kind → Node → Result (Unit {0}) Fault
-form_at kind node =
-    if not (is_formed (rules_of kind) node.attributes) then Err (fault_at node.line Syntax) else
-    if not (is_within node) then Err (fault_at node.line Limit) else Ok tt
+-- an element has its form: no attribute is unknown or malformed, none is missing that is required (50), and no limit is passed (54)
+unfoldable pub form_at : Kind → Node → Result (Unit {0}) Flaw
+form_at kind node = do
+  _ ← unless_found (λ number. flaw.Attribute kind number) (first_stray (rules_of kind) node.attributes)
+  _ ← unless_found (λ number. flaw.Missing kind number) (first_unmet (rules_of kind) node.attributes)
+  limits_at node

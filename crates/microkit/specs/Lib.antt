@@ -2,6 +2,7 @@ pub mod Pages
 pub mod Values
 pub mod Attributes
 pub mod Kinds
+pub mod Flaws
 pub mod Forms
 pub mod FormView
 pub mod Description
@@ -10,7 +11,9 @@ pub mod Draft
 pub mod Regions
 pub mod Domains
 pub mod Channels
+pub mod Images
 pub mod Reading
+pub mod Outline
 pub mod Names
 pub mod LabelView
 pub mod Labels

@@ -1,10 +1,12 @@
 -- How memory regions are read (Microkit user manual, "memory_region").
-use Rattle.std.specs.{List.{list_any, position}, Prelude.{[], ℕ, ◌%◌, ◌&&◌, ◌++◌, ◌+◌, ◌==◌, ◌^◌, ◌∷◌, Bool, Err, List, None, Ok, Option}}
-use Rattle.std.specs.{Prelude.{Result, Some, codes, false, if◌then◌else◌, nat_lt, not, true}, Str.bytes_eq}
-use Rattle.words.specs.{declared.faults.{Fault.Fault, Wrong.TheVariants.{Double, WrongKind}}, Fault.fault_at, Reading.◌>>=◌}
+use Rattle.std.specs.{List.{find, position}, Option.option_map, Prelude.{[], ℕ, ◌%◌, ◌&&◌, ◌++◌, ◌+◌, ◌==◌, ◌^◌, ◌∷◌, Bool, Err, List}}
+use Rattle.std.specs.{Prelude.{None, Ok, Option, Result, Some, codes, false, if◌then◌else◌, nat_lt, not}, Str.bytes_eq}
+use Rattle.words.specs.Reading.{◌>>=◌}
 use Rattle.xml.specs.Document.{Node}
-use Rattle.microkit.specs.{declared.description.Page.{Page, TheVariants.{Large, Small}}, Attributes.{number_in, number_or, text_in}}
-use Rattle.microkit.specs.{Description.Region, Draft.{Draft, known_number}, Pages.page_bytes}
+use Rattle.microkit.specs.declared.{description.Page.{Page, TheVariants.{Large, Small}}, flaws.Flaw.Flaw}
+use Rattle.microkit.specs.{Attributes.{number_in, number_or, text_in}, Description.Region, Draft.{Draft, known_number}}
+use Rattle.microkit.specs.{Flaws.unless_found, Pages.page_bytes}
+use Rattle.microkit.specs.declared.flaws.Flaw.TheVariants as flaw
 
 -- the pages of a region, small ones unless it says otherwise
 unfoldable pub page_in : Node → Page
@@ -21,18 +23,22 @@ region_in node =
       line = node.line;
     }
 
--- whether a region has this name
-abbrev pub is_region : List Region → List ℕ → Bool
-is_region regions name = list_any (λ (region : Region). bytes_eq region.name name) regions
+-- the line of the region of this name
+abbrev pub region_line : List Region → List ℕ → Option ℕ
+region_line regions name =
+    option_map (λ (region : Region). region.line) (find (λ (region : Region). bytes_eq region.name name) regions)
 
 -- a physical address begins a page, and all of the region lies below 2 ^ 64
-unfoldable pub is_aligned : Option ℕ → Region → Bool
-is_aligned None region = true
-is_aligned (Some address) region = address % page_bytes region.page == 0 && nat_lt (address + region.size) (2 ^ 64)
+unfoldable pub address_fits : Option ℕ → Region → Result (Unit {0}) Flaw
+address_fits None region = Ok tt
+address_fits (Some address) region =
+    if not (address % page_bytes region.page == 0) then Err flaw.Address else
+    if nat_lt (address + region.size) (2 ^ 64) then Ok tt else Err flaw.Beyond
 
 -- a region has whole pages
-unfoldable pub has_pages : Region → Bool
-has_pages region = region.size % page_bytes region.page == 0 && is_aligned region.address region
+unfoldable pub pages_fit : Region → Result (Unit {0}) Flaw
+pages_fit region =
+    if region.size % page_bytes region.page == 0 then address_fits region.address region else Err flaw.Pages
 
 -- two ranges of memory share a byte
 abbrev pub ranges_meet : ℕ → ℕ → ℕ → ℕ → Bool
@@ -46,12 +52,16 @@ regions_meet region other = addresses_meet region.address other.address
     addresses_meet (Some address) (Some base) = ranges_meet address region.size base other.size
     addresses_meet _ _ = false
 
+-- the line of the first region that overlaps this one
+abbrev pub overlap_line : List Region → Region → Option ℕ
+overlap_line regions region = option_map (λ (other : Region). other.line) (find (regions_meet region) regions)
+
 -- a region may follow these: its name is new (52), it has whole pages, and overlaps none (55)
-unfoldable pub region_fits : List Region → Region → Result (Unit {0}) Fault
-region_fits regions region =
-    if is_region regions region.name then Err (fault_at region.line Double) else
-    if not (has_pages region) then Err (fault_at region.line WrongKind) else
-    if list_any (regions_meet region) regions then Err (fault_at region.line WrongKind) else Ok tt
+unfoldable pub region_fits : List Region → Region → Result (Unit {0}) Flaw
+region_fits regions region = do
+  _ ← unless_found flaw.Name (region_line regions region.name)
+  _ ← pages_fit region
+  unless_found flaw.Overlap (overlap_line regions region)
 
 -- with a region more
 abbrev pub with_region : Region → Draft → Draft
@@ -59,12 +69,11 @@ with_region region draft =
     record draft { description = record draft.description { regions = draft.description.regions ++ region ∷ [] } }
 
 -- an element that is a region
-unfoldable pub region_at : Node → Draft → Result Draft Fault
+unfoldable pub region_at : Node → Draft → Result Draft Flaw
 region_at node draft = do
   _ ← region_fits draft.description.regions (region_in node)
   Ok (with_region (region_in node) draft)
 
 -- the number of the region of this name, which must be known
-unfoldable pub region_number : ℕ → List Region → List ℕ → Result ℕ Fault
-region_number line regions name =
-    known_number line (position (λ (region : Region). bytes_eq region.name name) regions)
+unfoldable pub region_number : List Region → List ℕ → Result ℕ Flaw
+region_number regions name = known_number flaw.NoRegion (position (λ (region : Region). bytes_eq region.name name) regions)

@@ -45,5 +45,6 @@ description_of d =
       maps = d.maps.items;
       interrupts = d.interrupts.items;
       ports = d.ports.items;
+      variables = d.variables.items;
       channels = d.channels.items;
     }

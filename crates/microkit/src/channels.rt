@@ -1,87 +1,87 @@
 //! How channels are read.
 ghost use Rattle.std.specs.{List.{list_any, position}, Prelude.{◌≡◌, is_some}, Str.bytes_eq};
-ghost use Rattle.words.specs.Reading.{Gives, Reads};
 ghost use Rattle.xml.specs.View.{node_of};
-ghost use Rattle.microkit.specs.Channels.{calling, calls_upwards, channel_at, channel_part_at, domain_number};
-ghost use Rattle.microkit.specs.Channels.{end_added, end_at, end_fits, end_in, go_together, is_below, is_mixed, joined_at};
-ghost use Rattle.microkit.specs.{Channels.{priority_of, serves, whole_at}, Draft.Draft, View.{domain_of, domains_of}};
+ghost use Rattle.microkit.specs.Channels.{calling, calls_upwards, channel_at, channel_part_at, domain_number, end_at};
+ghost use Rattle.microkit.specs.Channels.{end_begun, end_domain, end_fits, end_in, go_together, is_below, is_mixed, joined_at};
+ghost use Rattle.microkit.specs.{Channels.{priority_of, serves, whole_at}, Draft.Draft, Flaws.TakesAll, View.{domain_of, domains_of}};
 
 use crate::attributes::{flag_in, flag_or, name_in};
 use crate::description::{Channel, Domain, End, Id};
 use crate::domains::id_in;
-use crate::draft::{Begun, Draft, check_free};
+use crate::draft::{Begun, Draft, Taken, check_free};
+use crate::flaws::{ElementFault, Flaw, ReadError, Spot};
 use crate::kinds::Kind;
-use words::{Fault, Wrong};
 use xml::Element;
 
 impl Draft {
-    /// Adds what an element says of a channel.
+    /// Adds what the element here says of a channel.
     ///
     /// # Errors
     ///
-    /// 51 where a domain isn't known, 52 where an id is given twice, 55 where a channel hasn't two
-    /// ends or these don't go together, and 40 where memory is refused.
+    /// [`ReadError::Element`] where a domain isn't known, an id is given twice, or a channel hasn't two
+    /// ends or these don't go together. These last faults are faults of the channel.
     #[tactic(auto, unfolding(crate::specs::Channels::channel_part_at))]
     pub(crate) fn add_channel_part(
         &mut self,
         kind: Kind,
+        spot: Spot,
         element: &Element<'_>,
-    ) -> Result<(), Fault>
-        ensures { Reads (λ _. self.new) result (channel_part_at kind (node_of element.now) self.old) }
+    ) -> Result<(), ReadError>
+        ensures { TakesAll (λ _. self.new) result (channel_part_at kind spot (node_of element.now) self.old) }
     {
         match kind {
-            Kind::Channel => self.begin_channel(element),
-            Kind::End => self.add_end_of(element),
+            Kind::Channel => self.begin_channel(spot),
+            Kind::End => self.add_end_of(spot, element),
             _ => Ok(()),
         }
     }
 
     #[tactic(auto, unfolding(crate::specs::Channels::channel_at, words::specs::Reading::bind))]
-    fn begin_channel(&mut self, element: &Element<'_>) -> Result<(), Fault>
-        ensures { Reads (λ _. self.new) result (channel_at (node_of element.now) self.old) }
+    fn begin_channel(&mut self, spot: Spot) -> Result<(), ReadError>
+        ensures { TakesAll (λ _. self.new) result (channel_at spot self.old) }
     {
         check_whole(self.begun)?;
-        self.begun = Some(Begun {
-            line: element.line,
-            first: None,
-        });
+        self.begun = Some(Begun { spot, first: None });
         Ok(())
     }
 
-    #[tactic(auto, unfolding(crate::specs::Channels::end_at, words::specs::Reading::bind))]
-    fn add_end_of(&mut self, element: &Element<'_>) -> Result<(), Fault>
-        ensures { Reads (λ _. self.new) result (end_at (node_of element.now) self.old) }
+    #[tactic(auto, unfolding(crate::specs::Channels::end_at, crate::specs::Flaws::of_element, words::specs::Reading::bind))]
+    fn add_end_of(&mut self, spot: Spot, element: &Element<'_>) -> Result<(), ReadError>
+        ensures { TakesAll (λ _. self.new) result (end_at spot (node_of element.now) self.old) }
     {
-        let domain = domain_number(
-            &self.description.domains,
-            name_in(element, b"pd"),
-            element.line,
-        )?;
-        check_end(&self.ids, &self.description.domains, domain, element)?;
-        self.add_end(end_in(domain, element))
+        match end_domain(&self.ids, &self.description.domains, element) {
+            Ok(domain) => self.add_end(spot, end_in(domain, element)),
+            Err(flaw) => Err(spot.fault(flaw)),
+        }
     }
 
-    #[tactic(auto, unfolding(crate::specs::Channels::end_added, crate::specs::Channels::end_begun, crate::specs::Channels::end_joined, words::specs::Reading::bind))]
-    fn add_end(&mut self, end: End) -> Result<(), Fault>
-        ensures { Reads (λ _. self.new) result (end_added end self.old) }
+    #[tactic(auto, unfolding(crate::specs::Channels::end_begun, crate::specs::Channels::end_joined, crate::specs::Flaws::of_element, words::specs::Reading::bind))]
+    fn add_end(&mut self, spot: Spot, end: End) -> Result<(), ReadError>
+        ensures { TakesAll (λ _. self.new) result (end_begun spot end self.old.begun self.old) }
     {
         let Some(begun) = self.begun else {
-            return Err(Fault::at(Wrong::WrongKind, end.line));
+            return Err(spot.fault(Flaw::ThirdEnd));
         };
         match begun.first {
             None => {
                 self.begun = Some(Begun {
-                    line: begun.line,
+                    spot: begun.spot,
                     first: Some(end),
                 });
             }
             Some(first) => {
-                let channel = joined(&self.description.domains, begun.line, first, end)?;
+                let channel = match joined(&self.description.domains, begun.spot.line, first, end) {
+                    Ok(channel) => channel,
+                    Err(flaw) => return Err(begun.spot.fault(flaw)),
+                };
                 self.description.channels.push(channel)?;
                 self.begun = None;
             }
         }
-        self.ids.push(end.id)?;
+        self.ids.push(Taken {
+            id: end.id,
+            line: end.line,
+        })?;
         Ok(())
     }
 }
@@ -90,15 +90,28 @@ impl Draft {
 ///
 /// # Errors
 ///
-/// 55 where one does.
-#[tactic(auto, unfolding(crate::specs::Channels::whole_at))]
-pub(crate) fn check_whole(begun: Option<Begun>) -> Result<(), Fault>
+/// [`Flaw::FewEnds`] where one does.
+#[tactic(auto, unfolding(crate::specs::Channels::whole_at, crate::specs::Flaws::of_element))]
+pub(crate) fn check_whole(begun: Option<Begun>) -> Result<(), ElementFault>
     ensures { result ≡ whole_at begun }
 {
     match begun {
         None => Ok(()),
-        Some(begun) => Err(Fault::at(Wrong::WrongKind, begun.line)),
+        Some(begun) => Err(ElementFault {
+            flaw: Flaw::FewEnds,
+            spot: begun.spot,
+        }),
     }
+}
+
+// The domain of an end that may follow.
+#[tactic(auto, unfolding(crate::specs::Channels::end_domain, words::specs::Reading::bind))]
+fn end_domain(ids: &[Taken], domains: &[Domain], element: &Element<'_>) -> Result<usize, Flaw>
+    ensures { result ≡ end_domain ids.now (domains_of domains.now) (node_of element.now) }
+{
+    let domain = domain_number(domains, name_in(element, b"pd"))?;
+    check_end(ids, domains, domain, element)?;
+    Ok(domain)
 }
 
 #[tactic(auto, unfolding(crate::specs::Channels::end_in))]
@@ -115,16 +128,16 @@ fn end_in(domain: usize, element: &Element<'_>) -> End
 
 #[tactic(auto, unfolding(crate::specs::Channels::end_fits, words::specs::Reading::bind))]
 fn check_end(
-    ids: &[Id],
+    ids: &[Taken],
     domains: &[Domain],
     domain: usize,
     element: &Element<'_>,
-) -> Result<(), Fault>
+) -> Result<(), Flaw>
     ensures { result ≡ end_fits ids.now (domains_of domains.now) domain (node_of element.now) }
 {
-    check_free(ids, id_in(domain, element), element.line)?;
+    check_free(ids, id_in(domain, element))?;
     if is_mixed(element, domains) {
-        return Err(Fault::at(Wrong::WrongKind, element.line));
+        return Err(Flaw::Mixed);
     }
     Ok(())
 }
@@ -149,8 +162,8 @@ fn one_serves(domains: &[Domain]) -> bool
     domains.iter().any(|domain| domain.serves.is_some())
 }
 
-#[tactic(auto, unfolding(crate::specs::Channels::joined_at))]
-fn joined(domains: &[Domain], line: u64, first: End, second: End) -> Result<Channel, Fault>
+#[tactic(auto, unfolding(crate::specs::Channels::joined_at, words::specs::Reading::bind))]
+fn joined(domains: &[Domain], line: u64, first: End, second: End) -> Result<Channel, Flaw>
     ensures { result ≡ joined_at (domains_of domains.now) line first second }
 {
     let channel = Channel {
@@ -158,11 +171,8 @@ fn joined(domains: &[Domain], line: u64, first: End, second: End) -> Result<Chan
         second: calling(domains, second, first),
         line,
     };
-    if go_together(domains, channel) {
-        Ok(channel)
-    } else {
-        Err(Fault::at(Wrong::WrongKind, line))
-    }
+    check_ends(domains, channel)?;
+    Ok(channel)
 }
 
 #[tactic(auto, unfolding(crate::specs::Channels::calling))]
@@ -175,20 +185,28 @@ fn calling(domains: &[Domain], end: End, other: End) -> End
     }
 }
 
-#[tactic(auto, unfolding(crate::specs::Channels::go_together))]
-fn go_together(domains: &[Domain], channel: Channel) -> bool
+#[tactic(auto, unfolding(crate::specs::Channels::go_together, words::specs::Reading::bind))]
+fn check_ends(domains: &[Domain], channel: Channel) -> Result<(), Flaw>
     ensures { result ≡ go_together (domains_of domains.now) channel }
 {
-    !(channel.first.may_call && channel.second.may_call)
-        && calls_upwards(domains, channel.first, channel.second)
-        && calls_upwards(domains, channel.second, channel.first)
+    if channel.first.may_call && channel.second.may_call {
+        return Err(Flaw::BothCall);
+    }
+    check_call(domains, channel.first, channel.second)?;
+    check_call(domains, channel.second, channel.first)
 }
 
 #[tactic(auto, unfolding(crate::specs::Channels::calls_upwards))]
-fn calls_upwards(domains: &[Domain], end: End, other: End) -> bool
+fn check_call(domains: &[Domain], end: End, other: End) -> Result<(), Flaw>
     ensures { result ≡ calls_upwards (domains_of domains.now) end other }
 {
-    !end.may_call || is_below(domains, end, other)
+    if !end.may_call || is_below(domains, end, other) {
+        Ok(())
+    } else if end.id.domain == other.id.domain {
+        Err(Flaw::CallsItself)
+    } else {
+        Err(Flaw::CallsDown)
+    }
 }
 
 // Whether the domain of an end has a lower priority than that of the other end.
@@ -223,15 +241,12 @@ fn priority_of(domains: &[Domain], number: usize) -> u64
 ///
 /// # Errors
 ///
-/// 51 where no domain has it.
+/// [`Flaw::NoDomain`] where no domain has it.
 #[tactic(auto, unfolding(crate::specs::Channels::domain_number))]
-fn domain_number(domains: &[Domain], name: &[u8], line: u64) -> Result<usize, Fault>
-    ensures { result ≡ domain_number line (domains_of domains.now) name.now }
+fn domain_number(domains: &[Domain], name: &[u8]) -> Result<usize, Flaw>
+    ensures { result ≡ domain_number (domains_of domains.now) name.now }
 {
-    match position_of(domains, name) {
-        Some(number) => Ok(number),
-        None => Err(Fault::at(Wrong::UnknownName, line)),
-    }
+    position_of(domains, name).ok_or(Flaw::NoDomain)
 }
 
 fn position_of(domains: &[Domain], name: &[u8]) -> Option<usize>

@@ -15,6 +15,7 @@ pub struct Description {
     pub maps: Vec<Map>,
     pub interrupts: Vec<Interrupt>,
     pub ports: Vec<Port>,
+    pub variables: Vec<Variable>,
     pub channels: Vec<Channel>,
 }
 
@@ -119,6 +120,8 @@ pub struct Map {
     pub user: User,
     /// The number of the region.
     pub region: usize,
+    /// The virtual address at which the region begins.
+    pub vaddr: u64,
     /// Whether the user may write to the region. It may read the region in any case.
     pub writable: bool,
     pub cached: bool,
@@ -138,6 +141,16 @@ pub struct Interrupt {
 #[derive(Clone, Copy, Debug)]
 pub struct Port {
     pub id: Id,
+    pub line: u64,
+}
+
+/// A variable of a domain's program that is set to the physical address of a region.
+#[derive(Clone, Copy, Debug)]
+pub struct Variable {
+    /// The number of the domain.
+    pub domain: usize,
+    /// The number of the region.
+    pub region: usize,
     pub line: u64,
 }
 

@@ -1,22 +1,23 @@
 //! How protection domains and what stands in them are read.
-ghost use Rattle.std.specs.{List.list_any, Prelude.{[], ◌++◌, ◌==◌, ◌||◌, ◌∷◌, ◌≡◌, IfOk, Ok, OnOk}, Str.bytes_eq};
-ghost use Rattle.words.specs.Reading.{Gives, Reads};
+ghost use Rattle.std.specs.{List.find, Option.option_map, Prelude.{[], ◌++◌, ◌==◌, ◌∷◌, ◌≡◌, IfOk, Ok, OnOk}, Str.bytes_eq};
 ghost use Rattle.xml.specs.View.{node_of};
-ghost use Rattle.microkit.specs.Domains.{domain_at, domain_fits, domain_in, domain_part_at, has_interrupt, has_machine};
-ghost use Rattle.microkit.specs.Domains.{id_in, interrupt_at, interrupt_fits, interrupt_in, is_domain, is_writable};
-ghost use Rattle.microkit.specs.Domains.{machine_at, machine_fits, machine_in, map_at, own_processor_at};
+ghost use Rattle.microkit.specs.Domains.{budget_fits, domain_at, domain_fits, domain_in, domain_line, domain_part_at, guest_line};
+ghost use Rattle.microkit.specs.Domains.{id_in, interrupt_at, interrupt_fits, interrupt_in, interrupt_line, is_writable};
+ghost use Rattle.microkit.specs.Domains.{machine_at, machine_fits, machine_in, machine_line, map_at, own_processor_at};
 ghost use Rattle.microkit.specs.Domains.{parent_free_at, port_at, processor_at, processor_fits, schedule_in};
-ghost use Rattle.microkit.specs.{Domains.{variable_at, with_domain, with_machine}, View.{domain_of, domains_of}};
+ghost use Rattle.microkit.specs.{Domains.{variable_at, with_domain, with_machine}, Flaws.Takes, View.{domain_of, domains_of}};
 ghost use Rattle.microkit.specs.View.{machine_of, machines_of};
 
 use crate::attributes::{flag_in, flag_or, name_in, number_in, number_or, text_in, value_in};
-use crate::description::{Domain, Id, Interrupt, Machine, Map, Port, Processor, Schedule, User};
-use crate::draft::{Draft, Place, check_free};
+use crate::description::{
+    Domain, Id, Interrupt, Machine, Map, Port, Processor, Schedule, User, Variable,
+};
+use crate::draft::{Draft, Place, Taken, check_free};
+use crate::flaws::{Flaw, Refusal};
 use crate::forms::has_byte;
 use crate::kinds::Kind;
 use crate::regions::region_number;
 use std::alloc::{AllocError, Global};
-use words::{Fault, Wrong};
 use xml::Element;
 
 /// The number of domains that a system may have.
@@ -27,17 +28,16 @@ impl Draft {
     ///
     /// # Errors
     ///
-    /// 51 where a region isn't known, 52 where a name, an id or an interrupt is given twice, 55 where
-    /// a budget is longer than its period, 54 where there are too many domains, and 40 where memory
-    /// is refused.
+    /// [`Refusal::Flawed`] where a region isn't known, a name, an id or an interrupt is given twice, a
+    /// budget is longer than its period, or there are too many domains.
     #[tactic(auto, unfolding(crate::specs::Domains::domain_part_at, crate::specs::Domains::domain_part_of))]
     pub(crate) fn add_domain_part(
         &mut self,
         alloc: Global,
         place: Place,
         element: &Element<'_>,
-    ) -> Result<(), Fault>
-        ensures { Reads (λ _. self.new) result (domain_part_at place (node_of element.now) self.old) }
+    ) -> Result<(), Refusal>
+        ensures { Takes (λ _. self.new) result (domain_part_at place (node_of element.now) self.old) }
     {
         match place.kind {
             Kind::Domain => self.add_domain(alloc, None, element),
@@ -46,7 +46,7 @@ impl Draft {
             Kind::MachineMap => self.add_map(User::Machine(place.machine), element),
             Kind::Interrupt => self.add_interrupt(place.domain, element),
             Kind::Port => self.add_port(place.domain, element),
-            Kind::Variable => self.check_variable(element),
+            Kind::Variable => self.add_variable(place.domain, element),
             Kind::Machine => self.add_machine(alloc, place.domain, element),
             Kind::Processor => self.add_processor_of(place, element),
             _ => Ok(()),
@@ -59,8 +59,8 @@ impl Draft {
         alloc: Global,
         parent: Option<Id>,
         element: &Element<'_>,
-    ) -> Result<(), Fault>
-        ensures { Reads (λ _. self.new) result (domain_at parent (node_of element.now) self.old) }
+    ) -> Result<(), Refusal>
+        ensures { Takes (λ _. self.new) result (domain_at parent (node_of element.now) self.old) }
     {
         let domain = domain_in(alloc, parent, element)?;
         check_domain(&self.description.domains, &self.children, &domain)?;
@@ -72,10 +72,10 @@ impl Draft {
     fn push_domain(&mut self, domain: Domain) -> Result<(), AllocError>
         ensures { OnOk result (self.new ≡ with_domain (domain_of domain) self.old) }
     {
-        let parent = domain.parent;
+        let (parent, line) = (domain.parent, domain.line);
         self.description.domains.push(domain)?;
         if let Some(id) = parent {
-            self.children.push(id)?;
+            self.children.push(Taken { id, line })?;
         }
         Ok(())
     }
@@ -86,8 +86,8 @@ impl Draft {
         alloc: Global,
         domain: usize,
         element: &Element<'_>,
-    ) -> Result<(), Fault>
-        ensures { Reads (λ _. self.new) result (machine_at domain (node_of element.now) self.old) }
+    ) -> Result<(), Refusal>
+        ensures { Takes (λ _. self.new) result (machine_at domain (node_of element.now) self.old) }
     {
         let machine = machine_in(alloc, domain, element)?;
         check_machine(&self.description.machines, &machine)?;
@@ -104,8 +104,8 @@ impl Draft {
         machine: usize,
         domain: usize,
         line: u64,
-    ) -> Result<(), Fault>
-        ensures { Reads (λ _. self.new) result (own_processor_at id machine domain line self.old) }
+    ) -> Result<(), Refusal>
+        ensures { Takes (λ _. self.new) result (own_processor_at id machine domain line self.old) }
     {
         match id {
             None => Ok(()),
@@ -119,8 +119,8 @@ impl Draft {
     }
 
     #[tactic(auto, unfolding(crate::specs::Domains::processor_at))]
-    fn add_processor_of(&mut self, place: Place, element: &Element<'_>) -> Result<(), Fault>
-        ensures { Reads (λ _. self.new) result (processor_at place (node_of element.now) self.old) }
+    fn add_processor_of(&mut self, place: Place, element: &Element<'_>) -> Result<(), Refusal>
+        ensures { Takes (λ _. self.new) result (processor_at place (node_of element.now) self.old) }
     {
         self.add_processor(Processor {
             machine: place.machine,
@@ -131,27 +131,27 @@ impl Draft {
     }
 
     #[tactic(auto, unfolding(crate::specs::Domains::processor_fits, words::specs::Reading::bind))]
-    fn add_processor(&mut self, processor: Processor) -> Result<(), Fault>
-        ensures { Reads (λ _. self.new) result (processor_fits processor self.old) }
+    fn add_processor(&mut self, processor: Processor) -> Result<(), Refusal>
+        ensures { Takes (λ _. self.new) result (processor_fits processor self.old) }
     {
-        check_free(&self.children, processor.id, processor.line)?;
+        check_free(&self.children, processor.id)?;
         self.description.processors.push(processor)?;
-        self.children.push(processor.id)?;
+        self.children.push(Taken {
+            id: processor.id,
+            line: processor.line,
+        })?;
         Ok(())
     }
 
     #[tactic(auto, unfolding(crate::specs::Domains::map_at, words::specs::Reading::bind))]
-    fn add_map(&mut self, user: User, element: &Element<'_>) -> Result<(), Fault>
-        ensures { Reads (λ _. self.new) result (map_at user (node_of element.now) self.old) }
+    fn add_map(&mut self, user: User, element: &Element<'_>) -> Result<(), Refusal>
+        ensures { Takes (λ _. self.new) result (map_at user (node_of element.now) self.old) }
     {
-        let region = region_number(
-            &self.description.regions,
-            name_in(element, b"mr"),
-            element.line,
-        )?;
+        let region = region_number(&self.description.regions, name_in(element, b"mr"))?;
         self.description.maps.push(Map {
             user,
             region,
+            vaddr: number_or(element, b"vaddr", 0),
             writable: is_writable(element),
             cached: flag_or(element, b"cached", true),
             line: element.line,
@@ -160,31 +160,35 @@ impl Draft {
     }
 
     #[tactic(auto, unfolding(crate::specs::Domains::variable_at, words::specs::Reading::bind))]
-    fn check_variable(&self, element: &Element<'_>) -> Result<(), Fault>
-        ensures { Gives (λ _. self.now) result (variable_at (node_of element.now) self.now) }
+    fn add_variable(&mut self, domain: usize, element: &Element<'_>) -> Result<(), Refusal>
+        ensures { Takes (λ _. self.new) result (variable_at domain (node_of element.now) self.old) }
     {
-        region_number(
-            &self.description.regions,
-            name_in(element, b"region_paddr"),
-            element.line,
-        )?;
+        let region = region_number(&self.description.regions, name_in(element, b"region_paddr"))?;
+        self.description.variables.push(Variable {
+            domain,
+            region,
+            line: element.line,
+        })?;
         Ok(())
     }
 
     #[tactic(auto, unfolding(crate::specs::Domains::interrupt_at, words::specs::Reading::bind))]
-    fn add_interrupt(&mut self, domain: usize, element: &Element<'_>) -> Result<(), Fault>
-        ensures { Reads (λ _. self.new) result (interrupt_at domain (node_of element.now) self.old) }
+    fn add_interrupt(&mut self, domain: usize, element: &Element<'_>) -> Result<(), Refusal>
+        ensures { Takes (λ _. self.new) result (interrupt_at domain (node_of element.now) self.old) }
     {
         let interrupt = interrupt_in(domain, element);
         check_interrupt(&self.ids, &self.description.interrupts, interrupt)?;
         self.description.interrupts.push(interrupt)?;
-        self.ids.push(interrupt.id)?;
+        self.ids.push(Taken {
+            id: interrupt.id,
+            line: interrupt.line,
+        })?;
         Ok(())
     }
 
     #[tactic(auto, unfolding(crate::specs::Domains::port_at))]
-    fn add_port(&mut self, domain: usize, element: &Element<'_>) -> Result<(), Fault>
-        ensures { Reads (λ _. self.new) result (Ok (port_at domain (node_of element.now) self.old)) }
+    fn add_port(&mut self, domain: usize, element: &Element<'_>) -> Result<(), Refusal>
+        ensures { Takes (λ _. self.new) result (Ok (port_at domain (node_of element.now) self.old)) }
     {
         self.description.ports.push(Port {
             id: id_in(domain, element),
@@ -265,86 +269,123 @@ fn is_writable(element: &Element<'_>) -> bool
 }
 
 #[tactic(auto, unfolding(crate::specs::Domains::domain_fits, words::specs::Reading::bind))]
-fn check_domain(domains: &[Domain], children: &[Id], domain: &Domain) -> Result<(), Fault>
+fn check_domain(domains: &[Domain], children: &[Taken], domain: &Domain) -> Result<(), Flaw>
     ensures { result ≡ domain_fits (domains_of domains.now) children.now (domain_of domain.now) }
 {
-    if is_domain(domains, &domain.name) {
-        return Err(Fault::at(Wrong::Double, domain.line));
+    if let Some(line) = domain_line(domains, &domain.name) {
+        return Err(Flaw::Name(line));
     }
-    check_parent(children, domain.parent, domain.line)?;
-    if domain.schedule.budget > domain.schedule.period {
-        return Err(Fault::at(Wrong::WrongKind, domain.line));
-    }
+    check_parent(children, domain.parent)?;
+    check_budget(domain.schedule)?;
     if domains.len() >= MAX_DOMAINS {
-        return Err(Fault::at(Wrong::Limit, domain.line));
+        return Err(Flaw::ManyDomains);
     }
     Ok(())
 }
 
 #[tactic(auto, unfolding(crate::specs::Domains::parent_free_at))]
-fn check_parent(children: &[Id], parent: Option<Id>, line: u64) -> Result<(), Fault>
-    ensures { result ≡ parent_free_at line children.now parent }
+fn check_parent(children: &[Taken], parent: Option<Id>) -> Result<(), Flaw>
+    ensures { result ≡ parent_free_at children.now parent }
 {
     match parent {
         None => Ok(()),
-        Some(id) => check_free(children, id, line),
+        Some(id) => check_free(children, id),
     }
 }
 
-fn is_domain(domains: &[Domain], name: &[u8]) -> bool
-    ensures { result ≡ is_domain (domains_of domains.now) name.now }
+#[tactic(auto, unfolding(crate::specs::Domains::budget_fits))]
+fn check_budget(schedule: Schedule) -> Result<(), Flaw>
+    ensures { result ≡ budget_fits schedule }
 {
-    has_domain(domains, name)
+    if schedule.budget > schedule.period {
+        return Err(Flaw::Budget);
+    }
+    Ok(())
+}
+
+fn domain_line(domains: &[Domain], name: &[u8]) -> Option<u64>
+    ensures { result ≡ domain_line (domains_of domains.now) name.now }
+{
+    line_of_domain(domains, name)
 }
 
 // The same, of the domains as they lie in memory.
-fn has_domain(domains: &[Domain], name: &[u8]) -> bool
-    ensures { result ≡ list_any (λ domain. bytes_eq (domain_of domain).name name.now) domains.now }
+fn line_of_domain(domains: &[Domain], name: &[u8]) -> Option<u64>
+    ensures { result ≡ option_map
+        (λ domain. (domain_of domain).line)
+        (find (λ domain. bytes_eq (domain_of domain).name name.now) domains.now) }
 {
-    domains.iter().any(|domain| domain.name.as_slice() == name)
+    let found = domains
+        .iter()
+        .find(|domain| domain.name.as_slice() == name)?;
+    Some(found.line)
 }
 
-#[tactic(auto, unfolding(crate::specs::Domains::machine_fits))]
-fn check_machine(machines: &[Machine], machine: &Machine) -> Result<(), Fault>
+#[tactic(auto, unfolding(crate::specs::Domains::machine_fits, words::specs::Reading::bind))]
+fn check_machine(machines: &[Machine], machine: &Machine) -> Result<(), Flaw>
     ensures { result ≡ machine_fits (machines_of machines.now) (machine_of machine.now) }
 {
-    if has_machine(machines, &machine.name, machine.domain) {
-        return Err(Fault::at(Wrong::Double, machine.line));
+    if let Some(line) = machine_line(machines, &machine.name) {
+        return Err(Flaw::Name(line));
     }
-    if machine.schedule.budget > machine.schedule.period {
-        return Err(Fault::at(Wrong::WrongKind, machine.line));
+    if let Some(line) = guest_line(machines, machine.domain) {
+        return Err(Flaw::SecondMachine(line));
     }
-    Ok(())
+    check_budget(machine.schedule)
 }
 
-fn has_machine(machines: &[Machine], name: &[u8], domain: usize) -> bool
-    ensures { result ≡ has_machine (machines_of machines.now) name.now domain }
+fn machine_line(machines: &[Machine], name: &[u8]) -> Option<u64>
+    ensures { result ≡ machine_line (machines_of machines.now) name.now }
 {
-    is_machine(machines, name, domain)
+    line_of_machine(machines, name)
 }
 
 // The same, of the virtual machines as they lie in memory.
-fn is_machine(machines: &[Machine], name: &[u8], domain: usize) -> bool
-    ensures { result ≡ list_any
-        (λ machine. bytes_eq (machine_of machine).name name.now || (machine_of machine).domain == domain)
-        machines.now }
+fn line_of_machine(machines: &[Machine], name: &[u8]) -> Option<u64>
+    ensures { result ≡ option_map
+        (λ machine. (machine_of machine).line)
+        (find (λ machine. bytes_eq (machine_of machine).name name.now) machines.now) }
 {
-    machines.iter().any(|machine| machine.name.as_slice() == name || machine.domain == domain)
+    let found = machines
+        .iter()
+        .find(|machine| machine.name.as_slice() == name)?;
+    Some(found.line)
+}
+
+fn guest_line(machines: &[Machine], domain: usize) -> Option<u64>
+    ensures { result ≡ guest_line (machines_of machines.now) domain }
+{
+    line_of_guest(machines, domain)
+}
+
+// The same, of the virtual machines as they lie in memory.
+fn line_of_guest(machines: &[Machine], domain: usize) -> Option<u64>
+    ensures { result ≡ option_map
+        (λ machine. (machine_of machine).line)
+        (find (λ machine. (machine_of machine).domain == domain) machines.now) }
+{
+    let found = machines.iter().find(|machine| machine.domain == domain)?;
+    Some(found.line)
 }
 
 #[tactic(auto, unfolding(crate::specs::Domains::interrupt_fits, words::specs::Reading::bind))]
-fn check_interrupt(ids: &[Id], interrupts: &[Interrupt], interrupt: Interrupt) -> Result<(), Fault>
+fn check_interrupt(
+    ids: &[Taken],
+    interrupts: &[Interrupt],
+    interrupt: Interrupt,
+) -> Result<(), Flaw>
     ensures { result ≡ interrupt_fits ids.now interrupts.now interrupt }
 {
-    check_free(ids, interrupt.id, interrupt.line)?;
-    if has_interrupt(interrupts, interrupt.irq) {
-        return Err(Fault::at(Wrong::Double, interrupt.line));
+    check_free(ids, interrupt.id)?;
+    match interrupt_line(interrupts, interrupt.irq) {
+        None => Ok(()),
+        Some(line) => Err(Flaw::Interrupt(line)),
     }
-    Ok(())
 }
 
-fn has_interrupt(interrupts: &[Interrupt], irq: u64) -> bool
-    ensures { result ≡ has_interrupt interrupts.now irq }
+fn interrupt_line(interrupts: &[Interrupt], irq: u64) -> Option<u64>
+    ensures { result ≡ interrupt_line interrupts.now irq }
 {
-    interrupts.iter().any(|interrupt| interrupt.irq == irq)
+    let found = interrupts.iter().find(|interrupt| interrupt.irq == irq)?;
+    Some(found.line)
 }

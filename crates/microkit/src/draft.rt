@@ -1,14 +1,14 @@
 //! A description of which a part was read.
 ghost use Rattle.std.specs.{Option.option_copied, Prelude.{[], ◌++◌, ◌∷◌, ◌≡◌, IfOk, OnOk}};
-ghost use Rattle.words.specs.Reading.{Gives, Reads};
 ghost use Rattle.xml.specs.View.{node_of};
-ghost use Rattle.microkit.specs.Draft.{entered, free_at, innermost, inside, is_taken, no_draft, outer_path, place_at};
+ghost use Rattle.microkit.specs.Draft.{entered, free_at, innermost, inside, line_of_id, no_draft, outer_path, place_at};
+ghost use Rattle.microkit.specs.Flaws.{Takes};
 
 use crate::description::{Description, End, Id};
+use crate::flaws::{Flaw, Refusal, Spot};
 use crate::kinds::{Kind, kind_within};
 use std::alloc::{AllocError, Global};
 use std::marker::Model;
-use words::{Fault, Wrong};
 use xml::Element;
 
 /// The place of an element: its kind, and the numbers of the domain and of the virtual machine that
@@ -30,8 +30,15 @@ const OUTERMOST: Place = Place {
 /// A channel that hasn't its two ends yet.
 #[derive(Clone, Copy)]
 pub(crate) struct Begun {
-    pub line: u64,
+    pub spot: Spot,
     pub first: Option<End>,
+}
+
+/// An id, and the line that has it.
+#[derive(Clone, Copy)]
+pub(crate) struct Taken {
+    pub id: Id,
+    pub line: u64,
 }
 
 /// A description of which a part was read.
@@ -42,9 +49,9 @@ pub(crate) struct Draft {
     pub path: Vec<Place>,
     pub begun: Option<Begun>,
     // The ids of interrupts and channels.
-    pub ids: Vec<Id>,
+    pub ids: Vec<Taken>,
     // The ids of children and virtual processors.
-    pub children: Vec<Id>,
+    pub children: Vec<Taken>,
 }
 
 impl Model for Draft {
@@ -76,6 +83,7 @@ impl Draft {
                 maps: Vec::new(alloc),
                 interrupts: Vec::new(alloc),
                 ports: Vec::new(alloc),
+                variables: Vec::new(alloc),
                 channels: Vec::new(alloc),
             },
             path: Vec::new(alloc),
@@ -89,17 +97,14 @@ impl Draft {
     ///
     /// # Errors
     ///
-    /// 50 where such an element may not stand there, and 40 where memory is refused.
+    /// [`Flaw::Element`] where such an element may not stand there.
     #[tactic(auto, unfolding(crate::specs::Draft::place_at, crate::specs::Draft::known_kind, words::specs::Reading::bind))]
-    pub(crate) fn enter(&mut self, element: &Element<'_>) -> Result<Place, Fault>
-        ensures { Reads (λ place. (place, self.new)) result (place_at (node_of element.now) self.old) }
+    pub(crate) fn enter(&mut self, element: &Element<'_>) -> Result<Place, Refusal>
+        ensures { Takes (λ place. (place, self.new)) result (place_at (node_of element.now) self.old) }
     {
         self.path.truncate(element.level.saturating_sub(1));
         let outer = self.innermost();
-        let kind = kind_within(outer.kind, element.name).ok_or(Fault::at(
-            Wrong::Syntax,
-            element.line,
-        ))?;
+        let kind = kind_within(outer.kind, element.name).ok_or(Flaw::Element(outer.kind))?;
         let place = Place { kind, ..outer };
         let inside = self.inside(place);
         self.path.push(inside)?;
@@ -136,20 +141,20 @@ impl Draft {
 ///
 /// # Errors
 ///
-/// 52 where it is.
+/// [`Flaw::Id`] where it is.
 #[tactic(auto, unfolding(crate::specs::Draft::free_at))]
-pub(crate) fn check_free(ids: &[Id], id: Id, line: u64) -> Result<(), Fault>
-    ensures { result ≡ free_at line ids.now id }
+pub(crate) fn check_free(ids: &[Taken], id: Id) -> Result<(), Flaw>
+    ensures { result ≡ free_at ids.now id }
 {
-    if is_taken(ids, id) {
-        return Err(Fault::at(Wrong::Double, line));
+    match line_of_id(ids, id) {
+        None => Ok(()),
+        Some(line) => Err(Flaw::Id(line)),
     }
-    Ok(())
 }
 
-fn is_taken(ids: &[Id], id: Id) -> bool
-    ensures { result ≡ is_taken ids.now id }
+fn line_of_id(ids: &[Taken], id: Id) -> Option<u64>
+    ensures { result ≡ line_of_id ids.now id }
 {
-    ids.iter()
-        .any(|one| one.domain == id.domain && one.number == id.number)
+    let taken = ids.iter().find(|one| one.id.domain == id.domain && one.id.number == id.number)?;
+    Some(taken.line)
 }

@@ -1,14 +1,14 @@
 //! Whether an element has its form: its attributes, and the forms of their values.
-ghost use Rattle.std.specs.{List.{list_all, list_any}, Prelude.{◌&&◌, ◌≡◌, codes, map}, Str.bytes_eq};
+ghost use Rattle.std.specs.{List.{list_all, list_any, position}, Prelude.{◌&&◌, ◌≡◌, codes, map, not}, Str.bytes_eq};
 ghost use Rattle.xml.specs.{Tag.is_given, View.{node_of, pair_of, pairs_of}};
-ghost use Rattle.microkit.specs.{FormView.rule_of, Forms.{follows, form_at, has_byte, has_form, is_formed, is_met}};
-ghost use Rattle.microkit.specs.Forms.{is_name, is_page_size, is_right, is_rights, is_within};
+ghost use Rattle.microkit.specs.{FormView.rule_of, Forms.{first_stray, first_unmet, follows, form_at, has_byte, has_form, is_met}};
+ghost use Rattle.microkit.specs.Forms.{is_name, is_page_size, is_right, is_rights, limits_at};
 
 use crate::attributes::number_or;
+use crate::flaws::Flaw;
 use crate::kinds::Kind;
 use crate::numbers::{flag_of, number_of};
 use crate::rules::{Form, Need, Rule, rules_of};
-use words::{Fault, Wrong};
 use xml::{Attribute, Element};
 
 /// The largest id.
@@ -21,51 +21,50 @@ pub const MAX_PRIORITY: u64 = 254;
 ///
 /// # Errors
 ///
-/// 50 where an attribute is unknown, missing or malformed, and 54 where an id or a priority is too
-/// large.
-#[tactic(auto, unfolding(crate::specs::Forms::form_at))]
-pub(crate) fn check_form(kind: Kind, element: &Element<'_>) -> Result<(), Fault>
+/// The first attribute that is unknown or malformed, else the first that is missing, else that the
+/// id or the priority is too large.
+#[tactic(auto, unfolding(crate::specs::Forms::form_at, words::specs::Reading::bind))]
+pub(crate) fn check_form(kind: Kind, element: &Element<'_>) -> Result<(), Flaw>
     ensures { result ≡ form_at kind (node_of element.now) }
 {
-    if !is_formed(rules_of(kind), element) {
-        return Err(Fault::at(Wrong::Syntax, element.line));
+    let rules = rules_of(kind);
+    if let Some(number) = first_stray(rules, &element.attributes) {
+        return Err(Flaw::Attribute(kind, number));
     }
-    if !is_within(element) {
-        return Err(Fault::at(Wrong::Limit, element.line));
+    if let Some(number) = first_unmet(rules, &element.attributes) {
+        return Err(Flaw::Missing(kind, number));
+    }
+    check_limits(element)
+}
+
+#[tactic(auto, unfolding(crate::specs::Forms::limits_at))]
+fn check_limits(element: &Element<'_>) -> Result<(), Flaw>
+    ensures { result ≡ limits_at (node_of element.now) }
+{
+    if number_or(element, b"id", 0) > MAX_ID {
+        return Err(Flaw::LargeId);
+    }
+    if number_or(element, b"priority", 0) > MAX_PRIORITY {
+        return Err(Flaw::LargePriority);
     }
     Ok(())
 }
 
-#[tactic(auto, unfolding(crate::specs::Forms::is_within))]
-fn is_within(element: &Element<'_>) -> bool
-    ensures { result ≡ is_within (node_of element.now) }
+fn first_stray(rules: &[Rule], attributes: &[Attribute<'_>]) -> Option<usize>
+    ensures { result ≡ first_stray (map rule_of rules.now) (pairs_of attributes.now) }
 {
-    number_or(element, b"id", 0) <= MAX_ID && number_or(element, b"priority", 0) <= MAX_PRIORITY
-}
-
-// Whether each attribute follows a rule, and none is missing that is required.
-#[tactic(auto, unfolding(crate::specs::Forms::is_formed))]
-fn is_formed(rules: &[Rule], element: &Element<'_>) -> bool
-    ensures { result ≡ is_formed (map rule_of rules.now) (node_of element.now).attributes }
-{
-    all_follow(rules, &element.attributes) && all_are_met(rules, &element.attributes)
-}
-
-fn all_follow(rules: &[Rule], attributes: &[Attribute<'_>]) -> bool
-    ensures { result ≡ list_all (λ pair. list_any (follows pair) (map rule_of rules.now)) (pairs_of attributes.now) }
-{
-    each_follows(rules, attributes)
+    stray_place(rules, attributes)
 }
 
 // The same, of the rules and attributes as they lie in memory.
-fn each_follows(rules: &[Rule], attributes: &[Attribute<'_>]) -> bool
-    ensures { result ≡ list_all
-        (λ attribute. list_any (λ rule. follows (pair_of attribute) (rule_of rule)) rules.now)
+fn stray_place(rules: &[Rule], attributes: &[Attribute<'_>]) -> Option<usize>
+    ensures { result ≡ position
+        (λ attribute. not (list_any (λ rule. follows (pair_of attribute) (rule_of rule)) rules.now))
         attributes.now }
 {
     attributes
         .iter()
-        .all(|attribute| is_allowed(rules, attribute))
+        .position(|attribute| !is_allowed(rules, attribute))
 }
 
 fn is_allowed(rules: &[Rule], attribute: &Attribute<'_>) -> bool
@@ -80,17 +79,17 @@ fn follows(attribute: &Attribute<'_>, rule: &Rule) -> bool
     rule.0.as_bytes() == attribute.name && has_form(rule.1, &attribute.value)
 }
 
-fn all_are_met(rules: &[Rule], attributes: &[Attribute<'_>]) -> bool
-    ensures { result ≡ list_all (is_met (pairs_of attributes.now)) (map rule_of rules.now) }
+fn first_unmet(rules: &[Rule], attributes: &[Attribute<'_>]) -> Option<usize>
+    ensures { result ≡ first_unmet (map rule_of rules.now) (pairs_of attributes.now) }
 {
-    each_is_met(rules, attributes)
+    unmet_place(rules, attributes)
 }
 
 // The same, of the rules as they lie in memory.
-fn each_is_met(rules: &[Rule], attributes: &[Attribute<'_>]) -> bool
-    ensures { result ≡ list_all (λ rule. is_met (pairs_of attributes.now) (rule_of rule)) rules.now }
+fn unmet_place(rules: &[Rule], attributes: &[Attribute<'_>]) -> Option<usize>
+    ensures { result ≡ position (λ rule. not (is_met (pairs_of attributes.now) (rule_of rule))) rules.now }
 {
-    rules.iter().all(|rule| is_met(attributes, rule))
+    rules.iter().position(|rule| !is_met(attributes, rule))
 }
 
 fn is_met(attributes: &[Attribute<'_>], rule: &Rule) -> bool

@@ -1,15 +1,14 @@
 //! How memory regions are read.
-ghost use Rattle.std.specs.{List.{list_any, position}, Prelude.{◌+◌, ◌^◌, ◌≡◌, IfOk, nat_lt}, Str.bytes_eq};
-ghost use Rattle.words.specs.Reading.{Gives, Reads};
+ghost use Rattle.std.specs.{List.{find, position}, Option.option_map, Prelude.{◌+◌, ◌^◌, ◌≡◌, IfOk, nat_lt}, Str.bytes_eq};
 ghost use Rattle.xml.specs.View.{node_of};
-ghost use Rattle.microkit.specs.Regions.{has_pages, is_aligned, is_region, page_in, region_at, region_fits, region_in};
-ghost use Rattle.microkit.specs.{Regions.{region_number, regions_meet}, View.{region_of, regions_of}};
+ghost use Rattle.microkit.specs.Regions.{address_fits, overlap_line, page_in, pages_fit, region_at, region_fits, region_in};
+ghost use Rattle.microkit.specs.{Flaws.Takes, Regions.{region_line, region_number, regions_meet}, View.{region_of, regions_of}};
 
 use crate::attributes::{number_in, number_or, text_in};
 use crate::description::{Page, Region};
 use crate::draft::Draft;
+use crate::flaws::{Flaw, Refusal};
 use std::alloc::{AllocError, Global};
-use words::{Fault, Wrong};
 use xml::Element;
 
 impl Draft {
@@ -17,11 +16,11 @@ impl Draft {
     ///
     /// # Errors
     ///
-    /// 52 where a region has this name, 55 where it hasn't whole pages or overlaps another one, and
-    /// 40 where memory is refused.
+    /// [`Refusal::Flawed`] where a region has this name, or it hasn't whole pages or overlaps
+    /// another one.
     #[tactic(auto, unfolding(crate::specs::Regions::region_at, words::specs::Reading::bind))]
-    pub(crate) fn add_region(&mut self, alloc: Global, element: &Element<'_>) -> Result<(), Fault>
-        ensures { Reads (λ _. self.new) result (region_at (node_of element.now) self.old) }
+    pub(crate) fn add_region(&mut self, alloc: Global, element: &Element<'_>) -> Result<(), Refusal>
+        ensures { Takes (λ _. self.new) result (region_at (node_of element.now) self.old) }
     {
         let region = region_in(alloc, element)?;
         check_region(&self.description.regions, &region)?;
@@ -43,29 +42,36 @@ fn region_in(alloc: Global, element: &Element<'_>) -> Result<Region, AllocError>
     })
 }
 
-#[tactic(auto, unfolding(crate::specs::Regions::region_fits))]
-fn check_region(regions: &[Region], region: &Region) -> Result<(), Fault>
+#[tactic(auto, unfolding(crate::specs::Regions::region_fits, words::specs::Reading::bind))]
+fn check_region(regions: &[Region], region: &Region) -> Result<(), Flaw>
     ensures { result ≡ region_fits (regions_of regions.now) (region_of region.now) }
 {
-    if is_region(regions, &region.name) {
-        return Err(Fault::at(Wrong::Double, region.line));
+    if let Some(line) = region_line(regions, &region.name) {
+        return Err(Flaw::Name(line));
     }
-    if !has_pages(region) || meets_any(regions, region) {
-        return Err(Fault::at(Wrong::WrongKind, region.line));
+    check_pages(region)?;
+    match overlap_line(regions, region) {
+        None => Ok(()),
+        Some(line) => Err(Flaw::Overlap(line)),
     }
-    Ok(())
 }
 
-fn is_region(regions: &[Region], name: &[u8]) -> bool
-    ensures { result ≡ is_region (regions_of regions.now) name.now }
+fn region_line(regions: &[Region], name: &[u8]) -> Option<u64>
+    ensures { result ≡ region_line (regions_of regions.now) name.now }
 {
-    has_region(regions, name)
+    line_of_name(regions, name)
 }
 
-fn has_region(regions: &[Region], name: &[u8]) -> bool
-    ensures { result ≡ list_any (λ region. bytes_eq (region_of region).name name.now) regions.now }
+// The same, of the regions as they lie in memory.
+fn line_of_name(regions: &[Region], name: &[u8]) -> Option<u64>
+    ensures { result ≡ option_map
+        (λ region. (region_of region).line)
+        (find (λ region. bytes_eq (region_of region).name name.now) regions.now) }
 {
-    regions.iter().any(|region| region.name.as_slice() == name)
+    let found = regions
+        .iter()
+        .find(|region| region.name.as_slice() == name)?;
+    Some(found.line)
 }
 
 #[tactic(auto, unfolding(crate::specs::Regions::page_in))]
@@ -79,21 +85,30 @@ fn page_in(element: &Element<'_>) -> Page
     }
 }
 
-#[tactic(auto, unfolding(crate::specs::Regions::has_pages))]
-fn has_pages(region: &Region) -> bool
-    ensures { result ≡ has_pages (region_of region.now) }
+#[tactic(auto, unfolding(crate::specs::Regions::pages_fit))]
+fn check_pages(region: &Region) -> Result<(), Flaw>
+    ensures { result ≡ pages_fit (region_of region.now) }
 {
-    region.size % region.page.bytes() == 0 && is_aligned(region)
+    if region.size % region.page.bytes() != 0 {
+        return Err(Flaw::Pages);
+    }
+    check_address(region)
 }
 
-#[tactic(auto, unfolding(crate::specs::Regions::is_aligned))]
-fn is_aligned(region: &Region) -> bool
-    ensures { result ≡ is_aligned region.now.address (region_of region.now) }
+#[tactic(auto, unfolding(crate::specs::Regions::address_fits))]
+fn check_address(region: &Region) -> Result<(), Flaw>
+    ensures { result ≡ address_fits region.now.address (region_of region.now) }
 {
-    match region.address {
-        None => true,
-        Some(address) => address % region.page.bytes() == 0
-            && ends_below_limit(address, region.size),
+    let Some(address) = region.address else {
+        return Ok(());
+    };
+    if address % region.page.bytes() != 0 {
+        return Err(Flaw::Address);
+    }
+    if ends_below_limit(address, region.size) {
+        Ok(())
+    } else {
+        Err(Flaw::Beyond)
     }
 }
 
@@ -104,17 +119,20 @@ fn ends_below_limit(base: u64, size: u64) -> bool
     base.checked_add(size).is_some()
 }
 
-// Whether a region overlaps one of these.
-fn meets_any(regions: &[Region], region: &Region) -> bool
-    ensures { result ≡ list_any (regions_meet (region_of region.now)) (regions_of regions.now) }
+fn overlap_line(regions: &[Region], region: &Region) -> Option<u64>
+    ensures { result ≡ overlap_line (regions_of regions.now) (region_of region.now) }
 {
-    meets_one(regions, region)
+    line_of_overlap(regions, region)
 }
 
-fn meets_one(regions: &[Region], region: &Region) -> bool
-    ensures { result ≡ list_any (λ other. regions_meet (region_of region.now) (region_of other)) regions.now }
+// The same, of the regions as they lie in memory.
+fn line_of_overlap(regions: &[Region], region: &Region) -> Option<u64>
+    ensures { result ≡ option_map
+        (λ other. (region_of other).line)
+        (find (λ other. regions_meet (region_of region.now) (region_of other)) regions.now) }
 {
-    regions.iter().any(|other| meets(region, other))
+    let found = regions.iter().find(|other| meets(region, other))?;
+    Some(found.line)
 }
 
 #[tactic(auto, unfolding(crate::specs::Regions::regions_meet))]
@@ -140,15 +158,12 @@ fn is_below_end(address: u64, base: u64, size: u64) -> bool
 ///
 /// # Errors
 ///
-/// 51 where no region has it.
+/// [`Flaw::NoRegion`] where no region has it.
 #[tactic(auto, unfolding(crate::specs::Regions::region_number))]
-pub(crate) fn region_number(regions: &[Region], name: &[u8], line: u64) -> Result<usize, Fault>
-    ensures { result ≡ region_number line (regions_of regions.now) name.now }
+pub(crate) fn region_number(regions: &[Region], name: &[u8]) -> Result<usize, Flaw>
+    ensures { result ≡ region_number (regions_of regions.now) name.now }
 {
-    match position_of(regions, name) {
-        Some(number) => Ok(number),
-        None => Err(Fault::at(Wrong::UnknownName, line)),
-    }
+    position_of(regions, name).ok_or(Flaw::NoRegion)
 }
 
 fn position_of(regions: &[Region], name: &[u8]) -> Option<usize>

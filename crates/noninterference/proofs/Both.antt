@@ -8,12 +8,12 @@ use Rattle.machine.specs.{Refusing.◌>>=◌, Step.Find.{find, find_cap, of_kind
 use Rattle.machine.specs.declared.object.ObjectKind.{ObjectKind}
 use Rattle.table.specs.Rules.{IsLawful}
 use Rattle.policy.specs.{Change.ActorTest, Domain.EdgeTest, Sharp.UsesRise}
-use Rattle.integrity.specs.{Acting.HoldsOfActors, Invariant.IsSound, Keeping.IsSharp, Safe.IsReached, Shrinks.IsSame}
+use Rattle.integrity.{specs.{Acting.HoldsOfActors, Invariant.IsSound, Keeping.IsSharp, Safe.IsReached, Shrinks.IsSame}, proofs.Runs.IsKept}
 use Rattle.reach.specs.{Extents.Limits, Reach.HasBootAuthority}
 use Rattle.flows.specs.{Seeing.{WayToSee}}
 use Rattle.fixed.specs.Fixed.{IsFixed, IsStill, StaysFixed}
 use Rattle.fixed.proofs.{Finds.IsFixedAt, SameFinds.{find_alike, lookup_alike}}
-use Rattle.noninterference.{specs.Alike.IsAlikeTo, proofs.{Kept.{IsKept, kept_of, sound_of}, Reaching.{fixed_at, labels_alike, stays_from, still_alike}}}
+use Rattle.noninterference.{specs.Alike.IsAlikeTo, proofs.{Kept.{kept_of, sound_of}, Reaching.{fixed_at, labels_alike, stays_from, still_alike}}}
 
 -- the edges and the labels that act, as limits
 abbrev pub limits : EdgeTest → ActorTest → Limits
@@ -44,13 +44,13 @@ module _
       (m n : Machine) → IsReached t m → IsReached t n → acts a ≡ true → IsAlikeTo t (limits allowed acts) a m n
       → AreBoth t allowed acts a m n
   both_of m n one other actor alike = record {
-    one = sound_of t allowed lawful fixed sharp boots formed m one;
-    other = sound_of t allowed lawful fixed sharp boots formed n other;
+    one = sound_of t allowed lawful sharp boots formed m one;
+    other = sound_of t allowed lawful sharp boots formed n other;
     rise = sharp.uses_rise;
     actor = actor;
     actors = actors;
-    kept = kept_of t allowed lawful fixed sharp boots formed m one;
-    kept_too = kept_of t allowed lawful fixed sharp boots formed n other;
+    kept = kept_of t allowed lawful sharp boots formed m one;
+    kept_too = kept_of t allowed lawful sharp boots formed n other;
     alike = alike;
     fixed = fixed_at t lawful fixed formed m one;
     fixed_too = fixed_at t lawful fixed formed n other;

@@ -8,10 +8,11 @@ use Rattle.machine.specs.{Authority.{label_of, links, state_links}, Layout.Layou
 use Rattle.machine.{specs.WellFormed.{IsSending, IsThread, WaitsAt}, proofs.Ids.itself}
 use Rattle.policy.specs.{Change.{ActorTest, WayToChange.{modifies, own}, is_changing}, Domain.EdgeTest}
 use Rattle.integrity.specs.{Acting.HoldsOfActors, Invariant.IsSound, Shrinks.{IsBlocked, IsSame}}
-use Rattle.integrity.proofs.{Asleep.blocked_acts, Awake.has_threads, Keeps.some_event, MessageParts.thread_edge, Shrinking.same_tcb}
+use Rattle.integrity.proofs.{Asleep.blocked_acts, Awake.has_threads, Keeps.some_event, MessageParts.thread_edge, Runs.IsKept}
+use Rattle.integrity.proofs.Shrinking.{same_tcb}
 use Rattle.flows.specs.{Flowing.{DependsOn, FilterTest, FlowsBy}, Seeing.{WayToSee, WayToSee.{awaits, receives, sends}}}
 use Rattle.noninterference.specs.{Alike.{IsAlikeAt, IsAlikeTo, WaitAlike}, Sets.{AreAlikeTo, FiltersShowAlike, IsClosedBeside, SetTest}}
-use Rattle.noninterference.proofs.{Both.limits, Kept.IsKept}
+use Rattle.noninterference.proofs.Both.{limits}
 
 -- by what a run state waits at an object: the label has that authority over it, may change it, and sees it
 record IsWaitKind (run : RunState) (id : ObjId) : Type 0 where

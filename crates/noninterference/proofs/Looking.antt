@@ -18,7 +18,7 @@ pub looks_alike :
     → (acts a ≡ true → IsAlikeTo t (limits allowed acts) a m n) → IsSame m n event.thread → (outcome other : Outcome) (next after : Machine)
     → Step m event outcome next → Step n event other after → (other ≡ outcome) × KeepsAlike m n next after
 looks_alike t allowed acts lawful fixed sharp boots actors formed a m n event one two mine alike same outcome other next after step again =
-    let sound = sound_of t allowed lawful fixed sharp boots formed in
+    let sound = sound_of t allowed lawful sharp boots formed in
     steps_alike m n event (sound m one).well_formed (sound n two).well_formed (fixed_at t lawful fixed formed m one)
     (fixed_at t lawful fixed formed n two) (by_acts (acts a) refl) outcome other next after step again
   where
@@ -29,5 +29,5 @@ looks_alike t allowed acts lawful fixed sharp boots actors formed a m n event on
         made_alike t allowed acts a m n both event.thread mine event.core event.call
         (λ is. call_alike t allowed acts a m n both event.thread mine is event.call)
     by_acts false idle =
-        idle_alike t allowed acts a m n (sound_of t allowed lawful fixed sharp boots formed m one)
-        (kept_of t allowed lawful fixed sharp boots formed m one) actors event.thread mine idle same event.core event.call
+        idle_alike t allowed acts a m n (sound_of t allowed lawful sharp boots formed m one)
+        (kept_of t allowed lawful sharp boots formed m one) actors event.thread mine idle same event.core event.call

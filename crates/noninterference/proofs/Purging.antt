@@ -51,8 +51,8 @@ module _
     ends =
         looks_alike t allowed acts lawful fixed sharp boots actors formed a m n event one two mine
         (λ actor.
-        alike_to t allowed acts m n (sound_of t allowed lawful fixed sharp boots formed m one)
-        (kept_of t allowed lawful fixed sharp boots formed m one) actors filters inside closed alike shows a within actor)
+        alike_to t allowed acts m n (sound_of t allowed lawful sharp boots formed m one)
+        (kept_of t allowed lawful sharp boots formed m one) actors filters inside closed alike shows a within actor)
         (alike event.thread a a mine within (inl refl)) outcome other next after step again
 
     by_object :
@@ -61,8 +61,8 @@ module _
     by_object id l y labelled ours depends true filtered = shown.objects id l y labelled filtered ours depends
     by_object id l y labelled ours depends false beside =
         ends.1 id
-        (alike_at t allowed acts m n (sound_of t allowed lawful fixed sharp boots formed m one)
-        (kept_of t allowed lawful fixed sharp boots formed m one) actors filters inside closed alike shows id l y
+        (alike_at t allowed acts m n (sound_of t allowed lawful sharp boots formed m one)
+        (kept_of t allowed lawful sharp boots formed m one) actors filters inside closed alike shows id l y
         (label_before m next event outcome one step id ∙ labelled) beside ours depends)
 
     kept : Alike next after

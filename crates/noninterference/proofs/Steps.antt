@@ -10,11 +10,11 @@ use Rattle.machine.{specs.{Step.{Step.{ends, lacks}, thread_in}, WellFormed.{IsT
 use Rattle.steps.proofs.{Admission.{IsCaller, admits}, Calls.event_done, Conditions.both_done}
 use Rattle.policy.specs.{Change.ActorTest, Domain.EdgeTest}
 use Rattle.integrity.specs.{Acting.HoldsOfActors, Awake.{IsAsleep, SleepsOrActs}, Invariant.IsSound, Shrinks.IsSame}
-use Rattle.integrity.proofs.{Awake.has_threads, Keeps.some_event, MessageParts.thread_edge}
+use Rattle.integrity.proofs.{Awake.has_threads, Keeps.some_event, MessageParts.thread_edge, Runs.IsKept}
 use Rattle.flows.specs.Seeing.WayToSee.{runs}
 use Rattle.fixed.{specs.Fixed.NeedsNodeOrThread, proofs.{CallsStay.none_done, Finds.IsFixedAt}}
 use Rattle.noninterference.specs.Alike.{KeepsAlike}
-use Rattle.noninterference.proofs.{Both.{AreBoth, own_same, seen_same}, Ends.{EndsAlike, follows_alike, follows_same, settled_alike}, Kept.IsKept}
+use Rattle.noninterference.proofs.{Both.{AreBoth, own_same, seen_same}, Ends.{EndsAlike, follows_alike, follows_same, settled_alike}}
 
 thread_there : (object : Option Object) (thread : Tcb) → thread_in object ≡ Ok thread → object ≡ Some (o.Tcb thread)
 thread_there (Some (o.Tcb tcb)) thread e = cc

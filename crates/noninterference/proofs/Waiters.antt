@@ -12,10 +12,9 @@ use Rattle.steps.proofs.{EndpointRow.{IsReceiver, IsSender}}
 use Rattle.policy.specs.{Change.{ActorTest}, Domain.EdgeTest}
 use Rattle.integrity.specs.{Invariant.IsSound, Shrinks.{IsBlocked, IsSame}}
 use Rattle.integrity.proofs.{Asleep.blocked_acts, Awake.has_threads, Keeps.some_event}
-use Rattle.integrity.proofs.{MessageParts.{receiver_receives, sender_sends}}
+use Rattle.integrity.proofs.{MessageParts.{receiver_receives, sender_sends}, Runs.IsKept}
 use Rattle.flows.specs.Seeing.WayToSee.{receivers, senders}
 use Rattle.noninterference.proofs.Both.{AreBoth, seen_same}
-use Rattle.noninterference.proofs.{Kept.IsKept}
 
 module _ (t : Layout) (allowed : EdgeTest) (acts : ActorTest) (a : ℕ) (m n : Machine) (both : AreBoth t allowed acts a m n) where
   -- the label of a thread that is blocked acts

@@ -1,3 +1,4 @@
+pub mod Among
 pub mod Holding
 pub mod WhoActs
 pub mod LeastReach

@@ -206,7 +206,7 @@ pub const CALLS: [EngineCall; 41] = [
         policy: "",
         third: CLAIMS,
         status: 0,
-        text: "{\"claims\":4,\"verdict\":\"hold\"}\n",
+        text: "{\"claims\":4,\"kept\":\"calls\",\"verdict\":\"hold\"}\n",
     },
     EngineCall {
         name: "engine_strongest",
@@ -586,13 +586,14 @@ end
 const BREACHES: &str =
     "{\"broken\":[{\"authority\":\"full\",\"claim\":\"none a *\",\"line\":2,\"pair\":[\"a\",\"b\"]},\
     {\"authority\":\"full\",\"claim\":\"take a b\",\"line\":3},\
-    {\"claim\":\"without a notify b\",\"line\":5}],\"verdict\":\"broken\"}\n";
+    {\"claim\":\"without a notify b\",\"line\":5}],\"kept\":\"calls\",\"verdict\":\"broken\"}\n";
 
 /// A description of one protection domain, which reads one region.
 const DESCRIPTION: &str = "\
 <system>
 <memory_region name='r' size='0x1000'/>
 <protection_domain name='a'>
+<program_image path='a.elf'/>
 <map mr='r' vaddr='0x1000' perms='r'/>
 </protection_domain>
 </system>
@@ -606,9 +607,11 @@ label r
 cnode a_space a 0x4000 9
 tcb a_main a 0x8000 ready
 notification a_bell a 0x8400
+reply a_answer a 0x8420
 context a_time0 a 0x8500 0 1000 1000
 frame r_frame r 0x9000
 cap a_space.1 a_bell r 0
+cap a_space.4 a_answer
 cap a_space.458 r_frame r
 cap a_main.root a_space 55 0x0
 bind a_main a_time0
@@ -620,8 +623,9 @@ const LIST_OF_A_DESCRIPTION: &str = "\
 0 cnode a_space a
 1 tcb a_main a
 2 notification a_bell a
-3 context a_time0 a
-4 frame r_frame r
+3 reply a_answer a
+4 context a_time0 a
+5 frame r_frame r
 ";
 
 /// A text whose second line is no line of a table.

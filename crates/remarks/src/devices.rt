@@ -1,28 +1,37 @@
-//! What regions at fixed addresses are to devices, as far as a description says.
+//! What regions are to devices, as far as a description says.
 use forms::Shown;
-use microkit::{Description, Map, User};
+use microkit::{Description, Map, User, Variable};
 use std::fmt;
 
-/// What a region at a fixed address is.
-#[derive(Clone, Copy, PartialEq, Eq, Debug)]
-pub(crate) enum Fixed {
-    /// Registers of a device: somebody maps them uncached.
+/// What a region is to devices.
+#[derive(Clone, Copy, Debug)]
+pub(crate) enum DeviceUse {
+    /// Registers of a device: the region has a fixed address, and somebody maps it uncached.
     Registers,
-    /// Memory, which a device may write by itself.
+    /// Memory at a fixed address, which a device may write by itself.
     Memory,
+    /// Memory whose address a domain gets by this variable, so that a device may write it by itself.
+    Told(Variable),
 }
 
-/// Returns what the region of this number is, if it has a fixed address and somebody maps it.
-pub(crate) fn fixed_at(description: &Description, number: usize) -> Option<Fixed> {
-    description.regions.get(number)?.address?;
+/// Returns what the region of this number is to devices, if somebody maps it.
+pub(crate) fn device_use(description: &Description, number: usize) -> Option<DeviceUse> {
+    let region = description.regions.get(number)?;
     let maps = &description.maps;
-    if maps.iter().any(|map| is_uncached(map, number)) {
-        Some(Fixed::Registers)
-    } else if maps.iter().any(|map| map.region == number) {
-        Some(Fixed::Memory)
-    } else {
-        None
+    if !maps.iter().any(|map| map.region == number) {
+        return None;
     }
+    for variable in &description.variables {
+        if variable.region == number {
+            return Some(DeviceUse::Told(*variable));
+        }
+    }
+    region.address?;
+    Some(if maps.iter().any(|map| is_uncached(map, number)) {
+        DeviceUse::Registers
+    } else {
+        DeviceUse::Memory
+    })
 }
 
 fn is_uncached(map: &Map, region: usize) -> bool {

@@ -1,4 +1,6 @@
 //! Why a text isn't a document: the first thing in it that isn't spelled as it should be.
+ghost use Rattle.std.specs.Prelude.{◌≤◌};
+
 use forms::{File, LayoutFlaw, Shown, header_flaw, line_at};
 use std::alloc::{AllocError, Global};
 use std::fmt;
@@ -15,21 +17,36 @@ pub(crate) enum Slip<'t> {
     DocumentType,
     CharacterData,
     Instruction,
+    /// A declaration that isn't as it must be.
+    Declaration,
+    /// A declaration without an end.
+    OpenDeclaration,
+    /// A declaration of a namespace.
     Namespace,
+    /// The prefix of a name, by which a namespace is meant.
+    Prefix(&'t [u8]),
     /// A comment without an end.
     OpenComment,
     /// Two dashes in a comment.
     Dashes,
     /// Something behind the root.
-    AfterRoot,
+    AfterRoot(Open<'t>),
     /// Text between tags.
     Text,
     /// A tag without a name.
     Nameless,
+    /// The tag of an end without a name.
+    NamelessEnd,
     /// The end of an element where none is open.
     NoneOpen(&'t [u8]),
-    /// The end of another element than the one that is open.
+    /// The end of an element that isn't open, and the innermost one that is.
+    NotOpen(&'t [u8], Open<'t>),
+    /// The end of an element that is open, and the innermost one, which must end first.
     OtherEnd(&'t [u8], Open<'t>),
+    /// The tag of an end in which something else than a name stands, with its own line.
+    EndTag(Open<'t>),
+    /// A tag in which the text ends.
+    EndsInTag(Open<'t>),
     /// An element without an end.
     Unclosed(Open<'t>),
     /// A limit of the text.
@@ -72,6 +89,9 @@ pub(crate) struct Open<'t> {
     line: u64,
 }
 
+/// The encodings that a declaration may have.
+const ENCODINGS: [&str; 4] = ["UTF-8", "utf-8", "US-ASCII", "us-ascii"];
+
 /// Returns the first thing in a text that isn't spelled as it should be.
 ///
 /// # Errors
@@ -91,10 +111,11 @@ pub(crate) fn first_slip<'t>(alloc: Global, text: &'t [u8]) -> Result<Slip<'t>, 
         rest: text,
         line: 1,
         open: Vec::new(alloc),
+        root: None,
         begun: 0,
     };
-    if text.starts_with(b"<?xml") {
-        scan.take_past(b"?>");
+    if let Some(slip) = scan.declaration() {
+        return Ok(slip);
     }
     for _ in 0..text.len() {
         scan.spaces();
@@ -128,6 +149,8 @@ struct Scan<'t> {
     rest: &'t [u8],
     line: u64,
     open: Vec<Open<'t>>,
+    /// The root, if it began.
+    root: Option<Open<'t>>,
     /// How many elements began.
     begun: usize,
 }
@@ -162,10 +185,11 @@ impl<'t> Scan<'t> {
         false
     }
 
-    // Takes the white space that comes next.
-    fn spaces(&mut self) {
+    // Takes the white space that comes next. Returns whether any did.
+    fn spaces(&mut self) -> bool {
         let count = self.rest.iter().take_while(|byte| is_space(**byte)).count();
         self.take(count);
+        count > 0
     }
 
     // Takes the name that comes next; nothing, if none does.
@@ -182,6 +206,64 @@ impl<'t> Scan<'t> {
         self.take(count)
     }
 
+    // Takes the quote that comes next, if one does.
+    fn quote(&mut self) -> Option<u8> {
+        match self.rest.first() {
+            Some(quote) if *quote == b'"' || *quote == b'\'' => {
+                let quote = *quote;
+                self.take(1);
+                Some(quote)
+            }
+            _ => None,
+        }
+    }
+
+    // Takes what may stand in a value between such quotes.
+    fn spelled(&mut self, quote: u8) -> &'t [u8] {
+        let count = self
+            .rest
+            .iter()
+            .take_while(|byte| is_of_value(quote, **byte))
+            .count();
+        self.take(count)
+    }
+
+    // Takes the declaration, if there is one. Returns what is wrong with it, if anything is.
+    fn declaration(&mut self) -> Option<Slip<'t>> {
+        if !self.has_taken(b"<?xml") {
+            return None;
+        }
+        if !self.spaces() || !self.has_taken(b"version") || !self.has_one_of(&["1.0"]) {
+            return Some(Slip::Declaration);
+        }
+        let is_apart = self.spaces();
+        if self.has_taken(b"encoding") && !(is_apart && self.has_one_of(&ENCODINGS)) {
+            return Some(Slip::Declaration);
+        }
+        self.spaces();
+        if self.has_taken(b"?>") {
+            return None;
+        }
+        match self.rest.first() {
+            Some(byte) if byte.is_ascii_alphabetic() => Some(Slip::Declaration),
+            _ => Some(Slip::OpenDeclaration),
+        }
+    }
+
+    // Takes `=`, and a value in quotes. Returns whether it is one of these.
+    fn has_one_of(&mut self, values: &[&str]) -> bool {
+        self.spaces();
+        if !self.has_taken(b"=") {
+            return false;
+        }
+        self.spaces();
+        let Some(quote) = self.quote() else {
+            return false;
+        };
+        let value = self.spelled(quote);
+        self.has_taken(&[quote]) && values.iter().any(|known| known.as_bytes() == value)
+    }
+
     // Takes a comment or a tag. Returns what is wrong with it, if anything is.
     fn item(&mut self, alloc: Global) -> Result<Option<Slip<'t>>, AllocError> {
         if self.has_taken(b"<!--") {
@@ -196,8 +278,8 @@ impl<'t> Scan<'t> {
         if self.rest.starts_with(b"<?") {
             return Ok(Some(Slip::Instruction));
         }
-        if self.begun > 0 && self.open.is_empty() {
-            return Ok(Some(Slip::AfterRoot));
+        if let (Some(root), true) = (self.root, self.open.is_empty()) {
+            return Ok(Some(Slip::AfterRoot(root)));
         }
         if self.has_taken(b"</") {
             return Ok(self.end());
@@ -222,18 +304,31 @@ impl<'t> Scan<'t> {
 
     // Takes what is left of the tag that ends an element.
     fn end(&mut self) -> Option<Slip<'t>> {
+        let line = self.line;
         let name = self.name();
+        if name.is_empty() {
+            return Some(Slip::NamelessEnd);
+        }
+        if self.rest.starts_with(b":") {
+            return Some(Slip::Prefix(name));
+        }
         match self.open.pop() {
             None => return Some(Slip::NoneOpen(name)),
-            Some(open) if open.name != name => return Some(Slip::OtherEnd(name, open)),
-            Some(_) => {}
+            Some(open) if open.name == name => {}
+            Some(open) if self.is_open(name) => return Some(Slip::OtherEnd(name, open)),
+            Some(open) => return Some(Slip::NotOpen(name, open)),
         }
         self.spaces();
         if self.has_taken(b">") {
             None
         } else {
-            Some(Slip::Tag(name))
+            Some(Slip::EndTag(Open { name, line }))
         }
+    }
+
+    // Whether an element of this name is open.
+    fn is_open(&self, name: &[u8]) -> bool {
+        self.open.iter().any(|open| open.name == name)
     }
 
     // Returns the limit that one element more would pass.
@@ -254,25 +349,32 @@ impl<'t> Scan<'t> {
         if name.is_empty() {
             return Ok(Some(Slip::Nameless));
         }
+        if name == b"xmlns".as_slice() {
+            return Ok(Some(Slip::Namespace));
+        }
         if let Some(limit) = self.limit() {
             return Ok(Some(Slip::Limit(limit)));
         }
+        if self.rest.starts_with(b":") {
+            return Ok(Some(Slip::Prefix(name)));
+        }
+        let tag = Open { name, line };
         self.begun = self.begun.saturating_add(1);
+        self.root = Some(self.root.unwrap_or(tag));
         let mut given = Vec::new(alloc);
         for _ in 0..self.rest.len() {
-            let left = self.rest.len();
-            self.spaces();
+            let is_apart = self.spaces();
             if self.has_taken(b"/>") {
                 return Ok(None);
             }
             if self.has_taken(b">") {
-                self.open.push(Open { name, line })?;
+                self.open.push(tag)?;
                 return Ok(None);
             }
-            if self.rest.starts_with(b":") || self.rest.starts_with(b"xmlns") {
-                return Ok(Some(Slip::Namespace));
+            if self.rest.is_empty() {
+                return Ok(Some(Slip::EndsInTag(tag)));
             }
-            if self.rest.len() == left {
+            if !is_apart {
                 return Ok(Some(Slip::Tag(name)));
             }
             let attribute = self.name();
@@ -280,34 +382,27 @@ impl<'t> Scan<'t> {
                 return Ok(Some(slip));
             }
             given.push(attribute)?;
-            if let Some(slip) = self.attribute(name, attribute) {
+            if let Some(slip) = self.attribute(attribute) {
                 return Ok(Some(slip));
             }
         }
-        Ok(Some(Slip::Tag(name)))
+        Ok(Some(Slip::EndsInTag(tag)))
     }
 
-    // Takes what follows the name of an attribute, of an element of that name.
-    fn attribute(&mut self, element: &'t [u8], name: &'t [u8]) -> Option<Slip<'t>> {
-        if name.is_empty() {
-            return Some(Slip::Tag(element));
+    // Takes what follows the name of an attribute.
+    fn attribute(&mut self, name: &'t [u8]) -> Option<Slip<'t>> {
+        if self.rest.starts_with(b":") {
+            return Some(Slip::Prefix(name));
         }
         self.spaces();
         if !self.has_taken(b"=") {
             return Some(Slip::NoValue(name));
         }
         self.spaces();
-        let quote = match self.rest.first() {
-            Some(quote) if *quote == b'"' || *quote == b'\'' => *quote,
-            _ => return Some(Slip::NoQuote(name)),
+        let Some(quote) = self.quote() else {
+            return Some(Slip::NoQuote(name));
         };
-        self.take(1);
-        let count = self
-            .rest
-            .iter()
-            .take_while(|byte| is_of_value(quote, **byte))
-            .count();
-        let value = self.take(count);
+        let value = self.spelled(quote);
         if !self.has_taken(&[quote]) {
             return Some(Slip::Value(name));
         }
@@ -321,9 +416,13 @@ impl<'t> Scan<'t> {
     }
 }
 
-// Why an element of this name, which has attributes of the names that are given, can't have one more.
+// Why an element of this name, which has attributes of the names that are given, can't have one more, of that name.
 fn refused<'t>(given: &[&'t [u8]], element: &'t [u8], name: &'t [u8]) -> Option<Slip<'t>> {
-    if given.iter().any(|other| *other == name) {
+    if name.is_empty() {
+        Some(Slip::Tag(element))
+    } else if name == b"xmlns".as_slice() {
+        Some(Slip::Namespace)
+    } else if given.iter().any(|other| *other == name) {
         Some(Slip::Twice(name, element))
     } else if given.len() >= MAX_ATTRIBUTES {
         Some(Slip::Limit(Limit::Attributes(element)))
@@ -371,8 +470,36 @@ fn has_known_references(value: &[u8]) -> bool {
 // Whether what stands behind an `&` is a reference, and then anything.
 fn is_reference(piece: &[u8]) -> bool {
     let names: [&[u8]; 5] = [b"lt;", b"gt;", b"amp;", b"quot;", b"apos;"];
-    names.iter().any(|name| piece.starts_with(name))
-        || piece.starts_with(b"#") && piece.contains(&b';')
+    names.iter().any(|name| piece.starts_with(name)) || is_of_number(piece)
+}
+
+// Whether it begins with the number of a printable ASCII character, as a reference has it behind its `&`.
+fn is_of_number(piece: &[u8]) -> bool {
+    let mut parts = piece.split(|byte| *byte == b';');
+    let (Some(number), Some(_)) = (parts.next(), parts.next()) else {
+        return false;
+    };
+    let code = if let Some(digits) = number.strip_prefix(b"#x") {
+        code_of(16, digits)
+    } else if let Some(digits) = number.strip_prefix(b"#") {
+        code_of(10, digits)
+    } else {
+        None
+    };
+    code.is_some_and(|code| (32..=126).contains(&code))
+}
+
+// The number that these digits are.
+fn code_of(base: u32, digits: &[u8]) -> Option<u32>
+    requires low { 2 ≤ base }
+    requires high { base ≤ 16 }
+{
+    let mut code: u32 = 0;
+    for byte in digits {
+        let digit = (*byte as char).to_digit(base)?;
+        code = code.checked_mul(base)?.checked_add(digit)?;
+    }
+    Some(code)
 }
 
 impl Slip<'_> {
@@ -385,26 +512,57 @@ impl Slip<'_> {
     }
 }
 
+impl fmt::Display for Open<'_> {
+    fn fmt<W: fmt::Write>(&self, f: &mut fmt::Formatter<W>) -> fmt::Result {
+        let name = Shown { bytes: self.name };
+        write!(f, "`<{name}>` of line {}", self.line)
+    }
+}
+
 impl fmt::Display for Slip<'_> {
     fn fmt<W: fmt::Write>(&self, f: &mut fmt::Formatter<W>) -> fmt::Result {
         match *self {
+            Slip::Prefix(name) => {
+                let name = Shown { bytes: name };
+                write!(f, "namespaces aren't allowed: remove the prefix `{name}:`")
+            }
+            Slip::AfterRoot(root) => tell_after(f, root),
             Slip::NoneOpen(name) => {
                 let name = Shown { bytes: name };
                 write!(f, "`</{name}>` ends an element, but none is open")
             }
-            Slip::OtherEnd(name, open) => {
-                let Open { name: inner, line } = open;
-                let (name, inner) = (Shown { bytes: name }, Shown { bytes: inner });
+            Slip::NotOpen(name, open) => {
+                let (name, inner) = (Shown { bytes: name }, Shown { bytes: open.name });
                 write!(
                     f,
-                    "`</{name}>` ends no open element: `<{inner}>` of line {line} must end first, by `</{inner}>`, or by \
-                     `/>` in its tag"
+                    "`</{name}>` ends an element that isn't open: remove it, or write `</{inner}>` to end the innermost open \
+                     element, {open}"
+                )
+            }
+            Slip::OtherEnd(name, open) => {
+                let (name, inner) = (Shown { bytes: name }, Shown { bytes: open.name });
+                write!(
+                    f,
+                    "`</{name}>` ends no open element: {open} must end first, by `</{inner}>`, or by `/>` in its tag"
+                )
+            }
+            Slip::EndTag(Open { name, line }) => {
+                let name = Shown { bytes: name };
+                write!(
+                    f,
+                    "the end tag `</{name}` of line {line} must have nothing but `>` behind its name"
+                )
+            }
+            Slip::EndsInTag(Open { name, line }) => {
+                let name = Shown { bytes: name };
+                write!(
+                    f,
+                    "the text ends in the tag of `{name}`, which begins in line {line}"
                 )
             }
             Slip::Unclosed(open) => {
-                let Open { name, line } = open;
-                let name = Shown { bytes: name };
-                write!(f, "`<{name}>` of line {line} has no end `</{name}>`")
+                let name = Shown { bytes: open.name };
+                write!(f, "{open} has no end `</{name}>`")
             }
             Slip::Tag(name) => {
                 let name = Shown { bytes: name };
@@ -436,8 +594,8 @@ impl fmt::Display for Slip<'_> {
                 let name = Shown { bytes: name };
                 write!(
                     f,
-                    "in the value of `{name}` an `&` must begin `&lt;`, `&gt;`, `&amp;`, `&quot;`, `&apos;`, or a number \
-                     as `&#65;`"
+                    "in the value of `{name}` an `&` must begin `&lt;`, `&gt;`, `&amp;`, `&quot;`, `&apos;`, or the number \
+                     of a printable ASCII character, as `&#65;`"
                 )
             }
             slip => f.write_str(plain(slip)),
@@ -449,6 +607,17 @@ impl fmt::Display for Slip<'_> {
 fn tell_header<W: fmt::Write>(f: &mut fmt::Formatter<W>, other: File) -> fmt::Result {
     let (name, wanted) = (other.name(), File::Description.name());
     write!(f, "this is the header of a {name}, not of a {wanted}")
+}
+
+// That something stands behind the root.
+fn tell_after<W: fmt::Write>(f: &mut fmt::Formatter<W>, root: Open<'_>) -> fmt::Result {
+    if root.name == b"system".as_slice() {
+        return f.write_str("`<system>` has ended: only comments may follow");
+    }
+    write!(
+        f,
+        "{root} is the root, and ends before this: a description is one element `system`, with all else in it"
+    )
 }
 
 // That an attribute is given twice.
@@ -496,15 +665,20 @@ fn plain(slip: Slip<'_>) -> &'static str {
         Slip::DocumentType => "document types aren't allowed",
         Slip::CharacterData => "CDATA isn't allowed",
         Slip::Instruction => "`<?` is only allowed in one declaration, before all else",
-        Slip::Namespace => "namespaces aren't allowed",
+        Slip::Declaration => {
+            "the declaration must be `<?xml version=\"1.0\"?>`, if need be with encoding=\"UTF-8\" or \"US-ASCII\" behind the \
+             version"
+        }
+        Slip::OpenDeclaration => "the declaration of line 1 must end with `?>`",
+        Slip::Namespace => "namespaces aren't allowed: remove `xmlns`",
         Slip::OpenComment => "a comment has no end `-->`",
         Slip::Dashes => "`--` isn't allowed in a comment",
-        Slip::AfterRoot => "after the root only comments are allowed",
         Slip::Text => "text isn't allowed between tags",
         Slip::Nameless => "a tag must begin with a name",
+        Slip::NamelessEnd => "the name of the element must stand directly behind `</`",
         _ => {
-            "only one root is allowed, with elements, attributes of printable ASCII, and comments. A declaration can \
-             only have version 1.0, and the encoding UTF-8 or US-ASCII."
+            "only one root is allowed, with elements, attributes of printable ASCII, and comments without control \
+             characters"
         }
     }
 }

@@ -1,6 +1,6 @@
 //! The elements of a description, and where they stand.
 use microkit::number_of;
-use xml::Element;
+use xml::{Attribute, Element};
 
 /// An element, by its number in the document.
 #[derive(Clone, Copy)]
@@ -23,14 +23,44 @@ impl<'a, 't> Place<'a, 't> {
         }
     }
 
+    /// Returns the line of the element, which is 0 where there is none.
+    pub(crate) fn line(self) -> u64 {
+        match self.element() {
+            Some(element) => element.line,
+            None => 0,
+        }
+    }
+
+    /// Returns the level of the element, which is 0 where there is none.
+    pub(crate) fn level(self) -> usize {
+        match self.element() {
+            Some(element) => element.level,
+            None => 0,
+        }
+    }
+
+    /// Returns the attribute of this name.
+    pub(crate) fn attribute(self, name: &str) -> Option<&'a Attribute<'t>> {
+        self.element()?
+            .attributes
+            .iter()
+            .find(|attribute| attribute.name == name.as_bytes())
+    }
+
+    /// Returns the name of the attribute of this number, which is empty where there is none.
+    pub(crate) fn attribute_name(self, number: usize) -> &'a [u8] {
+        match self.element() {
+            Some(element) => match element.attributes.get(number) {
+                Some(attribute) => attribute.name,
+                None => b"",
+            },
+            None => b"",
+        }
+    }
+
     /// Returns the value of an attribute.
     pub(crate) fn value(self, name: &str) -> Option<&'a [u8]> {
-        for attribute in &self.element()?.attributes {
-            if attribute.name == name.as_bytes() {
-                return Some(&attribute.value);
-            }
-        }
-        None
+        Some(&self.attribute(name)?.value)
     }
 
     /// Returns the number of an attribute.
@@ -73,17 +103,5 @@ impl<'a, 't> Place<'a, 't> {
     /// Whether the element has this name.
     pub(crate) fn is_named(self, name: &str) -> bool {
         self.name() == name.as_bytes()
-    }
-
-    /// Returns the first element before it that has this name and the same value of an attribute.
-    pub(crate) fn twin(self, attribute: &str) -> Option<Place<'a, 't>> {
-        let value = self.value(attribute)?;
-        for number in 0..self.number {
-            let other = self.at(number);
-            if other.name() == self.name() && other.value(attribute) == Some(value) {
-                return Some(other);
-            }
-        }
-        None
     }
 }

@@ -9,9 +9,10 @@ mod elements;
 mod faults;
 mod flaws;
 mod limits;
-mod naming;
 mod near;
 mod notes;
+mod others;
+mod overlaps;
 mod rules;
 
 pub use devices::Writers;

@@ -1,59 +1,100 @@
-//! The limits that an element passes.
+//! The limits that the table of a description passes.
 use crate::elements::Place;
-use crate::flaws::Flaw;
-use crate::naming::Found;
+use crate::flaws::{Cause, LAST_CORE, Said};
 use base::MAX_PERIOD;
-use microkit::{MAX_DOMAINS, MAX_ID, MAX_PRIORITY, number_of};
+use xml::Element;
 
-/// The number of the last core.
-const LAST_CORE: u64 = 15;
+/// Returns which element of this line passes a limit of tables.
+///
+/// It is the first one that has too large a core or time, else the only one that has objects in the table.
+pub(crate) fn limit_at<'a, 't>(elements: &'a [Element<'t>], line: u64) -> Said<'a, 't> {
+    let mut found = None;
+    let mut is_alone = false;
+    for (number, element) in elements.iter().enumerate() {
+        if element.line == line {
+            let place = Place { elements, number };
+            if let Some(cause) = own_limit(place) {
+                return said(place, cause);
+            }
+            if has_objects(place) {
+                is_alone = found.is_none();
+                found = Some(place);
+            }
+        }
+    }
+    let root = Place {
+        elements,
+        number: 0,
+    };
+    match found {
+        Some(place) if is_alone => said(place, Cause::Table),
+        _ => said(root, Cause::Several),
+    }
+}
 
-/// Returns the limit that an element passes: one of its own, or of the number of domains.
-pub(crate) fn limit_flaw<'a>(place: Place<'a, '_>) -> Option<Found<'a>> {
-    if is_above(place.value("id"), MAX_ID) {
-        return Some((Some(b"id"), Flaw::Large("id", MAX_ID)));
+fn said<'a, 't>(place: Place<'a, 't>, cause: Cause) -> Said<'a, 't> {
+    Said {
+        place,
+        cause,
+        near: None,
     }
-    if is_above(place.value("priority"), MAX_PRIORITY) {
-        return Some((Some(b"priority"), Flaw::Large("priority", MAX_PRIORITY)));
+}
+
+// Whether an element has a label or objects in the table.
+fn has_objects(place: Place<'_, '_>) -> bool {
+    let kinds = [
+        "memory_region",
+        "protection_domain",
+        "virtual_machine",
+        "vcpu",
+    ];
+    kinds.iter().any(|kind| place.is_named(kind))
+}
+
+// The limit that an element's core or time passes.
+fn own_limit(place: Place<'_, '_>) -> Option<Cause> {
+    if place.number_in("cpu").is_some_and(|core| core > LAST_CORE) {
+        return Some(Cause::Core);
     }
-    if is_above(place.value("cpu"), LAST_CORE) {
-        return Some((Some(b"cpu"), Flaw::Large("cpu", LAST_CORE)));
+    if place.is_named("vcpu") {
+        let machine = place.outer()?;
+        if machine.line() == place.line() {
+            return None;
+        }
+        return Some(Cause::MachineTime(wrong_time(machine)?));
     }
-    if is_no_time(place.value("budget")) {
-        return Some((Some(b"budget"), Flaw::Time("budget")));
+    if place.is_named("virtual_machine") && !runs_here(place) {
+        return None;
     }
-    if is_no_time(place.value("period")) {
-        return Some((Some(b"period"), Flaw::Time("period")));
+    Some(Cause::Time(wrong_time(place)?))
+}
+
+// Whether a virtual machine has a virtual processor in its own line. With an id it is one itself.
+fn runs_here(machine: Place<'_, '_>) -> bool {
+    if machine.attribute("id").is_some() {
+        return true;
     }
-    let is_domain = place.is_named("protection_domain");
-    if is_domain && domains_before(place) >= MAX_DOMAINS {
-        return Some((None, Flaw::Domains));
+    for number in machine.number..machine.elements.len() {
+        let other = machine.at(number);
+        if number > machine.number && other.level() <= machine.level() {
+            return false;
+        }
+        if other.is_named("vcpu") && other.line() == machine.line() {
+            return true;
+        }
+    }
+    false
+}
+
+// Which time of an element isn't within the limits.
+fn wrong_time(place: Place<'_, '_>) -> Option<&'static str> {
+    for name in ["budget", "period"] {
+        if place
+            .number_in(name)
+            .is_some_and(|time| time < 1 || time > MAX_PERIOD)
+        {
+            return Some(name);
+        }
     }
     None
-}
-
-/// Returns that the table of a description passes a limit at an element, if the element has a name.
-pub(crate) fn table_flaw<'a>(place: Place<'a, '_>) -> Option<Found<'a>> {
-    place.value("name")?;
-    Some((Some(b"name"), Flaw::Table))
-}
-
-fn is_above(value: Option<&[u8]>, most: u64) -> bool {
-    match value {
-        Some(value) => number_of(value).is_some_and(|number| number > most),
-        None => false,
-    }
-}
-
-fn is_no_time(value: Option<&[u8]>) -> bool {
-    match value {
-        Some(value) => number_of(value).is_some_and(|time| time < 1 || time > MAX_PERIOD),
-        None => false,
-    }
-}
-
-fn domains_before(place: Place<'_, '_>) -> usize {
-    (0..place.number)
-        .filter(|number| { place.at(*number).is_named("protection_domain") })
-        .count()
 }

@@ -1,72 +1,63 @@
 //! The nearest name in place of one that isn't known.
 use crate::elements::Place;
-use crate::flaws::Flaw;
+use crate::flaws::{rule_of, unknown_name};
+use crate::rules::elements_in;
 use forms::{nearest_name, text_of};
-use microkit::{Kind, rules_of};
+use microkit::{Flaw, Kind, rules_of};
 use std::alloc::{AllocError, Global};
-use xml::Element;
 
-/// Returns the flaw with the name that is nearest to an unknown one, if one is near.
+/// Returns the name that is nearest to the one that an element gives, if this name is unknown and one is near.
 ///
 /// # Errors
 ///
 /// [`AllocError`] where memory is refused.
-pub(crate) fn near_flaw<'a>(
+pub(crate) fn near_name<'a>(
     alloc: Global,
-    elements: &'a [Element<'_>],
-    flaw: Flaw<'a>,
-) -> Result<Flaw<'a>, AllocError> {
-    let near = match flaw {
-        Flaw::Attribute(name, kind) => {
-            near_attribute(alloc, kind, text_of(name))?.map(|near| Flaw::NearAttribute(name, near))
-        }
-        Flaw::Element(name, outer, inner) => {
-            nearest_name(alloc, text_of(name), inner)?.map(|near| Flaw::NearElement(
-                name, outer, near,
-            ))
-        }
-        Flaw::NoRegion(name) => near_named(alloc, elements, "memory_region", text_of(name))?.map(
-            |near| Flaw::NearRegion(name, near),
-        ),
-        Flaw::NoDomain(name) => near_named(
-            alloc,
-            elements,
-            "protection_domain",
-            text_of(name),
-        )?.map(|near| Flaw::NearDomain(name, near)),
-        _ => None,
-    };
-    Ok(near.unwrap_or(flaw))
+    place: Place<'a, '_>,
+    flaw: Flaw,
+) -> Result<Option<&'a str>, AllocError> {
+    match flaw {
+        Flaw::Element(outer) => nearest_name(alloc, text_of(place.name()), elements_in(outer)),
+        Flaw::Attribute(kind, number) => near_attribute(alloc, place, kind, number),
+        Flaw::NoRegion => near_named(alloc, place, "memory_region", unknown_name(place, flaw)),
+        Flaw::NoDomain => near_named(alloc, place, "protection_domain", unknown_name(place, flaw)),
+        _ => Ok(None),
+    }
 }
 
-// The attribute, nearest to a word, that elements of a kind have.
-fn near_attribute(
+// The attribute of elements of this kind that is nearest to one that they don't have.
+fn near_attribute<'a>(
     alloc: Global,
+    place: Place<'a, '_>,
     kind: Kind,
-    word: &str,
-) -> Result<Option<&'static str>, AllocError> {
+    number: usize,
+) -> Result<Option<&'a str>, AllocError> {
+    let word = place.attribute_name(number);
+    if rule_of(kind, word).is_some() {
+        return Ok(None);
+    }
     let mut names = Vec::new(alloc);
     for rule in rules_of(kind) {
         names.push(rule.0)?;
     }
-    nearest_name(alloc, word, &names)
+    nearest_name(alloc, text_of(word), &names)
 }
 
 // The name, nearest to a word, that an element called `kind` has.
 fn near_named<'a>(
     alloc: Global,
-    elements: &'a [Element<'_>],
+    place: Place<'a, '_>,
     kind: &str,
-    word: &str,
+    word: &[u8],
 ) -> Result<Option<&'a str>, AllocError> {
     let mut names = Vec::new(alloc);
-    for number in 0..elements.len() {
-        let place = Place { elements, number };
-        if place.is_named(kind) {
-            if let Some(name) = place.value("name") {
+    for number in 0..place.elements.len() {
+        let other = place.at(number);
+        if other.is_named(kind) {
+            if let Some(name) = other.value("name") {
                 names.push(text_of(name))?;
             }
         }
     }
-    nearest_name(alloc, word, &names)
+    nearest_name(alloc, text_of(word), &names)
 }

@@ -1,10 +1,11 @@
 //! What the table of a description doesn't show.
-use crate::devices::{Fixed, Writers, fixed_at};
+use crate::devices::{DeviceUse, Writers, device_use};
+use crate::overlaps::{Overlap, overlaps_in};
 use base::Label;
 use captext::label_name;
 use forms::Shown;
 use importing::{Form, Minting, Origins, labelled_of};
-use microkit::{Channel, Description, End, Subject, subjects_of};
+use microkit::{Channel, Description, End, Subject, User, subjects_of};
 use std::alloc::{AllocError, Global};
 use std::fmt;
 use table::Table;
@@ -50,6 +51,10 @@ pub enum Matter<'a> {
     Registers(&'a [u8], Writers<'a>),
     /// A region at a fixed address that a device may write by itself.
     Memory(&'a [u8]),
+    /// Such a region, whose address a domain gets by a `setvar` in this line.
+    Told(&'a [u8], &'a [u8], u64),
+    /// A domain or virtual machine that maps a region over another one, which it maps in this line.
+    Overlap(&'a [u8], &'a [u8], u64),
     /// A name that was changed, and the label that it became.
     Renamed(&'a [u8], &'a str),
 }
@@ -57,7 +62,7 @@ pub enum Matter<'a> {
 impl Note<'_> {
     /// Returns whether the note is on a region that a device may write by itself.
     pub fn is_on_memory(&self) -> bool {
-        matches!(self.matter, Matter::Memory(_))
+        matches!(self.matter, Matter::Memory(_) | Matter::Told(..))
     }
 }
 
@@ -83,6 +88,7 @@ pub fn notes_of<'a>(
     add_sharing(alloc, &mut notes, description)?;
     add_names(alloc, &mut notes, description, table)?;
     add_regions(&mut notes, description)?;
+    add_overlaps(alloc, &mut notes, description)?;
     add_domains(&mut notes, description, minting)?;
     add_devices(&mut notes, description)?;
     add_channels(&mut notes, description)?;
@@ -107,8 +113,10 @@ pub fn notes_on_label<'a>(
     let mut notes = Vec::new(alloc);
     for (object, piece) in table.objects().iter().zip(&origins.pieces) {
         if let (Form::Frame, Some(region)) = (piece.form, description.regions.get(piece.number)) {
-            if object.label == label && fixed_at(description, piece.number) == Some(Fixed::Memory) {
-                add_note(&mut notes, region.line, Matter::Memory(&region.name))?;
+            if object.label == label {
+                if let Some(matter) = memory_matter(description, piece.number) {
+                    add_note(&mut notes, region.line, matter)?;
+                }
             }
         }
     }
@@ -142,10 +150,17 @@ impl fmt::Display for Note<'_> {
                 f,
                 "there are {count} labels, more than 64, so the table is of version 2"
             ),
-            Matter::Sharing(count) => write!(
-                f,
-                "{count} regions have the label of an earlier region, which the same users map with the same rights"
-            ),
+            Matter::Sharing(count) => {
+                let regions = if count == 1 {
+                    "region has"
+                } else {
+                    "regions have"
+                };
+                write!(
+                    f,
+                    "{count} {regions} the label of an earlier region, which the same users map with the same rights"
+                )
+            }
             Matter::Interrupt(irq) => write!(f, "interrupt {irq} is left out"),
             Matter::Ports(domain, id) => {
                 let domain = Shown { bytes: domain };
@@ -226,6 +241,21 @@ impl fmt::Display for Note<'_> {
                     f,
                     "`{region}` is at a fixed address and not mapped uncached, as memory for a device is. Whoever drives \
                      the device may have it write `{region}` (DMA): that is left out."
+                )
+            }
+            Matter::Told(region, domain, line) => {
+                let (region, domain) = (Shown { bytes: region }, Shown { bytes: domain });
+                write!(
+                    f,
+                    "`{domain}` gets the physical address of `{region}` by the `setvar` in line {line}. Whoever drives a \
+                     device may have it write `{region}` (DMA): that is left out."
+                )
+            }
+            Matter::Overlap(user, region, line) => {
+                let (user, region) = (Shown { bytes: user }, Shown { bytes: region });
+                write!(
+                    f,
+                    "`{user}` maps this region over `{region}`, which it maps in line {line}: their virtual addresses overlap"
                 )
             }
             Matter::Renamed(name, label) => {
@@ -316,19 +346,65 @@ fn add_regions<'a>(
     description: &'a Description,
 ) -> Result<(), AllocError> {
     for (number, region) in description.regions.iter().enumerate() {
-        if let Some(fixed) = fixed_at(description, number) {
+        if let Some(DeviceUse::Registers) = device_use(description, number) {
             let writers = Writers {
                 description,
                 region: number,
             };
-            let matter = match fixed {
-                Fixed::Registers => Matter::Registers(&region.name, writers),
-                Fixed::Memory => Matter::Memory(&region.name),
-            };
+            add_note(notes, region.line, Matter::Registers(&region.name, writers))?;
+        }
+        if let Some(matter) = memory_matter(description, number) {
             add_note(notes, region.line, matter)?;
         }
     }
     Ok(())
+}
+
+// What a note is of on the region of this number, if a device may write it by itself.
+fn memory_matter(description: &Description, number: usize) -> Option<Matter<'_>> {
+    let region = description.regions.get(number)?.name.as_slice();
+    match device_use(description, number)? {
+        DeviceUse::Registers => None,
+        DeviceUse::Memory => Some(Matter::Memory(region)),
+        DeviceUse::Told(variable) => {
+            let domain = domain_name(description, variable.domain);
+            Some(Matter::Told(region, domain, variable.line))
+        }
+    }
+}
+
+// Adds which maps overlap others of the same domain or virtual machine.
+fn add_overlaps<'a>(
+    alloc: Global,
+    notes: &mut Vec<Note<'a>>,
+    description: &'a Description,
+) -> Result<(), AllocError> {
+    for overlap in &overlaps_in(alloc, description)? {
+        let Overlap { map, other } = overlap;
+        let (user, region) = (
+            user_name(description, map.user),
+            region_name(description, other.region),
+        );
+        add_note(notes, map.line, Matter::Overlap(user, region, other.line))?;
+    }
+    Ok(())
+}
+
+fn user_name(description: &Description, user: User) -> &[u8] {
+    match user {
+        User::Domain(number) => domain_name(description, number),
+        User::Machine(number) => match description.machines.get(number) {
+            Some(machine) => &machine.name,
+            None => b"",
+        },
+    }
+}
+
+fn region_name(description: &Description, number: usize) -> &[u8] {
+    match description.regions.get(number) {
+        Some(region) => &region.name,
+        None => b"",
+    }
 }
 
 // Adds what is left out of each domain.

@@ -1,26 +1,14 @@
 //! Which elements of a description stand in which.
 use microkit::Kind;
 
-/// Returns the kind of the element of this name that has others in it, or of the text as a whole, whose name is empty.
-pub(crate) fn outer_kind(name: &[u8]) -> Option<Kind> {
-    match name {
-        b"" => Some(Kind::Document),
-        b"system" => Some(Kind::System),
-        b"protection_domain" => Some(Kind::Domain),
-        b"virtual_machine" => Some(Kind::Machine),
-        b"channel" => Some(Kind::Channel),
-        _ => None,
-    }
-}
-
-/// Returns which elements may stand in one of this name, and outside of all where the name is empty.
-pub(crate) fn elements_in(name: &[u8]) -> &'static [&'static str] {
-    match name {
-        b"" => &IN_DOCUMENT,
-        b"system" => &IN_SYSTEM,
-        b"protection_domain" => &IN_DOMAIN,
-        b"virtual_machine" => &IN_MACHINE,
-        b"channel" => &IN_CHANNEL,
+/// Returns which elements may stand in one of this kind.
+pub(crate) fn elements_in(kind: Kind) -> &'static [&'static str] {
+    match kind {
+        Kind::Document => &IN_DOCUMENT,
+        Kind::System => &IN_SYSTEM,
+        Kind::Domain | Kind::Child => &IN_DOMAIN,
+        Kind::Machine => &IN_MACHINE,
+        Kind::Channel => &IN_CHANNEL,
         _ => &[],
     }
 }

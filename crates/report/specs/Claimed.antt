@@ -4,9 +4,10 @@ use Rattle.std.specs.{List.{Contains, filter}, Prelude.{[], ℕ, ◌∷◌, ◌�
 use Rattle.std.specs.declared.alloc.Global.{Global}
 use Rattle.forms.specs.declared.file.File.{File as file}
 use Rattle.machine.specs.Layout.{Layout}
-use Rattle.reach.specs.{Extents.limits_of, Reach.{IsReachOf, TableReach}}
-use Rattle.claims.specs.{declared.{claim.Claim.Claim, deciding.Broken.Broken}, Holding.{AreBroken, Holds, IsKept}, Reading.read_claims_of}
-use Rattle.claims.specs.{Strongest.AreStrongest, Text.lines_text}
+use Rattle.reach.specs.{Extents.{Limits, limits_of}, Reach.{IsReachOf, TableReach}}
+use Rattle.fixed.specs.Fixed.{IsFixed}
+use Rattle.claims.specs.{declared.{claim.Claim.Claim, deciding.Broken.Broken, keeping.Kept.Kept}, Holding.{AreBroken, Holds, IsKept}}
+use Rattle.claims.specs.{Learning.{IsKeptInCalls, IsKeptSo}, Reading.read_claims_of, Strongest.AreStrongest, Text.lines_text}
 use Rattle.claims.specs.declared.lines.TheConstants.ClaimLines as ClaimLines
 use Rattle.reptext.specs.{Breaches.breaches_data, Reports.{hold_data, line_of}}
 use Rattle.commands.specs.declared.{answer.Answer.Answer, choices.Taken.Taken, end.End.End, listener.Finding.{Finding, Finding as finding}}
@@ -20,16 +21,22 @@ claim_count lines = length (filter is_some lines)
 abbrev pub AreFound : List Broken → Finding → Type 0
 AreFound broken found = (v : Vec Broken Global) × (found ≡ finding.Broken v) × (v.items ≡ broken)
 
--- the answer to claims: all hold by the reach of the table, so that what they claim is kept in every run from its boot state; or these are
--- all that don't hold
+-- what these claims say is kept in every run from the table's boot state. What claims on flows say of calls is kept too, if the system is
+-- fixed, and it is told whether it is
+pub record AreKept (t : Layout) (limits : Limits) (IsOurs : Claim → Type 0) (kept : Kept) : Type 0 where
+  pub every : (claim : Claim) → IsOurs claim → IsKept t limits claim
+  pub calls : IsFixed t → (claim : Claim) → IsOurs claim → IsKeptInCalls t limits claim
+  pub told : IsKeptSo t kept
+
+-- the answer to claims: all hold by the reach of the table, and are kept; or these are all that don't hold, and those that hold are kept
 pub data Judges (t : Layout) (lines : List (Option Claim)) (answer : Answer) : Type 0 where
-  all_hold : (reach : TableReach) → IsReachOf t reach → AreBroken t (limits_of reach) ClaimLines.FIRST lines []
-      → ((claim : Claim) → Contains lines (Some claim) → IsKept t (limits_of reach) claim) → IsPlain (line_of (hold_data (claim_count lines))) 0 answer
+  all_hold : (reach : TableReach) → IsReachOf t reach → AreBroken t (limits_of reach) ClaimLines.FIRST lines [] → (kept : Kept)
+      → AreKept t (limits_of reach) (λ claim. Contains lines (Some claim)) kept → IsPlain (line_of (hold_data (claim_count lines) kept)) 0 answer
       → Judges t lines answer
   some_broken : (reach : TableReach) → IsReachOf t reach → (first : Broken) (more : List Broken)
-      → AreBroken t (limits_of reach) ClaimLines.FIRST lines (first ∷ more)
-      → ((claim : Claim) → Holds t (limits_of reach) claim → IsKept t (limits_of reach) claim)
-      → Finds (line_of (breaches_data t lines (first ∷ more))) (AreFound (first ∷ more)) answer → Judges t lines answer
+      → AreBroken t (limits_of reach) ClaimLines.FIRST lines (first ∷ more) → (kept : Kept)
+      → AreKept t (limits_of reach) (Holds t (limits_of reach)) kept
+      → Finds (line_of (breaches_data t lines (first ∷ more) kept)) (AreFound (first ∷ more)) answer → Judges t lines answer
 
 -- claims were judged on a system
 abbrev pub AreJudged : {T S O : Type 0} → Taken → Input T → Input S → Output O → End → Type 0

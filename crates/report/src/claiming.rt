@@ -8,7 +8,7 @@ ghost use Rattle.report.specs.Claimed as claimed;
 
 use crate::{End, Finding, Listener, Sink, Source};
 use base::Refusal;
-use claims::{ClaimLines, all_broken, strongest};
+use claims::{ClaimLines, all_broken, kept_of, strongest};
 use commands::{Answer, Stop, Taken, With, load_with, tell};
 use reach::Reach;
 use reptext::{breaches_report, hold_report};
@@ -74,10 +74,12 @@ fn reach_answer(alloc: Global, reach: &Reach<'_>, lines: &ClaimLines) -> Result<
     // That it is the reach of its table, a reach tells with its policy.
     reach.policy();
     let broken = all_broken(alloc, reach, lines)?;
+    let table = reach.table();
+    let kept = kept_of(table);
     if broken.is_empty() {
-        return Ok(Answer::plain(hold_report(alloc, claim_count(lines))?, 0));
+        return Ok(Answer::plain(hold_report(alloc, claim_count(lines), kept)?, 0));
     }
-    let text = breaches_report(alloc, reach.table(), lines, &broken)?;
+    let text = breaches_report(alloc, table, lines, &broken, kept)?;
     Ok(Answer::found(text, Finding::Broken(broken)))
 }
 

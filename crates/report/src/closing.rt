@@ -48,7 +48,7 @@ fn least(alloc: Global, rules: Rules, table: &Table, policy: &Policy) -> Result<
     ensures closing { IfOk result (λ closed. closings.IsClosing rules table.now policy.now closed) }
 {
     a_verdict_is_on_the_boot_state();
-    let _ = table.objects();
+    table.keeps_rules();
     let edges = authority(alloc, table)?;
     let closed = least_by(alloc, rules, table, policy, &edges)?;
     closed.edges_rise();
@@ -85,7 +85,7 @@ fn whole_answer(
     // Laws about tables and their boot states.
     each_table_has_one_boot_state();
     boot_authority_joins_labels_of_its_table();
-    let _ = table.objects();
+    table.keeps_rules();
     let closed = least(alloc, rules, table, policy)?;
     Ok(Answer::plain(write_policy(alloc, &closed, table)?, 0))
 }
@@ -104,7 +104,7 @@ fn missing_answer(
     // Laws about tables, their boot states, and verdicts on these.
     a_verdict_is_on_the_boot_state();
     each_table_has_one_boot_state();
-    let _ = table.objects();
+    table.keeps_rules();
     let closed = least(alloc, rules, table, policy)?;
     lacked_answer(alloc, table, policy, &closed)
 }
@@ -124,7 +124,7 @@ fn surplus_answer(
     // Laws about tables, their boot states, and verdicts on these.
     a_verdict_is_on_the_boot_state();
     each_table_has_one_boot_state();
-    let _ = table.objects();
+    table.keeps_rules();
     let asked_for = least(alloc, rules, table, &Policy::new(alloc))?;
     lacked_answer(alloc, table, &asked_for, policy)
 }

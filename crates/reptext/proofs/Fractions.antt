@@ -7,6 +7,7 @@ use Rattle.policy.specs.declared.why.Why.{Why, Why as why}
 use Rattle.captext.specs.PolicyText.{label_name}
 use Rattle.summary.specs.{declared.rows.Row.Row, Labelled.{others_of, programs_of}, Marks.marks, Regions.{changers, readers, takers}}
 use Rattle.claims.specs.{Lines.claim_at, declared.{claim.Claim.Claim, deciding.{Broken.Broken, Failure.{Failure, Failure as failure}}}}
+use Rattle.claims.specs.declared.keeping.Kept.{Kept}
 use Rattle.reptext.specs.{Breaches.{breaches_data, failure_data, names_both, told, told_of}, Reasons.{edge_data, why_data}}
 use Rattle.reptext.specs.Summaries.{cell_data, cells_of, region_data, summary_data, told_cell}
 use Rattle.reptext.proofs.Names.{names_have_no_float, neither}
@@ -32,8 +33,9 @@ all : (t : Layout) (lines : List (Option Claim)) (broken : List Broken) → item
 all t lines [] = refl
 all t lines (first ∷ more) = after t first (claim_at lines first.line) (flat_map (told t lines) more) (all t lines more)
 
-pub breaches_have_no_float : (t : Layout) (lines : List (Option Claim)) (broken : List Broken) → has_float (breaches_data t lines broken) ≡ false
-breaches_have_no_float t lines broken = rw (all t lines broken) refl
+pub breaches_have_no_float : (t : Layout) (lines : List (Option Claim)) (broken : List Broken) (kept : Kept)
+    → has_float (breaches_data t lines broken kept) ≡ false
+breaches_have_no_float t lines broken kept = rw (all t lines broken) refl
 
 -- what a label may do
 

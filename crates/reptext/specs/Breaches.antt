@@ -4,7 +4,8 @@ use Rattle.base.specs.declared.edge.Edge.{Edge}
 use Rattle.machine.specs.Layout.{Layout}
 use Rattle.captext.specs.PolicyText.{label_name}
 use Rattle.claims.specs.declared.{breaches.Breach.Breach, claim.{Claim.{Claim, Claim as claim}, Who.Who as who}, deciding.Broken.Broken}
-use Rattle.claims.specs.{declared.deciding.Failure.{Failure, Failure as failure}, Lines.claim_at, Text.claim_text}
+use Rattle.claims.specs.{Claims.kept_word, declared.{deciding.Failure.{Failure, Failure as failure}, keeping.Kept.Kept}}
+use Rattle.claims.specs.{Lines.claim_at, Text.claim_text}
 use Rattle.reptext.specs.{Reasons.edge_data, Reports.{extent_word, names_data}}
 use Rattle.serde_json.specs.{Data.{Data, array, member, no_members, number, object, string, unsigned}, View.items_of}
 
@@ -52,7 +53,8 @@ abbrev pub told : Layout → List (Option Claim) → Broken → List Data
 told t lines broken = told_of t broken (claim_at lines broken.line)
 
 -- the whole report
-abbrev pub breaches_data : Layout → List (Option Claim) → List Broken → Data
-breaches_data t lines broken =
+abbrev pub breaches_data : Layout → List (Option Claim) → List Broken → Kept → Data
+breaches_data t lines broken kept =
     object (member (codes "broken") (array (items_of (flat_map (told t lines) broken)))
-    (member (codes "verdict") (string (codes "broken")) no_members))
+    (member (codes "kept") (string (kept_word kept))
+    (member (codes "verdict") (string (codes "broken")) no_members)))

@@ -6,6 +6,7 @@ use Rattle.base.specs.declared.edge.Edge.{Edge}
 use Rattle.machine.specs.Layout.{Layout}
 use Rattle.policy.specs.{Cut.IsCut, Full.IsFull, Policy.allows}
 use Rattle.captext.specs.PolicyText.{label_name}
+use Rattle.claims.specs.{Claims.kept_word, declared.keeping.Kept.{Kept}}
 use Rattle.reach.specs.declared.extent.Extent.{Extent}
 use Rattle.reach.specs.declared.extent.Extent.TheVariants as extent
 use Rattle.forms.specs.{Files.file_word, declared.file.File.{File}}
@@ -79,11 +80,12 @@ illegal_data entry =
 abbrev pub accept_data : Data
 accept_data = object (member (codes "verdict") (string (codes "accept")) no_members)
 
--- claims that hold: how many there are
-abbrev pub hold_data : ℕ → Data
-hold_data claims =
+-- claims that hold: how many there are, and what those on flows bound
+abbrev pub hold_data : ℕ → Kept → Data
+hold_data claims kept =
     object (member (codes "claims") (number (unsigned claims))
-    (member (codes "verdict") (string (codes "hold")) no_members))
+    (member (codes "kept") (string (kept_word kept))
+    (member (codes "verdict") (string (codes "hold")) no_members)))
 
 -- the word for how far an authority goes
 abbrev pub extent_word : Extent → List ℕ

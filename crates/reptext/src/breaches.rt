@@ -9,12 +9,12 @@ use crate::places::label_name;
 use crate::reasons::edge_value;
 use crate::reports::{extent_word, line_of};
 use base::{Edge, Label};
-use claims::{Breach, Broken, Claim, ClaimLines, Failure, Who, claim_text};
+use claims::{Breach, Broken, Claim, ClaimLines, Failure, Kept, Who, claim_text};
 use serde_json::{Value, json};
 use std::alloc::{AllocError, Global};
 use table::Table;
 
-/// Returns the report of claims that don't hold: each with its line.
+/// Returns the report of claims that don't hold, each with its line, and of what those on flows bound that hold.
 ///
 /// A claim on authority is told with the authority that breaks it, and with the two labels if it doesn't name both. One
 /// that excludes edges is told with the first that breaks it, if it doesn't name that one itself.
@@ -22,16 +22,16 @@ use table::Table;
 /// # Errors
 ///
 /// [`AllocError`] where memory is refused.
-#[tactic(auto, using(crate::proofs::Fractions::breaches_have_no_float))]
 pub fn breaches_report(
     alloc: Global,
     table: &Table,
     lines: &ClaimLines,
     broken: &[Broken],
+    kept: Kept,
 ) -> Result<Vec<u8>, AllocError>
-    ensures { IfOk result (λ report. report.items ≡ line_of (breaches_data table.now lines.now broken.now)) }
+    ensures { IfOk result (λ report. report.items ≡ line_of (breaches_data table.now lines.now broken.now kept)) }
 {
-    let value = breaches_value(alloc, table, lines, broken)?;
+    let value = breaches_value(alloc, table, lines, broken, kept)?;
     line_of(alloc, &value)
 }
 
@@ -40,11 +40,13 @@ fn breaches_value(
     table: &Table,
     lines: &ClaimLines,
     broken: &[Broken],
+    kept: Kept,
 ) -> Result<Value, AllocError>
-    ensures { IfOk result (λ value. view value ≡ breaches_data table.now lines.now broken.now) }
+    ensures { IfOk result (λ value. view value ≡ breaches_data table.now lines.now broken.now kept) }
 {
     let values = Value::Array(values_of(alloc, table, lines, broken)?);
-    json!(in alloc; {"broken": values, "verdict": "broken"})
+    let kept = kept.word();
+    json!(in alloc; {"broken": values, "kept": kept, "verdict": "broken"})
 }
 
 // What is told of each claim that doesn't hold.

@@ -41,8 +41,8 @@ pub fn write_drawing(
 fn write_labels(text: &mut String, table: &Table) -> Result<(), AllocError>
     ensures { OnOk result (string_bytes text.new ≡ string_bytes text.old ++ flat_map label_line table.now.labels) }
 {
-    // That labels are few, a table tells with its objects.
-    let _ = table.objects();
+    // A rule of tables: their labels are few.
+    table.keeps_rules();
     for number in 0..table.label_count() {
         if let Some(label) = Label::new(number as u16) {
             let name = label_name(table, label);
@@ -64,7 +64,7 @@ fn write_arrows(
         (string_bytes text.old) (string_bytes text.new)) }
     ensures memory { IfErr result (λ refusal. refusal ≡ out_of_memory) }
 {
-    let _ = table.objects();
+    table.keeps_rules();
     for number in 0..table.label_count() {
         if let Some(actor) = Label::new(number as u16) {
             write_arrows_from(alloc, text, table, policy, actors, actor)?;
@@ -87,7 +87,7 @@ fn write_arrows_from(
         (string_bytes text.old) (string_bytes text.new)) }
     ensures memory { IfErr result (λ refusal. refusal ≡ out_of_memory) }
 {
-    let _ = table.objects();
+    table.keeps_rules();
     for number in 0..table.label_count() {
         if let Some(object) = Label::new(number as u16) {
             write_arrow_of(alloc, text, table, policy, actors, actor, object)?;

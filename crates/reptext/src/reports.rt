@@ -8,6 +8,7 @@ ghost use Rattle.reptext.specs.Reports as reports;
 use crate::File;
 use crate::places::place_names;
 use crate::relations::{Relation, relation_value};
+use claims::Kept;
 use policy::Policy;
 use reach::Extent;
 use serde_json::{Value, json};
@@ -118,15 +119,15 @@ pub fn illegal_report(alloc: Global, entry: usize) -> Result<Vec<u8>, AllocError
     line_of(alloc, &illegal_value(alloc, entry)?)
 }
 
-/// Returns the report of this number of claims that hold.
+/// Returns the report of this number of claims that hold, and of what those on flows bound.
 ///
 /// # Errors
 ///
 /// [`AllocError`] where memory is refused.
-pub fn hold_report(alloc: Global, claims: usize) -> Result<Vec<u8>, AllocError>
-    ensures { IfOk result (λ report. report.items ≡ reports.line_of (reports.hold_data claims)) }
+pub fn hold_report(alloc: Global, claims: usize, kept: Kept) -> Result<Vec<u8>, AllocError>
+    ensures { IfOk result (λ report. report.items ≡ reports.line_of (reports.hold_data claims kept)) }
 {
-    line_of(alloc, &hold_value(alloc, claims)?)
+    line_of(alloc, &hold_value(alloc, claims, kept)?)
 }
 
 /// Returns the report that one label does nothing to another in any run.
@@ -194,11 +195,12 @@ fn illegal_value(alloc: Global, entry: usize) -> Result<Value, AllocError>
     json!(in alloc; {"entry": entry, "verdict": "illegal"})
 }
 
-fn hold_value(alloc: Global, claims: usize) -> Result<Value, AllocError>
-    ensures { IfOk result (λ value. view value ≡ reports.hold_data claims) }
+fn hold_value(alloc: Global, claims: usize, kept: Kept) -> Result<Value, AllocError>
+    ensures { IfOk result (λ value. view value ≡ reports.hold_data claims kept) }
 {
     let claims = claims as u64;
-    json!(in alloc; {"claims": claims, "verdict": "hold"})
+    let kept = kept.word();
+    json!(in alloc; {"claims": claims, "kept": kept, "verdict": "hold"})
 }
 
 fn impossible_value(alloc: Global) -> Result<Value, AllocError>

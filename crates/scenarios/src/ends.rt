@@ -94,11 +94,11 @@ const CLAIMS: &str = "confine-claims 2\n# b waits\nnone b *\nend\n";
 /// Claims of which the first holds.
 const BROADER: &str = "confine-claims 2\nnone b *\ntake * b\nwithout a notify b\nend\n";
 
-const HOLD: &str = "{\"claims\":1,\"verdict\":\"hold\"}\n";
+const HOLD: &str = "{\"claims\":1,\"kept\":\"calls\",\"verdict\":\"hold\"}\n";
 
 const BREACHES: &str =
     "{\"broken\":[{\"authority\":\"full\",\"claim\":\"take * b\",\"line\":3,\"pair\":[\"a\",\"b\"]},\
-    {\"claim\":\"without a notify b\",\"line\":4}],\"verdict\":\"broken\"}\n";
+    {\"claim\":\"without a notify b\",\"line\":4}],\"kept\":\"calls\",\"verdict\":\"broken\"}\n";
 
 const REPORT: &str = "{\"caps\":4,\"cut\":{\"a\":[\"a\",\"b\"],\"b\":[\"b\"]},\
     \"full\":{\"a\":[\"a\",\"b\"],\"b\":[\"b\"]},\"verdict\":\"accept\"}\n";
@@ -146,6 +146,7 @@ const DESCRIPTION: &str = "\
 <system>
 <memory_region name='r' size='0x1000'/>
 <protection_domain name='a'>
+<program_image path='a.elf'/>
 <map mr='r' vaddr='0x1000' perms='r'/>
 </protection_domain>
 </system>
@@ -159,9 +160,11 @@ label r
 cnode a_space a 0x4000 9
 tcb a_main a 0x8000 ready
 notification a_bell a 0x8400
+reply a_answer a 0x8420
 context a_time0 a 0x8500 0 1000 1000
 frame r_frame r 0x9000
 cap a_space.1 a_bell r 0
+cap a_space.4 a_answer
 cap a_space.458 r_frame r
 cap a_main.root a_space 55 0x0
 bind a_main a_time0
@@ -173,8 +176,9 @@ const LIST_OF_A_DESCRIPTION: &str = "\
 0 cnode a_space a
 1 tcb a_main a
 2 notification a_bell a
-3 context a_time0 a
-4 frame r_frame r
+3 reply a_answer a
+4 context a_time0 a
+5 frame r_frame r
 ";
 
 /// The claims that it makes.

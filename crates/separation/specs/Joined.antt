@@ -40,7 +40,7 @@ end_joins d one other end far = end_reaches d one other end far || end_takes d o
 unfoldable pub channel_joins : Description → User → User → Channel → Bool
 channel_joins d one other channel = end_joins d one other channel.first channel.second || end_joins d one other channel.second channel.first
 
--- two users are of one family, in which one of them is called, as each parent is by faults
+-- two users are of one family, and one of them has a reply object
 unfoldable pub is_kin : Description → User → User → Bool
 is_kin d one other = may_answer d one other || may_answer d other one
 

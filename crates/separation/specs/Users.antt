@@ -3,10 +3,10 @@
 -- A parent holds the thread of each child and virtual processor that stands in it. So it may do whatever these may do, at any depth. They
 -- may not do what only their parent may do.
 use Rattle.std.specs.{Option.option_map_or, Prelude.{ℕ, ◌&&◌, ◌==◌, ◌||◌, Bool, Option, Some, false, length, not, option_and_then, option_map}}
-use Rattle.std.specs.Prelude.{slice_get, suc, zero}
+use Rattle.std.specs.Prelude.{slice_get, suc, true, zero}
 use Rattle.microkit.specs.{declared.description.{Id.Id, User.User}, Description.{Description, Domain, Machine}}
 use Rattle.microkit.specs.declared.description.User.TheVariants as user
-use Rattle.importing.specs.{Maps.is_user, Pieces.is_called}
+use Rattle.importing.specs.Maps.{is_user}
 
 -- the domain of a user: for a virtual machine the one in which it stands
 unfoldable pub home_of : Description → User → ℕ
@@ -49,11 +49,11 @@ acts_for d (user.Machine n) other = is_user (user.Machine n) other
 unfoldable pub controls : Description → User → User → Bool
 controls d one other = acts_for d one other && not (is_user one other)
 
--- somebody calls a user: another domain, or by a fault a child or a virtual machine
-unfoldable pub is_server : Description → User → Bool
-is_server d (user.Domain n) = is_called d n
-is_server d (user.Machine n) = false
+-- a user has a reply object: each domain has one, and no virtual machine
+unfoldable pub has_reply : User → Bool
+has_reply (user.Domain n) = true
+has_reply (user.Machine n) = false
 
 -- a user may answer a call to another one: its reply object may be used at that one's endpoint by whoever both stand in
 unfoldable pub may_answer : Description → User → User → Bool
-may_answer d one called = is_server d one && family_of d one == family_of d called
+may_answer d one called = has_reply one && family_of d one == family_of d called

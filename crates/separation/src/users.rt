@@ -3,10 +3,9 @@ ghost use Rattle.std.specs.Prelude.{◌==◌, ◌≡◌};
 ghost use Rattle.importing.specs.Maps.{is_user};
 ghost use Rattle.microkit.specs.View.{description_of};
 ghost use Rattle.microkit.specs.declared.description.User.TheVariants as user;
-ghost use Rattle.separation.specs.Users.{acts_for, controls, family_of, home_of, is_child_of, is_server, is_within};
+ghost use Rattle.separation.specs.Users.{acts_for, controls, family_of, has_reply, home_of, is_child_of, is_within};
 ghost use Rattle.separation.specs.Users.{may_answer, parent_of, parent_of_user, top_of};
 
-use importing::is_called;
 use microkit::{Description, User};
 
 // Whether two users are the same.
@@ -132,13 +131,13 @@ pub(crate) fn controls(description: &Description, one: User, other: User) -> boo
     acts_for(description, one, other) && !is_user(one, other)
 }
 
-// Whether somebody calls a user.
-#[tactic(auto, unfolding(crate::specs::Users::is_server))]
-fn is_server(description: &Description, one: User) -> bool
-    ensures { result ≡ is_server (description_of description.now) one }
+// Whether a user has a reply object.
+#[tactic(auto, unfolding(crate::specs::Users::has_reply))]
+fn has_reply(one: User) -> bool
+    ensures { result ≡ has_reply one }
 {
     match one {
-        User::Domain(n) => is_called(description, n),
+        User::Domain(_) => true,
         User::Machine(_) => false,
     }
 }
@@ -148,5 +147,5 @@ fn is_server(description: &Description, one: User) -> bool
 pub(crate) fn may_answer(description: &Description, one: User, called: User) -> bool
     ensures { result ≡ may_answer (description_of description.now) one called }
 {
-    is_server(description, one) && family_of(description, one) == family_of(description, called)
+    has_reply(one) && family_of(description, one) == family_of(description, called)
 }

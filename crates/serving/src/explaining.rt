@@ -693,13 +693,7 @@ impl<'a, R: AllocGlobal + Clock + Eprint> Explainer<'a, R> {
         let mut searched: usize = 0;
         for change in &found {
             if may_be_shown(change) && searched < SEARCHES && !self.is_late(&begun) {
-                self.tell_lines(explain_difference(
-                    alloc,
-                    old.table(),
-                    system.sheet(),
-                    &reach,
-                    change,
-                ));
+                self.tell_lines(explain_difference(alloc, &before, system.sheet(), &reach, change));
                 searched = searched.saturating_add(1);
             }
         }

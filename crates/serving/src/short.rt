@@ -6,6 +6,7 @@ ghost use Rattle.commands.specs.Ends.{status_of};
 use crate::explaining::Explainer;
 use crate::opening::Opened;
 use base::Refusal;
+use claims::{Claim, Kept, kept_of};
 use report::{Answer, Asked, End, Fault, File, Files, Finding, Listener, OnAccept, Sink, Watched};
 use requests::{Check, Invocation, OfThree, Request};
 use std::alloc::{AllocError, Global};
@@ -108,22 +109,39 @@ impl<'a, R: AllocGlobal + Clock + Eprint> Shortener<'a, R> {
             (Request::OfThree(OfThree::Replay, _, _, log), _) => {
                 Some(format!(in alloc; "{log}: legal, and ends within the policy\n"))
             }
-            (Request::OfClaims(_, _, claims), Files::Claims(_, lines)) => {
-                let lines = lines.as_slice();
-                let count = lines.iter().filter(|line| line.is_some()).count();
-                Some(holding_line(alloc, claims, count))
+            (Request::OfClaims(_, _, claims), Files::Claims(given, lines)) => {
+                Some(holding_line(alloc, claims, given.table(), lines.as_slice()))
             }
             _ => None,
         }
     }
 }
 
-/// Returns the line that says that the claims of a file hold.
-fn holding_line(alloc: Global, file: &str, count: usize) -> Result<String, AllocError> {
+/// Returns the line that says that the claims of a file hold, and what those on flows bound.
+fn holding_line(
+    alloc: Global,
+    file: &str,
+    table: &Table,
+    lines: &[Option<Claim>],
+) -> Result<String, AllocError> {
+    let count = lines.iter().filter(|line| line.is_some()).count();
+    let kept = if bounds_calls(table, lines) {
+        "; `apart` and `through` also bound what calls return"
+    } else {
+        ""
+    };
     match count {
-        1 => format!(in alloc; "{file}: 1 claim holds\n"),
-        _ => format!(in alloc; "{file}: {count} claims hold\n"),
+        1 => format!(in alloc; "{file}: 1 claim holds{kept}\n"),
+        _ => format!(in alloc; "{file}: {count} claims hold{kept}\n"),
     }
+}
+
+/// Returns whether one of these claims bounds what calls return.
+fn bounds_calls(table: &Table, lines: &[Option<Claim>]) -> bool {
+    kept_of(table) == Kept::Calls
+        && lines
+            .iter()
+            .any(|line| matches!(line, Some(Claim::Through(_, _, _))))
 }
 
 impl<R: AllocGlobal + Clock + Eprint + Threads + Sync> Listener for Shortener<'_, R> {

@@ -148,6 +148,14 @@ impl Table {
         self.draft.caps()
     }
 
+    /// A law about every table, with nothing to run: it keeps the rules of tables.
+    pub fn keeps_rules(&self)
+        ensures { IsLawful self.now }
+    {
+        // What the type keeps is known once a field is read.
+        let _ = &self.draft;
+    }
+
     /// Returns the capability in a slot, if the table fills the slot.
     #[tactic(auto, unfolding(machine::specs::Layout::initial_cap))]
     pub fn cap(&self, slot: SlotRef) -> Option<Cap>

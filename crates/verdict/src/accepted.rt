@@ -34,7 +34,7 @@ fn are_safe(table: &Table, policy: &Policy)
     requires { IsAccepted table.now (allows policy.now) }
     ensures { IsSafe table.now (allows policy.now) }
 {
-    table.caps();
+    table.keeps_rules();
     accepted_systems_are_safe();
 }
 

@@ -106,7 +106,7 @@ fn are_safe_by(table: &Table, policy: &Policy, rules: Rules)
     requires { IsAcceptedBy rules table.now (allows policy.now) }
     ensures { IsSafe table.now (allows policy.now) }
 {
-    table.caps();
+    table.keeps_rules();
     sharply_accepted_systems_are_safe();
 }
 

@@ -7,7 +7,7 @@ pub returns : goal.returns
 unfolding read_policy_of
 returns c =
     let read = c.edges_of.ensures in
-    let lines = format c.args.table.now c.objects.ensures.lawful in
+    let lines = format c.args.table.now c.keeps_rules.ensures in
     record {
       exact = read;
       found = found lines _ policy_header c.args.text.now c.edges_of.result read;

@@ -8,7 +8,7 @@ pub returns : goal.returns
 unfolding read_certificate_of
 returns c =
     let read = c.lines_of.ensures in
-    let lines = format c.args.table.now c.objects.ensures.lawful in
+    let lines = format c.args.table.now c.keeps_rules.ensures in
     record {
       exact = read;
       found = found lines _ certificate_header c.args.text.now c.lines_of.result read;

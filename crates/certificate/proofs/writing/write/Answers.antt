@@ -7,4 +7,4 @@ pub returns-clause-read_back : goal.returns-clause-read_back
 returns-clause-read_back c = λ are.
     let text : c.into_bytes.result.items ≡ certificate_text c.args.table.now c.args.certificate.now =
     cc (c.into_bytes.ensures.value, c.in_ok-certificate_string.ensures) in
-    certificate_is_read c.args.table.now c.into_bytes.result.items c.args.certificate.now c.objects.ensures.lawful are text
+    certificate_is_read c.args.table.now c.into_bytes.result.items c.args.certificate.now c.keeps_rules.ensures are text

@@ -1,7 +1,8 @@
--- What holds of a table is kept.
-use Rattle.std.proofs.Common.{subst}
+-- What holds of a table is kept, and in a fixed system also by what calls return.
+use Rattle.std.proofs.Common.{[], refl, subst}
 use Rattle.reach.specs.Extents.{limits_of}
-use Rattle.claims.{specs.Holding.AreBroken, proofs.{Gathered.all_hold, Kept.claim_kept}}
+use Rattle.claims.specs.{Claims.is_one_of, Holding.AreBroken}
+use Rattle.claims.proofs.{Gathered.all_hold, Learnt.claim_learnt, Promised.claim_kept}
 use Rattle.claims.proofs.deciding.all_broken.Goals as goal
 use Rattle.claims.specs.declared.lines.TheConstants.ClaimLines as ClaimLines
 
@@ -21,3 +22,30 @@ returns-clause-all_kept c = λ none claim has.
 
 pub returns-in_err-broken-clause-kept : goal.returns-in_err-broken-clause-kept
 returns-in_err-broken-clause-kept c = claim_kept c.args.reach.now c.policy.ensures.reach c.policy.ensures.safe
+
+pub returns-clause-calls : goal.returns-clause-calls
+returns-clause-calls c = λ fixed.
+    let reach = c.args.reach.now in
+    let is = c.policy.ensures.reach in
+    claim_learnt reach.table (limits_of reach)
+    (λ from to off boot m n events others outcomes ends booted beside one other.
+    c.others_make_no_difference.ensures.reach reach (is_one_of []) from to off boot m n events others outcomes ends is fixed (λ label. refl)
+    booted beside one other)
+    (λ filters from to off boot m n events others outcomes ends booted runs.
+    c.others_act_through_filters.ensures.reach reach filters from to off boot m n events others outcomes ends is fixed booted runs)
+
+pub returns-clause-all_calls : goal.returns-clause-all_calls
+returns-clause-all_calls c = λ fixed none claim has.
+    let reach = c.args.reach.now in
+    returns-clause-calls c fixed claim (all_hold reach.table (limits_of reach) (returns-clause-broken c) none claim has)
+
+pub returns-in_err-broken-clause-calls : goal.returns-in_err-broken-clause-calls
+returns-in_err-broken-clause-calls c = λ fixed.
+    let reach = c.args.reach.now in
+    let is = c.policy.ensures.reach in
+    claim_learnt reach.table (limits_of reach)
+    (λ from to off boot m n events others outcomes ends booted beside one other.
+    c.others_make_no_difference.ensures.reach reach (is_one_of []) from to off boot m n events others outcomes ends is fixed (λ label. refl)
+    booted beside one other)
+    (λ filters from to off boot m n events others outcomes ends booted runs.
+    c.others_act_through_filters.ensures.reach reach filters from to off boot m n events others outcomes ends is fixed booted runs)

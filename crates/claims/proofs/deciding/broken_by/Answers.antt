@@ -3,7 +3,7 @@ use Rattle.std.proofs.{Common.{[], ◌++◌, ◌+◌, ◌∙◌, ◌∷◌, ◌�
 use Rattle.std.proofs.lemmas.List.{append-nil}
 use Rattle.reach.specs.Extents.{limits_of}
 use Rattle.claims.specs.{declared.deciding.Broken.Broken, Holding.{AreBroken, AreBroken.{broke, ended, held, silent}}}
-use Rattle.claims.proofs.{Gathered.one_line, Kept.fails_breaks, deciding.broken_by.Goals.in-Some+in-Some-failure_of+in_ok-push}
+use Rattle.claims.proofs.{Gathered.one_line, Promised.fails_breaks, deciding.broken_by.Goals.in-Some+in-Some-failure_of+in_ok-push}
 use Rattle.claims.proofs.deciding.broken_by.Goals.{in-Some+in_default-failure_of, in_default}
 use Rattle.claims.proofs.deciding.broken_by.Goals as goal
 use Rattle.claims.specs.declared.lines.TheConstants.ClaimLines as ClaimLines

@@ -5,7 +5,7 @@ use Rattle.policy.specs.Policy.{allows}
 use Rattle.table.specs.Names.{AreLabelsOf}
 use Rattle.reach.specs.Extents.{Limits, limits_of}
 use Rattle.claims.specs.{Holding.{Holds, HoldsOnEdges, HoldsOnPairs}, Rows.AreRows}
-use Rattle.claims.proofs.Kept.{ends_hold, if_none, only_holds, readers_hold, within_holds, without_holds}
+use Rattle.claims.proofs.Promised.{ends_hold, if_none, only_holds, readers_hold, within_holds, without_holds}
 use Rattle.claims.proofs.deciding.failure_of.Goals as goal
 
 pub returns-in-AtMost-clause-none : goal.returns-in-AtMost-clause-none

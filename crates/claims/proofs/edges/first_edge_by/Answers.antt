@@ -3,7 +3,7 @@ use Rattle.machine.specs.Layout.{Layout}
 use Rattle.policy.specs.Policy.{allows}
 use Rattle.table.specs.Names.{AreLabelsOf}
 use Rattle.claims.specs.Edges.{IsFirstEdgeBy, IsFirstRead, LacksEdgesOf, LacksReads}
-use Rattle.claims.proofs.{FirstEdge.{if_some, readers_first, readers_lack}, Kept.if_none}
+use Rattle.claims.proofs.{FirstEdge.{if_some, readers_first, readers_lack}, Promised.if_none}
 use Rattle.claims.proofs.edges.first_edge_by.Goals as goal
 
 pub returns-in-Readers-clause-some : goal.returns-in-Readers-clause-some

@@ -17,7 +17,7 @@ returns c =
     let all : length rows.rows.items ≡ Label.COUNT = grind (arith, common_steps) in
     record {
       extents = extents_of rows;
-      are = rows_go t (limits_of c.args.reach.now) rows c.in_ok-rows.ensures (omega (arith, most_few t.version, c.objects.ensures.lawful.draft.labels.few, all));
+      are = rows_go t (limits_of c.args.reach.now) rows c.in_ok-rows.ensures (omega (arith, most_few t.version, c.keeps_rules.ensures.draft.labels.few, all));
       is = all_said t (extents_of rows) c.deref.result.now c.deref-2.result.now _ _ _
           (c.deref.ensures.value ∙ c.in_ok-programs.ensures) (c.deref-2.ensures.value ∙ c.in_ok-others.ensures) c.new-lines.ensures
           c.in_ok-add_claims_among.ensures c.in_ok-add_claims_for.ensures;

@@ -21,5 +21,5 @@ loop-number-preserved c =
           ∙ number_fails p n w.in-Some.actor c.loop-number.users w.in-Some.ensures.value
           (ap (λ goes. is_user goes w.in-Some.actor object) (sym (row_at rows w.in-Some.actor w.row.result w.row.ensures)) ∙ sym w.is_user.ensures ∙ w.if-is_user.false)
           c.loop-number.invariant
-      | in_default w ↦ absurd (false≢true (w.in_default.ensures.valid.1 (omega (arith, c.objects.ensures.lawful.draft.labels.few))))
+      | in_default w ↦ absurd (false≢true (w.in_default.ensures.valid.1 (omega (arith, c.keeps_rules.ensures.draft.labels.few))))
     ]

@@ -3,7 +3,8 @@ use Rattle.std.proofs.Common.{[], ℕ, ◌==◌, ◌∙◌, ◌∷◌, ◌≡◌
 use Rattle.std.{specs.{declared.alloc.Global.Global, Prelude.Vec}, proofs.lemmas.Bool.Decides.nat_tests}
 use Rattle.machine.specs.Layout.{Layout}
 use Rattle.reach.specs.{Extents.limits_of, Reach.{IsReachOf, IsTableReach, TableReach}}
-use Rattle.claims.specs.{declared.{claim.Claim.Claim, deciding.Broken.Broken}, Holding.{AreBroken, Holds, IsKept}}
+use Rattle.claims.specs.{declared.{claim.Claim.Claim, deciding.Broken.Broken, keeping.Kept.Kept}, Holding.{AreBroken, Holds}}
+use Rattle.claims.specs.Learning.{IsKeptSo}
 use Rattle.claims.specs.declared.lines.TheConstants.ClaimLines as ClaimLines
 use Rattle.reptext.specs.{Breaches.breaches_data, Reports.{hold_data, line_of}}
 use Rattle.report.proofs.claiming.reach_answer.Goals as goal
@@ -15,11 +16,12 @@ use Rattle.report.specs.Claimed as claimed
 -- some claims are broken
 some : (t : Layout) (lines : List (Option Claim)) (reach : TableReach) → IsReachOf t reach → (v : Vec Broken Global) → (all : List Broken)
     → v.items ≡ all → AreBroken t (limits_of reach) ClaimLines.FIRST lines all → (all ≡ [] → ⊥)
-    → ((claim : Claim) → Holds t (limits_of reach) claim → IsKept t (limits_of reach) claim)
-    → (answer : Answer) → Finds (line_of (breaches_data t lines all)) (λ told. told ≡ finding.Broken v) answer → claimed.Judges t lines answer
-some t lines reach is_reach v [] same are has kept answer finds = absurd (has refl)
-some t lines reach is_reach v (first ∷ more) same are has kept answer finds =
-    claimed.some_broken reach is_reach first more are kept
+    → (kept : Kept) → claimed.AreKept t (limits_of reach) (Holds t (limits_of reach)) kept
+    → (answer : Answer) → Finds (line_of (breaches_data t lines all kept)) (λ told. told ≡ finding.Broken v) answer
+    → claimed.Judges t lines answer
+some t lines reach is_reach v [] same are has kept keeps answer finds = absurd (has refl)
+some t lines reach is_reach v (first ∷ more) same are has kept keeps answer finds =
+    claimed.some_broken reach is_reach first more are kept keeps
     (record { text = finds.text; status = finds.status; finding = finds.finding; found = finds.found; is_so = (v, finds.is_so, same); made = finds.made; script = finds.script })
 
 not_zero : (n : ℕ) → (suc n == 0) ≡ true → ⊥
@@ -45,10 +47,16 @@ returns-then-is_empty-clause-right c =
     let test = c.if-is_empty.true in
     let empty : (length c.in_ok-broken.broken.items == 0) ≡ true = cc in
     let none = none_of c.in_ok-broken.broken.items empty in
-    let told = c.in_ok-hold_report.ensures ∙ ap (λ n. line_of (hold_data n)) c.claim_count.ensures in
+    let kept = c.kept_of-kept.result in
+    let told = c.in_ok-hold_report.ensures ∙ ap (λ n. line_of (hold_data n kept)) c.claim_count.ensures in
     claimed.all_hold reach (own reach c.policy.ensures.reach)
     (subst (AreBroken reach.table (limits_of reach) ClaimLines.FIRST c.args.lines.now) none c.in_ok-broken.ensures.broken)
-    (c.in_ok-broken.ensures.all_kept none)
+    kept
+    (record {
+      every = c.in_ok-broken.ensures.all_kept none;
+      calls = λ fixed. c.in_ok-broken.ensures.all_calls fixed none;
+      told = subst (λ (t : Layout). IsKeptSo t kept) c.table-table.ensures c.kept_of-kept.ensures;
+    })
     (plain_retold told c.plain.ensures.plain)
 
 pub returns-clause-right : goal.returns-clause-right
@@ -59,10 +67,17 @@ returns-clause-right c =
     let answer = c.is_empty.ensures in
     let test = c.if-is_empty.false in
     let filled : (length c.in_ok-broken.broken.items == 0) ≡ false = cc in
+    let kept = c.kept_of-kept.result in
     let told =
-    c.in_ok-text.ensures ∙ ap (λ t. line_of (breaches_data t lines c.deref.result.now)) c.table.ensures
-    ∙ ap (λ broken. line_of (breaches_data reach.table lines broken)) c.deref.ensures.value in
+    c.in_ok-text.ensures ∙ ap (λ t. line_of (breaches_data t lines c.deref.result.now kept)) c.table-table.ensures
+    ∙ ap (λ broken. line_of (breaches_data reach.table lines broken kept)) c.deref.ensures.value in
     some reach.table lines reach (own reach c.policy.ensures.reach) c.in_ok-broken.broken c.in_ok-broken.broken.items refl
-    c.in_ok-broken.ensures.broken (some_of c.in_ok-broken.broken.items filled) c.in_ok-broken.ensures.kept
+    c.in_ok-broken.ensures.broken (some_of c.in_ok-broken.broken.items filled)
+    kept
+    (record {
+      every = c.in_ok-broken.ensures.kept;
+      calls = c.in_ok-broken.ensures.calls;
+      told = subst (λ (t : Layout). IsKeptSo t kept) c.table-table.ensures c.kept_of-kept.ensures;
+    })
     c.found.result
     (finding_retold told c.found.ensures.finds)

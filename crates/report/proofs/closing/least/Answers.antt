@@ -13,6 +13,6 @@ returns c = record {
       (λ m from kind to booted. c.in_ok-edges.ensures.edges m from kind to booted)
       c.edges_rise.ensures.rising
       (subst (λ kept. IsLeastBy c.args.rules t (edges ++ kept) closed) c.deref.ensures.value c.in_ok-closed.ensures)
-      (accepted_as c.args.rules t closed (c.a_verdict_is_on_the_boot_state.ensures.accepted t closed c.objects.ensures.lawful)
-      (c.a_verdict_is_on_the_boot_state.ensures.sharply t closed c.objects.ensures.lawful));
+      (accepted_as c.args.rules t closed (c.a_verdict_is_on_the_boot_state.ensures.accepted t closed c.keeps_rules.ensures)
+      (c.a_verdict_is_on_the_boot_state.ensures.sharply t closed c.keeps_rules.ensures));
 }

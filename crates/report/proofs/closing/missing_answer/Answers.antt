@@ -8,5 +8,5 @@ returns-clause-right c =
     missing_told c.args.rules t boot.0 boot.1 c.lacked_answer.result c.args.policy.now c.in_ok-closed.closed c.in_ok-closed.ensures.closing
     c.lacked_answer.ensures.text c.lacked_answer.ensures.status c.lacked_answer.ensures.bare
     (accepted_as c.args.rules t c.args.policy.now
-    (c.a_verdict_is_on_the_boot_state.ensures.accepted t c.args.policy.now c.objects.ensures.lawful)
-    (c.a_verdict_is_on_the_boot_state.ensures.sharply t c.args.policy.now c.objects.ensures.lawful))
+    (c.a_verdict_is_on_the_boot_state.ensures.accepted t c.args.policy.now c.keeps_rules.ensures)
+    (c.a_verdict_is_on_the_boot_state.ensures.sharply t c.args.policy.now c.keeps_rules.ensures))

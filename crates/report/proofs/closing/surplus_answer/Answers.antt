@@ -11,5 +11,5 @@ returns-clause-right c =
     (subst (λ edges. IsClosing c.args.rules t edges c.in_ok-asked_for.asked_for) c.new.ensures c.in_ok-asked_for.ensures.closing)
     c.lacked_answer.ensures.text c.lacked_answer.ensures.status c.lacked_answer.ensures.bare
     (λ p.
-    accepted_as c.args.rules t p (c.a_verdict_is_on_the_boot_state.ensures.accepted t p c.objects.ensures.lawful)
-    (c.a_verdict_is_on_the_boot_state.ensures.sharply t p c.objects.ensures.lawful))
+    accepted_as c.args.rules t p (c.a_verdict_is_on_the_boot_state.ensures.accepted t p c.keeps_rules.ensures)
+    (c.a_verdict_is_on_the_boot_state.ensures.sharply t p c.keeps_rules.ensures))

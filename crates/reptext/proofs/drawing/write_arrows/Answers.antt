@@ -19,5 +19,5 @@ loop-number-preserved c =
           let from = subst (λ a. AddsArrows test t (pairs_with count a) mid (string_bytes w.write_arrows_from.new.text)) same w.in_ok-write_arrows_from.ensures.drawn in
           adds_label test t count n old mid (string_bytes c.match-new.text) c.loop-number.invariant
           (subst (λ text. AddsArrows test t (pairs_with count n) mid (string_bytes text)) (sym w.text-is) from)
-      | in_default w ↦ absurd (label_there c.new.result w.in_default.is (c.new.ensures.valid.1 (omega (arith, c.objects.ensures.lawful.draft.labels.few))))
+      | in_default w ↦ absurd (label_there c.new.result w.in_default.is (c.new.ensures.valid.1 (omega (arith, c.keeps_rules.ensures.draft.labels.few))))
     ]

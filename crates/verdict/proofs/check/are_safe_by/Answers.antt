@@ -7,4 +7,4 @@ pub returns : goal.returns
 returns c =
     let t = c.args.table.now in
     let edges = c.args.policy.now in
-    c.sharply_accepted_systems_are_safe.ensures t edges c.caps.ensures.lawful (accepted_by c.args.rules t (allows edges) c.requires)
+    c.sharply_accepted_systems_are_safe.ensures t edges c.keeps_rules.ensures (accepted_by c.args.rules t (allows edges) c.requires)

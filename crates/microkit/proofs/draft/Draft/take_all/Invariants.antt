@@ -4,7 +4,7 @@ use Rattle.microkit.specs.Reading.{elements_at}
 use Rattle.xml.specs.View.{nodes_of}
 use Rattle.microkit.proofs.draft.Draft.take_all.Given as goal
 
-abbrev pub invariant-loop-element : goal.invariant-loop-element
-invariant-loop-element l =
-    elements_at l.phase (nodes_of (drop l.element-index l.elements)) l.self
-    ≡ elements_at l.phase (nodes_of l.elements) l.fn.self
+abbrev pub invariant-loop-number : goal.invariant-loop-number
+invariant-loop-number l =
+    elements_at l.phase l.number (nodes_of (drop l.number l.elements)) l.self
+    ≡ elements_at l.phase 0 (nodes_of l.elements) l.fn.self

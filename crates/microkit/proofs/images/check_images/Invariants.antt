@@ -1,0 +1,8 @@
+-- The elements that are left decide what all of them do.
+use Rattle.std.proofs.Common.{◌≡◌, drop}
+use Rattle.microkit.specs.Images.{images_at}
+use Rattle.xml.specs.View.{nodes_of}
+use Rattle.microkit.proofs.images.check_images.Given as goal
+
+abbrev pub invariant-loop-number : goal.invariant-loop-number
+invariant-loop-number l = images_at l.number (nodes_of (drop l.number l.elements)) ≡ images_at 0 (nodes_of l.elements)
