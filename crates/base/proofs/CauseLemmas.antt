@@ -1,4 +1,4 @@
--- A refusal as it is written, and a detail, tell the cause, the misuse or the failure that they stand for.
+-- Refusals as they are written, and details: they tell the cause, the misuse or the failure that they stand for.
 use Rattle.std.{specs.Prelude.slice_index_or, proofs.Common.{ℕ, ◌<◌, ◌==◌, ◌∙◌, ◌≡◌, ◌≢◌, Bool, ap, arith, cond, lit<, refl, sym}}
 use Rattle.base.specs.declared.refusal.{Cause.Cause, LookupFailure.{LookupFailure, TheVariants.{DepthMismatch, GuardMismatch, InvalidRoot}}}
 use Rattle.base.specs.declared.refusal.Cause.TheVariants as cause
@@ -75,7 +75,7 @@ misuse_again misuse.LogSize = refl
 misuse_again misuse.WorkerCount = refl
 misuse_again misuse.SeatCount = refl
 
--- and so have different misuses
+-- different misuses have different refusals
 pub misuse_once : (one other : Misuse) → misuse_refusal one ≡ misuse_refusal other → one ≡ other
 misuse_once one other same = sym (misuse_again one) ∙ ap (λ refusal. misuse_told refusal) same ∙ misuse_again other
 

@@ -1,4 +1,4 @@
--- Each way between a kind and its name, and between a kind and its number.
+-- Kinds of authority, their names and their numbers: each way between a kind and these.
 use Rattle.std.{specs.{Bool.Decides, Prelude.{IfSome, bytes_eq, slice_get}}, proofs.Common.{ℕ, ◌+◌, ◌<◌, ◌==◌, ◌^◌, ◌↔◌, ◌∙◌, ◌≡◌, ◌≤◌, ◌⊎◌, Bool, List}}
 use Rattle.std.proofs.Common.{None, Option, Some, ap, arith, cond, false, inl, inr, lit<, refl, slice_index_or, subst, sym, true}
 use Rattle.std.proofs.lemmas.{Bool.cases_lt, Option.get_or_from_slice_get, Slice.Eq.bytes_eq-Decides}
@@ -68,7 +68,7 @@ named_iff word kind = (kind_is_named word kind, λ h. ap (λ w. kind_named w) h 
 pub kind_once : (one other : Kind) → kind_name one ≡ kind_name other → one ≡ other
 kind_once one other same = let both : Some one ≡ Some other = sym (kind_again one) ∙ ap (λ w. kind_named w) same ∙ kind_again other in cc
 
--- and different numbers
+-- different kinds have different numbers
 numbered : ℕ → Kind
 numbered n =
     cond (n == 0) Control (

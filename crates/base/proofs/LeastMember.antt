@@ -1,11 +1,11 @@
--- Of the labels of a set the least comes first.
+-- The least label of a set, which comes first in the list of its labels.
 use Rattle.std.specs.{List.{filter, range_with_len}, Prelude.{not}}
 use Rattle.std.proofs.Common.{ℕ, suc, zero, [], ◌+◌, ◌&&◌, ◌<◌, ◌==◌, ◌≡◌, ◌∷◌, Bool, arith, false, refl, true}
 use Rattle.std.proofs.lemmas.Bool.Decides.{nat_tests}
 use Rattle.base.specs.{Labels.{is_in, members_of}, declared.labels.Labels.Labels}
 use Rattle.base.specs.declared.label.TheConstants.Label as Label
 
--- where no number passes a test, the list of those that do is empty
+-- the list of the numbers that pass a test is empty if none does
 none_pass : (p : ℕ → Bool) → ((l : ℕ) → p l ≡ false) → (k n : ℕ) → filter p (range_with_len k n) ≡ []
 none_pass p none k zero = refl
 none_pass p none k (suc n) = rw (none k) (none_pass p none (k + 1) n)

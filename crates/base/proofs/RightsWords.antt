@@ -1,4 +1,4 @@
--- Each way between a set of rights and its word.
+-- Sets of rights and their words: each way between a set and its word.
 use Rattle.std.{specs.{Bool.Decides, List.{AllByRecursion, find, list_any}, Prelude.{IfSome, bytes_eq}}, proofs.Common.{[], ℕ, ◌+◌, ◌<◌, ◌==◌, ◌≤◌, ◌↔◌, ◌∙◌, ◌∷◌}}
 use Rattle.std.proofs.Common.{◌≡◌, Bool, List, None, Option, Some, ap, arith, cond, false, lit<, refl, subst, suc, sym, true, zero}
 use Rattle.std.proofs.lemmas.Slice.Eq.{bytes_eq-Decides}
@@ -110,7 +110,7 @@ letters_again (suc (suc (suc (suc (suc (suc (suc (suc (suc (suc (suc (suc (suc (
 letters_again (suc (suc (suc (suc (suc (suc (suc (suc (suc (suc (suc (suc (suc (suc (suc zero))))))))))))))) below = refl
 letters_again (suc (suc (suc (suc (suc (suc (suc (suc (suc (suc (suc (suc (suc (suc (suc (suc n)))))))))))))))) below = absurd (omega arith)
 
--- what isn't the word of the set of its letters names none
+-- a word that isn't that of the set of its letters names no set
 pub named_by_none : (word : List ℕ) → bytes_eq (rights_word (rights_with (letters_of word))) word ≡ false → rights_of_word word ≡ None
 named_by_none word other = by_found (rights_of_word word) (named_word word) where
   by_found : (found : Option Rights) → IfSome found (Names word) → found ≡ None

@@ -1,4 +1,4 @@
--- How a cause of refusal is written as a code and a detail (seL4 manual, "Error Codes"; codes from 32 up are confine's own).
+-- Refusals as they are written: a code and a detail for a cause (seL4 manual, "Error Codes"; codes from 32 up are confine's own).
 use Rattle.std.specs.{List.Contains, Prelude.{[], ℕ, ◌∷◌, ◌≡◌, ◌≢◌, ◌≤◌, List}}
 use Rattle.base.specs.declared.refusal.{Cause.{Cause, Cause as cause}, LookupFailure.{LookupFailure, TheVariants.DepthMismatch}}
 use Rattle.base.specs.declared.refusal.{LookupFailure.TheVariants.{GuardMismatch, InvalidRoot, MissingCapability}, Misuse.Misuse}

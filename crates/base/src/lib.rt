@@ -1,7 +1,6 @@
 //! The words that every layer shares: ids, labels, cores, rights, kinds of authority, edges, and refusals.
 //!
-//! The crates of the kernel, of policies and of verdicts stand on it. It knows nothing of a kernel
-//! or a policy.
+//! It knows nothing of a kernel or a policy.
 #![tactic(auto)]
 
 mod core_number;

@@ -123,8 +123,8 @@ impl fmt::Display for Rights {
 
 /// A law: a word names a set exactly where it is the word of that set of the four rights.
 ///
-/// What is read from a word is written as that word, and the word of a set is read as that set. So
-/// different sets have different words.
+/// A word that is read as a set is written again for that set, and the word of a set is read as that set. So different
+/// sets have different words.
 pub fn rights_words_are_read_back()
     ensures written { (word : List ℕ) → IfSome (rights_of_word word) (λ rights. word ≡ rights_word rights) }
     ensures read { (n : ℕ) → n < 16 → rights_of_word (rights_word (rights_with n)) ≡ Some (rights_with n) }

@@ -25,8 +25,8 @@ const SEEING: [Kind; 7] = [
 const SEEING_BESIDE: [Kind; 3] = [Kind::Context, Kind::Control, Kind::Notify];
 
 /// Returns a line for each flow of a shortest chain from the label of one name to that of another: by which edges it
-/// goes. Then it returns a line for each of these edges: where it comes from. Where nothing flows, it returns nothing.
-/// The reach is that of the sheet's table.
+/// goes. Then it returns a line for each of these edges: where it comes from. It returns nothing if nothing flows. The
+/// reach is that of the sheet's table.
 ///
 /// # Errors
 ///
@@ -65,8 +65,8 @@ fn push_steps(
     origins.push_lines(alloc, lines, &mut edges)
 }
 
-/// Returns a shortest chain of flows from one label to another, if there is one: where a chain goes through no other
-/// program and by no object of one, such a chain.
+/// Returns a shortest chain of flows from one label to another, if there is one: by preference one that goes through no
+/// other program and by no object of one.
 fn plainest_chain(
     alloc: Global,
     reach: &Reach<'_>,

@@ -1,6 +1,6 @@
 //! Words on claims that don't hold, on flows, on who uses a label, on what a changed system adds, and on runs.
 //!
-//! `serving` stands on it. It knows no device and no command.
+//! It knows no device and no command.
 #![tactic(auto)]
 
 mod broken;

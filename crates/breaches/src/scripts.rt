@@ -16,7 +16,7 @@ const MOST: usize = 8;
 
 /// Returns a line for each call of a script of which none is refused: who makes it, and which objects it changes.
 ///
-/// Of a description it also says which element the call uses.
+/// It also says, for a description, which element the call uses.
 ///
 /// # Errors
 ///

@@ -1,4 +1,4 @@
--- The tests of a capability's line are what the table asks of a capability.
+-- Capabilities of a table's lines: the tests that their lines pass are what the table asks of a capability.
 use Rattle.std.proofs.Common.{◌&&◌, ◌∙◌, ◌≡◌, Option, Some, ap, arith, false, option_map, refl, sym, true}
 use Rattle.base.specs.declared.ids.ObjId.{ObjId}
 use Rattle.machine.specs.declared.{cap.Detail.{Detail, Detail as d}, layout.Initial.Initial, object.ObjectKind.ObjectKind}

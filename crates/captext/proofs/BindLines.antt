@@ -1,4 +1,4 @@
--- A line for a binding is read just where it is the line of a binding that the table takes next.
+-- Lines for bindings: such a line is read just where it is the line of a binding that the table takes next.
 use Rattle.std.proofs.Common.{[], ℕ, ◌<◌, ◌∙◌, ◌∷◌, ◌≡◌, List, None, Ok, Option, Some, ap, arith, codes, length, not, option_map, refl, sym}
 use Rattle.std.proofs.{Common.true, lemmas.{Bool.{false≢true, not-true}, Option.{none-some, slice_get_within}}}
 use Rattle.base.specs.declared.ids.ObjId.{ObjId}
@@ -41,7 +41,6 @@ bind_line_takes t words next h =
       },
     )
 
--- an object of a kind has a name
 pub has_name : (t : Layout) (id : ObjId) (kind : ObjectKind) → IsDraft t → kind_at t id ≡ Some kind → id.0 < length t.names
 unfolding kind_at initial_of
 has_name t id kind draft h = by (initial_of t id) refl h where

@@ -1,4 +1,4 @@
--- A line for a capability is read just where it is the line of a filled slot that the table takes next.
+-- Lines for capabilities: such a line is read just where it is the line of a filled slot that the table takes next.
 use Rattle.std.proofs.Common.{ℕ, ◌&&◌, ◌<◌, ◌^◌, ◌∙◌, ◌∷◌, ◌≡◌, Bool, Err, List, None, Ok, Option, Result, Some, ap, codes, cond}
 use Rattle.std.proofs.{Common.{false, not, option_map, refl, subst, sym, true}, lemmas.Bool.{and_from, and_parts, false≢true, lt-ltb}}
 use Rattle.std.proofs.lemmas.Bool.{ltb-true, not-true}
@@ -93,7 +93,7 @@ place_takes (Some kind.CNode) id (place.Index index) h = refl
 place_takes (Some kind.Tcb) id place.Root h = refl
 place_takes _ id _ h = absurd (false≢true h)
 
--- so the words of a slot that was found are its own
+-- the words of a slot that was found are its own
 pub slot_spelled : (t : Layout) (name : List ℕ) (id : ObjId) (at : Place) → name ≡ object_name t id
     → fits_holder (kind_at t id) at ≡ true → slot_word name at ≡ slot_name t (slot_in id at)
 slot_spelled t name id at named fits = λ i. slot_word (named i) (sym (place_takes (kind_at t id) id at fits) i)

@@ -1,4 +1,4 @@
--- The line of a filled slot that the table takes next is read, and its words are plain.
+-- The line of a filled slot that the table takes next: it is read, and its words are plain.
 use Rattle.std.{specs.List.AllByRecursion, proofs.Common.{ℕ, ◌+◌, ◌<◌, ◌^◌, ◌∙◌, ◌∷◌, ◌≡◌, ◌≤◌, List, None, Ok, Option, Some, ap, arith}}
 use Rattle.std.proofs.{Common.{codes, false, length, option_map, refl, subst, sym, true}, Math.Pow.pow_mono, lemmas.Bool.and_from}
 use Rattle.std.proofs.lemmas.{Bool.{and_parts, cond-true, false≢true, leb-true, ltb-true}, Option.{get_or_from_slice_get, slice_get_within}}
@@ -222,7 +222,7 @@ cap_line_again t filled draft now admits =
     within
     ∙ ap (λ (f : Filled). Ok (with_filled t f)) same
 
--- its words are plain
+-- the words of the line are plain
 pub cap_plain : (t : Layout) (filled : Filled) → IsDraft t → AdmitsCap t filled
     → IsPlainLine (cap_words t filled)
 cap_plain t filled draft admits = (

@@ -1,4 +1,4 @@
--- What a draft of a policy that was read says of its text, and that the text of a policy is read as a draft of it.
+-- Drafts of policies: what a draft that was read says of its text, and that the text of a policy is read as a draft of it.
 use Rattle.std.specs.{declared.cmp.Ordering.{Ordering, TheVariants.{Equal, Greater, Less}}, BTreeSet.insert_key, List.{AllByRecursion, list_any}}
 use Rattle.std.specs.{List.Sorted.IsStrictlySortedBy, Ordering.{is_eq, match_ordering, ordering_reverse}}
 use Rattle.std.proofs.Common.{[], ℕ, ◌++◌, ◌+◌, ◌<◌, ◌||◌, ◌∙◌, ◌∷◌, ◌≡◌, Bool, Err, IfOk, IfSome, IsOk, List, None, Ok, Option, Result, Some, ap}
@@ -286,7 +286,7 @@ policy_too t text edges h =
       too.dropped,
     )
 
--- and of what reads as a text does
+-- a draft that is read of a text is a draft of it
 pub draft_ok : (t : Layout) (text : List ℕ) (result : Result Draft Fault) → Reads (λ draft. draft) result (read_draft_of t text)
     → IfOk result (IsDraftOf t text)
 draft_ok t text (Ok draft) read = draft_means t text draft read

@@ -1,4 +1,4 @@
--- What the steps of a table's line say where it was read: the words it has, the tests it passed, and the item it adds.
+-- The steps by which a table's line is read: the words it has, the tests it passed, and the item it adds.
 use Rattle.std.proofs.{Common.{[], ℕ, ◌∷◌, ◌≡◌, List, None, Ok, Option, Result, Some, ap, refl, true}, lemmas.Bool.{and_from, and_parts}}
 use Rattle.words.specs.{declared.faults.Wrong.Wrong, Reading.{bind, or_syntax}}
 use Rattle.machine.specs.Layout.{Layout}

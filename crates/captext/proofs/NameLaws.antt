@@ -1,4 +1,4 @@
--- What has a name's number has that name, and where names differ the number of a name is found by it.
+-- Names and their numbers: the number found for a name has that name, and a name that differs from all others is found at its number.
 use Rattle.std.{specs.{Bool.Decides, List.position_or_len, Str.bytes_eq}, proofs.Common.{[], ℕ, ◌<◌, ◌↔◌, ◌∙◌, ◌∷◌, ◌≡◌, ◌≢◌, AllPairs}}
 use Rattle.std.proofs.Common.{Bool, List, None, Option, Some, ap, arith, cond, false, get_or, length, nat_lt, not, option_map, position}
 use Rattle.std.proofs.{Common.{refl, sym, true}, lemmas.{Bool.{cond-true, lt-ltb}, List.{Quantifiers.position-Some, Sums.prefix_len_is}}}
@@ -25,7 +25,7 @@ found_at names name k h =
     let found = position-Some (λ other. bytes_eq name other) names k [] h in
     (found.0, (bytes_eq-Decides name (get_or names k [])).0 found.1)
 
--- and where no two names are the same, a name is found at its own place
+-- a name is found at its own place if no two names are the same
 again_at : (names : List (List ℕ)) (k : ℕ) → AllPairs ◌≢◌ names → k < length names
     → position (λ other. bytes_eq (get_or names k []) other) names ≡ Some k
 again_at names k apart within =

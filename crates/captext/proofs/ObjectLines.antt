@@ -1,4 +1,4 @@
--- A line for a label or an object is read just where it is the line of a label or an object that the table takes next.
+-- Lines for labels and objects: such a line is read just where it is the line of a label or an object that the table takes next.
 use Rattle.std.proofs.Common.{[], ℕ, ◌&&◌, ◌<◌, ◌∙◌, ◌∷◌, ◌≡◌, List, Ok, Some, ap, codes, false, is_some, length, nat_lt, not, refl, sym}
 use Rattle.std.proofs.lemmas.{Bool.{and_from, and_parts, le-leb, leb-true, lt-ltb, ltb-true, not-true}, List.append-nil}
 use Rattle.machine.specs.{declared.{layout.Initial.Initial, object.ObjectKind.ObjectKind}, KindWords.object_kind_word, Layout.Layout}
@@ -12,8 +12,6 @@ use Rattle.captext.specs.{PolicyText.label_name, TableText.content_words, Tables
 use Rattle.captext.{specs.Tables.{labelled, limited, object_line, takes_labels, takes_objects}, proofs.LineLaws.{TakesItem, labels_again}}
 use Rattle.captext.proofs.{LineLaws.{labels_take, objects_again, objects_take, same_ok}, NameLaws.{is_label_name, label_again, label_takes}}
 use Rattle.captext.proofs.{NameLaws.names_part, ObjectParts.{object_again, object_takes}, StepLaws.{demand_then, value_then}}
-
--- a label
 
 pub label_line_takes : (t : Layout) (words : List (List ℕ)) (next : Layout) → label_line t words ≡ Ok next
     → TakesItem t (codes "label" ∷ words) next

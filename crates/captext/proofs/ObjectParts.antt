@@ -1,4 +1,4 @@
--- A kind's own words are read just as they are spelled: what was read is an object at boot, and each such object is read back.
+-- A kind's own words in the line of an object: what was read is an object at boot, and each such object is read back.
 use Rattle.std.{specs.{Bool.{⊤, Decides}, List.AllByRecursion, Str.bytes_eq}, proofs.Common.{[], ℕ, ◌++◌, ◌<◌, ◌^◌, ◌∙◌, ◌∷◌, ◌≡◌, ◌≤◌}}
 use Rattle.std.proofs.Common.{Bool, List, None, Ok, Option, Some, ap, arith, codes, cond, false, refl, subst, sym, true}
 use Rattle.std.proofs.lemmas.{Bool.{and_from, and_parts, cond-false, cond-true, le-leb, leb-true, lt-ltb, ltb-true}, List.append-nil}
@@ -172,7 +172,7 @@ at_boot (o.Context context) is limit = (share_within context.share limit, is.2)
 at_boot (o.Frame _) is limit = tt
 at_boot (o.Control _) is limit = ltb-true _ _ limit
 
--- and an object at boot is within the limits, and has such words
+-- an object at boot is within the limits, and has such words
 
 share_told : (share : Option Share) → IsWithinLimits share → HasNumbers share × (is_limited_share share ≡ true)
 share_told None within = (tt, refl)
@@ -196,7 +196,7 @@ told (o.Context context) blank end = let share = share_told context.share blank.
 told (o.Frame _) blank end = (omega arith, refl)
 told (o.Control control) blank end = (omega arith, lt-ltb control.core CoreNo.COUNT blank)
 
--- so the words are read just where they are an object's at boot
+-- the words are read just where they are an object's at boot
 
 pub object_takes : (kind : ObjectKind) (words : List (List ℕ)) (object : Object) (rest : List (List ℕ))
     → read_as limited (content_at kind) words ≡ Ok (Some object, rest)

@@ -1,4 +1,4 @@
--- A line for a pair of the derivation tree is read just where it is the line of a pair that the table takes next.
+-- Lines for pairs of the derivation tree: such a line is read just where it is the line of a pair that the table takes next.
 use Rattle.std.proofs.{Common.{[], ℕ, ◌&&◌, ◌∙◌, ◌∷◌, ◌≡◌, List, Ok, ap, codes, refl, sym, true}, lemmas.Bool.{and_from, and_parts}}
 use Rattle.base.specs.declared.ids.SlotRef.{SlotRef}
 use Rattle.machine.specs.{declared.layout.Pair.Pair, Layout.Layout}

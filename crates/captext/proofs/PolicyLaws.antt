@@ -1,4 +1,4 @@
--- What a policy that was read says of its text, and that the text of each policy is read back.
+-- Policies and their texts: what a policy that was read says of its text, and that the text of each policy is read back.
 use Rattle.std.specs.{declared.cmp.Ordering.{Ordering, TheVariants.{Equal, Greater, Less}}, Bool.⊤, List.Sorted.IsStrictlySortedBy}
 use Rattle.std.{specs.Ordering.{is_lt, nat_cmp, ordering_then}, proofs.Common.{[], ℕ, ◌&&◌, ◌++◌, ◌-◌, ◌==◌, ◌||◌, ◌↔◌, ◌∙◌, ◌∷◌, ◌≡◌}}
 use Rattle.std.proofs.Common.{IfSome, List, None, Ok, Option, Some, ap, arith, codes, length, nat_lt, not, refl, subst, sym, true}
@@ -123,7 +123,7 @@ takes t edges words next is h =
     let within = both (IsEdgeOf t) edges (taken.edge ∷ []) is.1 (taken.within, tt) in
     (taken.edge, taken.words_are, sym taken.grown, subst (IsPolicyOf t) (sym taken.grown) (rises, within))
 
--- and its edges are read back
+-- the edges of a policy are read back
 
 -- an edge above the last passes both tests
 passes : (last : Option Edge) (edge : Edge) → IfSome last (λ l. edge_cmp l edge ≡ Less)
@@ -149,7 +149,7 @@ line_again t edges edge lawful within above =
     alone_again named_edge_part (labelled_edge t edges) (label_name t edge.from, (edge.kind, label_name t edge.to)) names
     ∙ rw (one, tests.0, other, tests.1) refl
 
--- its words are plain
+-- the words of an edge's line are plain
 
 plain_edge : (t : Layout) (edge : Edge) → IsLawful t → IsEdgeOf t edge → IsPlainLine (edge_words t edge)
 unfolding named_words
@@ -160,7 +160,7 @@ plain_edge t edge lawful within =
 pub plain_header : IsPlainLine policy_header
 plain_header = (plain_bytes (codes "confine-policy") refl, (plain_bytes (codes "1") refl, tt))
 
--- so a policy is a list of edges
+-- a policy is a list of edges
 
 pub format : (t : Layout) → IsLawful t → IsListFormat (edge_words t) (edge_line t) (IsPolicyOf t)
 unfolding IsStrictlySortedBy

@@ -1,4 +1,4 @@
--- A word is read as a slot or a term just where it is that slot's or that term's word.
+-- Words of slots and terms: a word is read as a slot or a term just where it is that slot's or that term's word.
 use Rattle.std.specs.{Bool.Decides, Char.is_ascii_digit, Fmt.decimal, List.{AllByRecursion, list_all, position_or_len}, Prelude.bytes_eq}
 use Rattle.std.proofs.Common.{[], ℕ, ◌++◌, ◌+◌, ◌<◌, ◌==◌, ◌^◌, ◌↔◌, ◌∙◌, ◌∷◌, ◌≡◌, Bool, List, None, Option, Some, add-one, ap, arith}
 use Rattle.std.proofs.Common.{codes, cond, drop, drop-cons, eqb-true, false, get_or, length, length-append, lit<, lt-ltb, nat_lt, not}
@@ -138,7 +138,7 @@ none_dotted : (name : List ℕ) → list_all is_name_byte name ≡ true → AllB
 none_dotted [] h = tt
 none_dotted (b ∷ bs) h = let parts = and_parts _ _ h in (no_dot b parts.0, none_dotted bs parts.1)
 
--- so the first dot of a slot's word is the one after the name
+-- the first dot of a slot's word is the one after the name
 first_dot : (name rest : List ℕ) → AllByRecursion (λ b. (b == 46) ≡ false) name
     → position_or_len (λ b. b == 46) (name ++ 46 ∷ rest) ≡ length name
 first_dot [] rest h = refl
@@ -208,7 +208,7 @@ slot_once name other_name at other is place other_is other_place same =
     let slots : ◌≡◌ {A = List ℕ × Place} (name, at) (other_name, other) = cc in
     (ap (λ (s : List ℕ × Place). s.0) slots, ap (λ (s : List ℕ × Place). s.1) slots)
 
--- and they are plain
+-- words of places and slots are plain
 
 plain_place : (at : Place) → IsPlace at → IsPlainWord (place_word at)
 plain_place (place.Index index) is = plain_decimal index is
@@ -220,7 +220,7 @@ IsSlotName slot = (is_name slot.0 ≡ true) × IsPlace slot.1
 plain_slot : (slot : List ℕ × Place) → IsSlotName slot → IsPlainWord (slot_word slot.0 slot.1)
 plain_slot slot is = both (λ b. 32 < b) slot.0 _ (plain_name slot.0 is.0) (lit< tt, plain_place slot.1 is.1)
 
--- so the next word is a slot
+-- the next word is read as a slot
 pub slot_part : IsPart slot_at (λ slot. slot_word slot.0 slot.1 ∷ []) IsSlotName
 unfolding slot_at
 slot_part =

@@ -1,4 +1,4 @@
--- What a step of a line that was read says of the value or the test it rests on.
+-- Single steps of reading a line: what one says of the value or the test it rests on.
 use Rattle.std.proofs.Common.{◌≡◌, Bool, None, Ok, Option, Result, Some, false, refl, true}
 use Rattle.words.specs.{declared.faults.Wrong.Wrong, Reading.bind}
 use Rattle.captext.specs.Tables.{demand, value_or}

@@ -1,4 +1,4 @@
--- What a table that was read says of its text, and that the text of each table is read back.
+-- Tables and their texts: what a table that was read says of its text, and that the text of each table is read back.
 use Rattle.std.{specs.{Bool.{Decides}, List.AllByRecursion, Str.bytes_eq}, proofs.Common.{[], ℕ, ◌++◌, ◌<◌, ◌↔◌, ◌∙◌, ◌∷◌, ◌≡◌, Bool}}
 use Rattle.std.proofs.Common.{Err, IfOk, List, None, Ok, Option, Result, Some, ap, append_assoc, codes, cond, false, length, map, not, refl}
 use Rattle.std.proofs.{Common.{subst, sym, true}, lemmas.{List.{append-nil, Quantifiers.position-Some}, Slice.Eq.bytes_eq-Decides}}
@@ -52,7 +52,7 @@ line_takes t words next h =
     let read = word_then _ words next h in
     subst (λ ws. TakesItem t ws next) (sym read.words_are) (line_by_takes t next read.word read.rest read.goes_on)
 
--- and the line of an item is read
+-- the line of an item is read
 
 kind_again : (kind : ObjectKind) (t : Layout) (words : List (List ℕ))
     → line_by (object_kind_word kind) t words ≡ object_line kind t words
@@ -70,7 +70,7 @@ line_again t (CapItem filled) draft now admits = cap_line_again t filled draft n
 line_again t (PairItem pair) draft now admits = child_line_again t pair draft now admits
 line_again t (BindingItem binding) draft now admits = bind_line_again t binding draft admits
 
--- so a line is read just where it is the line of an item that the table takes next
+-- a line is read just where it is the line of an item that the table takes next
 
 pub line_iff : (t : Layout) (words : List (List ℕ)) (next : Layout) → IsDraft t
     → (table_line t words ≡ Ok next) ↔ ((item : Item) × IsLineOf t words next item)
@@ -156,7 +156,7 @@ lines_take version t front (line ∷ body) all so_far h =
     subst (λ ls. TakesLines version ls all) (append_assoc front (line ∷ []) body)
     (lines_take version stepped.0 (front ++ line ∷ []) body all next stepped.2)
 
--- and the lines of a draft are read
+-- the lines of a draft are read
 
 record ReadsLines (t : Layout) : Type 0 where
   stepped : steps table_line (empty_layout t.version) (table_lines t) ≡ Ok t
@@ -278,7 +278,7 @@ table_once law one other is_one is_other same =
     sym (table_is_read law (table_text one) one is_one refl) ∙ table_is_read law (table_text one) other is_other same in
     cc
 
--- and of what reads as a text does
+-- a text is read as a table just where it is the text of a lawful one
 
 abbrev pub TextLaw : Type 0
 TextLaw = (bytes : List ℕ) (t : Layout) → (read_table_of bytes ≡ Ok t) ↔ (IsLawful t × (bytes ≡ table_text t))

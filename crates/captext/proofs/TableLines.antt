@@ -1,4 +1,4 @@
--- The lines of a table with one item more are the lines before it and the line of that item.
+-- The lines of a table with one item more: the lines before it, and the line of that item.
 use Rattle.std.{specs.List.zip, proofs.Common.{[], ℕ, ◌++◌, ◌∙◌, ◌∷◌, ◌≡◌, List, ap, append_assoc, arith, length, map, refl, sym}}
 use Rattle.std.proofs.lemmas.List.{append-nil, map_push}
 use Rattle.machine.specs.{declared.layout.{Binding.Binding, Filled.Filled, Initial.Initial, Pair.Pair}, Layout.{Layout, initial_of}}
@@ -19,7 +19,7 @@ zip_nil : {X Y : Type 0} (xs : List X) → zip {K = X} {X = Y} xs [] ≡ []
 zip_nil [] = refl
 zip_nil (x ∷ xs) = refl
 
--- where a section grows and nothing follows it
+-- the lines of a section that has grown, if nothing follows it
 grown : {X : Type 0} (section longer : List X) (x : X) (after before : List X) → longer ≡ section ++ x ∷ [] → after ≡ []
     → before ≡ [] → longer ++ after ≡ (section ++ before) ++ x ∷ []
 grown section longer x after before grows none_after none_before =

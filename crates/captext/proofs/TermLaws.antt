@@ -1,4 +1,4 @@
--- The words left are read as at most two terms just as these are spelled.
+-- Terms at the end of a line: the words left are read as at most two terms just as these are spelled.
 use Rattle.std.{specs.List.AllByRecursion, proofs.Common.{[], ℕ, ◌++◌, ◌<◌, ◌∙◌, ◌∷◌, ◌≡◌, Bool, List, None, Ok, Option, Some, ap, codes}}
 use Rattle.std.proofs.Common.{cond, false, refl, subst, sym, true}
 use Rattle.base.specs.{declared.rights.Rights.Rights, Rights.{letter_of, rights_word}}
@@ -44,7 +44,7 @@ takes (word ∷ rest) taken h =
     ap (λ (r : Option Term × List (List ℕ)). bind (term_at r.1) (λ second. Ok ((r.0, second.0), second.1))) left ∙ read.2 in
     subst (λ w. TakesTerms (w ∷ rest) taken) (sym its.0) (second_takes first.0 rest taken its.1 goes_on)
 
--- and is read again
+-- terms are read again
 
 again : (terms : Terms) → AreTerms terms → terms_at (terms_words terms) ≡ Ok (terms, [])
 unfolding terms_at in_turn term_at bind or_syntax
@@ -83,6 +83,6 @@ plain (None, Some _) is = absurd is
 plain (Some one, None) is = (plain_term one is.0, tt)
 plain (Some one, Some two) is = (plain_term one is.0, (plain_term two is.1, tt))
 
--- so they are the last part of a line
+-- terms are the last part of a line
 pub terms_part : IsLastPart terms_at terms_words AreTerms
 terms_part = record { takes = takes; again = again; plain = plain }

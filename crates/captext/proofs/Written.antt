@@ -1,4 +1,4 @@
--- How a text grows line by line, and what is written where a name is missing.
+-- Texts that grow line by line, and what is written where a name is missing.
 use Rattle.std.{specs.List.zip, proofs.Common.{[], ℕ, ◌++◌, ◌+◌, ◌<◌, ◌∙◌, ◌∷◌, ◌≡◌, ◌≤◌, List, None, ap, append_assoc, arith}}
 use Rattle.std.proofs.{Common.{get_or, length, map, slice_get, sym, take, unwrap_or}, lemmas.{Grind.flat_map-append, List.{flat_map_more, map_more}}}
 use Rattle.std.proofs.lemmas.{List.take_all, Option.unwrap_or-slice_get, Slice.Zip.{get_or-zip, length-zip}}
@@ -23,7 +23,7 @@ line_more f xs i d before text longer within so_far grown =
     ∙ flat_map_more line_text before (map f (take i xs)) (f (get_or xs i d))
     ∙ ap (λ lines. before ++ text_of lines) (sym (map_more f xs i d within))
 
--- alike, for values with their names
+-- values and their names, a line for each
 
 named_length : {X Y : Type 0} (xs : List X) (ys : List Y) → length xs ≡ length ys → length (zip xs ys) ≡ length ys
 named_length xs ys each = length-zip xs ys ∙ omega arith

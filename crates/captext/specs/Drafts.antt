@@ -1,4 +1,4 @@
--- A policy to be mended: its edges in any order, some lines dropped (confine's own).
+-- Policies to be mended: edges in any order, some lines dropped (confine's own).
 use Rattle.std.specs.{BTreeSet.insert_key, List.{AllByRecursion, list_any}, Prelude.{[], ℕ, ◌++◌, ◌+◌, ◌∷◌, ◌≡◌, Bool, Err, IsOk, List, None, Ok}}
 use Rattle.std.specs.Prelude.{Option, Result, Some, codes, false}
 use Rattle.base.specs.declared.{edge.Edge.Edge, kind.Kind.Kind}
@@ -65,7 +65,7 @@ draft_format t = record { header = words_of (codes "confine-policy 1"); step = d
 unfoldable pub read_draft_of : Layout → List ℕ → Result Draft Fault
 read_draft_of t bytes = read_format (draft_format t) (lines_of bytes)
 
--- what that means
+-- the meaning of what is read
 
 -- what a line names, if it is an edge
 abbrev pub NamedAt : Type 0
@@ -98,8 +98,8 @@ abbrev pub unknown_lines : Layout → ℕ → List Line → List Dropped
 unknown_lines t number [] = []
 unknown_lines t number (words ∷ lines) = unknown_line t number (named_edge_at words) ++ unknown_lines t (number + 1) lines
 
--- each line of a text between the header and `end` names an edge: a draft has just those of which the table has both labels, and the other
--- lines are those that were dropped
+-- each line of a text between the header and `end` names an edge: the draft has just the edges of which the table has both labels, and the
+-- other lines are those that were dropped
 pub record IsDraftOf (t : Layout) (text : List ℕ) (draft : Draft) : Type 0 where
   pub body : List Line
   pub lines_are : lines_of text ≡ ended (whole_lines policy_header body)

@@ -13,15 +13,12 @@ policy_header = words_of (codes "confine-policy 1")
 abbrev pub label_name : Layout → ℕ → List ℕ
 label_name t label = slice_index_or t.labels label []
 
--- the line of an edge
 abbrev pub edge_words : Layout → Edge → List (List ℕ)
 edge_words t edge = codes "edge" ∷ label_name t edge.from ∷ kind_name edge.kind ∷ label_name t edge.to ∷ []
 
--- the lines of edges
 abbrev pub edge_lines : Layout → List Edge → List ℕ
 edge_lines t edges = text_of (map (edge_words t) edges)
 
--- the text of a policy
 abbrev pub policy_text : Layout → List Edge → List ℕ
 policy_text t = list_text policy_header (edge_words t)
 

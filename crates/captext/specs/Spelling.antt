@@ -1,5 +1,4 @@
--- How the parts of a table's lines are spelled: slots, as `NAME.DEC` or `NAME.root`, and terms, as rights or
--- numbers (confine's own).
+-- The spelling of the parts of a table's lines: slots, as `NAME.DEC` or `NAME.root`, and terms, as rights or numbers (confine's own).
 use Rattle.std.specs.{Fmt.decimal, Prelude.{[], ℕ, ⊤, ◌++◌, ◌<◌, ◌^◌, ◌∷◌, List, None, Option, Some, codes}}
 use Rattle.base.specs.Rights.{IsRights, rights_word}
 use Rattle.words.specs.Number.{hexadecimal}
@@ -21,7 +20,6 @@ IsPlace place.Root = ⊤
 abbrev pub slot_word : List ℕ → Place → List ℕ
 slot_word name at = name ++ (codes "." ++ place_word at)
 
--- a term
 abbrev pub term_word : Term → List ℕ
 term_word (term.Rights rights) = rights_word rights
 term_word (term.Decimal n) = decimal n
@@ -32,8 +30,6 @@ abbrev pub IsTerm : Term → Type 0
 IsTerm (term.Rights rights) = IsRights rights
 IsTerm (term.Decimal n) = n < 2 ^ 64
 IsTerm (term.Hexadecimal n) = n < 2 ^ 64
-
--- a term or none, alike
 
 abbrev pub option_words : Option Term → List (List ℕ)
 option_words None = []

@@ -1,5 +1,5 @@
--- The text of a capability table: the header of its version, a line for each label, object, filled slot, pair of the derivation tree and binding,
--- and `end` (confine's own; what it says is a system's initial state, seL4 manual, "Bootstrapping").
+-- The text of a capability table: the header of its version, a line for each label, object, filled slot, pair of the derivation tree and
+-- binding, and `end` (confine's own; what it says is a system's initial state, seL4 manual, "Bootstrapping").
 use Rattle.std.specs.{Fmt.decimal, List.zip, Prelude.{[], ℕ, ◌++◌, ◌∷◌, ◌≡◌, List, None, Option, Some, codes, map, slice_index_or}}
 use Rattle.base.specs.{declared.ids.{ObjId.ObjId, SlotRef.SlotRef}, Rights.rights_word}
 use Rattle.machine.specs.declared.{cap.Detail.{Detail, Detail as d}, layout.{Binding.Binding, Filled.Filled, Initial.Initial, Pair.Pair}}
@@ -85,7 +85,6 @@ pair_words t pair = codes "child" ∷ slot_name t pair.parent ∷ slot_name t pa
 abbrev pub binding_words : Layout → Binding → List (List ℕ)
 binding_words t binding = codes "bind" ∷ object_name t binding.thread ∷ object_name t binding.context ∷ []
 
--- the line of an item
 abbrev pub item_words : Layout → Item → List (List ℕ)
 item_words t (LabelItem name) = label_words name
 item_words t (ObjectItem name initial) = object_words t name initial
@@ -114,7 +113,6 @@ binding_lines t = map (binding_words t) t.bindings
 abbrev pub table_lines : Layout → List (List (List ℕ))
 table_lines t = label_lines t ++ (object_lines t ++ (cap_lines t ++ (pair_lines t ++ binding_lines t)))
 
--- the text of a capability table
 abbrev pub table_text : Layout → List ℕ
 table_text t = text_of (whole_lines (table_header t.version) (table_lines t))
 

@@ -1,5 +1,5 @@
--- The text of a capability table, line by line: each line adds one item to the table, or is faulty. Of the faults of one line the
--- first in this order is told: form and order of lines, unknown name, double, wrong kind, limit, place in memory.
+-- The text of a capability table, line by line: each line adds one item to the table, or is faulty. A line with several faults is told the
+-- first in this order: form and order of lines, unknown name, double, wrong kind, limit, place in memory.
 use Rattle.std.specs.{List.find, Prelude.{[], ℕ, ◌&&◌, ◌+◌, ◌^◌, ◌∷◌, Bool, Err, List, None, Ok, Option, Result, Some, codes, false}}
 use Rattle.std.specs.{Prelude.{if◌then◌else◌, is_some, length, nat_le, nat_lt, not, true}, Str.bytes_eq}
 use Rattle.base.specs.declared.core_number.TheConstants.CoreNo as CoreNo
@@ -367,12 +367,12 @@ table_line t words = do
 abbrev pub pair_line : Layout → ℕ → ℕ
 pair_line t number = number + 2 + (length t.labels + length t.objects + length t.caps)
 
--- the table where no pair breaks a rule of the derivation tree, else the fault of the first that does
+-- the table, if no pair breaks a rule of the derivation tree; else the fault of the first that does
 abbrev pub grown_by : Layout → Option ℕ → Whole Layout
 grown_by t None = Ok (with_originals t)
 grown_by t (Some number) = Err (pair_line t number, wrong.Tree)
 
--- what the lines come to: the table with its capabilities marked, if its derivation tree keeps the rules
+-- what the lines make: the table with its capabilities marked, if its derivation tree keeps the rules
 unfoldable pub grown : Layout → Whole Layout
 grown t = grown_by t (tree_fault (with_originals t))
 
@@ -381,7 +381,7 @@ abbrev pub format_of : Version → Format Layout Layout
 format_of version =
     record { header = table_header version; step = table_line; whole = grown; start = empty_layout version }
 
--- the version of a text, which is the second where its first line says so
+-- the version of a text, by its first line: the second if that says so
 abbrev pub version_of : List (Option (List (List ℕ))) → Version
 version_of (Some line ∷ lines) = if line_is line (table_header version.Two) then version.Two else version.One
 version_of _ = version.One

@@ -1,4 +1,4 @@
-//! How the text of a policy is read that is to be mended.
+//! The reading of a policy that is to be mended.
 ghost use Rattle.std.specs.BTreeSet.{insert_key};
 ghost use Rattle.std.specs.Prelude.{[], ℕ, ◌≡◌, ◌≢◌, Err, IfErr, IfOk, List, Ok, OnOk};
 ghost use Rattle.base.specs.declared.edge.Edge.{Edge as EdgeOf};
@@ -190,8 +190,7 @@ fn draft_line(
 
 /// Reads the text of a policy that is to be mended, whose labels are those of the table.
 ///
-/// The edges may come in any order and more than once. A line that names a label that the table lacks is
-/// dropped.
+/// The edges may come in any order and more than once. A line is dropped if the table lacks a label that it names.
 ///
 /// # Errors
 ///
@@ -246,8 +245,8 @@ impl<'a> Reader for Body<'a> {
     }
 }
 
-/// A law: a text that is read as a policy is also read as one that is to be mended. That has the same edges, and no line is
-/// dropped.
+/// A law: a text that is read as a policy is also read as one that is to be mended, with the same edges and no dropped
+/// line.
 pub fn policies_are_read_as_drafts()
     ensures { (t : Layout) (text : List ℕ) (edges : List EdgeOf)
         → read_policy_of t text ≡ Ok edges

@@ -1,7 +1,6 @@
 //! The texts of capability tables and policies.
 //!
-//! `certificate`, `claims`, `summary` and `remarks` stand on it. It knows no verdict, and nothing
-//! of `evtext`.
+//! It knows no verdict, and nothing of `evtext`.
 #![tactic(auto)]
 
 mod caps;

@@ -1,4 +1,4 @@
-//! How the text of a policy is read.
+//! The reading of a policy's text.
 ghost use Rattle.std.specs.Prelude.{ℕ, ◌<◌, ◌↔◌, ◌≡◌, ◌≢◌, Err, IfErr, IfOk, List, Ok, OnErr, Some, length};
 ghost use Rattle.base.specs.declared.edge.Edge.{Edge as EdgeOf};
 ghost use Rattle.machine.specs.Layout.{Layout};

@@ -1,4 +1,4 @@
-//! How the text of a capability table is read.
+//! The reading of a capability table's text.
 ghost use Rattle.std.specs.Prelude.{[], ℕ, ◌++◌, ◌+◌, ◌<◌, ◌^◌, ◌↔◌, ◌∷◌, ◌≡◌, ◌≢◌, Err, IfErr, IfOk, List, MatchResult, Ok, OnErr, length};
 ghost use Rattle.machine.specs.Layout.{Layout};
 ghost use Rattle.words.specs.{declared.faults.Wrong.{Wrong, TheVariants.Tree}, Fault.{fault_at, no_memory}, FirstFault.IsFirstFault};

@@ -1,4 +1,4 @@
-//! How capability tables and policies are written.
+//! The writing of capability tables and policies.
 ghost use Rattle.std.specs.{Fmt.decimal, List.AllByRecursion, Prelude.{[], ℕ, ◌++◌, ◌∷◌, ◌≡◌, IfErr, IfOk, List, Ok, OnOk, Some}};
 ghost use Rattle.std.specs.Prelude.{map, string_bytes};
 ghost use Rattle.base.specs.Refusals.{out_of_memory};

@@ -1,6 +1,6 @@
 //! Words on the entries of a log: why a call is refused, or what the kernel answers to it.
 //!
-//! `serving` stands on it. It knows no table and no policy.
+//! It knows no table and no policy.
 #![tactic(auto)]
 
 mod calls;

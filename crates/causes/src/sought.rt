@@ -1,4 +1,4 @@
-//! What a call looks up, and which capability it wants to find there.
+//! Lookups of calls: what a call looks up, and which capability it wants to find there.
 use machine::Call;
 use std::fmt;
 

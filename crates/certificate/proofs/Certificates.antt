@@ -1,4 +1,4 @@
--- A certificate is a list of lines: the laws of its lines, and those of whole texts from them.
+-- Certificates as lists of lines: the laws of their lines, and those of whole texts from them.
 use Rattle.std.proofs.Common.{[], ℕ, ◌++◌, ◌∷◌, ◌≡◌, List, Ok, ap, codes, refl, subst}
 use Rattle.machine.specs.Layout.{Layout}
 use Rattle.words.{specs.{Reading.bind, Text.IsPlainLine}, proofs.{ListLaws.{IsListFormat, all_front, all_last, list_again}, TextLaws.both}}

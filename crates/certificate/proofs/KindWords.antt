@@ -1,4 +1,4 @@
--- A word is read as a set of kinds just where it is the set's word: its names between commas are those of the set's kinds.
+-- Words of sets of kinds: one is read as a set just where its names between commas are those of the set's kinds.
 use Rattle.std.{specs.List.{AllByRecursion, join_with_byte, list_all, slice_split}, proofs.Common.{[], ℕ, ◌++◌, ◌+◌, ◌-◌, ◌<◌, ◌==◌, ◌^◌}}
 use Rattle.std.proofs.Common.{◌∙◌, ◌∷◌, ◌≡◌, ◌≢◌, Bool, Err, List, None, Ok, Result, Some, ap, append_assoc, arith, codes, drop, false}
 use Rattle.std.proofs.Common.{length, lit<, lt-ltb, ltb-true, map, nat_lt, position, refl, subst, suc, sym, take, true, zero}
@@ -85,7 +85,7 @@ names_again kinds all more all_joined = refl
 names_again kinds all more (one_joins {more = later} kind above joins) =
     rw (kind_again kind, lt-ltb _ _ above) (names_again (with_kind kinds kind) all later joins)
 
--- so a word that is read is the set's, and the set's word is read
+-- a word that is read is the set's, and the set's word is read
 
 -- the bytes of a kind's name come after the comma, and after the space
 after_comma : (kind : Kind) → AllByRecursion (λ b. 44 < b) (kind_name kind)

@@ -1,4 +1,4 @@
--- A line of a certificate is read just where it is the line of something that the table has.
+-- Lines of a certificate: one is read just where it is the line of something that the table has.
 use Rattle.std.{specs.List.AllByRecursion, proofs.Common.{[], ℕ, ◌&&◌, ◌++◌, ◌∙◌, ◌∷◌, ◌≡◌, List, Ok, Option, Some, ap, codes, refl, subst}}
 use Rattle.std.proofs.{Common.{sym, true}, lemmas.Bool.{and_from, and_parts, false≢true}}
 use Rattle.base.specs.declared.{ids.{ObjId.ObjId, SlotRef.SlotRef}, kind.Kinds.Kinds}
@@ -201,7 +201,7 @@ line_read t words line h =
     let is = named_takes t read.0 line read.2 read.3 in
     (read.1 ∙ is.0, is.1)
 
--- and the names of a line are read back
+-- the names of a line are read back
 
 slot_names : Layout → SlotRef → NamedSlot
 slot_names t slot = (object_name t slot.holder, place_in (kind_at t slot.holder) slot.index)

@@ -15,7 +15,7 @@ pub one_more : {X : Type 0} (line : X → Line) (xs : List X) (i : ℕ) (x : X) 
 one_more line xs i x old before now within was is =
     grown line old (take i xs) (get_or xs i x ∷ []) before now was is ∙ ap (λ items. old ++ map line items) (sym (take_more xs i x within))
 
--- the same of the items that are kept
+-- only items that pass a test have a line
 module _ {X : Type 0} (line : X → Line) (keep : X → Bool) (xs : List X) (i : ℕ) (x : X) (old before : List Line) (within : i < length xs)
     (was : before ≡ old ++ map line (filter keep (take i xs))) where
   more : (now : List Line) → now ≡ before ++ map line (filter keep (get_or xs i x ∷ [])) → now ≡ old ++ map line (filter keep (take (i + 1) xs))

@@ -1,4 +1,4 @@
--- How a line of a certificate is read: first its words, by their form, then the names in them, by a capability table (confine's own).
+-- The reading of a certificate's line: first its words, by their form, then the names in them, by a capability table (confine's own).
 use Rattle.std.specs.Prelude.{[], ℕ, ◌&&◌, ◌++◌, ◌∷◌, Bool, List, Ok, Option, Result, Some, codes, false, true}
 use Rattle.base.specs.declared.{ids.{ObjId.ObjId, SlotRef.SlotRef}, kind.Kinds.Kinds}
 use Rattle.machine.specs.{declared.object.ObjectKind.{ObjectKind, ObjectKind as kind}, Layout.Layout}

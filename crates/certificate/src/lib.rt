@@ -1,6 +1,6 @@
 //! Certificates: what a capability table gives, line by line, and their texts.
 //!
-//! `checker` and the commands stand on it. It knows no policy.
+//! It knows no policy.
 #![tactic(auto)]
 
 mod kinds;

@@ -1,4 +1,4 @@
-//! How the certificate of a table is made.
+//! The making of a table's certificate.
 ghost use Rattle.std.specs.Prelude.{◌++◌, ◌≡◌, IfErr, IfOk, OnOk, filter, map};
 ghost use Rattle.base.specs.Refusals.{out_of_memory};
 ghost use Rattle.table.specs.Rules.{kind_at};
@@ -21,7 +21,7 @@ pub fn make(alloc: Global, table: &Table) -> Result<Certificate, Refusal>
     ensures right { IfOk result (λ lines. lines ≡ right.right_certificate table.now) }
     ensures memory { IfErr result (λ refusal. refusal ≡ out_of_memory) }
 
-    // So it is a certificate for the table, and has a text.
+    // The certificate is one for the table, so it has a text.
     ensures spelled { IfOk result (λ lines. IsCertificateOf table.now lines) }
 {
     table.keeps_rules();

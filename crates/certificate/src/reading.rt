@@ -1,4 +1,4 @@
-//! How the text of a certificate is read.
+//! The reading of a certificate's text.
 ghost use Rattle.std.specs.Prelude.{ℕ, ◌≡◌, ◌≢◌, Err, IfErr, IfOk, List, Ok};
 ghost use Rattle.words.specs.{declared.faults.Wrong.Wrong, Fault.{fault_at, no_memory}, FirstFault.{IsFirstFault, TellsFirst}};
 ghost use Rattle.words.specs.{Reading.Reads, Text.lines_of};

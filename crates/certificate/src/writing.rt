@@ -1,4 +1,4 @@
-//! How a certificate is written.
+//! The writing of a certificate.
 ghost use Rattle.std.specs.Prelude.{◌++◌, ◌≡◌, IfErr, IfOk, Ok, OnOk, string_bytes};
 ghost use Rattle.base.specs.Refusals.{out_of_memory};
 ghost use Rattle.words.specs.Text.{line_text};

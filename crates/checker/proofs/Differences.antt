@@ -40,7 +40,7 @@ same_lists (x ∷ xs) (y ∷ ys) same agree =
     let tail : xs ≡ ys = same_lists xs ys (omega arith) (λ k below. agree (suc k) (omega arith)) in
     cc
 
--- a denial of the table and the policy is one by their rules
+-- a denial of the table and the policy is one of them with any certificate
 pub rules_deny : (t : Layout) (edges : List Edge) (lines : List Line) (d : Denial) → IsLeastBroken t (allows edges) d
     → IsDenied t edges lines d
 rules_deny t edges lines (denial.Certificate line) least = absurd least.has
@@ -53,7 +53,7 @@ rules_deny t edges lines (denial.Binding thread context) least = least
 rules_deny t edges lines (denial.Holding reply thread) least = least
 rules_deny t edges lines (denial.Recorded thread kind label) least = least
 
--- so it is by a set of rules
+-- a denial of the table and the policy by a set of rules is one of them with any certificate, by this set
 pub rules_deny_by : (set : Rules) (t : Layout) (edges : List Edge) (lines : List Line) (d : Denial) → IsLeastBrokenBy set t (allows edges) d
     → IsDeniedBy set t edges lines d
 rules_deny_by rules.Closed t edges lines (denial.Certificate line) least = absurd least.has

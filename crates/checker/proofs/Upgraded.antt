@@ -1,4 +1,4 @@
--- What is said of a table that is made one of version 2 is what was said of it before.
+-- Tables that are made ones of version 2: what is said of such a table is what was said of it before.
 use Rattle.std.proofs.Common.{◌↔◌, ◌≡◌, List, refl, subst, sym}
 use Rattle.machine.specs.Layout.{Layout, bound_context, declared_label, initial_cap, initial_of, initial_parent, upgraded}
 use Rattle.words.specs.Reading.{list_text}

@@ -1,4 +1,4 @@
--- What the checker answers to a capability table and a policy (confine's own).
+-- Answers of the checker to a capability table and a policy (confine's own).
 use Rattle.std.specs.Prelude.{◌≡◌, Err, List, Ok}
 use Rattle.base.specs.declared.{edge.Edge.Edge, refusal.{Misuse.Misuse as misuse, Refusal.Refusal}}
 use Rattle.base.specs.Refusals as refusals

@@ -1,5 +1,5 @@
--- What it means that a capability table, a policy and a certificate are accepted or not: the rules on the first two come first, then
--- C1, that the certificate is the right one (confine's own).
+-- Verdicts on a capability table, a policy and a certificate: the rules on the first two come first, then C1, that the certificate is the
+-- right one (confine's own).
 use Rattle.std.specs.Prelude.{ℕ, ◌+◌, ◌<◌, ◌≡◌, ◌≢◌, Err, List, Ok, Result, slice_get}
 use Rattle.base.specs.declared.edge.Edge.{Edge}
 use Rattle.machine.specs.Layout.{Layout}

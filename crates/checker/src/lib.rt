@@ -1,7 +1,7 @@
 //! The checker: the verdict on a capability table and a policy, with the table's certificate, and that on a table, a policy and a
 //! certificate.
 //!
-//! `report` stands on it. It knows no claim, and no code of the kernel's calls.
+//! It knows no claim, and no code of the kernel's calls.
 #![tactic(auto)]
 
 mod checking;

@@ -67,8 +67,8 @@ pub fn verify<'a, R: Threads + Sync>(
 /// Verifies a certificate with a capability table and a policy, which a set of rules judges, as
 /// [`verify`] does by P1 to P8.
 ///
-/// The rules of the set and A1 to A4 come first, as [`judge_by`] has them, and then C1. Where all three
-/// are accepted, every run from the table's boot state is safe.
+/// The rules of the set and A1 to A4 come first, as [`judge_by`] has them, and then C1. Every run from the table's boot
+/// state is safe if all three are accepted.
 ///
 /// # Errors
 ///

@@ -122,7 +122,7 @@ module _ (t : Layout) (test : EdgeTest) (claim : Claim) where
         let here = same ∙ is.by in
         subst (λ n. test n kind l ≡ false) (sym here) (is.first kind l (subst (λ n. Excludes t claim n kind l) here excluded) below)
 
-  -- where edges come from labels below a number alone, all labels are tried
+  -- all labels are tried if edges come only from labels below a number
   pub all_below : (n : ℕ) → ((a : ℕ) (kind : Kind) (l : ℕ) → test a kind l ≡ true → a < n) → LacksBelow n → HoldsOnEdges t test claim
   all_below n few lacks a kind l excluded = by (test a kind l) refl where
     by : (is : Bool) → test a kind l ≡ is → test a kind l ≡ false

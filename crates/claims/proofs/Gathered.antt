@@ -24,7 +24,7 @@ module _ (t : Layout) (limits : Limits) where
   more_lines (broke {line} {claim} {broken} {entries} {all} breaks rest) next more later =
       broke breaks (more_lines rest next more (moved (line + length (Some claim ∷ entries)) (line + 1 + length entries) next more (omega arith) later))
 
-  -- where none is broken all hold
+  -- all hold if none is broken
 
   in_first_or_rest : (x : Option Claim) (xs : List (Option Claim)) (y : Option Claim) → Contains (x ∷ xs) y → (x ≡ y) ⊎ Contains xs y
   in_first_or_rest x xs y has = elim (Contains-append_cases (x ∷ []) xs y has) [

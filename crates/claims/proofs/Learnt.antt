@@ -1,4 +1,4 @@
--- What claims that hold keep of calls in fixed systems, by the laws on two runs.
+-- Claims that hold in fixed systems: what they keep of calls, by the laws on two runs.
 use Rattle.std.proofs.Common.{[], ℕ, ◌∷◌, List, refl}
 use Rattle.machine.specs.Layout.{Layout}
 use Rattle.reach.specs.Extents.{Limits}

@@ -1,4 +1,4 @@
--- Of the lines of a text there is one list of the claims that don't hold.
+-- The list of the claims of a text that don't hold: there is only one.
 use Rattle.std.proofs.Common.{[], ℕ, ◌+◌, ◌∙◌, ◌∷◌, ◌≡◌, ◌⊎◌, List, None, Option, Some, ap, inl, inr, refl, subst, sym}
 use Rattle.std.proofs.lemmas.Bool.{cases_order, false≢true}
 use Rattle.base.{specs.{declared.edge.Edge.Edge, Kinds.kind_number}, proofs.KindNames.number_once}
@@ -32,7 +32,7 @@ pairs a l b m = elim (cases_order a b) [
   | inr (inr after) ↦ inr (inl (inl after))
 ]
 
--- and two edges
+-- two edges: one comes before the other, or they are one
 edges : (one other : Edge)
     → EdgeComesBefore one.from one.kind one.to other ⊎ (EdgeComesBefore other.from other.kind other.to one ⊎ (one ≡ other))
 edges one other = elim (cases_order one.from other.from) [

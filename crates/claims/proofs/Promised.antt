@@ -1,4 +1,4 @@
--- What claims that hold keep in every run; and that a claim that fails doesn't hold.
+-- Claims that hold: what they keep in every run; and that a claim that fails doesn't hold.
 use Rattle.std.{specs.Prelude.IfNone, proofs.{Common.{ℕ, ◌∙◌, ◌≡◌, List, None, Option, Some, inl, inr, subst, sym}, lemmas.Bool.false≢true}}
 use Rattle.base.specs.declared.kind.Kind.{Kind}
 use Rattle.machine.specs.Layout.{Layout}
@@ -55,7 +55,7 @@ module _ (t : Layout) (limits : Limits) where
   fails_breaks (claim.Through from to filters) told fails holds = no_chain limits (is_one_of filters) from to holds fails.1
   fails_breaks (claim.Without actor kind object) told fails holds = edge_breaks (claim.Without actor kind object) told fails holds
 
-  -- of a claim on pairs
+  -- a claim on pairs that holds
 
   pub ends_hold : (one : Claim) (limit : Most) (actor object : Who) → one ≡ claim.AtMost limit actor object
       → HoldsOnPairs t limits one → Holds t limits one
@@ -72,7 +72,7 @@ module _ (t : Layout) (limits : Limits) where
   within_holds one actor objects is holds =
       subst (λ c. Holds t limits c) (sym is) (subst (λ c. HoldsOnPairs t limits c) is holds)
 
-  -- of a claim on edges
+  -- a claim on edges that holds
 
   pub readers_hold : (one : Claim) (object : ℕ) (readers : List ℕ) → one ≡ claim.Readers object readers
       → HoldsOnEdges t limits.test one → Holds t limits one

@@ -1,5 +1,5 @@
--- When claims hold, what is then kept in every run from a table's boot state, and which of the claims of a text don't
--- hold (the authority and what is kept are those of 'seL4 Enforces Integrity', sections 4 and 5, restated; claims are confine's own).
+-- Claims on a table: when they hold, what is then kept in every run, and which of a text don't hold (the authority and what is kept are
+-- those of 'seL4 Enforces Integrity', sections 4 and 5, restated; claims are confine's own).
 use Rattle.std.specs.{List.Contains, Prelude.{[], ℕ, ◌+◌, ◌<◌, ◌∷◌, ◌≡◌, ◌≢◌, ◌⊎◌, List, None, Option, Some, false, length, true}}
 use Rattle.base.specs.{declared.{edge.Edge.Edge, kind.Kind.{Kind, TheVariants.{Await, Read, Receive}}}, Kinds.kind_number}
 use Rattle.machine.specs.{Authority.HasAuthority, Layout.Layout, Machine.Machine}
@@ -31,7 +31,7 @@ Bounds t (claim.Readers _ _) a l = ⊥
 Bounds t (claim.Through _ _ _) a l = ⊥
 Bounds t (claim.Without _ _ _) a l = ⊥
 
--- and this is what it leaves them
+-- what a claim leaves them
 abbrev pub most_of : Claim → Most
 most_of (claim.AtMost limit _ _) = limit
 most_of _ = most.Nothing
@@ -52,7 +52,7 @@ Excludes t (claim.Readers object readers) a kind l = AreTwo t a l × (l ≡ obje
 Excludes t (claim.Without actor sort object) a kind l = AreNamed t actor object a l × (kind ≡ sort)
 Excludes t _ a kind l = ⊥
 
--- when it holds: for labels that are kept apart, but for filters, if a set of labels is closed off. Then no chain of flows leads from the one to the
+-- when it holds: labels are kept apart, but for filters, if a set of labels is closed off. Then no chain of flows leads from the one to the
 -- other, and where a claim fails, one does
 
 -- a label has no more authority on another than this
@@ -154,7 +154,7 @@ pub record IsBroken (t : Layout) (limits : Limits) (line : ℕ) (claim : Claim) 
   pub breaks : ¬ Holds t limits claim
   pub fails : Fails t limits claim broken.failure
 
--- of lines from this number on, these are all whose claims don't hold, in their order
+-- these are all lines, from this number on, whose claims don't hold, in their order
 pub data AreBroken (t : Layout) (limits : Limits) : ℕ → List (Option Claim) → List Broken → Type 0 where
   ended : {line : ℕ} → AreBroken t limits line [] []
   silent : {line : ℕ} {entries : List (Option Claim)} {all : List Broken}

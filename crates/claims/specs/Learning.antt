@@ -1,4 +1,4 @@
--- What calls return in fixed systems in which `apart` or `through` holds (confine's own; compare noninterference).
+-- Calls in fixed systems in which `apart` or `through` holds: what they return (confine's own; compare noninterference).
 use Rattle.std.specs.Prelude.{[], ℕ, ◌∷◌, List}
 use Rattle.machine.specs.declared.call.{Event.Event, Outcome.Outcome}
 use Rattle.machine.specs.{Boot.IsBoot, Layout.Layout, Machine.Machine, Run.Run}
@@ -24,8 +24,8 @@ LearnsNothing t limits inside =
     → DifferBeside (IsOfSet t boot inside) events others → Run boot events outcomes m → Run boot others ends n
     → LookTheSame t limits inside boot events outcomes ends m n
 
--- .. but through filters: also what filters show to the set is alike in both runs at each position, and after each event of a filter's
--- thread all on which the set depends
+-- threads of the set learn nothing but through filters: what filters show to the set is alike in both runs too, at each position, and so
+-- is, after each event of a filter's thread, all on which the set depends
 abbrev pub LearnsByFilters : Layout → Limits → FilterTest → SetTest → Type 0
 LearnsByFilters t limits filters inside =
     (boot m n : Machine) (events others : List Event) (outcomes ends : List Outcome) → IsBoot t boot

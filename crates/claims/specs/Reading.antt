@@ -28,7 +28,7 @@ names_after names (word ∷ words) = do
   name ← or_syntax (name_of word)
   names_after (names ++ name ∷ []) words
 
--- and what they name
+-- the labels that names stand for
 
 unfoldable pub label_at : Layout → List ℕ → Result ℕ Wrong
 label_at t name = value_or wrong.UnknownName (label_named t name)

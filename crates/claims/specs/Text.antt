@@ -1,4 +1,4 @@
--- How claims are spelled (confine's own).
+-- The spelling of claims (confine's own).
 use Rattle.std.specs.{List.join_with_byte, Prelude.{[], ℕ, ◌∷◌, List, None, Option, Some, codes, map}}
 use Rattle.base.specs.Kinds.{kind_name}
 use Rattle.machine.specs.Layout.{Layout}

@@ -1,4 +1,4 @@
-//! Which claims don't hold of a table.
+//! The claims that don't hold of a table, and why.
 ghost use Rattle.std.specs.{List.Contains, Prelude.{[], ℕ, ◌≡◌, IfErr, IfNone, IfOk, IfSome, Some}};
 ghost use Rattle.base.specs.Refusals.{out_of_memory};
 ghost use Rattle.machine.specs.Layout.{Layout};
@@ -60,22 +60,21 @@ pub fn all_broken(
     ensures broken { IfOk result (λ broken.
         AreBroken reach.now.table (limits_of reach.now) ClaimLines.FIRST lines.now broken.items) }
 
-    // `none A B`: in every run from the table's boot state no step of a thread of A changes an object of B; nor,
-    // for `take A B`, other than by shrinking it. `only B A`: no step of a thread of another label does. `within A
-    // B`: no step of a thread of A changes an object of another label. `readers B A`: no state gives another label
-    // authority to read, receive or await on B. `through A B F ..`, and `apart A B` without an F: there is a set of
-    // labels with B and without A and each F. Threads of labels outside it, but for each F, never change an object
-    // of a label in it, or one that a label in it sees, but for objects of each F. `without A KIND B`: no state
-    // gives A this authority on B.
+    // In every run from the table's boot state, `none A B`: no step of a thread of A changes an object of B; `take A B`: nor other than by
+    // shrinking it; `only B A`: no step of a thread of another label does; `within A B`: no step of a thread of A changes an object of
+    // another label; `readers B A`: no state gives another label authority to read, receive or await on B.
+    // `through A B F ..`, and `apart A B` without an F: there is a set of labels with B and without A and each F. Threads of labels
+    // outside it, but for each F, never change an object of a label in it, or one that a label in it sees, but for objects of each F.
+    // `without A KIND B`: no state gives A this authority on B.
     ensures kept { (claim : ClaimOf) → Holds reach.now.table (limits_of reach.now) claim
         → IsKept reach.now.table (limits_of reach.now) claim }
     ensures all_kept { IfOk result (λ broken. broken.items ≡ []
         → (claim : ClaimOf) → Contains lines.now (Some claim) → IsKept reach.now.table (limits_of reach.now) claim) }
 
-    // In a fixed system `through A B F ..` and `apart A B` also bound what calls return: by the set of labels that decides
-    // the claim. `apart`: in two runs from the boot state whose scripts differ, position by position, only in events of
-    // threads of other labels, each event of a thread of the set has the same outcome. `through`: the same, if what each F
-    // shows to the set is alike in both runs at each position.
+    // In a fixed system `through A B F ..` and `apart A B` also bound what calls return to threads of the set that decides the claim.
+    // `apart`: each event of such a thread has the same outcome in two runs from the boot state whose scripts differ, position by
+    // position, only in events of threads of other labels. `through`: it does if what each F shows to the set is alike in both runs at
+    // each position.
     ensures calls { IsFixed reach.now.table → (claim : ClaimOf) → Holds reach.now.table (limits_of reach.now) claim
         → IsKeptInCalls reach.now.table (limits_of reach.now) claim }
     ensures all_calls { IfOk result (λ broken. IsFixed reach.now.table → broken.items ≡ []

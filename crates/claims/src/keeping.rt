@@ -1,4 +1,4 @@
-//! What claims that hold bound in the runs of a table.
+//! Claims that hold, and what they bound in the runs of a table.
 ghost use Rattle.std.specs.Prelude.{◌≡◌};
 ghost use Rattle.claims.specs.{Claims.kept_word, Learning.IsKeptSo};
 

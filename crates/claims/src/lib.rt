@@ -1,6 +1,6 @@
 //! Claims: their text, which of them don't hold of a system, and the strongest that do.
 //!
-//! `reptext`, `breaches` and the commands stand on it. It knows no code of the kernel's calls.
+//! It knows no code of the kernel's calls.
 #![tactic(auto)]
 
 mod breaches;

@@ -1,4 +1,4 @@
-//! How far each label goes with each label, found once for all claims.
+//! Rows of labels: how far each label goes with each, found once for all claims.
 ghost use Rattle.std.specs.Prelude.{ℕ, ◌||◌, ◌≡◌, IfOk, Some, slice_get, vec_len};
 ghost use Rattle.base.specs.declared.label.TheConstants.Label as Label;
 ghost use Rattle.base.specs.Labels.{is_in};

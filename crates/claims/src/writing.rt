@@ -1,4 +1,4 @@
-//! How claims are written.
+//! The writing of claims.
 ghost use Rattle.std.specs.{List.join_with_byte, Prelude.{[], ℕ, ◌++◌, ◌∷◌, ◌≡◌, IfErr, IfOk, List, OnOk, codes, map, string_bytes}};
 ghost use Rattle.base.specs.Refusals.{out_of_memory};
 ghost use Rattle.captext.specs.PolicyText.{label_name};

@@ -1,4 +1,4 @@
--- What copying, minting and moving a capability need of the slots that the call names, and what these calls keep.
+-- Copies, mints and moves of capabilities: what they need of the slots that the call names, and what they keep.
 use Rattle.std.{specs.Prelude.{IsSome, IsTrue, None, Ok, Option, Some, if◌then◌else◌, nat_lt, option_map}, proofs.Common.{◌∙◌, ◌≡◌, ◌≢◌}}
 use Rattle.std.proofs.{Common.{Bool, ap, false, refl, subst, sym, true}, lemmas.Bool.{false≢true, ltb-true}}
 use Rattle.base.specs.declared.{ids.{ObjId.ObjId, SlotRef.SlotRef}, rights.Rights.Rights}
@@ -19,7 +19,7 @@ pub target_there :
 target_there m caller to from ends e =
     node_slot m ends.target (led_slot m caller to ends.target (ends_found m caller to from ends e).leads_to)
 
--- it is empty
+-- the target is empty
 pub target_vacant :
     (m : Machine) (caller : ObjId) (to from : SlotAddress) (ends : Ends) → ends_of m caller to from ≡ Ok ends
     → cap_of m ends.target ≡ None
@@ -72,7 +72,7 @@ parent_filled m source parent held formed full is = by_original held.original re
       let named : parent_of_copy m source held ≡ parent_of m source = rw later refl in
       formed.slots.parent_filled source parent (sym named ∙ is)
 
--- it stays filled where the target is filled
+-- the parent of a copy stays filled where the target is filled
 pub parent_still :
     (m : Machine) (target source parent : SlotRef) (held new : Cap) → IsWellFormed m → cap_of m source ≡ Some held
     → parent_of_copy m source held ≡ Some parent → IsSome (cap_of (with_cap m target new) parent)
@@ -146,7 +146,7 @@ copied_formed m caller to from mask ends formed found may =
     let row : copy_of m caller to from mask ≡ Ok (Done answer.Nothing, next) = rw (found, may) refl in
     derives_formed m caller to from next formed (copy_done m caller to from mask (Done answer.Nothing) next formed row)
 
--- and so does a mint
+-- a mint keeps machines well formed
 pub minted_formed :
     (m : Machine) (caller : ObjId) (to from : SlotAddress) (mask : Rights) (given : CapData) (ends : Ends) (detail : Detail)
     → IsWellFormed m → ends_of m caller to from ≡ Ok ends → copyable ends.held.detail ≡ Ok tt
@@ -158,7 +158,7 @@ minted_formed m caller to from mask given ends detail formed found may new =
     let row : mint_of m caller to from mask given ≡ Ok (Done answer.Nothing, next) = rw (found, may, new) refl in
     derives_formed m caller to from next formed (mint_done m caller to from mask given (Done answer.Nothing) next formed row)
 
--- and a move
+-- a move keeps machines well formed
 pub relocated_formed :
     (m : Machine) (caller : ObjId) (to from : SlotAddress) (ends : Ends) → IsWellFormed m → ends_of m caller to from ≡ Ok ends
     → IsWellFormed (with_moved m ends.target ends.source ends.held)

@@ -1,4 +1,4 @@
-//! What a copy of a capability says, and where it comes in the derivation tree.
+//! Copies of capabilities: what one says, and where it comes in the derivation tree.
 ghost use Rattle.std.specs.Prelude.{◌≡◌, ◌≢◌, IsTrue, None, Some};
 ghost use Rattle.machine.specs.{Capabilities.kind_of_detail, Machine.{cap_of, has_slot, parent_of}};
 ghost use Rattle.machine.specs.{Step.Copy.{copyable, masked}, Tree.{copied, parent_of_copy, with_copy}};

@@ -3,7 +3,7 @@
 //! Each call does its whole row of the kernel's step, from the row's first condition on, or leaves
 //! the state as it was. No memory is taken.
 //!
-//! `transfer`, `removal`, `threads` and `kernel` stand on it. It knows no policy.
+//! It knows no policy.
 #![tactic(auto)]
 
 mod copies;

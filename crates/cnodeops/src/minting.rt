@@ -9,7 +9,7 @@ use base::{Cause, ObjId, Rights};
 use machine::{Answer, Badged, CapData, Detail, Guard, Made, Object, SlotAddress};
 use objects::State;
 
-/// The same with a badge, which is given once.
+/// What a capability says of an endpoint or a notification, with this badge, which is given once.
 fn badged(badge: u64, end: Badged) -> Result<Badged, Cause>
     ensures { result ≡ (if end.badge == 0 then Ok (record end { badge = badge }) else Err IllegalOperation) }
 {

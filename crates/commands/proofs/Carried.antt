@@ -1,4 +1,4 @@
--- What was loaded, judged and told was carried out.
+-- Commands that are carried out: what was loaded, judged and told is what the definition has.
 use Rattle.std.proofs.{Common.{ℕ, ◌∙◌, ◌≡◌, ◌≤◌, Err, IfOk, IfSome, List, None, Ok, Option, Result, Some, ap, arith, refl, sym}, lemmas.Option.{none-some, same_Some}}
 use Rattle.forms.specs.declared.file.File.{File}
 use Rattle.reptext.specs.Reports.{fault_report}
@@ -13,7 +13,7 @@ judged_ok : (judges : Answer → Type 0) (lacking : Option Asked) (a : Answer) �
 judged_ok judges (Some asked) a is = cc
 judged_ok judges None a is = is
 
--- where there is none, no file is to blame
+-- stops for which no file is to blame: memory was refused, or a label is lacking
 abbrev IsNoFault : Stop → Type 0
 IsNoFault stop.NoMemory = Unit {0}
 IsNoFault (stop.NoLabel asked) = Unit {0}
@@ -107,7 +107,7 @@ module _ {X : Type 0} (lacks : X → Option Asked) (judges : X → Answer → Ty
       of_why (stop.Misused why) = refl
       of_why (stop.Faulty file fault) = refl
 
--- where an answer was written, one fact gives another
+-- one fact gives another of an answer that was written
 where_written : (end : End) (P Q : ℕ → Type 0) → ((status : ℕ) → P status → Q status) → IfStatus end P → IfStatus end Q
 where_written (ends.Status status) P Q follows is = follows status is
 where_written ends.NoMemory P Q follows is = tt

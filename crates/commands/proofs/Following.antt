@@ -1,4 +1,4 @@
--- What files hold, one after another: that a load gives it, and what is heard of it.
+-- Files that are loaded one after another: what the load gives, and what is heard of it.
 use Rattle.std.proofs.Common.{ℕ, ◌≡◌, Err, IfSome, List, None, Ok, Option, Result, Some, subst, sym}
 use Rattle.machine.specs.Layout.{Layout}
 use Rattle.captext.specs.Tables.{read_table_of}

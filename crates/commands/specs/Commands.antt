@@ -1,4 +1,4 @@
--- What a command does with its files and its output, and how it ends (confine's own).
+-- Commands: what one does with its files and its output, and how it ends (confine's own).
 use Rattle.std.specs.{Io.KnownBytes.Appends, Prelude.{[], ℕ, ◌≡◌, ◌≤◌, ◌⊎◌, ◌∷◌, Bool, Err, IfSome, IsOk, IsOkAnd, List, None, Ok, Option, Result, Some}}
 use Rattle.std.specs.Prelude.{false, true}
 use Rattle.base.specs.declared.edge.Edge.{Edge}
@@ -62,7 +62,7 @@ MayBeWhole unknown = Unit {0}
 abbrev pub HasSystem : {T : Type 0} → Taken → Input T → Type 0
 HasSystem taken system = (system.failed ≡ false) × MayBeWhole (given_contents taken system.bytes)
 
--- of an answer a listener hears nothing but its text and status
+-- a listener hears of an answer nothing but its text and status
 pub record IsBare (answer : Answer) : Type 0 where
   pub finding : answer.finding ≡ None
   pub made : answer.made ≡ None
@@ -102,26 +102,26 @@ IsAnswer judges (faulty file faulty_text table fault) text status = (text ≡ fa
 IsAnswer judges (misused why) text status = ⊥
 IsAnswer judges unknown text status = Unit {0}
 
--- of a command that asks about labels this is the first that the table lacks
+-- the first label that a command asks about and the table lacks
 abbrev pub IsUnlabelled : {X : Type 0} → (X → Option Asked) → Contents X → Asked → Type 0
 IsUnlabelled lacks (whole x) asked = lacks x ≡ Some asked
 IsUnlabelled lacks (faulty file text table fault) asked = ⊥
 IsUnlabelled lacks (misused why) asked = ⊥
 IsUnlabelled {X} lacks unknown asked = (x : X) × (lacks x ≡ Some asked)
 
--- this is why the system isn't read as it was given
+-- why the system isn't read as it was given
 abbrev pub IsMisused : {X : Type 0} → Contents X → Misuse → Type 0
 IsMisused (whole x) told = ⊥
 IsMisused (faulty file text table fault) told = ⊥
 IsMisused (misused why) told = told ≡ why
 IsMisused unknown told = Unit {0}
 
--- a command that asks about no label lacks none
+-- no label is lacking to a command that asks about none
 abbrev pub no_label : Layout → Option Asked
 no_label t = None
 
--- a command that asks about labels so, and judges what its files hold so, was carried out on files that hold this; and the first of them
--- whose device failed is this
+-- a command was carried out on files with these contents, of which `failed` is the first whose device failed: `lacks` finds the label that
+-- the table lacks, if the command asks about such a one, and `judges` says which answers it may have
 pub record IsCarriedOut
     {X O : Type 0} (lacks : X → Option Asked) (judges : X → Answer → Type 0) (contents : Contents X) (failed : Option File)
     (out : Output O) (end : End) : Type 0 where
@@ -160,7 +160,7 @@ pub record IsDoneOnTwo
   -- the new system's file is as it was, or the old one was read and is a text
   pub new_waits : (new.new ≡ new.old) ⊎ HasSystem taken old
 
--- a command of a system and a second file of this name, which is read so, was carried out
+-- a command of a system and a second file of this name, which is read by `read`, was carried out
 pub record IsDoneWith
     {T S O X : Type 0} (taken : Taken) (name : File) (read : Layout → List ℕ → Result X Fault) (lacks : Layout → Option Asked)
     (judges : Layout → X → Answer → Type 0) (system : Input T) (second : Input S) (out : Output O) (end : End) : Type 0 where
@@ -170,7 +170,7 @@ pub record IsDoneWith
   -- the second file is as it was, or the first was read and is a text
   pub second_waits : (second.new ≡ second.old) ⊎ HasSystem taken system
 
--- a command of a table, a policy and a third file of this name, which is read so, was carried out
+-- a command of a table, a policy and a third file of this name, which is read by `read`, was carried out
 pub record IsDoneOnThree
     {T P S O X : Type 0} (name : File) (read : Layout → List ℕ → Result X Fault) (judges : Layout → List Edge → X → Answer → Type 0)
     (table : Input T) (policy : Input P) (third : Input S) (out : Output O) (end : End) : Type 0 where
@@ -180,13 +180,13 @@ pub record IsDoneOnThree
   pub policy_waits : (policy.new ≡ policy.old) ⊎ HasTable table
   pub third_waits : (third.new ≡ third.old) ⊎ HasPolicy table policy
 
--- where no label is lacking, an answer is what the command judges, and only memory stands in its way; else the label is told
+-- an answer is what the command judges if no label is lacking, and only memory stands in its way; else the label is told
 abbrev pub IsJudgedSo : Option Asked → (Answer → Type 0) → Result Answer Stop → Type 0
 IsJudgedSo (Some asked) judges answer = answer ≡ Err (stop.NoLabel asked)
 IsJudgedSo None judges (Ok answer) = judges answer × (answer.status ≤ 2)
 IsJudgedSo None judges (Err why) = why ≡ stop.NoMemory
 
--- what was loaded was judged so; and why it wasn't loaded is why there is no answer
+-- what was loaded was judged so; why it wasn't loaded is why there is no answer
 abbrev pub IsJudged : {X : Type 0} → (X → Option Asked) → (X → Answer → Type 0) → Result X Stop → Result Answer Stop → Type 0
 IsJudged lacks judges (Ok x) answer = IsJudgedSo (lacks x) (judges x) answer
 IsJudged lacks judges (Err why) answer = answer ≡ Err why

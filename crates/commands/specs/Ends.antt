@@ -1,4 +1,4 @@
--- How the program ends: its exit status, what it says on standard error, and what an end tells of the devices and of what was written (confine's own).
+-- Ends of the program: exit status, line on standard error, and what an end tells of the devices and of what was written (confine's own).
 use Rattle.std.specs.Prelude.{ℕ, ◌++◌, Bool, List, None, Option, Some, codes, false, true}
 use Rattle.forms.specs.{declared.file.File.File, Files.file_word}
 use Rattle.commands.specs.declared.end.{Asked.{Asked, TheVariants.{Actor, Object}}, End.{End, TheVariants.{CannotRead, CannotWrite}}}

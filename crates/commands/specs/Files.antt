@@ -1,4 +1,4 @@
--- What the files of a command hold, as far as their bytes are known, and why they couldn't be loaded (confine's own).
+-- Files of a command: what they hold, as far as their bytes are known, and why they couldn't be loaded (confine's own).
 use Rattle.std.specs.Prelude.{[], ℕ, ◌∷◌, ◌≡◌, ◌⊎◌, Bool, Err, List, None, Ok, Option, Result, Some, false, true}
 use Rattle.words.specs.{declared.faults.Fault.Fault, Reading.◌>>=◌}
 use Rattle.forms.specs.declared.file.File.{File, TheVariants.{Description, New, Policy, Table}}
@@ -9,8 +9,8 @@ use Rattle.importing.specs.{declared.pieces.Minting.Minting, Tables.table_at}
 use Rattle.commands.specs.{declared.{end.{Asked.Asked, Misuse.{Misuse, Misuse as misuse}}, load.{Pair.Pair, Stop.{Stop, Stop as stop}, Three.Three, Two.Two, With.With}}}
 use Rattle.commands.specs.{declared.{choices.Taken.{Taken, Taken as taken}, given.Given.{Given, Given as given}}, Described.Described, Given.{is_description, layout_of}}
 
--- what the files hold; or the first file that isn't a text of its kind, with its text, the table that it was read by, if that is another,
--- and its fault; or the system isn't read as it was given; or nothing is known, since a file's bytes aren't
+-- the contents of files; or the first file that isn't a text of its kind, with its text, the table that it was read by, if that is another
+-- file, and its fault; or why the system isn't read as it was given; or nothing, since the bytes of a file aren't known
 pub data Contents (X : Type 0) : Type 0 where
   whole : X → Contents X
   faulty : File → List ℕ → Option Layout → Fault → Contents X
@@ -29,7 +29,7 @@ abbrev pub held_by : {X : Type 0} → File → Option Layout → List ℕ → Re
 held_by file table text (Ok x) = whole x
 held_by file table text (Err fault) = faulty file text table fault
 
--- a file whose bytes may be known, which is read so
+-- a file whose bytes may be known, as a function reads them
 abbrev pub contents_of : {X : Type 0} → File → Option Layout → Option (List ℕ) → (List ℕ → Result X Fault) → Contents X
 contents_of file table None read = unknown
 contents_of file table (Some text) read = held_by file table text (read text)
@@ -56,7 +56,7 @@ module _ (table description : File) where
   abbrev pub as_table : List ℕ → Contents Given
   as_table text = and_then (held_by table None text (read_table_of text)) (λ t. whole (given.Table t))
 
-  -- .. as a description
+  -- a text that is read as a description
   abbrev pub as_description : Minting → List ℕ → Contents Given
   as_description minting text = and_then (held_by description None text (described_of minting text)) (λ d. whole (given.Description d))
 
@@ -67,7 +67,7 @@ module _ (table description : File) where
   as_system None false text = as_table text
   as_system (Some minting) false text = misused misuse.NeedlessRights
 
-  -- .. of one of two systems, of which rights are for descriptions alone
+  -- the text of one of two systems, of which rights are for descriptions alone
   abbrev pub as_either : Option Minting → Bool → List ℕ → Contents Given
   as_either None true text = misused misuse.NoRights
   as_either (Some minting) true text = as_description minting text
@@ -86,16 +86,16 @@ module _ (table description : File) where
 abbrev pub given_contents : Taken → Option (List ℕ) → Contents Given
 given_contents = named_contents Table Description
 
--- .. the second system of a comparison
+-- what the second system of a comparison holds
 abbrev pub new_contents : Taken → Option (List ℕ) → Contents Given
 new_contents = named_contents New New
 
--- .. two systems
+-- what two systems hold
 abbrev pub two_contents : Taken → Option (List ℕ) → Option (List ℕ) → Contents Two
 two_contents taken old new =
     and_then (given_contents taken old) (λ o. and_then (new_contents taken new) (λ n. whole (record { old = o; new = n })))
 
--- what a system and a second file of this name hold, which is read so
+-- what a system and a second file of this name hold, as a function reads that
 abbrev pub with_contents :
     {X : Type 0} → Taken → File → (Layout → List ℕ → Result X Fault) → Option (List ℕ) → Option (List ℕ) → Contents (With X)
 with_contents taken name read system second =
@@ -108,7 +108,7 @@ pair_contents table policy =
     and_then (table_contents table) (λ t.
     and_then (contents_of Policy (Some t) policy (read_policy_of t)) (λ edges. whole (record { table = t; policy = edges })))
 
--- what a table, a policy and a third file of this name hold, which is read so
+-- what a table, a policy and a third file of this name hold, as a function reads that
 abbrev pub three_contents : {X : Type 0} → File → (Layout → List ℕ → Result X Fault) → Option (List ℕ) → Option (List ℕ) → Option (List ℕ) → Contents (Three X)
 three_contents name read table policy third =
     and_then (pair_contents table policy) (λ s.

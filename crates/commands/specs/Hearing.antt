@@ -1,4 +1,4 @@
--- What a listener hears of a command (confine's own).
+-- Listeners: what one hears of a command (confine's own).
 use Rattle.std.specs.Prelude.{ℕ, ◌≡◌, Err, List, None, Ok, Option, Result, Some}
 use Rattle.base.specs.declared.edge.Edge.{Edge}
 use Rattle.machine.specs.{declared.call.{Event.Event, Outcome.Outcome}, Layout.Layout}
@@ -42,7 +42,7 @@ pub data Hearing : Type 0 where
   answered : Held → Answer → Hearing
   unlabelled : Layout → Asked → Hearing
 
--- of what stops a load a file's fault alone is heard
+-- a listener hears, of what stops a load, a file's fault alone
 abbrev pub HearsStop : {L : Type 0} → (L → Hearing → L → Type 0) → List ℕ → Option Layout → Stop → L → L → Type 0
 HearsStop Hears text table (stop.Faulty file fault) old new = Hears old (faulty file text table fault) new
 HearsStop Hears text table _ old new = new ≡ old
@@ -55,7 +55,7 @@ HearsText Hears (files.faulty file text table fault) why old new = Hears old (fa
 HearsText Hears (files.misused told) why old new = ⊥
 HearsText Hears files.unknown why old new = (text : List ℕ) × (table : Option Layout) × HearsStop Hears text table why old new
 
--- where files couldn't be loaded since a text has a fault, that is heard; else nothing
+-- a listener hears the fault of a text for which files couldn't be loaded; else nothing
 abbrev pub HearsFault : {L X : Type 0} → (L → Hearing → L → Type 0) → Contents X → Result X Stop → L → L → Type 0
 HearsFault Hears contents (Ok x) old new = new ≡ old
 HearsFault Hears contents (Err (stop.Faulty file fault)) old new = HearsText Hears contents (stop.Faulty file fault) old new
@@ -81,14 +81,14 @@ pub record IsHeard
   pub fault : HearsFault Hears contents loaded old between
   pub answered : HearsAnswer Hears layout held loaded answer between new
 
--- it heard of a command of a system alone
+-- a listener heard of a command of a system alone
 abbrev pub SystemIsHeard :
     {L O : Type 0} → (L → Hearing → L → Type 0) → Taken → (Layout → Option Asked) → (Layout → Answer → Type 0) → Option (List ℕ) → L → L
     → Output O → End → Type 0
 SystemIsHeard Hears taken lacks judges bytes =
     IsHeard Hears layout_of system (λ s. lacks (layout_of s)) (λ s. judges (layout_of s)) (given_contents taken bytes)
 
--- .. of two systems
+-- a listener heard of a command of two systems
 abbrev pub TwoIsHeard :
     {L O : Type 0} → (L → Hearing → L → Type 0) → Taken → (Layout → Layout → Answer → Type 0) → Option (List ℕ) → Option (List ℕ) → L → L
     → Output O → End → Type 0
@@ -96,7 +96,7 @@ TwoIsHeard Hears taken judges old new =
     IsHeard Hears (λ s. layout_of s.new) (λ s. compared s.old s.new) (λ s. None) (λ s. judges (layout_of s.old) (layout_of s.new))
     (two_contents taken old new)
 
--- .. of a system and a second file of this name, which is read so
+-- a listener heard of a command of a system and a second file of this name, as a function reads that
 abbrev pub WithIsHeard :
     {L X O : Type 0} → (L → Hearing → L → Type 0) → (Given → X → Held) → Taken → File → (Layout → List ℕ → Result X Fault)
     → (Layout → Option Asked) → (Layout → X → Answer → Type 0) → Option (List ℕ) → Option (List ℕ) → L → L → Output O → End → Type 0
@@ -104,7 +104,7 @@ WithIsHeard {L} {X} {O} Hears held taken name read lacks judges bytes second =
     IsHeard Hears (λ (w : With X). layout_of w.system) (λ (w : With X). held w.system w.second) (λ (w : With X). lacks (layout_of w.system))
     (λ (w : With X). judges (layout_of w.system) w.second) (with_contents taken name read bytes second)
 
--- .. of a table, a policy and a third file of this name, which is read so
+-- a listener heard of a command of a table, a policy and a third file of this name, as a function reads that
 abbrev pub ThreeIsHeard :
     {L X O : Type 0} → (L → Hearing → L → Type 0) → (Layout → List Edge → X → Held) → File → (Layout → List ℕ → Result X Fault)
     → (Layout → List Edge → X → Answer → Type 0) → Option (List ℕ) → Option (List ℕ) → Option (List ℕ) → L → L → Output O → End → Type 0

@@ -1,4 +1,4 @@
-//! What a command writes, with its exit status, and what a listener hears besides.
+//! Answers: what a command writes, with its exit status, and what a listener hears besides.
 ghost use Rattle.std.specs.Prelude.{◌≡◌, IfOk};
 ghost use Rattle.commands.specs.Commands.{Denies, Finds, IsPlain};
 

@@ -1,4 +1,4 @@
-//! What a user chooses of a command: what it writes, or what it looks for.
+//! Choices of a user: what a command writes, or what it looks for.
 use importing::Minting;
 use verdict::Rules;
 
@@ -16,11 +16,11 @@ pub enum OnAccept {
 pub enum OnClose {
     /// The text of the least policy, with status 0.
     Policy,
-    /// The lines of those of its edges that the given policy lacks: with status 0 where there are none,
-    /// and so the table keeps to the given policy, and 1 where there are some.
+    /// The lines of those of its edges that the given policy lacks. The status is 0 if there are none, so that the
+    /// table keeps to the given policy; else 1.
     Missing,
-    /// The lines of those edges of the given policy that the least one for the table alone lacks: with
-    /// status 0 where there are none, and 1 where there are some.
+    /// The lines of those edges of the given policy that the least one for the table alone lacks. The status is 0 if
+    /// there are none, else 1.
     Surplus,
 }
 

@@ -1,4 +1,4 @@
-//! How a command ends: its exit status, and the line for standard error.
+//! Ends of commands: the exit status, and the line for standard error.
 ghost use Rattle.std.specs.{Option.option_copied, Prelude.◌≡◌};
 ghost use Rattle.commands.specs.Ends.{message_of, misuse_message, status_of, unlabelled_message, unread_message};
 

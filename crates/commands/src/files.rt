@@ -1,4 +1,4 @@
-//! What the files of a command hold, of which a listener hears.
+//! The files of a command, by what they hold, of which a listener hears.
 ghost use Rattle.std.specs.Prelude.{◌≡◌};
 ghost use Rattle.machine.specs.Layout.{Layout};
 ghost use Rattle.commands.specs.{Given.layout_of, Hearing.{Held, certificate, claims, compared, description, draft, held_of, log, policy, script}};

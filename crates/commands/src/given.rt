@@ -196,7 +196,7 @@ fn as_system<L: Listener>(
     }
 }
 
-/// .. of one of two systems, of which rights are for descriptions alone.
+/// The system of a text of one of two systems, of which rights are for descriptions alone.
 fn as_either<L: Listener>(
     alloc: Global,
     called: Called,

@@ -1,8 +1,7 @@
-//! What each command of the program `confine` is made of: its files are loaded, what they hold is
-//! judged, and the answer is told, which a listener hears and the output gets.
+//! Commands of the program `confine`: their files are loaded, what they hold is judged, and the answer is told, which a
+//! listener hears and the output gets.
 //!
-//! `report`, `requests` and `serving` stand on it. It knows no engine, no command line and no
-//! code of the kernel.
+//! It knows no engine, no command line and no code of the kernel.
 #![tactic(auto)]
 
 mod answer;

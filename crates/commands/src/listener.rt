@@ -1,4 +1,4 @@
-//! Who hears what a command finds, to say it to a person.
+//! Listeners, who hear what a command finds, to say it to a person.
 ghost use Rattle.std.specs.Prelude.{Option, option_copied};
 ghost use Rattle.commands.specs.Hearing.{Hearing, answered, faulty, held_of, unlabelled};
 

@@ -1,4 +1,4 @@
-//! How the files of a command are loaded one after another, and why a command has no answer.
+//! The loading of a command's files, one after another, and why a command has no answer.
 ghost use Rattle.std.specs.Prelude.{[], ◌∷◌, ◌≡◌, ◌≢◌, ◌⊎◌, Err, IfErr, IfOk, IfSome, None, Ok, Some, false, option_copied};
 ghost use Rattle.words.specs.Fault.{no_memory};
 ghost use Rattle.forms.specs.declared.file.File.TheVariants as file;
@@ -43,7 +43,7 @@ impl From<AllocError> for Stop {
     }
 }
 
-/// Of what is asked of a table, a policy or a script that were read, memory alone is refused.
+/// Only refused memory stops what is asked of a table, a policy or a script that were read.
 impl From<Refusal> for Stop {
     ghost from_gives = { λ refusal stop. stop ≡ Stop.NoMemory };
 
@@ -250,8 +250,8 @@ fn load_later<X: LaterFile, S: Source, L: Listener>(
 ///
 /// # Errors
 ///
-/// Those of [`load_given`], and then the same for the second file, with the first fault of its text.
-/// The second file is read only if the system has no fault.
+/// Those of [`load_given`] for the system and likewise for the second file, with the first fault of its text. The
+/// second file is read only if the system has no fault.
 pub fn load_with<X: LaterFile, T: Source, S: Source, L: Listener>(
     alloc: Global,
     taken: Taken,
@@ -342,9 +342,9 @@ fn load_pair<T: Source, P: Source, L: Listener>(
 ///
 /// # Errors
 ///
-/// Those of [`load_table`], and then the same for the policy, whose first fault is 50 or 51, as
-/// [`read_policy`](captext::read_policy) says, and for the third file, with the first fault of its
-/// text. The third file is read only if the table and the policy have no fault.
+/// Those of [`load_table`] for the table and likewise for the policy, whose first fault is 50 or 51, as
+/// [`read_policy`](captext::read_policy) says, and for the third file, with the first fault of its text. The third file
+/// is read only if the table and the policy have no fault.
 pub fn load_three<X: LaterFile, T: Source, P: Source, S: Source, L: Listener>(
     alloc: Global,
     table: &mut T,

@@ -1,4 +1,4 @@
-//! How the listener hears of an answer, and how the answer is written.
+//! The telling of an answer: the listener hears of it, and it is written.
 ghost use Rattle.std.specs.Prelude.{◌≡◌, Err, None, Some, false};
 ghost use Rattle.commands.specs.{Commands.{IsTold, IsWritten, output}, Ends.{IfMisused, IfNoLabel, unread_file}};
 ghost use Rattle.commands.specs.{Hearing.HearsAnswer, declared.load.Stop.{Stop as stop}};

@@ -1,6 +1,6 @@
 //! The program `confine`: what its command line asks for is done, and gives its exit status.
 //!
-//! No crate stands on it. It knows no engine, and no text of a file.
+//! It knows no engine, and no text of a file.
 #![tactic(auto)]
 
 ghost use Rattle.std.specs.Prelude.{◌≡◌, ◌≤◌, IfOk, IsErr, OnErr, false};

@@ -1,5 +1,4 @@
--- A call's way: the seat visits the keeper, its entry is recorded, and it leaves again. What becomes of the views, and that the history
--- stays legal, and exact for the seat.
+-- A call's way: the seat visits the keeper, its entry is recorded, and it leaves; the history stays legal, and exact for the seat.
 use Rattle.std.{specs.Prelude.slice_get, proofs.Common.{[], ℕ, ◌++◌, ◌+◌, ◌<◌, ◌^◌, ◌∙◌, ◌∷◌, ◌≡◌, ◌≤◌, List, None, Some, ap, arith}}
 use Rattle.std.proofs.{Common.{length, refl, subst, sym}, lemmas.List.{length_push, Elements.All-push}}
 use Rattle.machine.specs.{declared.call.{Event.Event, Outcome.Outcome}, Machine.Machine, Step.Step, WellFormed.IsWellFormed}
@@ -20,7 +19,7 @@ hosts_view a start kept hand keeper seat came is_keeper is_seat is =
     ap (λ (m : Knowing). m.0) is ∙ ap (λ (k : View). with_guest k (hand_as_guest seat.0)) is_keeper
     ∙ ap (λ (s : Knowing). with_guest (keeper_view a kept) (hand_as_guest s.0)) is_seat
 
--- and once it has recorded the seat's entry
+-- the keeper, once it has recorded the seat's entry
 pub records_view :
     (a : About) (kept : Keeping) (hand : Hand) (noted : Noted) (before : View) (after : Knowing) → before ≡ host_view a kept hand
     → after ≡ (after_record before kept noted hand, [])

@@ -1,4 +1,4 @@
--- What a meeting of two seats tells of a call that one of them makes afterwards.
+-- Meetings of two seats: a call that one makes afterwards comes after all that the other had seen.
 use Rattle.std.proofs.{Common.{[], ◌++◌, ◌+◌, ◌==◌, ◌∙◌, ◌∷◌, ◌≡◌, List, ap, arith, length, refl, subst, sym}, lemmas.List.{length-append, nil_from_length}}
 use Rattle.std.proofs.lemmas.List.Elements.{filter-append}
 use Rattle.machine.specs.declared.call.{Event.Event, Outcome.Outcome}

@@ -1,4 +1,4 @@
--- What the workers of all cores made together is the script.
+-- The workers of all cores: what they made together is the script.
 use Rattle.std.{specs.Prelude.{map, slice_get}, proofs.Common.{[], ℕ, ◌++◌, ◌<◌, ◌==◌, ◌∙◌, ◌∷◌, ◌≡◌, ◌≤◌, ◌⊎◌, All, Bool, List, Some, ap}}
 use Rattle.std.proofs.{Common.{arith, cond, false, inl, inr, length, refl, slice_index_or, subst, sym, true}, lemmas.List.length-append}
 use Rattle.std.proofs.lemmas.{List.{length-map, Elements.{All-head, All-tail}}, Option.{get_or_from_slice_get, slice_get-get_or}}
@@ -27,7 +27,7 @@ pub all_fresh : (t : Ticket) (seats : List Known) → AreNew t seats → All (Is
 all_fresh t seats new of k d inside =
     record { of = of k d inside; new = ap (λ (s : Known). s.mine) (dealt_at t seats k d new inside) }
 
--- where the seat of each number is on the core of that number, a core's events are those of its seat
+-- a core's events are those of its seat, if the seat of each number is on the core of that number
 pub of_core : (cores : List ℕ) → AreAllCores cores → (k : ℕ) (history : List Noted) → OnCores cores history
     → on_core k (map (λ (entry : Entry). entry.0) (log_of history)) ≡ events_of (own k history)
 of_core cores all k [] on = refl

@@ -1,4 +1,4 @@
--- Which cores the script has events on, and the number that a core's worker has at the gate.
+-- Busy cores, which the script has events on, and the number that a core's worker has at the gate.
 use Rattle.std.{specs.Prelude.{Bool, false, if◌then◌else◌, slice_set, true}, proofs.Common.{[], ℕ, ◌+◌, ◌<◌, ◌==◌, ◌||◌, ◌∙◌, ◌∷◌, ◌≡◌}}
 use Rattle.std.proofs.Common.{◌≢◌, List, Some, add-one, ap, arith, cond, eq-eqb, get_or, inl, inr, length, ne_eqb, refl, subst, sym, take}
 use Rattle.std.proofs.lemmas.{Bool.cases_order, List.{get_or-set_other, get_or-set_same, length-set, Folds.list_any_more}}

@@ -1,4 +1,4 @@
--- A list is as long as its parts together, where a part is of the elements with one number.
+-- Lengths of lists by parts: a list is as long as its parts together, if each part has the elements with one number.
 use Rattle.std.{specs.List.filter, proofs.Common.{[], ℕ, ◌+◌, ◌<◌, ◌==◌, ◌∷◌, ◌≡◌, ◌≢◌, ◌≤◌, All, List, ap, arith, cond, eq-eqb, inl, inr}}
 use Rattle.std.proofs.{Common.{length, ne_eqb, refl, subst, suc, zero}, lemmas.{Bool.{cases_lt, cases_order}, List.Elements.All-head}}
 use Rattle.std.proofs.lemmas.List.Elements.{All-tail}
@@ -77,7 +77,7 @@ parts_most key (x ∷ xs) n =
       | inr beyond ↦ let same = parts_out key x xs n beyond in omega (arith, before, same)
     ]
 
--- where all numbers are below the bound they are as long
+-- the parts together are as long as the list if all numbers are below the bound
 pub parts_whole : {A : Type 0} (key : A → ℕ) (xs : List A) (n : ℕ) → All (λ x. key x < n) xs → total (part key xs) n ≡ length xs
 parts_whole key [] n below = let most = parts_most key [] n in omega (arith, most)
 parts_whole key (x ∷ xs) n below =

@@ -1,4 +1,4 @@
--- Each step on the word keeps its rule.
+-- The rule of the word that all seats share: each step on the word keeps it.
 use Rattle.std.{specs.Prelude.{IfSome, None, Option, Some, slice_index, slice_set}, proofs.Common.{[], ℕ, ◌%◌, ◌*◌, ◌++◌, ◌+◌, ◌<◌, ◌==◌}}
 use Rattle.std.proofs.Common.{◌^◌, ◌∙◌, ◌∷◌, ◌≡◌, ◌≢◌, List, ap, arith, cond, inl, inr, length, length-append, length-set, mod-eq_of_lt}
 use Rattle.std.proofs.{Common.{refl, subst, suc, sym, zero}, lemmas.Option.same_Some}
@@ -155,7 +155,7 @@ module _ (boot : Machine) (cores : List ℕ) where
             (fits_here history next kept.place_of from to) mine.hand_fits;
       })
 
-  -- and comes to another seat
+  -- a hand comes, as a guest, to another seat
   pub hosts : (id : ℕ) (view : View) (other : ℕ) (w : View) → Joins Rule id view other w (with_guest view w) blank
   hosts id view other w s kept at apart other_at =
       let mine = kept.each id view at in
@@ -196,7 +196,7 @@ module _ (boot : Machine) (cores : List ℕ) where
             (fits_here history next kept.place_of from to) mine.guest_fits;
       })
 
-  -- and comes to its own seat
+  -- a hand comes back to its own seat
   pub returns : (id : ℕ) (view : View) (other : ℕ) (w : View) → Joins Rule id view other w (with_hand view w) blank
   returns id view other w s kept at apart other_at =
       let mine = kept.each id view at in

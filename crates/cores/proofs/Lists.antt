@@ -17,7 +17,7 @@ prefix_same xs ys same = ([], append-nil xs ∙ same)
 pub prefix_longer : {A : Type 0} (xs ys zs : List A) → IsPrefix xs ys → IsPrefix xs (ys ++ zs)
 prefix_longer xs ys zs begins = (begins.0 ++ zs, sym (append_assoc xs begins.0 zs) ∙ ap (λ all. all ++ zs) begins.1)
 
--- where something stands is inside
+-- a place at which something stands is inside the list
 pub at_inside : {A : Type 0} (xs : List A) (i : ℕ) (x : A) → get_elem? xs i ≡ some x → i < length xs
 at_inside [] i x at = absurd (some-ne-none x (sym at))
 at_inside (y ∷ xs) zero x at = omega arith

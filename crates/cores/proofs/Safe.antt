@@ -1,4 +1,4 @@
--- On a legal history each state is one that is reached.
+-- Legal histories from a boot state: each of their states is reached by a run, so they are safe.
 use Rattle.std.{specs.Prelude.map, proofs.Common.{ℕ, List}}
 use Rattle.machine.specs.{Boot.IsBoot, Layout.Layout, Machine.Machine}
 use Rattle.policy.specs.Policy.{allows}

@@ -1,4 +1,4 @@
--- What the token of a seat knows.
+-- Seats that were just dealt: what their tokens know, and what lies under the lock then.
 use Rattle.std.{specs.Prelude.{All, slice_get}, proofs.Common.{[], ℕ, ◌++◌, ◌+◌, ◌<◌, ◌∙◌, ◌∷◌, ◌≡◌, ◌≤◌, ◌⊎◌, List, Some, ap, arith, inl, inr}}
 use Rattle.std.proofs.{Common.{length, refl, slice_index_or, subst, sym}, Math.{ListN.get_or-append, Seq.get_or-append_seam}}
 use Rattle.std.proofs.lemmas.{Bool.cases_order, List.{length_push, Elements.All-nil}, Option.{get_or_from_slice_get, same_Some}}

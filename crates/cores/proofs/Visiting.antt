@@ -53,7 +53,7 @@ left_view start old hand seat gone back host is_seat is_gone is_guest is =
     λ h. (record { about = Some start; kept = None; hand = h; guest = None }, []) in
     is ∙ ap rest went ∙ ap given is_guest
 
--- and what a host that is a seat knows then
+-- what a host that is a seat knows once its visitor has left
 pub host_left :
     (start : About) (hand : Hand) (history : List Noted) (host came saw alone : Knowing) (visitor : View)
     → host ≡ (seat_view start hand, []) → came ≡ (with_guest host.0 visitor, []) → saw.0 ≡ with_seen history came.0
@@ -71,7 +71,7 @@ pub guest_is :
 guest_is start hand seat came host is_seat is =
     ap (λ (m : Knowing). m.0.guest) is ∙ ap (λ (m : Knowing). m.0.hand) is_seat
 
--- and what it knows, once the host has looked
+-- what the guest knows, once the host has looked
 pub guest_saw : (history : List Noted) (hand : Hand) (came saw : View) → came.guest ≡ Some hand → saw ≡ with_seen history came
     → saw.guest ≡ Some (seen_by history hand)
 guest_saw history hand came saw is_guest is = ap (λ (v : View). v.guest) is ∙ ap (seeing history) is_guest

@@ -16,7 +16,7 @@ own number = filter (λ noted. noted.seat == number)
 abbrev pub OnCores : List ℕ → List Noted → Type 0
 OnCores cores = All (λ noted. slice_get cores noted.seat ≡ Some noted.event.core)
 
--- its events and outcomes are a run from this machine, and each is on the core of its seat
+-- events and outcomes are a run from this machine, and each event is on the core of its seat
 pub record IsLegal (boot : Machine) (cores : List ℕ) (history : List Noted) : Type 0 where
   pub last : Machine
   pub run : Leads boot (log_of history) last

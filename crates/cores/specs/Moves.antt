@@ -1,4 +1,4 @@
--- What the steps on the word do to the views of the seats, and what they tell (confine's own).
+-- Steps on the word: what they do to the views of the seats, and what they tell (confine's own).
 use Rattle.std.specs.Prelude.{[], ℕ, ◌++◌, ◌+◌, ◌∷◌, ◌≡◌, IfSome, List, None, Option, Some, length, option_map}
 use Rattle.atomic_table.specs.Table.{Me}
 use Rattle.machine.specs.declared.call.{Call.TheVariants.Fetch, Outcome.TheVariants.Blocked}
@@ -15,11 +15,11 @@ without_hand view = record { about = view.about; kept = view.kept; hand = None; 
 abbrev pub without_guest : View → View
 without_guest view = record { about = view.about; kept = view.kept; hand = view.hand; guest = None }
 
--- its hand alone, as somebody's guest
+-- a seat's hand alone, as somebody's guest
 abbrev pub hand_as_guest : View → View
 hand_as_guest view = record { about = view.about; kept = None; hand = None; guest = view.hand }
 
--- its guest alone, as a hand again
+-- a seat's guest alone, as a hand again
 abbrev pub guest_as_hand : View → View
 guest_as_hand view = record { about = view.about; kept = None; hand = view.guest; guest = None }
 
@@ -61,7 +61,7 @@ with_seen history view =
 abbrev pub Shows : List Noted → Hand → Type 0
 Shows history hand = IsPrefix hand.seen history × IsExactFor hand.number history hand.mine
 
--- of a load: it sees a legal history, as long as the number that was found
+-- a load sees a legal history, as long as the number that was found
 abbrev pub Sees : Me (Unit {0}) View → ℕ → Me (Unit {0}) View → Type 0
 Sees before found after =
     (history : List Noted) × (length history ≡ found) × (after.1 ≡ before.1) × (after.0 ≡ with_seen history before.0)
@@ -83,7 +83,7 @@ after_record view kept noted hand =
       guest = Some (recorded kept.history noted hand);
     }
 
--- of the keeper's step: the entry is added, and the guest had seen a beginning of the history before it
+-- the keeper's step adds the entry, and the guest had seen a beginning of the history before it
 abbrev pub Records : Noted → Me (Unit {0}) View → Me (Unit {0}) View → Type 0
 Records noted before after =
     (after.1 ≡ before.1)

@@ -1,5 +1,4 @@
--- The rule of the word that all seats share: it is the length of the history, and what each seat knows of that is true (confine's
--- own).
+-- The rule of the word that all seats share: it is the length of the history, and what each seat knows of that is true (confine's own).
 use Rattle.std.specs.Prelude.{[], ℕ, ◌*◌, ◌+◌, ◌<◌, ◌∷◌, ◌≡◌, IfSome, List, None, Some, length}
 use Rattle.machine.specs.Machine.{Machine}
 use Rattle.cores.specs.{declared.view.{About.About, Hand.Hand, Keeping.Keeping, Noted.Noted, View.View}, History.{IsExactFor, IsLegal}}

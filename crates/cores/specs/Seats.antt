@@ -1,4 +1,4 @@
--- What contracts see of a seat and of a kernel, and what the kernel's calls do to what a seat has seen and made (confine's own).
+-- Seats and kernels as contracts see them, and what a kernel's calls do to what a seat has seen and made (confine's own).
 use Rattle.std.specs.{Coded.{Coded, code_by, coded_list, coded_ℕ, coded×}, Prelude.{[], ℕ, ◌++◌, ◌<◌, ◌^◌, ◌∷◌, ◌≡◌, ◌≤◌, List, None, Some}}
 use Rattle.std.specs.Prelude.{length, refl, slice_get, slice_index_or, unwrap_or}
 use Rattle.atomic_table.specs.Seated.{TableId, table_id_coded}
@@ -132,7 +132,7 @@ pub record AreFresh (table : TableId) (start : About) (name : ℕ) (seats : List
       (number core : ℕ) → slice_get start.cores number ≡ Some core
       → slice_get seats number ≡ Some (new_seat table start name number core)
 
--- and so of a kernel
+-- the seats are those of all cores of a kernel, and none has seen or made an entry
 abbrev pub AreNew : Ticket → List Known → Type 0
 AreNew t seats = AreFresh t.table (about t.boot t.cores) t.name seats
 

@@ -1,4 +1,4 @@
--- When a token may step on the word, and what its steps leave as it was (confine's own).
+-- Tokens: when one may step on the word, and what its steps leave as it was (confine's own).
 use Rattle.std.specs.Prelude.{[], ◌++◌, ◌<◌, ◌^◌, ◌∷◌, ◌≡◌, Some, length}
 use Rattle.atomic_table.specs.{declared.shared.Seat.Seat, Seated.TableId}
 use Rattle.cores.specs.{declared.view.{About.About, Hand.Hand, Keeping.Keeping, Noted.Noted, View.View}, History.IsLegal}
@@ -10,7 +10,7 @@ Token = Seat (Unit {0}) View
 abbrev pub IsAt : TableId → Token → Type 0
 IsAt table token = (table.words ≡ 1) × (token.table_id ≡ table) × (token.me.1 ≡ [])
 
--- it is the same seat, whatever it knows
+-- two tokens are of the same seat, whatever it knows
 abbrev pub IsSame : Token → Token → Type 0
 IsSame before after = (after.table_id ≡ before.table_id) × (after.id ≡ before.id)
 

@@ -1,5 +1,4 @@
--- What the workers are given, one for each core, and what each leaves, which makes the script's events on its core by a seat of its
--- own (confine's own).
+-- Workers, one for each core, which make the script's events on it: what they are given, and what each leaves (confine's own).
 use Rattle.std.{specs.{List.list_any, Prelude.{[], ℕ, ◌+◌, ◌<◌, ◌==◌, ◌≡◌, ◌⊎◌, Bool, List, Some, if◌then◌else◌, length, map, slice_get}}, proofs.Common.{suc, zero}}
 use Rattle.base.specs.declared.core_number.TheConstants.CoreNo as CoreNo
 use Rattle.machine.specs.declared.call.Event.{Event}

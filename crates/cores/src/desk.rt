@@ -1,4 +1,4 @@
-//! What lies under a kernel's lock.
+//! The desk under a kernel's lock: the state and its log, with the keeper of the history.
 ghost use Rattle.std.specs.Prelude.{◌<◌, ◌^◌, ◌↔◌, ◌≡◌, ◌≢◌, ◌≤◌, Bool, length};
 ghost use Rattle.base.specs.Refusals.{plain};
 ghost use Rattle.machine.specs.{declared.call.Outcome.TheVariants.Refused, WellFormed.IsWellFormed};

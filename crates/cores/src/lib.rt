@@ -3,7 +3,7 @@
 //! All calls stand in one history, and each seat sees a beginning of it. A script is split so: a
 //! worker for each core makes its events, side by side.
 //!
-//! `report` stands on it. It knows no text.
+//! It knows no text.
 #![tactic(auto)]
 
 mod board;

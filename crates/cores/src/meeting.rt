@@ -1,4 +1,4 @@
-//! What follows from a meeting for the calls that come after it.
+//! A law on meetings of two seats, and the calls that come after them.
 ghost use Rattle.machine.specs.declared.call.{Event.Event as Made, Outcome.Outcome as Answered};
 ghost use Rattle.cores.specs.Seats.{Calls, ComesAfter, Known, Meet};
 

@@ -1,4 +1,4 @@
-//! Which kernel it is, for the types that have to agree on it.
+//! Names of kernels, by which types agree on the kernel that they are of.
 
 use std::marker::Brand;
 

@@ -1,4 +1,4 @@
-//! What the headline says of all that seats have seen.
+//! The headline, on all that seats have seen.
 ghost use Rattle.std.specs.Prelude.{ℕ, List};
 ghost use Rattle.machine.specs.{Boot.IsBoot, Machine.Machine};
 ghost use Rattle.policy.specs.Policy.{allows};
@@ -11,7 +11,7 @@ ghost use Rattle.cores.specs.{declared.view.Noted.Noted as Entered, History.IsLe
 /// allowed, keeps to the bounds of who may act, and changes budgets only as the policy allows. It is
 /// refused, or is of a thread whose label may act.
 ///
-/// So it is of all that a seat has seen, and of all that a kernel's log has.
+/// The law holds of all that a seat has seen, and of all that a kernel's log has.
 pub fn seen_histories_are_safe()
     ensures { (system : System) (boot : Machine) (cores : List ℕ) (history : List Entered)
         → IsAcceptedSystem system

@@ -1,4 +1,4 @@
-//! What a seat knows of the history. No value of these types but `Noted` is made: they say what proofs remember.
+//! Views: what a seat knows of the history. No value of these types but `Noted` is made: they say what proofs remember.
 
 use base::CoreNo;
 use machine::{Event, Outcome};

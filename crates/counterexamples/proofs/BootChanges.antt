@@ -1,4 +1,4 @@
--- What is found in the boot state of a table after changes, each of which is told.
+-- The boot state of a table after a list of changes: what is found in it.
 use Rattle.std.proofs.Common.{[], ℕ, ◌∙◌, ◌∷◌, ◌≡◌, Bool, List, Option, Some, ap, cond, option_map, true}
 use Rattle.base.specs.declared.ids.{ObjId.ObjId, SlotRef.SlotRef}
 use Rattle.machine.specs.{declared.{cap.Cap.Cap, object.Object.Object}, Authority.label_of, Boot.{IsBoot, booted}}

@@ -1,4 +1,4 @@
--- A system whose policy lacks that who may bind a context may run on it: a thread with a CNode, which holds capabilities for a context
+-- A system that breaks P6 alone, by which who may bind a context may run on it: a thread with a CNode that holds capabilities for a context
 -- of another label and for a second thread.
 use Rattle.std.{specs.Prelude.{Option, codes}, proofs.Common.{[], ◌&&◌, ◌==◌, ◌∷◌, None, true}}
 use Rattle.base.specs.declared.{ids.ObjId.ObjId, kind.Kind.TheVariants.Context}
@@ -37,8 +37,7 @@ binding = record {
   bindings = record { thread = id 1; context = id 2 } ∷ [];
 }
 
--- The policy, of the labels 0 and 1, obeys every rule but that who may bind a context may run on it: the label 0 has every edge to
--- itself, and context to 1.
+-- The policy, of the labels 0 and 1, obeys every rule but P6: label 0 has every edge to itself, and context to 1.
 abbrev pub joins : EdgeTest
 joins a Context b = a == 0
 joins a k b = a == 0 && b == 0

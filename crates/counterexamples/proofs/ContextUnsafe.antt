@@ -1,5 +1,4 @@
--- The system whose policy lacks that who may bind a context may run on it isn't safe: its thread binds the context of another label to a
--- second thread.
+-- A system that breaks P6 alone and isn't safe: its thread binds the context of another label to a second thread.
 use Rattle.std.proofs.Common.{[], ◌∷◌, ◌≡◌, List, None, Ok, Some, lit≤, refl}
 use Rattle.base.specs.declared.kind.Kind.TheVariants.{Runs}
 use Rattle.machine.specs.declared.call.{Answer.TheVariants.Nothing, Call.TheVariants.Bind, Event.Event, Made.TheVariants.Done}

@@ -1,5 +1,5 @@
--- A system whose policy gives nothing by control: a thread of label 0 with a CNode of its label, which holds capabilities for untyped
--- memory of label 1 and for itself. The thread makes an endpoint of the memory.
+-- A system that breaks P2 alone, by which control gives all: a thread of label 0 with a CNode of its label, which holds capabilities for
+-- untyped memory of label 1 and for itself. The thread makes an endpoint of the memory.
 use Rattle.std.{specs.Prelude.codes, proofs.Common.{[], ◌∷◌, None, true}}
 use Rattle.base.specs.{declared.kind.Kind.TheVariants.Control, Kinds.is_structural}
 use Rattle.machine.specs.{declared.{cap.Cap.Cap, object.{Object.{Object, Object as o}, Untyped.Untyped}}, Layout.Layout}
@@ -32,8 +32,8 @@ making = record {
   bindings = record { thread = id 1; context = id 2 } ∷ [];
 }
 
--- The policy, of the labels 0 and 1, obeys every rule but that control gives all: each label controls both, and has all structural
--- edges to both, and no others.
+-- The policy, of the labels 0 and 1, obeys every rule but P2: each label controls both, and has all structural edges to both, and no
+-- others.
 abbrev pub joins : EdgeTest
 joins a Control b = true
 joins a k b = is_structural k

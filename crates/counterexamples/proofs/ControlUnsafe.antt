@@ -1,5 +1,5 @@
--- The system whose policy gives nothing by control isn't safe: its thread makes an endpoint of untyped memory of another label, whose
--- capability resets the endpoint.
+-- A system that breaks P2 alone and isn't safe: its thread makes an endpoint of untyped memory of another label, whose capability resets
+-- the endpoint.
 use Rattle.std.specs.FinMap as map
 use Rattle.std.proofs.Common.{[], ℕ, ◌<◌, ◌∙◌, ◌∷◌, ◌≡◌, Bool, List, Ok, Some, ap, arith, false, if◌then◌else◌, lit<, lit≤, option_map}
 use Rattle.std.proofs.Common.{refl, suc, sym, true, zero}

@@ -1,4 +1,4 @@
--- Policies of few labels: they obey the rules of closed policies that pass a test at each of the labels.
+-- Policies of few labels: they obey the rules of closed policies if they pass a test at each of the labels.
 use Rattle.std.{specs.List.list_all, proofs.Common.{[], ℕ, ◌&&◌, ◌<◌, ◌==◌, ◌||◌, ◌∙◌, ◌∷◌, ◌≡◌, ◌≢◌, ◌≤◌, Bool, List, ap, arith, false}}
 use Rattle.std.proofs.{Common.{get_or, inl, inr, lit<, nat_lt, not, refl, suc, sym, true, zero}, lemmas.Bool.{and_parts, cases_eq}}
 use Rattle.std.proofs.lemmas.{Bool.{eqb-true, false≢true, ltb-true, or_cases, or_left, or_right}, List.Sums.AllPass-from_list_all}
@@ -42,7 +42,7 @@ of_kind : (p : Kind → Bool) → kinds p ≡ true → (k : Kind) → p k ≡ tr
 unfolding kinds
 of_kind p e k = each_kind p e k
 
--- what follows from each other is the same
+-- two tests that follow from each other agree
 same_tests : (a b : Bool) → (a ≡ true → b ≡ true) → (b ≡ true → a ≡ true) → a ≡ b
 same_tests true b on back = sym (on refl)
 same_tests false true on back = back refl

@@ -15,13 +15,13 @@ may_grant test Keeps all a b end keeps also controls controls_too = record {
   receives = all b Receive end also (record { controls = controls_too; given = inr (refl, λ e. cc) });
 }
 
--- so where it may put a capability derives from where it finds one
+-- a label where a keeper finds capabilities derives on a label where it may put them
 pub derive_follows :
     (test : EdgeTest) (Keeps : Keepers) → KeepersHaveAll test Keeps → GrantsDerive test Keeps → KeepersDerive test Keeps
 derive_follows test Keeps all grants a x y from put =
     grants a a x y (may_grant test Keeps all a a y put.keeps put.keeps put.controls put.controls) from put
 
--- and where it may put a capability has its edges of use, if that label controls what the keeper does
+-- a label where a keeper may put capabilities has the keeper's edges of use, if it controls what the keeper does
 pub fall_follows :
     (test : EdgeTest) (Keeps : Keepers) → KeepersHaveAll test Keeps → KeepersAreGranted test Keeps
     → ((a b : ℕ) → MayPut test Keeps a b → Keeps b) → ((a b to : ℕ) → MayPut test Keeps a b → test a Control to ≡ true → test b Control to ≡ true)

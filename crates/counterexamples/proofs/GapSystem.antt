@@ -1,5 +1,5 @@
--- A system whose policy lacks one derive edge: a thread of label 0 with a CNode of its label, which holds a capability for itself and one
--- for a CNode of label 1 that was derived from one in a CNode of label 2. The thread copies that capability into the CNode that it is for.
+-- A system whose policy lacks one derive edge: a thread of label 0 with a CNode that holds capabilities for itself and for a CNode of label
+-- 1, the latter derived from one in a CNode of label 2. The thread copies it into the CNode of label 1.
 use Rattle.std.{specs.Prelude.codes, proofs.Common.{[], ℕ, ◌&&◌, ◌==◌, ◌∷◌, None, Some, false, nat_lt, not, true}}
 use Rattle.base.specs.declared.kind.Kind.TheVariants.{Derive, Holds}
 use Rattle.machine.specs.{declared.{cap.{Cap.Cap, Detail.Detail as d}, object.Object.{Object, Object as o}}, Layout.Layout}
@@ -36,8 +36,8 @@ gap = record {
   bindings = record { thread = id 3; context = id 4 } ∷ [];
 }
 
--- The policy, of the labels 0, 1 and 2, obeys every rule but one part of one: each label may do everything to 0 and 1, and 2 derives
--- on 0, and 0 on 1, but 2 doesn't on 1.
+-- The policy, of the labels 0, 1 and 2, obeys every rule but one part of P5: each label may do everything to 0 and 1, and 2 derives on 0,
+-- and 0 on 1, but 2 doesn't on 1.
 abbrev pub joins : EdgeTest
 joins a Holds b = true
 joins a Derive b = nat_lt b 2 && not (a == 2 && b == 1)

@@ -1,5 +1,5 @@
--- The system whose policy lacks one derive edge isn't safe: its thread copies a derived capability into another label's CNode, and what
--- it was derived from then derives there.
+-- A system that breaks P5 alone, as far as derive is transitive, and isn't safe: its thread copies a derived capability into another
+-- label's CNode, and what it was derived from then derives there.
 use Rattle.std.proofs.Common.{ℕ, ◌∙◌, ◌≡◌, Ok, Some, lit≤, refl, true}
 use Rattle.base.specs.declared.{kind.Kind.TheVariants.Derive}
 use Rattle.machine.specs.declared.call.{Answer.TheVariants.Nothing, Call.TheVariants.Copy, Event.Event, Made.TheVariants.Done}

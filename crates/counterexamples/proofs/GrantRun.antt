@@ -1,5 +1,5 @@
--- What happens in the system of a giver and a taker: the taker receives at the endpoint, and waits; the giver sends the frame's
--- capability, of which the taker's CNode then holds a copy, which is derived from it.
+-- The run of the system of a giver and a taker: the taker receives at the endpoint, and waits; the giver sends the frame's capability, and
+-- the taker's CNode then holds a copy that is derived from it.
 use Rattle.std.proofs.Common.{[], ℕ, ◌∷◌, ◌≡◌, List, None, Ok, Some, false, refl, true}
 use Rattle.base.specs.declared.ids.{ObjId.ObjId, SlotRef.SlotRef}
 use Rattle.machine.specs.declared.call.{Answer.TheVariants.Nothing, Call.TheVariants.{Receive, Send}, Event.Event, Made.TheVariants.Blocked}

@@ -1,5 +1,5 @@
--- The system of a giver and a taker isn't safe, in either of two policies that each break one rule: the taker reads what the
--- policy doesn't let it, or the giver's label derives on the taker's where the policy doesn't have it.
+-- The system of a giver and a taker, which isn't safe with either of two policies that each break one rule: the taker reads what the policy
+-- doesn't let it, or the giver's label derives on the taker's where the policy doesn't have it.
 use Rattle.std.{specs.Prelude.option_map, proofs.Common.{ℕ, ◌≡◌, Bool, ap, false, lit≤, refl, true}}
 use Rattle.base.specs.declared.kind.Kind.{Kind, TheVariants.{Derive, Read}}
 use Rattle.machine.specs.{Authority.{HasAuthority, HasAuthority.{by_cap, by_pair}}, Boot.IsBoot, Machine.Machine, Objects.kind_of_object}

@@ -1,5 +1,5 @@
--- The system of a receiver and a caller isn't safe where the policy lacks that who may be lent a context may run on it: the receiver
--- waits with a reply; the caller unbinds the receiver's context, and calls; and the receiver runs on the context of the caller.
+-- A system that breaks P8 alone and isn't safe: a receiver waits with a reply; the caller unbinds the receiver's context, and calls; and
+-- the receiver runs on the context of the caller.
 use Rattle.std.proofs.Common.{[], ℕ, ◌==◌, ◌||◌, ◌∷◌, ◌≡◌, List, None, Ok, Option, Some, false, lit≤, refl, true}
 use Rattle.base.specs.declared.{ids.{ObjId.ObjId, SlotRef.SlotRef}, kind.Kind.TheVariants.{Context, Control, Runs}}
 use Rattle.machine.specs.declared.call.{Answer.TheVariants.Nothing, Call.TheVariants.{Call, Unbind}, Event.Event, Made.TheVariants.Blocked}
@@ -19,8 +19,8 @@ use Rattle.counterexamples.proofs.{ReplyRun.{awaited, receive_made, received, re
 use Rattle.counterexamples.proofs.{ReplySystem.{context_cap, end, end_cap, receiver, serving}, SmallSystem.{finding, id, reading, slot}}
 use Rattle.counterexamples.proofs.{SmallSystem.stepping, UnsafeBy.{LeadsOutside, tests, unsafe_by_tests}}
 
--- The policy, of the labels 0 and 1, obeys every rule but that who may be lent a context may run on it: each label has every edge to 0,
--- and to 1 every edge but control and context, and 1 alone runs on 1.
+-- The policy, of the labels 0 and 1, obeys every rule but P8: each label has every edge to 0, and to 1 every edge but control and context,
+-- and 1 alone runs on 1.
 abbrev joins : EdgeTest
 joins a Control b = b == 0
 joins a Context b = b == 0

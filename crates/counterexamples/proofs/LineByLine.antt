@@ -1,4 +1,4 @@
--- The boot state of a lawful table is confined where each line of the table passes a test: all that it gives is in the policy.
+-- Confinement of a lawful table's boot state, line by line: it is confined if all that each line gives is in the policy.
 use Rattle.std.{specs.{List.{list_all}, Prelude.slice_get}, proofs.Common.{ℕ, ◌&&◌, ◌∙◌, ◌≡◌, Bool, List, Option, Some, ap, false, not}}
 use Rattle.std.proofs.{Common.{subst, sym, true, ◌||◌}, lemmas.Bool.{and_parts, false≢true}}
 use Rattle.std.proofs.lemmas.{List.Sums.AllPass-from_list_all, Option.{get_or_from_slice_get, slice_get_within}}

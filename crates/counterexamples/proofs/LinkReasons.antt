@@ -1,4 +1,4 @@
--- For each link of an object that gives authority a state that it takes out of a policy: the boot state of the small system, where the
+-- Links of objects that give authority, each with a state that it takes out of a policy: the boot state of the small system, where the
 -- thread's place has another content.
 use Rattle.std.{specs.Prelude.{None, Some, option_map}, proofs.Common.{[], ℕ, ◌∙◌, ◌∷◌, ◌≡◌, ◌≢◌, ◌||◌, ap, arith, false, inl, inr, refl, subst}}
 use Rattle.std.proofs.{Common.{sym, true}, lemmas.{Bool.false≢true, Option.same_Some}}

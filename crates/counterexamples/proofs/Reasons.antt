@@ -1,4 +1,4 @@
--- For each reason of authority a state that it takes out of a policy: the boot state of the small system lies in a policy, and one
+-- Reasons of authority, each with a state that it takes out of a policy: the boot state of the small system lies in a policy, and one
 -- change gives it authority that does not.
 use Rattle.std.proofs.{Common.{◌∙◌, ◌≡◌, Some, ap, option_map, refl}, lemmas.Bool.false≢true}
 use Rattle.base.specs.declared.{ids.ObjId.ObjId, kind.Kind.Kind as authority}

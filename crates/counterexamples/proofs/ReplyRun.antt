@@ -1,4 +1,4 @@
--- What happens in the system of a receiver and a caller: first the receiver receives with its reply, and waits.
+-- The run of the system of a receiver and a caller: first the receiver receives with its reply, and waits.
 use Rattle.std.proofs.Common.{[], ◌∷◌, ◌≡◌, List, None, Ok, Option, Some, refl}
 use Rattle.base.specs.declared.ids.ObjId.{ObjId}
 use Rattle.machine.specs.declared.call.{Call.TheVariants.Receive, Event.Event, Made.TheVariants.Blocked, Outcome.Outcome as outcome}

@@ -1,5 +1,4 @@
--- The system of a receiver and a caller isn't safe where the policy lacks that replies hold threads: the receiver waits with a reply,
--- which then waits with it.
+-- A system that breaks P7 alone and isn't safe: a receiver waits with a reply, which then waits with it.
 use Rattle.std.proofs.Common.{Some, false, lit≤, refl, true}
 use Rattle.base.specs.declared.kind.Kind.TheVariants.{Holds}
 use Rattle.machine.specs.declared.{object.Object.Object as o, thread.{Inbox.Inbox as inbox, RunState.RunState as state}}

@@ -1,4 +1,4 @@
--- The systems that aren't safe without a rule of closed policies aren't safe without the sharp rule of its number either: each sharp rule
+-- The systems that break one rule of closed policies: they aren't safe without the sharp rule of its number either, since each sharp rule
 -- asks for no more.
 use Rattle.std.proofs.{Common.{◌∙◌, ◌≢◌, inr, refl, sym}, lemmas.Bool.false≢true}
 use Rattle.policy.specs.{Closed.{ContextRuns}, Needed.{Rule, context_runs}, Policy.allows}
@@ -24,7 +24,7 @@ sharper rule system bound = record {
   unsafe = system.unsafe;
 }
 
--- but for the first rule, each system obeys it, on which that who may be bound may run rests
+-- the systems of the other rules obey the first one, on which it rests that who may be bound may run
 abbrev agreeing : (rule : Rule) → subjects_agree ≢ rule → UnsafeWithout rule → SharplyUnsafeWithout rule
 agreeing rule differ system = sharper rule system (agree_bound (allows system.edges) (system.others subjects_agree differ))
 
@@ -44,7 +44,7 @@ unsafe_without_each context_runs differ = agreeing context_runs (λ e. cc) unsaf
 unsafe_without_each reply_holds differ = agreeing reply_holds (λ e. cc) unsafe_without_holding
 unsafe_without_each lent_runs differ = agreeing lent_runs (λ e. cc) unsafe_without_lending
 
--- where the one half of a rule is obeyed, the other is broken
+-- the one half of a rule is broken though the other is obeyed
 
 pub unsafe_without_rise :
     (system : SharplyUnsafeWithout subjects_agree) × UsesFall (allows system.edges) (MayKeep system.t (allows system.edges))

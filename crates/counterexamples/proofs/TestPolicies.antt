@@ -1,4 +1,4 @@
--- The policy that has the edges at which a test says yes.
+-- Policies given by a test: such a policy has the edges that pass.
 use Rattle.std.{specs.List.filter, proofs.{Common.{ℕ, ◌&&◌, ◌<◌, ◌∙◌, ◌≡◌, Bool, List, ap, false, refl, sym, true}, Math.Bool.and-true}}
 use Rattle.std.proofs.{Math.Path.fun_ext, lemmas.{List.Kept.IsStrictlySortedBy-filter, Map.Views.any-filter_same}}
 use Rattle.base.specs.declared.{edge.Edge.Edge, kind.Kind.Kind}

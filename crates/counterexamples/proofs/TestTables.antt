@@ -1,4 +1,4 @@
--- A table without controls is lawful where it is built up again of its items, each of which passes the tests of the table so far.
+-- Tables without controls that are lawful: they are built up again of their items, each of which passes the tests of the table so far.
 use Rattle.std.{specs.{List.{AllByRecursion, list_all}, Prelude.is_some}, proofs.Common.{[], ℕ, ◌&&◌, ◌++◌, ◌==◌, ◌∷◌, ◌≡◌, Bool, List, None, Option, Some}}
 use Rattle.std.proofs.Common.{false, length, map, nat_le, nat_lt, not, refl, subst, true}
 use Rattle.std.proofs.lemmas.{Bool.{and_parts, eqb-true, false≢true, leb-true, ltb-true}, List.Elements.recursion_from_All}

@@ -1,4 +1,4 @@
--- A signal from a label without authority over the notification's is not allowed.
+-- A signal from a label without authority over the notification's label: it isn't allowed.
 use Rattle.std.proofs.Common.{ℕ, ◌∙◌, ◌≡◌, ◌≢◌, ◌⊎◌, None, Ok, Some, arith, false, inl, inr, refl, subst, sym, true}
 use Rattle.std.proofs.lemmas.{Bool.false≢true, Option.{none-some, same_Some}}
 use Rattle.base.specs.{declared.{ids.ObjId.ObjId, kind.Kind.Kind}, Kinds.is_structural}
@@ -48,7 +48,7 @@ word_unallowed t allowed m next event id old new caller label was is differ call
       no_authority allowed caller label m next id not_full (word_grows m next id old new was is differ)
       (subst (λ l. MayModify allowed caller l m next id) what may)
 
--- a label whose edges are structural has full authority on its own objects, and on what it runs on, alone
+-- structural edges give a label full authority only over its own objects and what it runs on
 
 none_modify :
     (allowed : EdgeTest) (a l : ℕ) → ((k : Kind) (to : ℕ) → is_structural k ≡ false → allowed a k to ≡ false)

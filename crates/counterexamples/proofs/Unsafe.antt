@@ -1,5 +1,4 @@
--- A system that isn't safe since labels of one domain may do different things: the thread's label has the CNode's label as its
--- space, and no edge of that label.
+-- A system that breaks P1 alone and isn't safe: the thread's label has the CNode's label as its space, and no edge of that label.
 use Rattle.std.proofs.{Common.{[], ℕ, ◌&&◌, ◌==◌, ◌≡◌, false, lit≤, refl, sym}, lemmas.Bool.false≢true}
 use Rattle.base.specs.{declared.kind.Kind.{Kind, TheVariants.{Control, Derive, Holds, Notify, Reset, Runs, Space}}, Kinds.is_structural}
 use Rattle.machine.specs.{Boot.IsBoot, Machine.Machine}

@@ -1,4 +1,4 @@
--- How a system is shown to need a rule: a run leads from its boot state to authority outside its policy; and the rest are tests.
+-- Proofs that a rule is needed: a run leads from a system's boot state to authority outside its policy; and the rest are tests.
 use Rattle.std.proofs.{Common.{[], ℕ, ◌&&◌, ◌∙◌, ◌∷◌, ◌≡◌, ◌≢◌, ◌≤◌, Bool, List, false, refl, subst, sym, true}, lemmas.Bool.{and_parts, false≢true}}
 use Rattle.base.specs.declared.kind.Kind.{Kind}
 use Rattle.base.specs.declared.label.TheConstants.Label as Label

@@ -1,4 +1,4 @@
--- Systems on which the properties of the headline fail, which show that it asks for something (confine's own).
+-- Systems on which a property of the headline fails, since their policies lack an edge or break a rule (confine's own).
 use Rattle.std.specs.Prelude.{ℕ, ◌≡◌, ◌≢◌, List, Ok, Some, false}
 use Rattle.base.specs.declared.{edge.Edge.Edge, ids.{ObjId.ObjId, SlotRef.SlotRef}, kind.Kind.Kind as authority}
 use Rattle.machine.specs.declared.call.{Answer.TheVariants.Nothing, Call.TheVariants.Signal, Event.Event, Outcome.TheVariants.Done}

@@ -1,4 +1,4 @@
-//! Laws that reasons of authority and rules of policies are needed.
+//! Laws by counterexample: each reason of authority and each rule of policies is needed.
 ghost use Rattle.std.specs.Prelude.{ℕ, ◌≡◌, ◌≢◌, None, Some, false, true};
 ghost use Rattle.base.specs.declared.ids.{ObjId.ObjId as Id, SlotRef.SlotRef as Slot};
 ghost use Rattle.base.specs.declared.kind.Kind.TheVariants as authority;

@@ -1,6 +1,6 @@
 //! Systems that show what safety needs: rules of closed policies, reasons of authority, authority to signal.
 //!
-//! No crate stands on it. It has laws alone, and knows no code of the kernel's calls.
+//! It has laws alone, and knows no code of the kernel's calls.
 #![tactic(auto)]
 
 mod laws;

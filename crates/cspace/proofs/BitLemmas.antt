@@ -28,7 +28,7 @@ digit_is zero h = refl
 digit_is (suc zero) h = refl
 digit_is (suc (suc bit)) h = absurd (omega arith)
 
--- two bits are equal where they test alike
+-- two bits that test alike are equal
 same_digit : (a b : ℕ) → a < 2 → b < 2 → (a == 1) ≡ (b == 1) → a ≡ b
 same_digit a b h k e = sym (digit_is a h) ∙ ap digit e ∙ digit_is b k
 
@@ -53,7 +53,7 @@ number_from-bits (suc size) before value =
 pub number-bits : (size value : ℕ) → number (bits size value) ≡ value % 2 ^ size
 number-bits size value = number_from-bits size 0 value ∙ omega arith
 
--- a string begins with a guard where its highest bits are the guard's
+-- a string begins with a guard if its highest bits are the guard's
 
 after-cons : (b c : Bool) (bs cs : List Bool) → b ≡ c → after (b ∷ bs) (c ∷ cs) ≡ after bs cs
 after-cons true true bs cs e = refl
@@ -69,7 +69,7 @@ bits-split size rest address =
     let e : suc size + rest ≡ suc (size + rest) = omega arith in
     ap (λ n. bits n address) e ∙ ap (λ bit. (bit == 1) ∷ bits (size + rest) address) (sym (bit_at-shr address rest size))
 
--- two numbers agree in one more bit where they agree in it and in the bits below it
+-- two numbers agree in one more bit if they agree in it and in the bits below it
 same_above :
     (a b size : ℕ) → a % 2 ^ suc size ≡ b % 2 ^ suc size → (bit_at a size ≡ bit_at b size) × (a % 2 ^ size ≡ b % 2 ^ size)
 same_above a b size e =
@@ -142,7 +142,7 @@ split-short (suc size) address zero h = refl
 split-short (suc size) address (suc left) h =
     let shorter : left < size = omega arith in let e = split-short size address left shorter in rw e refl
 
--- the same, for `left` bits of which `size` are the first
+-- the first `size` of `left` bits
 
 pub after-equal :
     (size value address left n : ℕ) → n ≡ size → n ≤ left → address / 2 ^ (left - n) % 2 ^ n ≡ value / 1 % 2 ^ n

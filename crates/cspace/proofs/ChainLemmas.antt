@@ -1,4 +1,4 @@
--- A walk ends just where a chain does.
+-- Walks and chains: a walk ends just where a chain does.
 use Rattle.std.proofs.Common.{[], ℕ, ◌++◌, ◌+◌, ◌<◌, ◌∙◌, ◌∷◌, ◌≡◌, ◌⊎◌, Bool, Err, List, None, Ok, Option, Result, Some, ap, append_assoc}
 use Rattle.std.proofs.Common.{arith, false, inl, inr, length, length-append, refl, subst, suc, sym, true, zero}
 use Rattle.base.specs.declared.{ids.SlotRef.SlotRef, refusal.LookupFailure.{LookupFailure, TheVariants.{DepthMismatch, GuardMismatch}}}
@@ -91,7 +91,7 @@ hop-hinders DepthMismatch level rest h =
 hop-hinders InvalidRoot level rest h = absurd h
 hop-hinders MissingCapability level rest h = absurd h
 
--- a walk goes on where bits are left
+-- a walk goes on if bits are left
 onward-some :
     (go : Level → List Bool → Result (SlotRef × List Bool) LookupFailure) (m : Machine) (slot : SlotRef) (rest : List Bool)
     (next : Level)

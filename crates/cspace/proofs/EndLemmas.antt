@@ -1,4 +1,4 @@
--- Where each CNode takes bits, a lookup's result says where the chain ends.
+-- The end of a lookup: its result says where the chain ends, if each CNode takes bits.
 use Rattle.std.proofs.Common.{[], ℕ, ◌++◌, ◌↔◌, ◌∙◌, ◌≡◌, ◌⊎◌, Bool, Err, List, None, Ok, Result, Some, ap, arith, inl, inr, length, refl}
 use Rattle.std.proofs.{Common.{subst, sym}, lemmas.Option.same_Some}
 use Rattle.base.specs.declared.{ids.{ObjId.ObjId, SlotRef.SlotRef}, refusal.Cause.{Cause, TheVariants.FailedLookup}}
@@ -72,7 +72,7 @@ never_both m from string slot rest failure a b =
     not_both m from string a.links b.links a.last b.to rest b.rest failure a.leads a.whole a.spells ends b.leads b.spells b.left
     b.why
 
--- the same of the lookup of a thread's address
+-- the chain of the lookup of a thread's address is the only one
 pub one_way :
     (m : Machine) (thread : ObjId) (address : ℕ) (slot other : SlotRef) (left remainder : ℕ) → TakesBits m
     → (a : Finds m thread address slot left) (b : Finds m thread address other remainder)

@@ -1,4 +1,4 @@
--- Where a hop ends, from what the guard and the radix leave.
+-- The end of a hop, by what the guard and the radix leave.
 use Rattle.std.proofs.Common.{◌≡◌, Bool, Err, List, None, Ok, Some, refl}
 use Rattle.base.specs.declared.refusal.LookupFailure.TheVariants.{DepthMismatch, GuardMismatch}
 use Rattle.machine.specs.{Bits.{after, number, split}, Lookup.{Level, hop}}

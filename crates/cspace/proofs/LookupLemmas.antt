@@ -1,4 +1,4 @@
--- A lookup ends just where a chain from the thread's root does.
+-- Lookups of a thread's addresses: one ends just where a chain from the thread's root does.
 use Rattle.std.proofs.Common.{ℕ, ◌∙◌, ◌≡◌, ◌⊎◌, Bool, Err, List, None, Ok, Option, Result, Some, ap, arith, inl, inr, length, refl, subst}
 use Rattle.std.proofs.Common.{sym}
 use Rattle.base.specs.declared.{ids.{ObjId.ObjId, SlotRef.SlotRef}, refusal.{Cause.{Cause, Cause as cause}, LookupFailure.LookupFailure}}

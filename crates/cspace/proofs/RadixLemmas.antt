@@ -1,4 +1,4 @@
--- Each CNode that a capability shows takes bits, where each CNode of the machine does.
+-- CNodes that capabilities show: each takes bits, if each CNode of the machine does.
 use Rattle.std.proofs.{Common.{◌<◌, ◌≡◌, ◌≤◌, Bool, None, Option, Some, refl, subst}, lemmas.Option.same_Some}
 use Rattle.base.specs.declared.ids.ObjId.{ObjId}
 use Rattle.machine.specs.declared.{cap.{Cap.Cap, Detail.{Detail, Detail as d}, Guard.Guard}, object.{CNode.CNode, Object.Object}}

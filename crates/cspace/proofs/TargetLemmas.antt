@@ -1,4 +1,4 @@
--- The lookup of a target ends just where a chain does.
+-- Lookups of targets: one ends just where a chain does.
 use Rattle.std.proofs.Common.{[], ℕ, ◌<◌, ◌↔◌, ◌∙◌, ◌∷◌, ◌≡◌, ◌≤◌, ◌⊎◌, Bool, Err, List, None, Ok, Option, Result, Some, ap, arith, false}
 use Rattle.std.proofs.{Common.{inl, inr, length, nat_le, refl, subst, sym, true}, lemmas.Bool.{le-leb, leb-false, leb-true, lt-leb, ne_eqb}}
 use Rattle.std.proofs.lemmas.Option.{same_Some}
@@ -10,11 +10,11 @@ use Rattle.machine.specs.Step.Target.{in_depth, lookup_target_of}
 use Rattle.cspace.specs.{Below.target_below, Chain.{Hinders, Leads, Resolves, TakesBits, TargetFails, TargetFinds, TargetStarts}}
 use Rattle.cspace.proofs.{BitLemmas.length-bits, ChainLemmas.{Ends, ends-walk, walk-ends}, EndLemmas.{same_cause, unique}}
 
--- so many bits of an index can be looked up
+-- a number of bits of an index that can be looked up
 pub deep : (depth : ℕ) → 1 ≤ depth → depth ≤ 64 → in_depth depth ≡ Ok tt
 deep depth low high = rw (le-leb 1 depth low, le-leb depth 64 high) refl
 
--- so many bits cannot
+-- a number of bits that can't
 pub not_deep : (depth : ℕ) → (depth < 1) ⊎ (64 < depth) → in_depth depth ≡ Err RangeError
 not_deep depth (inl low) = rw (lt-leb 1 depth low) refl
 not_deep depth (inr high) =
@@ -64,7 +64,7 @@ module _ (m : Machine) (from : SlotRef) (index depth : ℕ) where
   TargetEnds (Ok slot) = TargetFinds m from index depth slot
   TargetEnds (Err cause) = TargetFails m from index depth cause
 
-  -- where a walk ends, the lookup of a target ends, if it uses up its bits
+  -- the lookup of a target ends where a walk does, if that uses up its bits
   used_up-ends :
       (root : Level) (end : Result (SlotRef × List Bool) LookupFailure) → TargetStarts m from depth root
       → Ends m root (bits depth index) end → TargetEnds (used_up end)
@@ -151,7 +151,7 @@ module _ (m : Machine) (from : SlotRef) (index depth : ℕ) where
   found : (slot : SlotRef) → TakesBits m → TargetFinds m from index depth slot → lookup_target_of m from index depth ≡ Ok slot
   found slot takes h = walk_is h.root (Ok (slot, [])) takes h.starts h.resolves
 
-  -- where there is a reason for a failure, it is answered
+  -- a failure is answered if there is a reason for it
   failed : (cause : Cause) → TakesBits m → TargetFails m from index depth cause → lookup_target_of m from index depth ≡ Err cause
   failed cause takes (inl h) = target-none m from index depth h.unrooted ∙ ap Err (sym h.is)
   failed cause takes (inr (inl h)) =
@@ -174,7 +174,7 @@ module _ (m : Machine) (from : SlotRef) (index depth : ℕ) where
     by_end (Ok slot) h = inl (slot, h)
     by_end (Err cause) h = inr (cause, h)
 
-  -- and by one chain
+  -- the lookup of a target ends by one chain
   pub target_one_way :
       (slot other : SlotRef) → TakesBits m
       → (a : TargetFinds m from index depth slot) (b : TargetFinds m from index depth other)

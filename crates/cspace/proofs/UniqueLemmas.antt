@@ -1,4 +1,4 @@
--- A chain for a string is the only one.
+-- The chain for a string: it is the only one.
 use Rattle.std.proofs.Common.{[], ◌++◌, ◌<◌, ◌∙◌, ◌∷◌, ◌≡◌, ◌⊎◌, Bool, Err, List, None, Ok, Result, Some, ap, append_assoc, arith, inl, inr}
 use Rattle.std.proofs.{Common.{length, length-append, refl, subst, sym}, lemmas.{List.append_cancel_left, Option.same_Some}}
 use Rattle.base.specs.declared.{ids.SlotRef.SlotRef, refusal.LookupFailure.LookupFailure}
@@ -24,7 +24,7 @@ same_link a b rest remainder level whole_a whole_b spells =
     in
     (λ i. record { level = level i; index = (parts i).0 }, λ i. (parts i).1)
 
--- where a link leads on, no lookup is hindered
+-- no lookup is hindered at a CNode where a link leads on
 not_hindered :
     (failure : LookupFailure) (from : Level) (string rest : List Bool) (link : Link) → link.level ≡ from → IsWhole link
     → taken link ++ rest ≡ string → Hinders failure from string → ⊥
@@ -44,7 +44,7 @@ same_failure level rest a b why_a why_b =
     cc
 
 module _ (m : Machine) where
-  -- where a lookup ends, no chain goes on that takes bits
+  --   no chain that takes bits goes on where a lookup ends
   ends_there :
       (from next : Level) (string rest tail : List Bool) (last link : Link) → last.level ≡ from → IsWhole last
       → taken last ++ rest ≡ string → (rest ≡ []) ⊎ (level_at m (selected last) ≡ None)

@@ -1,4 +1,4 @@
--- What a walk makes of one hop.
+-- A walk along one hop: what it makes of the hop.
 use Rattle.std.proofs.Common.{[], ℕ, ◌<◌, ◌∙◌, ◌∷◌, ◌≡◌, Bool, Err, List, None, Ok, Result, Some, ap, arith, refl, suc, sym, zero}
 use Rattle.base.specs.declared.{ids.SlotRef.SlotRef, refusal.LookupFailure.LookupFailure}
 use Rattle.machine.specs.{Bits.bits, Lookup.{Level, hop, level_at, onward, walk}, Machine.Machine}

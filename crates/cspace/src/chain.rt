@@ -12,8 +12,8 @@ ghost use Rattle.cspace.specs.{Chain.{spelled, taken}, Roots.root_level};
 /// The guards and indices of the chain, joined, are a beginning of the address. So a lookup ends in
 /// one way only, and by one chain.
 ///
-/// Some clauses need that each CNode takes a bit, `TakesBits`. Every [`State`](objects::State) does
-/// so, and [`resolve`](crate::resolve) says the same of it without that premise.
+/// Some clauses need that each CNode takes a bit, `TakesBits`. Every [`State`](objects::State) does so, and
+/// [`resolve`](crate::resolve) promises these clauses without that premise.
 pub fn lookup_follows_a_chain()
     ensures found { (m : Machine) (thread : Id) (address : ℕ) (slot : Slot) (left : ℕ)
         → TakesBits m

@@ -1,4 +1,4 @@
-//! What a thread finds at an address: a capability, or one to an object of a kind.
+//! Capabilities that a thread finds at an address: any, or one to an object of a kind.
 ghost use Rattle.std.specs.Prelude.{◌≡◌};
 ghost use Rattle.machine.specs.Step.Find.{find, find_cap, of_kind, permitted};
 

@@ -1,6 +1,6 @@
 //! Guarded lookup: from an address to a slot of a capability space, by shifts and masks; and what a call finds there.
 //!
-//! The crates of calls stand on it. It knows no policy.
+//! It knows no policy.
 #![tactic(auto)]
 
 mod chain;

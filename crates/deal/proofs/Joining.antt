@@ -1,4 +1,4 @@
--- Shares one after another are the list that was dealt.
+-- The shares of a list, one after another: they are the list that was dealt.
 use Rattle.std.proofs.{Common.{ℕ, ◌++◌, ◌+◌, ◌∙◌, ◌≡◌, ◌≤◌, List, ap, arith, drop, length, map, slice_range, sym}, lemmas.List.append_assoc}
 use Rattle.std.proofs.lemmas.{List.{map-append, Folds.drop_split}, Nat.rows}
 use Rattle.deal.specs.Shares.{share_of, start_of}

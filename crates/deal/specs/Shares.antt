@@ -1,7 +1,7 @@
--- How a list is dealt to workers: contiguous shares in order, whose lengths differ by at most one. It is confine's own.
+-- Shares of a list that is dealt to workers: contiguous, in order, and of lengths that differ by at most one (confine's own).
 use Rattle.std.specs.Prelude.{ℕ, ◌%◌, ◌*◌, ◌+◌, ◌/◌, List, length, min, slice_range}
 
--- where the share of a worker begins; the first shares have one item more, where the workers don't divide the items
+-- where the share of a worker begins; the first shares have one item more if the items can't be shared evenly
 abbrev pub start_of : ℕ → ℕ → ℕ → ℕ
 start_of items workers worker = worker * (items / workers) + min worker (items % workers)
 

@@ -1,6 +1,6 @@
 //! Work that is dealt to several workers: the results are those of one worker.
 //!
-//! `verdict`, `cores` and `checker` stand on it. It knows nothing of a kernel or a policy.
+//! It knows nothing of a kernel or a policy.
 #![tactic(auto)]
 
 mod gate;

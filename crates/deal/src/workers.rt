@@ -1,4 +1,4 @@
-//! How items are shared among workers.
+//! The sharing of items among workers.
 ghost use Rattle.std.specs.Prelude.{ℕ, ◌%◌, ◌*◌, ◌+◌, ◌/◌, ◌<◌, ◌≡◌, ◌≤◌, IfErr, IfOk, IfSome, length, map, min};
 ghost use Rattle.std.specs.Prelude.{slice_get};
 ghost use Rattle.base.specs.Refusals.{out_of_memory};

@@ -1,4 +1,4 @@
--- Ways up a tree to the first slot that isn't gone: they end in one place, and some changes of the tree leave that as it was.
+-- The nearest ancestor that isn't gone: ways up a tree end at one slot, and some changes of the tree leave that slot as it was.
 use Rattle.std.{specs.Prelude.{None, Option, Some}, proofs.Common.{◌∙◌, ◌≡◌, ◌⊎◌, Bool, false, inl, inr, refl, subst, sym}}
 use Rattle.std.proofs.lemmas.Bool.{false≢true}
 use Rattle.base.specs.declared.ids.SlotRef.{SlotRef}
@@ -27,7 +27,7 @@ pub none_above :
     {parent : SlotRef → Option SlotRef} {gone : SlotRef → Bool} {to : Option SlotRef} → Nearest parent gone None to → to ≡ None
 none_above no_ancestor = refl
 
--- where a way ends a slot stays
+-- the slot at which a way ends stays
 pub end_stays :
     {parent : SlotRef → Option SlotRef} {gone : SlotRef → Bool} {from : Option SlotRef} {to : SlotRef}
     → Nearest parent gone from (Some to) → gone to ≡ false

@@ -1,4 +1,4 @@
--- What a slot descends from, by its parent, and when two slots are one.
+-- Descent by parents: a slot descends from its parent, and from what that descends from; and when two slots differ.
 use Rattle.std.{specs.Prelude.Some, proofs.Common.{ℕ, ◌&&◌, ◌≡◌, ◌≢◌, ◌⊎◌, ap, arith, eqb, false, inl, inr, subst}}
 use Rattle.std.proofs.lemmas.Bool.Decides.{nat_tests}
 use Rattle.base.specs.declared.ids.SlotRef.{SlotRef}

@@ -1,4 +1,4 @@
--- The slots of the objects that are going are raised, and leave the tree, object by object.
+-- Slots of the objects that a removal takes away: they are raised, and leave the tree, object by object.
 use Rattle.std.{specs.{Option.{is_none, is_some}, Prelude.{Contains, IsSome, IsTrue, None, Option, Some, slice_get}}, proofs.Common.{[], ℕ}}
 use Rattle.std.proofs.Common.{◌&&◌, ◌+◌, ◌||◌, ◌∙◌, ◌∷◌, ◌≡◌, ◌≤◌, ◌⊎◌, Bool, List, add-one, ap, arith, drop, drop-cons, false, inl, inr}
 use Rattle.std.proofs.{Common.{length, refl, suc, sym, true, zero}, lemmas.{Bool.false≢true, Option.get_or_from_slice_get}}
@@ -12,7 +12,7 @@ use Rattle.derivation.{specs.Removing.HaveLeft, proofs.{Ancestors.{parents_led, 
 use Rattle.derivation.proofs.{Leavings.{left_more, none_left}, Raises.{raised_from_alike, raised_more}, TreeAfter.going_listed}
 use Rattle.derivation.proofs.TreeAfter.{listed_any}
 
--- where only pairs of the tree have changed the same slots are there, of the same objects
+-- the same slots are there, of the same objects, after only pairs of the tree have changed
 pub slot_of_same :
     (old new : Machine) → new ≡ record old { parents = new.parents } → (id : ObjId) (q : SlotRef)
     → is_slot_of new id q ≡ is_slot_of old id q
@@ -91,7 +91,7 @@ module _ (first m : Machine) (ids : List ObjId) (i : ℕ) (past : length ids ≤
   pub left_all : HaveLeft m m (is_slot_among first (drop i ids))
   left_all = left_alike m m (λ _. false) (is_slot_among first (drop i ids)) (λ q. sym (none_rest q)) (none_left m)
 
--- where the slots of the objects that are going are empty, no others that have children are
+-- the empty ones among the slots that have children are those of objects that are going, if these are empty
 module _ (m : Machine) (paired : AreFilledOrGoing m)
     (above : (slot parent : SlotRef) → parent_of m slot ≡ Some parent → IsTrue (has_slot m parent))
     (hollow : (slot parent : SlotRef) → parent_of m slot ≡ Some parent → Contains m.going parent.holder → cap_of m parent ≡ None) where

@@ -1,4 +1,4 @@
--- The empty slots from one on upwards, which are hung one after another below the first filled one above them.
+-- The raising of one slot: the empty slots from it upwards are hung, one after another, below the first filled slot above them.
 use Rattle.std.{specs.{Option.{is_none, is_some}, Prelude.{IfSome, None, Option, Some, if◌then◌else◌, not}}, proofs.Common.{◌<◌, ◌∙◌, ◌≡◌}}
 use Rattle.std.proofs.{Common.{◌⊎◌, Bool, ap, arith, cond, false, inl, inr, refl, subst, sym, true}, lemmas.Bool.false≢true}
 use Rattle.base.specs.declared.ids.SlotRef.{SlotRef}
@@ -35,7 +35,7 @@ pub below_heir :
 below_heir m slot None way empty = tt
 below_heir m slot (Some above) way empty = climbed m (is_empty m) slot (goes_up way empty) refl
 
--- where none of some slots is empty there is nothing to raise
+-- there is nothing to raise if none of some slots is empty
 none_on_way : (m : Machine) (these : SlotRef → Bool) → ((q : SlotRef) → these q ≡ true → is_empty m q ≡ true → ⊥) → {q : SlotRef} → IsOnWay m these q → ⊥
 none_on_way m these filled (start {slot = q} is empty) = filled q is empty
 none_on_way m these filled (higher low at empty) = none_on_way m these filled low
@@ -45,7 +45,7 @@ pub nothing_raised :
 nothing_raised m these filled =
     record { rest = refl; up = λ q on. absurd (none_on_way m these filled on); others = λ q. inl refl }
 
--- so it is where one slot is filled
+-- there is nothing to raise at a filled slot
 pub filled_raised : (m : Machine) (slot : SlotRef) → is_empty m slot ≡ false → AreRaisedFrom m m (λ q. same_slot q slot)
 filled_raised m slot filled =
     nothing_raised m (λ q. same_slot q slot)
@@ -189,7 +189,7 @@ rank_below m ranked (further {slot} {parent} {above} at rest) =
     let one : ranked.0 parent < ranked.0 slot = ranked.1 slot parent at in
     let more : ranked.0 above < ranked.0 parent = rank_below m ranked rest in omega arith
 
--- so a slot may come below each that it descends from
+-- a slot may come below each that it descends from
 pub ranked_hung :
     (m : Machine) → IsRanked m → (slot above : SlotRef) → Descends m slot above
     → IsRanked (with_parent (without_parent m slot) slot above)
@@ -198,7 +198,7 @@ ranked_hung m ranked slot above is = (
   stays_ranked (without_parent m slot) ranked.0 slot above (ranked_without m slot ranked.0 ranked.1) (rank_below m ranked is),
 )
 
--- as it may below the one that is named
+-- a slot descends from the slot that is named, if it does from that which there may be
 pub below_named :
     (m : Machine) (slot : SlotRef) {above : Option SlotRef} {heir : SlotRef} → IfSome above (λ high. Descends m slot high)
     → above ≡ Some heir → Descends m slot heir

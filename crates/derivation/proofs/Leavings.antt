@@ -1,4 +1,4 @@
--- Slots leave the derivation tree: one, and some and then others; they are alone then, and who was alone stays so.
+-- Slots that have left the derivation tree: one, or some and then others; they are alone, and a slot that was alone stays so.
 use Rattle.std.{specs.Prelude.{None, Option, Some, if◌then◌else◌, option_and_then}, proofs.Common.{◌||◌, ◌∙◌, ◌≡◌, ◌≢◌, Bool, ap, false}}
 use Rattle.std.proofs.{Common.{refl, subst, sym, true}, lemmas.Bool.false≢true}
 use Rattle.base.specs.declared.ids.SlotRef.{SlotRef}
@@ -54,7 +54,7 @@ at_once parent (Some to) = survives refl
 pub none_left : (m : Machine) → HaveLeft m m (λ _. false)
 none_left m = record { rest = refl; out = λ q is. absurd (false≢true is); up = λ q is. at_once (parent_of m) (parent_of m q) }
 
--- the same leave, by another test
+-- the slots of another test that agrees have left too
 nearest_alike :
     {parent : SlotRef → Option SlotRef} (one other : SlotRef → Bool) → ((q : SlotRef) → one q ≡ other q)
     → {from to : Option SlotRef} → Nearest parent one from to → Nearest parent other from to

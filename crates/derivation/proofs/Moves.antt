@@ -1,4 +1,4 @@
--- A place that is taken over in two steps is exchanged.
+-- A place in the derivation tree that is taken over in two steps: together they exchange the two slots.
 use Rattle.std.specs.{FinMap.{entries, get-entries, get-from_entries, Entries.find}, Prelude.{IsSome, IsTrue, None, Option, Some}}
 use Rattle.std.{specs.Prelude.{if◌then◌else◌, map, option_map}, proofs.Common.{[], ◌∙◌, ◌∷◌, ◌≡◌, ◌≢◌, Bool, List, ap, cond, false, refl}}
 use Rattle.std.proofs.{Common.{sym, true}, lemmas.{Bool.false≢true, Option.same_Some}}
@@ -43,7 +43,7 @@ in_place-to from to = by_tie (same_slot to from) where
 pub in_place-from : (from to : SlotRef) → in_place from to from ≡ to
 in_place-from from to = ap (λ tie. if tie then to else from) (slot_itself from)
 
--- of a child that comes from one parent to the other nothing is seen once all have been handed over
+-- a child that comes from one parent to the other makes no difference once all have been handed over
 pub handed_over-step :
     (m : Machine) (from to child : SlotRef) → parent_of m child ≡ Some from
     → handed_over (with_parent (without_parent m child) child to) from to ≡ handed_over m from to
@@ -71,7 +71,7 @@ handed_over-step m from to child is =
           ∙ by_tie q (same_slot q child) refl
           ∙ sym (parent_of-handed_over m from to q)
 
--- where no children are left, all have been handed over
+-- all have been handed over if no children are left
 pub handed_over-none :
     (m : Machine) (from to : SlotRef) → ((child : SlotRef) → parent_of m child ≢ Some from) → handed_over m from to ≡ m
 unfolding handed_over object_of queue_of words_of cap_of
@@ -197,7 +197,7 @@ slot_lifted m from to q there = by_parent (parent_of m from) where
   by_parent None = slot_without_parent m from q there
   by_parent (Some parent) = slot_with_parent (without_parent m from) to parent q (slot_without_parent m from q there)
 
--- and so is one that is filled
+-- a filled slot is there
 pub slot_filled :
     (m : Machine) (slot : SlotRef) → ((q : SlotRef) (held : Cap) → cap_of m q ≡ Some held → IsTrue (has_slot m q))
     → IsSome (cap_of m slot) → IsTrue (has_slot m slot)

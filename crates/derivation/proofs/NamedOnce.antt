@@ -1,4 +1,4 @@
--- What is named one after another from a slot on is what descends and comes behind it, each once.
+-- Descendants named one after another, each the next behind the one before: they are all that descend from a slot, each once.
 use Rattle.std.{specs.Prelude.{◌↔◌, AllPairs, Contains, None, Option, Some, slice_index_or}, proofs.Common.{ℕ, ◌<◌, ◌∙◌, ◌∷◌, ◌≡◌, ◌≢◌}}
 use Rattle.std.proofs.Common.{◌⊎◌, List, ap, arith, inl, inr, length, refl, subst, suc, sym, zero}
 use Rattle.std.proofs.lemmas.List.{Elements.All-contains_itself, Kept.AllPairs-cons}

@@ -24,7 +24,7 @@ root_without_parent m slot q root = parent_of-without_parent m slot q ∙ by_tie
   by_tie true = refl
   by_tie false = root
 
--- and one that is taken away from its parent has none
+-- a slot that is taken away from its parent has none
 pub taken_from_parent : (m : Machine) (slot : SlotRef) → parent_of (without_parent m slot) slot ≡ None
 taken_from_parent m slot =
     parent_of-without_parent m slot slot ∙ ap (λ tie. cond tie None (parent_of m slot)) (slot_itself slot)

@@ -1,4 +1,4 @@
--- Empty slots come below their first filled ancestor: some and then others, or each on the way from one.
+-- Empty slots that come below their first filled ancestor: some and then others, or all on the way up from one.
 use Rattle.std.{specs.Prelude.{Option, Some}, proofs.Common.{◌||◌, ◌∙◌, ◌≡◌, ◌⊎◌, Bool, ap, false, inl, inr, refl, subst, sym, true}}
 use Rattle.std.proofs.lemmas.Bool.{false≢true}
 use Rattle.base.specs.declared.ids.SlotRef.{SlotRef}
@@ -6,7 +6,7 @@ use Rattle.machine.{specs.{Machine.{Machine, cap_of, parent_of}, Orphans.Nearest
 use Rattle.derivation.{specs.Raising.{AreRaised, AreRaisedFrom, IsOnWay, further, is_empty, start}, proofs.Ancestors.{end_stays, ended}}
 use Rattle.derivation.proofs.Ancestors.{only_nearest, ways_led}
 
--- where only pairs of the tree have changed the same slots are empty
+-- the same slots are empty after only pairs of the tree have changed
 pub same_empties : (old new : Machine) → new ≡ record old { parents = new.parents } → is_empty new ≡ is_empty old
 unfolding cap_of
 same_empties old new rest = ap is_empty rest

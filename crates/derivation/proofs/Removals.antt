@@ -35,7 +35,7 @@ handed_past m slot parent q = parent_of-handed_over m slot parent q ∙ by_paren
 
 -- a child that is taken away from the slot
 module _ (m : Machine) (slot child : SlotRef) (is : parent_of m child ≡ Some slot) where
-  -- of it nothing is seen once all have been given up
+  -- the child makes no difference once all have been given up
   pub released_step : (q : SlotRef) → parent_past (without_parent m child) slot None q ≡ parent_past m slot None q
   released_step q =
       ap (option_and_then (past slot None)) (parent_of-without_parent m child q) ∙ by_tie (same_slot q child) refl where
@@ -78,7 +78,7 @@ pub above_no_lower :
 above_no_lower m ranked slot parent is =
     let less : ranked.0 parent < ranked.0 slot = ranked.1 slot parent is in (ranked, omega arith)
 
--- and is another
+-- a parent is another slot than its child
 pub above_apart : (m : Machine) → IsRanked m → (slot parent : SlotRef) → parent_of m slot ≡ Some parent → slot ≢ parent
 above_apart m ranked slot parent is same =
     let less : ranked.0 parent < ranked.0 slot = ranked.1 slot parent is in

@@ -1,4 +1,4 @@
--- A derivation tree that slots are leaving stays so by each step of a removal, and once they are alone it is what the removal makes.
+-- A derivation tree that slots are leaving: each step of a removal keeps it one, and once they are alone it is the tree after the removal.
 use Rattle.std.{specs.{FinMap.values, Prelude.{None, Option, Some, filter, if◌then◌else◌}}, proofs.Common.{◌∙◌, ◌≡◌, Bool, false, inl}}
 use Rattle.std.proofs.{Common.{refl, subst, sym, true}, lemmas.Bool.false≢true}
 use Rattle.base.specs.declared.ids.SlotRef.{SlotRef}
@@ -59,7 +59,7 @@ module _ (m : Machine) (gone : SlotRef → Bool) (now : Machine) (thin : IsThinn
           joins = λ slot parent at. joins_where_left slot parent (these slot) refl at;
         }
 
-  -- once all that go are alone, each slot has the parent that the removal gives it
+  -- each slot has the parent that the removal gives it, once all that go are alone
   module _ (acyclic : (slot : SlotRef) → ¬ (Descends m slot slot)) (alone : (slot : SlotRef) → gone slot ≡ true → IsAlone now slot) where
     parent_survives : (slot : SlotRef) (to : Option SlotRef) → parent_of now slot ≡ to → Nearest (parent_of now) gone to to
     parent_survives slot None at = no_ancestor

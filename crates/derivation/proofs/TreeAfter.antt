@@ -1,5 +1,4 @@
--- Where the objects that vanish are going, and the chosen slots have left the tree, the slots of these objects are what still goes in it,
--- and once they have left it is the tree after the removal.
+-- The tree after a removal: once the chosen slots have left, only slots of the vanishing objects must still leave it.
 use Rattle.std.{specs.{List.list_any, Prelude.{◌↔◌, Contains, IsTrue, None, Option, Some, nat_lt, slice_index_or}}, proofs.Common.{[], ℕ}}
 use Rattle.std.proofs.Common.{◌&&◌, ◌<◌, ◌||◌, ◌∙◌, ◌∷◌, ◌≡◌, ◌⊎◌, Bool, List, ap, arith, false, inl, inr, length, refl, subst, suc, sym}
 use Rattle.std.proofs.{Common.{true, zero}, lemmas.{Bool.{false≢true, Decides.nat_tests}, List.Elements.Contains-append_left}}
@@ -106,7 +105,7 @@ module _ (m now : Machine) (chosen : SlotRef → Bool) (acyclic : (slot : SlotRe
       (ap has_slots (sym (objects slot.holder)) ∙ holds_slots now slot (going_there now slot is))
       ((losing_decided m (gone_of m chosen) slot.holder).0 ((going slot.holder).0 (going_listed now slot is)))
 
-  -- and what else goes is in no pair
+  -- a slot that goes by its holder is of an object that is going, or in no pair
   pub there_or_alone :
       (slot : SlotRef) (there : Bool) → has_slot now slot ≡ there → vanishes m chosen slot.holder ≡ true
       → (is_going_slot now slot ≡ true) ⊎ IsAlone now slot
@@ -123,7 +122,7 @@ module _ (m now : Machine) (chosen : SlotRef → Bool) (acyclic : (slot : SlotRe
         | inr gone ↦ there_or_alone slot (has_slot now slot) refl gone
       ]
 
-  -- and once they have left, each slot has the parent that the removal gives it
+  -- each slot has the parent that the removal gives it, once these slots have left
   module _ (next : Machine) (left : HaveLeft now next (is_going_slot now)) where
     all_alone : (slot : SlotRef) → gone_of m chosen slot ≡ true → IsAlone next slot
     all_alone slot goes =

@@ -1,5 +1,4 @@
--- All that descends from a slot, in one order: by holder, then by index (seL4 manual, "Capability Derivation Tree"; the order is
--- confine's own).
+-- The descendants of a slot in one order: by holder, then by index (seL4 manual, "Capability Derivation Tree"; the order is confine's own).
 use Rattle.std.specs.Prelude.{[], ◌<◌, ◌↔◌, ◌∷◌, ◌≡◌, ◌≢◌, ◌⊎◌, AllPairs, Contains, IfSome, List, None, Option, Some}
 use Rattle.base.specs.declared.ids.{ObjId.ObjId, SlotRef.SlotRef}
 use Rattle.machine.specs.{Machine.Machine, WellFormed.Descends}
@@ -18,7 +17,7 @@ IsNextDescendant m above last (Some slot) =
     Descends m slot above × IsBehind last slot × ((q : SlotRef) → Descends m q above → IsBehind last q → ¬ (IsLower q slot))
 IsNextDescendant m above last None = (q : SlotRef) → Descends m q above → ¬ (IsBehind last q)
 
--- the same among the slots of one holder
+-- the lowest slot of one holder that is behind `last` and descends from another; none where none does
 abbrev pub IsNextOf : Machine → ObjId → SlotRef → Option SlotRef → Option SlotRef → Type 0
 IsNextOf m holder above last (Some slot) =
     (slot.holder ≡ holder) × Descends m slot above × IsBehind last slot

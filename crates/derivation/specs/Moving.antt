@@ -1,4 +1,4 @@
--- A place in the derivation tree is taken over in two steps: first what is above it, then what is below.
+-- A place in the derivation tree that is taken over in two steps: first what is above it, then what is below.
 use Rattle.std.specs.{FinMap.{entries, from_entries}, Prelude.{◌≤◌, if◌then◌else◌, map}}
 use Rattle.base.specs.declared.ids.SlotRef.{SlotRef}
 use Rattle.machine.specs.{Machine.{Machine, parent_of, same_slot, without_parent}, Tree.{IsRanked, under}}

@@ -1,5 +1,5 @@
--- Empty slots of the derivation tree come below their first filled ancestor (seL4 manual, "Capability Derivation Tree"; that a slot
--- may be in the tree and empty, while its object is being removed, is confine's own).
+-- Empty slots that come below their first filled ancestor (seL4 manual, "Capability Derivation Tree"; that a slot may be in the tree and
+-- empty, while its object is being removed, is confine's own).
 use Rattle.std.specs.{Option.is_none, Prelude.{◌≡◌, ◌⊎◌, Bool, Option, Some, if◌then◌else◌, true}}
 use Rattle.base.specs.declared.ids.SlotRef.{SlotRef}
 use Rattle.machine.specs.{Machine.{Machine, cap_of, parent_of, same_slot}, Orphans.Nearest}
@@ -20,7 +20,7 @@ pub record AreRaised (old new : Machine) (raised : SlotRef → Type 0) : Type 0 
   pub up : (slot : SlotRef) → raised slot → Nearest (parent_of old) (is_empty old) (parent_of old slot) (parent_of new slot)
   pub others : (slot : SlotRef) → (parent_of new slot ≡ parent_of old slot) ⊎ raised slot
 
--- those that are empty among some slots, and on the way from there to the first filled one
+-- raised are the empty slots among some, and those on the way from there to the first filled one
 abbrev pub AreRaisedFrom : Machine → Machine → (SlotRef → Bool) → Type 0
 AreRaisedFrom old new these = AreRaised old new (IsOnWay old these)
 

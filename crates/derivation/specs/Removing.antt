@@ -1,4 +1,4 @@
--- A slot leaves the derivation tree, and its children come to its own parent (seL4 manual, "Capability Derivation Tree"; where the
+-- A slot that leaves the derivation tree: its children come to its own parent (seL4 manual, "Capability Derivation Tree"; where the
 -- children go is confine's own).
 use Rattle.std.specs.Prelude.{◌≡◌, Bool, None, Option, false, option_and_then, true}
 use Rattle.base.specs.declared.ids.SlotRef.{SlotRef}

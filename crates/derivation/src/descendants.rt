@@ -13,9 +13,8 @@ use objects::State;
 ///
 /// Slots rise by their holders, then by their indices.
 ///
-/// So from no slot on, and given its last answer, it names each slot that descends from `above`
-/// once, and then none ([`descendants_are_named_once`]). It goes through the slots of all objects,
-/// and up the tree from each.
+/// Called with `None` first, and then with its last answer, it names each slot that descends from `above` once, and
+/// then none ([`descendants_are_named_once`]). It goes through the slots of all objects, and up the tree from each.
 pub fn next_descendant(state: &State, above: SlotRef, last: Option<SlotRef>) -> Option<SlotRef>
     ensures { IsNextDescendant state.now above last result }
 {
@@ -30,7 +29,7 @@ pub fn next_descendant(state: &State, above: SlotRef, last: Option<SlotRef>) -> 
     None
 }
 
-// The same among the slots of one object.
+// Returns the lowest slot of one object behind `last` that descends from `above`.
 fn next_of(state: &State, holder: ObjId, above: SlotRef, last: Option<SlotRef>) -> Option<SlotRef>
     ensures { IsNextOf state.now holder above last result }
 {

@@ -1,4 +1,4 @@
-//! How the slots of objects that are going leave the derivation tree.
+//! The slots of objects that a removal takes away leave the derivation tree.
 ghost use Rattle.std.specs.Prelude.{◌≡◌, Contains, None, Some};
 ghost use Rattle.base.specs.declared.ids.SlotRef.{SlotRef as Slot};
 ghost use Rattle.machine.specs.Machine.{cap_of, parent_of};
@@ -35,7 +35,6 @@ fn raise_going(state: &mut State)
     }
 }
 
-// Takes each slot of the objects that are going out of the tree.
 fn remove_going(state: &mut State)
     ensures { HaveLeft state.old state.new (is_going_slot state.old) }
 {

@@ -2,7 +2,7 @@
 //!
 //! Each call takes no memory, and is described as a change of the pairs of child and parent.
 //!
-//! `cnodeops`, `untyped`, `transfer` and `removal` stand on it. It knows no policy.
+//! It knows no policy.
 #![tactic(auto)]
 
 mod descendants;

@@ -1,4 +1,4 @@
-//! How slots are put below the nearest filled slot above them.
+//! The raising of empty slots: each is put below the nearest filled slot above it.
 ghost use Rattle.std.specs.Prelude.{IfSome, Some};
 ghost use Rattle.machine.specs.{Machine.{parent_of, same_slot}, Orphans.Nearest, WellFormed.Descends};
 ghost use Rattle.derivation.specs.{OwnSlots.is_slot_of, Raising.{AreRaisedFrom, is_empty, parent_hung}};

@@ -1,4 +1,4 @@
-//! How one slot leaves the derivation tree.
+//! The removal of one slot from the derivation tree.
 ghost use Rattle.std.specs.Prelude.{◌≡◌, None, Some};
 ghost use Rattle.base.specs.declared.ids.SlotRef.{SlotRef as Slot};
 ghost use Rattle.machine.specs.Machine.{parent_of, same_slot};

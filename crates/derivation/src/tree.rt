@@ -1,4 +1,4 @@
-//! How capabilities enter the derivation tree and move in it.
+//! Pairs of the derivation tree: capabilities enter it and move in it.
 ghost use Rattle.std.specs.Prelude.{◌↔◌, ◌≡◌, ◌≢◌, IsSome, IsTrue, Some};
 ghost use Rattle.base.specs.declared.ids.SlotRef.{SlotRef as Slot};
 ghost use Rattle.machine.specs.{Machine.{cap_of, has_slot, parent_of, with_parent}, Tree.{IsAlone, with_exchanged}};

@@ -16,7 +16,7 @@ more a b c bytes written n fits first bound next =
     let both = Appends-trans a b c _ _ first after in
     (subst (Appends a c) (sym (take-add written n bytes)) both, grind (arith, length-drop))
 
--- the same, in two parts
+-- the two parts of `more`
 pub more_written : (a b c : Option (List ℕ)) (bytes : List ℕ) (written n : ℕ) → written ≤ length bytes → Appends a b (take written bytes)
     → n ≤ length (take (length bytes - written) (drop written bytes))
     → Appends b c (take n (take (length bytes - written) (drop written bytes)))

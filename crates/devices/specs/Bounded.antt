@@ -1,8 +1,7 @@
--- A reader of which so many bytes can be read (confine's own).
+-- Readers with a limit, of which only a number of bytes can be read (confine's own).
 use Rattle.std.specs.Prelude.{ℕ, ◌-◌, List, None, Option, Some, if◌then◌else◌, leb}
 use Rattle.devices.specs.declared.bounded.Bounded.{Bounded}
 
--- one of which so many bytes can be read
 abbrev pub bounded : {R : Type 0} → R → ℕ → Bounded R
 bounded reader limit = record { reader = reader; left = Some limit }
 
@@ -10,7 +9,7 @@ bounded reader limit = record { reader = reader; left = Some limit }
 abbrev pub bytes_allowed : {R : Type 0} → Bounded R → Option ℕ
 bytes_allowed bounded = bounded.left
 
--- how many more may be read after so many
+-- how many bytes may still be read after a number of those that may be
 abbrev pub allowed_after : ℕ → ℕ → Option ℕ
 allowed_after left n = if leb n left then Some (left - n) else None
 

@@ -1,4 +1,4 @@
--- What a call of a device tells: whether the device failed, and what was written if it did (confine's own).
+-- Calls of devices: whether the device failed, and what was written if it did (confine's own).
 use Rattle.std.specs.{declared.io.ErrorKind.{ErrorKind, TheVariants.OutOfMemory}, Io.KnownBytes.Appends, Prelude.{ℕ, Bool, Err, List, Ok}}
 use Rattle.std.specs.Prelude.{Option, Result, false, take, true}
 use Rattle.devices.specs.declared.source.ReadError.{ReadError, TheVariants.{Failed, NoMemory}}

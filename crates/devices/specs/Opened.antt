@@ -1,4 +1,4 @@
--- What opening a file gave, as a source: the file, or why it couldn't be opened (confine's own).
+-- A file that was opened, as a source: the file, or why it couldn't be opened (confine's own).
 use Rattle.std.specs.{declared.io.{Error.Error, ErrorKind.ErrorKind}, IoError.error_kind, Prelude.{ℕ, Err, List, None, Ok, Option, Result}}
 use Rattle.either.specs.{declared.Either.{Either, TheVariants.{Left, Right}}, Either.either}
 use Rattle.devices.specs.{declared.{opened.Unopened.Unopened, watched.Watched.Watched}, Watched.{device_of, watched}}

@@ -2,7 +2,7 @@
 use Rattle.std.specs.{declared.io.ErrorKind.ErrorKind, Prelude.{Bool, None, Option, false, true}}
 use Rattle.devices.specs.declared.watched.Watched.{Watched}
 
--- one that hasn't been called
+-- a reader or a writer that hasn't been called
 abbrev pub watched : {D : Type 0} → D → Watched D
 watched device = record { device = device; failed = false; is_flushed = true; why = None }
 

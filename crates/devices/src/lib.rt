@@ -1,7 +1,6 @@
-//! What a program reads from and writes to: devices that report whether they failed.
+//! Devices that a program reads from and writes to, which report whether they failed.
 //!
-//! The program stands on it: `commands`, `report` and `serving`. It knows nothing of a kernel or a
-//! policy.
+//! It knows nothing of a kernel or a policy.
 #![tactic(auto)]
 
 mod bounded;

@@ -1,4 +1,4 @@
--- A label that a program may change or make smaller stands inside the program, or in the words of an arrow.
+-- Labels that a program may change or make smaller: each stands inside the program, or in the words of an arrow.
 use Rattle.std.proofs.{Common.{[], ℕ, ◌==◌, ◌||◌, ◌∙◌, ◌∷◌, ◌≡◌, ◌≢◌, ◌⊎◌, Bool, Contains, List, ap, false, inl, inr, not, refl, sym, true}, lemmas.Bool.{and_from, eq-eqb, or_left, or_right}}
 use Rattle.std.proofs.lemmas.List.Elements.{Contains-append_left, Contains-append_right, Contains-push}
 use Rattle.diagram.specs.Programs.{Program}

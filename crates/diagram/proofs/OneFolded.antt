@@ -1,4 +1,4 @@
--- A table has one folded drawing with a reach: programs with the same labels have the same tests.
+-- The folded drawing of a table with a reach: there is one, since programs with the same labels have the same tests.
 use Rattle.std.proofs.Common.{[], ℕ, ◌∙◌, ◌∷◌, ◌≡◌, All, Bool, List, ap, false, map, refl, subst, sym, true}
 use Rattle.std.proofs.lemmas.List.Elements.{All-head, All-tail}
 use Rattle.base.specs.declared.kind.Kind.TheVariants.{Write}
@@ -13,7 +13,7 @@ same_answer true other there back = sym (there refl)
 same_answer false true there back = back refl
 same_answer false false there back = refl
 
--- two tests that say the same of labels
+-- two tests of one condition on labels are the same test
 agree : (X : ℕ → ℕ → Type 0) (a b : ℕ) → a ≡ b → (one other : ℕ → Bool) → ((l : ℕ) → Tells (one l) (X a l)) → ((l : ℕ) → Tells (other l) (X b l))
     → one ≡ other
 agree X a b same one other is also =

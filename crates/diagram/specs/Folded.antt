@@ -51,7 +51,7 @@ abbrev pub words_text : Layout → List ℕ → Program → Program → List ℕ
 words_text t others p q =
     reasons_text p q.label ++ (between_text t others p q Writes ++ (between_text t others p q Changes ++ between_text t others p q Takes))
 
--- an arrow is solid where objects may be changed, dashed where they may only shrink, and dotted where it is all about labels without a thread
+-- an arrow is solid if objects may be changed, dashed if they may only shrink, and dotted if it is all about labels without a thread
 abbrev pub style_text : Bool → Bool → List ℕ
 style_text changes shrinks = if changes then [] else (if shrinks then codes "style=dashed, " else codes "style=dotted, ")
 
@@ -75,7 +75,7 @@ abbrev pub folded_text : Layout → List Program → List ℕ → List ℕ
 folded_text t programs others =
     HEAD.now ++ (flat_map (box_text t programs others) programs ++ (flat_map (arrows_text t programs others) programs ++ codes "}\n"))
 
--- the same of rows of the summary
+-- what is drawn of rows of the summary and of labels without a thread
 abbrev pub rows_text : Layout → EdgeTest → List Row → List ℕ → List ℕ
 rows_text t test rows others =
     HEAD.now ++ (flat_map (λ row. box_text t (map (program_of test) rows) others (program_of test row)) rows

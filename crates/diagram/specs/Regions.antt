@@ -1,4 +1,4 @@
--- Where a label without a thread stands in the drawing: inside the one program that uses it, or in the words of arrows (confine's own).
+-- The place of a label without a thread in the drawing: inside the one program that uses it, or in the words of arrows (confine's own).
 use Rattle.std.specs.{List.{filter, list_all}, Prelude.{ℕ, ◌&&◌, ◌==◌, ◌||◌, ◌≡◌, ◌≢◌, Bool, Contains, List, not, true}}
 use Rattle.diagram.specs.{declared.verbs.Verb.{Verb, TheVariants.{Changes, Takes, Writes}}, Programs.Program}
 
@@ -18,7 +18,7 @@ is_inside programs p l = uses p l && is_apart programs p.label l
 abbrev pub inside : List Program → List ℕ → Program → List ℕ
 inside programs others p = filter (is_inside programs p) others
 
--- whether this is what a program does to a label: it may change objects there and has an edge to write; or has none; or may make them smaller
+-- whether a program does this to a label: it may change objects there and has an edge to write, or has none, or may make them smaller
 abbrev pub does : Program → Verb → ℕ → Bool
 does p Writes l = p.changes l && p.writes l
 does p Changes l = p.changes l && not (p.writes l)

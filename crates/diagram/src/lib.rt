@@ -1,6 +1,6 @@
 //! The folded drawing of who may change or take from whom: a box for each program, and arrows between these.
 //!
-//! `report` stands on it. It knows no claim, and no code of the kernel's calls.
+//! It knows no claim, and no code of the kernel's calls.
 #![tactic(auto)]
 
 mod arrows;

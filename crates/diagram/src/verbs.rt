@@ -1,4 +1,4 @@
-//! What programs do to labels without a thread, and which of these they use.
+//! Labels without a thread: what programs do to them, and which of them they use.
 ghost use Rattle.std.specs.Prelude.{◌||◌, ◌≡◌, IfOk};
 ghost use Rattle.base.specs.{declared.kind.Kind.TheVariants.Write, Labels.is_in};
 ghost use Rattle.policy.specs.Policy.{allows};

@@ -1,4 +1,4 @@
--- Where a change adds nothing, what it is about in the new system was so in the old one.
+-- Changes that add nothing: what such a change is about in the new system was so in the old one.
 use Rattle.std.specs.{List.{AllByRecursion, flat_map}, Prelude.not}
 use Rattle.std.proofs.Common.{[], ◌&&◌, ◌∙◌, ◌∷◌, ◌||◌, ◌≡◌, Bool, ap, false, inl, inr, refl, subst, sym, true}
 use Rattle.std.proofs.lemmas.Bool.{and_parts, and_right, cases_Bool, false_from_ne_true, false≢true, or_from, true≢false}
@@ -11,7 +11,7 @@ use Rattle.diff.specs.Changes.{keeper_change, same_extent, same_letters, same_ma
 use Rattle.diff.specs.{Changes.use_change, Side.{SideOf, cell, has_role, standing, uses}}
 use Rattle.diff.proofs.Parts.{front, unless, when}
 
--- where two agree, the one adds nothing to the other
+-- one of two that agree adds nothing to the other
 
 new_standing : (one other : Standing) → (same_standing one other ≡ false → adds_standing one other ≡ false)
     → adds_standing one other ≡ false

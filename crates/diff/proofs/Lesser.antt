@@ -1,4 +1,4 @@
--- Where no change adds anything, the new system lies within the old one, and each of its labels has its twin there.
+-- A new system to which no change adds anything: it lies within the old one, and each of its labels has its twin there.
 use Rattle.std.specs.List.{AllByRecursion, flat_map}
 use Rattle.std.proofs.Common.{ℕ, ◌&&◌, ◌+◌, ◌++◌, ◌∙◌, ◌≡◌, ◌||◌, Bool, List, None, Option, Some, ap, false, if◌then◌else◌, length, refl, sym, true}
 use Rattle.std.{specs.Prelude.not, proofs.lemmas.Bool.{and_left, false≢true, lt-ltb, ltb-true, or_from, true≢false}}
@@ -131,7 +131,7 @@ module _ (old new : SideOf) (P : Change → Type 0) (none : (told : Change) → 
       (shows_use old new verb.Changes (end from) (end to) || shows_use old new verb.Takes (end from) (end to)) (cell_hidden from to) used in
       either (is_reading kind && not (same_named (end from) (end to))) _ _ (use_hidden verb.Reads from to) (or_from _ _ standings shown)
 
-  -- so it was there
+  -- an edge of the old system between these labels is in its policy
 
   twin_edge : (kind : Kind) (x y : ℕ) (from to : Option ℕ) → has_edge old from kind to ≡ true
       → allows old.reach.policy (number_or x from) kind (number_or y to) ≡ true

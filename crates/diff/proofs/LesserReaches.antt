@@ -1,4 +1,4 @@
--- Of the reaches of two tables: where no change from one to another adds anything, the other lies within the one.
+-- The reaches of two tables: the second lies within the first if no change from the first to the second adds anything.
 use Rattle.std.proofs.{Common.{[], ℕ, ◌<◌, ◌∷◌, ◌≡◌, List, false, length, subst, sym, true}, lemmas.Bool.{lt-ltb, or_parts}}
 use Rattle.std.specs.List.{AllByRecursion, list_any}
 use Rattle.base.specs.Labels.{is_in}

@@ -1,4 +1,4 @@
--- What isn't a label of a system is nothing there, and has no cell and no use; and what is one stands there.
+-- Labels that a system lacks: such a label is nothing there, and has no cell and no use; each label that it has stands there.
 use Rattle.std.proofs.Common.{ℕ, ◌&&◌, ◌∙◌, ◌≡◌, Bool, None, Option, Some, ap, false, if◌then◌else◌, refl, true}
 use Rattle.std.{specs.Option.{is_none, is_some}}
 use Rattle.summary.specs.declared.rows.Row.{Row}
@@ -59,7 +59,7 @@ adds_absent stands.Program = refl
 pub is_absent : (side : SideOf) (a : ℕ) → is_here side a ≡ false → standing side (Some a) ≡ stands.Absent
 is_absent side a is = ap (λ here. stands_by here a (row_in side.rows a)) is
 
--- a label is new where there was none
+-- a label is new if the old system lacks it
 pub is_new : (side : SideOf) (a : ℕ) → is_here side a ≡ true → adds_standing stands.Absent (standing side (Some a)) ≡ true
 is_new side a is =
     ap (λ here. adds_standing stands.Absent (stands_by here a (row_in side.rows a))) is ∙ by (row_in side.rows a)

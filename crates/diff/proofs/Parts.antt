@@ -1,4 +1,4 @@
--- What holds of each element of a list that is put together holds of each element of its parts.
+-- Lists that are put together: what holds of each element holds of each element of the parts.
 use Rattle.std.specs.List.{AllByRecursion, flat_map, list_any, range_with_len}
 use Rattle.std.proofs.Common.{[], ℕ, ◌++◌, ◌<◌, ◌∙◌, ◌∷◌, ◌≡◌, Bool, List, arith, false, if◌then◌else◌, inl, inr, length, subst, true, zero-add}
 use Rattle.std.proofs.lemmas.{Bool.{false≢true, or_cases, true≢false}, List.{Elements.All-from_recursion, FromFn.{get_or-range_with_len, length-range_with_len}}}
@@ -17,13 +17,13 @@ module _ {X : Type 0} (P : X → Type 0) where
   back [] ys all = all
   back (x ∷ xs) ys all = back xs ys all.1
 
-  -- of lists that stand one after another
+  -- lists that stand one after another
   pub each : {Y : Type 0} (f : Y → List X) (ys : List Y) → AllByRecursion P (flat_map f ys)
       → AllByRecursion (λ y. AllByRecursion P (f y)) ys
   each f [] all = tt
   each f (y ∷ ys) all = (front (f y) (flat_map f ys) all, each f ys (back (f y) (flat_map f ys) all))
 
-  -- of an element that is there by a test
+  -- an element that is there by a test
 
   pub when : (b : Bool) (x : X) → AllByRecursion P (if b then x ∷ [] else []) → b ≡ true → P x
   when true x all is = all.0
@@ -33,21 +33,21 @@ module _ {X : Type 0} (P : X → Type 0) where
   unless true x all is = absurd (true≢false is)
   unless false x all is = all.0
 
--- of a number below a bound
+-- a number below a bound
 pub at_number : (P : ℕ → Type 0) (n : ℕ) → AllByRecursion P (range_with_len 0 n) → (a : ℕ) → a < n → P a
 at_number P n all a within =
     let long = length-range_with_len 0 n in
     subst P (get_or-range_with_len 0 n a 0 within ∙ zero-add a)
     (All-from_recursion P (range_with_len 0 n) all a 0 (omega (arith, long, within)))
 
--- of a label of the new system
+-- a label of the new system
 pub at_new : (old new : Layout) (P : Named → Type 0) → AllByRecursion P (names_of old new) → (a : ℕ) → a < length new.labels
     → P (named_in_new old new a)
 at_new old new P all a within =
     let firsts = front P (flat_map (new_name old new) (labels_of new)) (flat_map (old_name old new) (labels_of old)) all in
     (at_number (λ b. AllByRecursion P (new_name old new b)) (length new.labels) (each P (new_name old new) (labels_of new) firsts) a within).0
 
--- of an edge among edges
+-- an edge among edges
 
 same_edge : (edge : Edge) (from : ℕ) (kind : Kind) (to : ℕ) → is_edge from kind to edge ≡ true
     → edge ≡ record { from = from; kind = kind; to = to }

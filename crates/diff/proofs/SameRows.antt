@@ -1,4 +1,4 @@
--- Two lists of rows of one system say the same.
+-- Two lists of rows of one system, which say the same.
 use Rattle.std.{specs.{List.{AllByRecursion}, Option.{is_some}}, proofs.Common.{[], ℕ, ◌&&◌, ◌==◌, ◌↔◌, ◌∙◌, ◌∷◌, ◌≡◌, Bool}}
 use Rattle.std.proofs.Common.{List, None, Option, Some, ap, cond, false, if◌then◌else◌, map, refl, subst, sym, true}
 use Rattle.std.{specs.Prelude.not, proofs.lemmas.{List.Elements.recursion_from_All}}

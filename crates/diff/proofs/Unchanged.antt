@@ -1,4 +1,4 @@
--- A system compared with itself has no change.
+-- A system compared with itself: there is no change.
 use Rattle.std.specs.List.{AllByRecursion, flat_map, range_with_len}
 use Rattle.std.proofs.Common.{[], ℕ, ◌&&◌, ◌++◌, ◌<◌, ◌∙◌, ◌∷◌, ◌≡◌, Bool, List, Some, ap, arith, false, if◌then◌else◌, length, refl}
 use Rattle.std.{specs.{Option.{is_none, option_and_then}, Prelude.not}, proofs.{Common.{subst, sym, true, zero-add}}}

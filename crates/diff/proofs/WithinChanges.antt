@@ -1,4 +1,4 @@
--- What the labels of a system change and make smaller, their twins do in a system within which it lies: way by way.
+-- Changes in a larger system: what labels change and make smaller, their twins do in a system within which theirs lies, way by way.
 use Rattle.std.proofs.Common.{ℕ, ◌≡◌, ap, true}
 use Rattle.base.specs.declared.kind.Kind.{Kind}
 use Rattle.policy.specs.Change.{MayAnswer, MayBorrow, MayChangeContext, MayHoldCaller, MayLend, WayToChange}

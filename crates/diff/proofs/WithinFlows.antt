@@ -1,4 +1,4 @@
--- What the labels of a system see, and what flows between them, their twins see in a system within which it lies, and it flows there.
+-- Flows in a larger system: what labels see, and what flows between them, is so of their twins where their system lies within another.
 use Rattle.std.proofs.Common.{ℕ, ◌≡◌, ap, false, inl, inr, true}
 use Rattle.base.specs.declared.kind.Kind.{Kind}
 use Rattle.reach.specs.Extents.{Limits}

@@ -99,19 +99,19 @@ signs false true = sign.Gained ∷ []
 signs _ _ = []
 
 module _ (old new : SideOf) where
-  -- of what a label is
+  -- the change of what a label is
   abbrev pub standing_change : Named → List Change
   standing_change named =
       if same_standing (standing old named.old) (standing new named.new) then []
       else change.Standing named (standing old named.old) (standing new named.new) ∷ []
 
-  -- of a cell
+  -- the change of a cell
   abbrev pub cell_change : Named → Named → List Change
   cell_change from to =
       if same_marks (cell old from.old to.old) (cell new from.new to.new) then []
       else change.Cell from to (cell old from.old to.old) (cell new from.new to.new) ∷ []
 
-  -- of what a program does to a label without a thread
+  -- the change of what a program does to a label without a thread
   abbrev pub use_change : Named → Named → Verb → List Change
   use_change from to how =
       flat_map (λ told. change.Use told from how to ∷ []) (signs (uses old how from.old to.old) (uses new how from.new to.new))
@@ -119,7 +119,7 @@ module _ (old new : SideOf) where
   abbrev pub use_changes : Named → Named → List Change
   use_changes from to = use_change from to verb.Changes ++ (use_change from to verb.Takes ++ use_change from to verb.Reads)
 
-  -- of the labels that keep, and of those whose threads make calls; of these not where the label is new or gone, or its threads are
+  -- changes of labels that keep, and of those whose threads make calls; these not if the label is new or gone, or its threads are
   abbrev pub role_change : Role → Named → List Change
   role_change is named = flat_map (λ told. change.Role told is named ∷ []) (signs (has_role old is named.old) (has_role new is named.new))
 
@@ -156,18 +156,18 @@ turned named = record { old = named.new; new = named.old }
 abbrev pub same_named : Named → Named → Bool
 same_named from to = same_number from.new to.new
 
--- of two systems, the first lacks an edge that the second has
+-- two systems, of which the first lacks an edge that the second has
 
 module _ (old new : SideOf) where
   -- another change shows that a label is new, or has a thread now
   abbrev pub shows_standing : Named → Bool
   shows_standing named = adds_standing (standing old named.old) (standing new named.new)
 
-  -- .. that threads of one program may do more to objects of another
+  -- another change shows that threads of one program may do more to objects of another
   abbrev pub shows_cell : Named → Named → Bool
   shows_cell from to = adds_marks (cell old from.old to.old) (cell new from.new to.new)
 
-  -- .. that a program does this to a label without a thread
+  -- another change shows that a program does this to a label without a thread
   abbrev pub shows_use : Verb → Named → Named → Bool
   shows_use how from to = uses new how from.new to.new && not (uses old how from.old to.old)
 

@@ -1,4 +1,4 @@
--- That whatever one system may do another may do too, where each label of the one has its twin in the other (confine's own).
+-- Systems within others: whatever such a system may do, the other may do too, where each label has its twin (confine's own).
 use Rattle.std.specs.Prelude.{ℕ, ◌<◌, ◌≡◌, ◌≢◌, length, map, true}
 use Rattle.base.specs.declared.kind.Kind.{Kind}
 use Rattle.machine.specs.Layout.{Layout}
@@ -16,7 +16,7 @@ pub record AreTwins (t u : Layout) (twin : ℕ → ℕ) : Type 0 where
   pub there : (a : ℕ) → a < length t.labels → twin a < length u.labels
   pub distinct : (a b : ℕ) → twin a ≡ twin b → a ≡ b
 
--- the same claim of the twins
+-- claims on the twins of labels
 
 abbrev pub twin_who : (ℕ → ℕ) → Who → Who
 twin_who twin (who.One label) = who.One (twin label)

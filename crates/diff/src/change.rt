@@ -1,4 +1,4 @@
-//! What a change from one system to another is, and whether it adds authority.
+//! Changes from one system to another, and whether they add authority.
 ghost use Rattle.std.specs.Prelude.{◌≡◌};
 ghost use Rattle.summary.specs.Regions.{is_same};
 ghost use Rattle.diff.specs.Changes.{adds, adds_extent, adds_letters, adds_marks, adds_standing, gains, has_marks, same_extent};

@@ -1,6 +1,6 @@
-//! What changes from one system to another of who may change, read and reach whom.
+//! Changes from one system to another of who may change, read and reach whom.
 //!
-//! Two systems are compared by the names of their labels. `reptext` and `report` stand on this crate. It knows no code of the kernel's calls.
+//! Two systems are compared by the names of their labels. It knows no code of the kernel's calls.
 #![tactic(auto)]
 
 mod change;

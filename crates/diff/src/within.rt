@@ -10,8 +10,7 @@ ghost use Rattle.table.specs.Rules.{IsDraft};
 ghost use Rattle.diff.specs.{Changes.{AreChanges, adds}, declared.change.Change.Change};
 ghost use Rattle.diff.specs.{Twins.{AreAllNamed, twin_by_name}, Within.{AreTwins, LiesWithin, twin_claim}};
 
-/// A law: where one system lies within another, its labels change, shrink and see no more there, and no more
-/// flows.
+/// A law: labels change, shrink and see no more in a system that lies within another, and no more flows.
 ///
 /// What a label may do in the one its twin may do in the other. So what is kept apart in the other is kept
 /// apart in the one, beside the same filters.
@@ -30,8 +29,7 @@ pub fn lesser_systems_do_no_more()
         → (from to : ℕ) → GoesThrough outer others (twin from) (twin to) → GoesThrough inner filters from to }
 {}
 
-/// A law: where one system lies within another, each claim on its labels whose twin holds of the other doesn't
-/// fail.
+/// A law: no claim fails on a system that lies within another, if its twin holds of the other.
 pub fn lesser_systems_keep_claims()
     ensures { (twin : ℕ → ℕ) (inner outer : Limits) (t u : Layout)
         → LiesWithin twin inner outer
@@ -45,7 +43,7 @@ pub fn labels_are_twins_by_name()
     ensures { (t u : Layout) → IsDraft t → AreAllNamed t u → AreTwins t u (twin_by_name t u) }
 {}
 
-/// A law: where no change from one system to another adds authority, the other lies within the one.
+/// A law: a system lies within another if no change from the other to it adds authority.
 ///
 /// Each of its labels is one of the old system's by its name, and so is each label that may keep capabilities for
 /// CNodes. Each claim that holds of the old system holds of the new one, as far as that has the labels.

@@ -1,6 +1,6 @@
-//! What the reader of XML makes of documents, and the first faults of others.
+//! Tests of the reader of XML: what it makes of documents, and the first faults of others.
 //!
-//! No crate stands on it: it has tests alone. It knows nothing of a kernel or a policy.
+//! It has tests alone, and knows nothing of a kernel or a policy.
 #![tactic(auto)]
 
 #[cfg(test)]

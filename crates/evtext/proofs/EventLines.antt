@@ -1,4 +1,4 @@
--- A line of a script, or of a log, is read just where it spells an event, or an entry, that is within the limits.
+-- Lines of scripts and of logs: one is read just where it spells an event, or an entry, that is within the limits.
 use Rattle.std.proofs.Common.{ℕ, ◌&&◌, ◌<◌, ◌∙◌, ◌≡◌, Bool, Err, List, Ok, ap, cond, false, lt-ltb, ltb-true, nat_lt, refl, subst, true}
 use Rattle.std.proofs.lemmas.Bool.{and_from, and_parts, cond-true}
 use Rattle.base.specs.declared.core_number.TheConstants.CoreNo as CoreNo

@@ -1,4 +1,4 @@
--- A list of at most 1,000,000 values, with a line for each: the laws of its lines are those of one line.
+-- Lists of at most 1,000,000 values, with a line for each: the laws of their lines are those of one line.
 use Rattle.std.{specs.List.AllByRecursion, proofs.Common.{[], ℕ, ◌++◌, ◌<◌, ◌∷◌, ◌≡◌, ◌≤◌, List, Ok, Result, ap, arith, length}}
 use Rattle.std.proofs.{Common.{length-append, subst}, lemmas.List.length_push}
 use Rattle.base.specs.declared.limits.TheConstants.{MAX_EVENTS}

@@ -1,4 +1,4 @@
--- A line is written at the end of a text word by word.
+-- Lines that are written at the end of a text, word by word.
 use Rattle.std.proofs.Common.{[], ℕ, ◌++◌, ◌+◌, ◌<◌, ◌∙◌, ◌∷◌, ◌≡◌, ◌≤◌, List, ap, append_assoc, codes, get_or, length, map}
 use Rattle.std.proofs.{Common.{refl, sym, take}, lemmas.List.{flat_map_more, map_more, take_all, Sums.fold-append}}
 use Rattle.words.specs.{Reading.{last_line, list_text}, Text.{line_text, text_of}}

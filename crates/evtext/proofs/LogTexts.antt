@@ -1,4 +1,4 @@
--- A log is a list of events and their outcomes: the laws of whole logs, from those of its lines.
+-- Logs as lists of events and their outcomes: the laws of whole logs, from those of their lines.
 use Rattle.std.proofs.{Common.{ℕ, ◌↔◌, ◌≡◌, List, Ok, codes, refl}, lemmas.Bool.and_right}
 use Rattle.machine.specs.declared.call.{Event.Event, Outcome.Outcome}
 use Rattle.words.{specs.Text.IsPlainLine, proofs.{ListLaws.{IsListFormat, list_again, list_takes}, WordLaws.plain_bytes}}

@@ -1,4 +1,4 @@
--- The text of a log grows by a line with each entry.
+-- The text of a log, which grows by a line with each entry.
 use Rattle.std.{specs.{Fmt.decimal, List.zip}, proofs.Common.{[], ℕ, ◌++◌, ◌+◌, ◌<◌, ◌∙◌, ◌∷◌, ◌≡◌, List, ap, arith, codes, get_or, length}}
 use Rattle.std.proofs.{Common.{map, min, sym, take}, lemmas.List.{flat_map_more, map-append, take_all, take_more, Sums.fold-append}}
 use Rattle.std.proofs.lemmas.Slice.Zip.{get_or-zip, length-zip}

@@ -1,4 +1,4 @@
--- A text is the text of one script, or of one log.
+-- Texts of scripts and logs: each is the text of one only.
 use Rattle.std.{specs.List.AllByRecursion, proofs.{Common.{[], ◌∙◌, ◌≡◌, List, sym}, lemmas.List.append-nil}}
 use Rattle.machine.specs.declared.call.{Event.Event, Outcome.Outcome}
 use Rattle.words.proofs.{ListLaws.one_list, Parts.{last_once, part_once}}

@@ -1,4 +1,3 @@
--- Two lists of bytes are the same that are as long, byte by byte.
 use Rattle.std.{specs.Str.bytes_eq, proofs.{Common.{ℕ, ◌<◌, ◌≡◌, List, get_or, length, sym, true}, lemmas.Grind.same_number_lists}}
 use Rattle.std.proofs.lemmas.Slice.Eq.{bytes_eq-Decides}
 

@@ -1,4 +1,4 @@
--- A script is a list of events: the laws of whole scripts, from those of its lines.
+-- Scripts as lists of events: the laws of whole scripts, from those of their lines.
 use Rattle.std.proofs.{Common.{ℕ, ◌≡◌, List, Ok, arith, codes, refl}, lemmas.Bool.and_right}
 use Rattle.machine.specs.declared.call.Event.{Event}
 use Rattle.words.{specs.Text.IsPlainLine, proofs.{ListLaws.{IsListFormat, list_again}, WordLaws.plain_bytes}}

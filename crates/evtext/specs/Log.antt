@@ -1,5 +1,5 @@
--- The text of a log, and which log, or which fault at which line, a text is read as: the header, a line for each event and its
--- outcome, `end` (confine's own).
+-- The text of a log: the header, a line for each event and its outcome, `end`; and which log, or which fault at which line, a text is read
+-- as (confine's own).
 use Rattle.std.specs.{List.AllByRecursion, Prelude.{[], ℕ, ◌++◌, ◌∷◌, ◌≤◌, List, Ok, Result, codes, length}}
 use Rattle.base.specs.declared.limits.TheConstants.{MAX_EVENTS}
 use Rattle.machine.specs.declared.call.{Event.Event, Outcome.Outcome}
@@ -14,7 +14,6 @@ log_header = words_of (codes "confine-log 1")
 abbrev pub entry_words : Event × Outcome → List (List ℕ)
 entry_words entry = event_words entry.0 ++ codes "=" ∷ outcome_words entry.1
 
--- the text of a log
 abbrev pub log_text : List (Event × Outcome) → List ℕ
 log_text = list_text log_header entry_words
 
@@ -48,7 +47,6 @@ log_step log words = do
   entry ← log_line (length log) words
   Ok (log ++ entry ∷ [])
 
--- logs, line by line
 abbrev pub log_format : Format (List (Event × Outcome)) (List (Event × Outcome))
 log_format = list_format log_header log_step
 

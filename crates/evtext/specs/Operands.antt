@@ -32,7 +32,6 @@ nothing = record { read = nothing_at; spell = λ _. []; Fits = λ _. Unit {0} }
 abbrev pub number : Shape ℕ
 number = record { read = number_at; spell = λ n. decimal n ∷ []; Fits = λ n. n < 2 ^ 64 }
 
--- two numbers
 abbrev pub two_numbers : Shape (ℕ × ℕ)
 two_numbers = both number number
 
@@ -105,7 +104,6 @@ four_of parts = parts.0 ∷ parts.1.0 ∷ parts.1.1.0 ∷ parts.1.1.1 ∷ []
 unfoldable pub four_at : PartReader (List ℕ)
 four_at = read_as four_of (in_turn number_at (in_turn number_at (in_turn number_at number_at)))
 
--- the four words of a message
 abbrev pub four_words : List ℕ → List (List ℕ)
 four_words words =
     decimal (slice_index words 0)
@@ -133,7 +131,6 @@ optional_at words = do
   address ← or_syntax (optional_of word.0)
   Ok (address, word.1)
 
--- an address, or `-` for none
 abbrev pub optional_word : Option ℕ → List ℕ
 optional_word None = codes "-"
 optional_word (Some address) = decimal address
@@ -152,7 +149,6 @@ optional_slot_at words = do
   word ← word_at words
   if bytes_eq word.0 (codes "-") then Ok (None, word.1) else read_as (λ slot. Some slot) slot_address_at words
 
--- a slot, or `-` for none
 abbrev pub optional_slot_words : Option SlotAddress → List (List ℕ)
 optional_slot_words None = codes "-" ∷ []
 optional_slot_words (Some slot) = slot_address_words slot

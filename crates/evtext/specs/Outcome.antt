@@ -1,5 +1,5 @@
--- How an outcome is spelled as words of a line, and read off them: that the call is done, and what it answers, that it is blocked,
--- or that it is refused (confine's own).
+-- Outcomes as words of a line: that the call is done, and what it answers, that it is blocked, or that it is refused; how they are spelled,
+-- and read off the words (confine's own).
 use Rattle.std.specs.{Fmt.decimal, Prelude.{[], ℕ, ◌++◌, ◌<◌, ◌^◌, ◌∷◌, Bool, List, None, Ok, Option, Some, codes, false, true}}
 use Rattle.std.specs.{Prelude.if◌then◌else◌, Str.bytes_eq}
 use Rattle.machine.specs.declared.{call.{Answer.Answer, Outcome.Outcome}, thread.Message.Message}
@@ -13,7 +13,6 @@ abbrev pub flag_word : Bool → List ℕ
 flag_word Bool.true = codes "1"
 flag_word Bool.false = codes "0"
 
--- and back
 abbrev pub flag_of : List ℕ → Option Bool
 flag_of word = if bytes_eq word (codes "1") then Some true else if bytes_eq word (codes "0") then Some false else None
 

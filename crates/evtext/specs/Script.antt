@@ -1,5 +1,5 @@
--- The text of a script, and which script, or which fault at which line, a text is read as: the header, a line for each event,
--- `end` (confine's own).
+-- The text of a script: the header, a line for each event, `end`; and which script, or which fault at which line, a text is read as
+-- (confine's own).
 use Rattle.std.specs.{List.AllByRecursion, Prelude.{[], ℕ, ◌++◌, ◌∷◌, ◌≤◌, List, Ok, Result, codes, length}}
 use Rattle.base.specs.declared.limits.TheConstants.{MAX_EVENTS}
 use Rattle.machine.specs.declared.call.Event.{Event}
@@ -10,7 +10,6 @@ use Rattle.evtext.specs.Event.{IsSpellable, event_at, event_words, within_limits
 abbrev pub script_header : List (List ℕ)
 script_header = words_of (codes "confine-script 1")
 
--- the text of a script
 abbrev pub script_text : List Event → List ℕ
 script_text = list_text script_header event_words
 
@@ -31,7 +30,6 @@ script_step events words = do
   event ← script_line (length events) words
   Ok (events ++ event ∷ [])
 
--- scripts, line by line
 abbrev pub script_format : Format (List Event) (List Event)
 script_format = list_format script_header script_step
 

@@ -1,4 +1,4 @@
--- What a text is after words are written at its end, each after a space (confine's own).
+-- A text after words are written at its end, each after a space (confine's own).
 use Rattle.std.specs.{List.{fold, join_with_byte}, Prelude.{ℕ, ◌++◌, ◌∷◌, List}}
 
 abbrev pub written : List ℕ → List (List ℕ) → List ℕ

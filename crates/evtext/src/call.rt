@@ -1,4 +1,4 @@
-//! The calls, each as its name and its operands: how one is read off the words of a line, and how it is written.
+//! Calls as their names and operands: how one is read off the words of a line, and how it is written.
 ghost use Rattle.std.specs.Prelude.{◌≡◌, Bool, OnOk};
 ghost use Rattle.machine.specs.Step.{takes_memory};
 ghost use Rattle.words.specs.{Parts.by_word, Reading.Gives};
@@ -114,7 +114,6 @@ fn next_thread_call(name: &[u8], words: &mut Words<'_>) -> Result<Call, Wrong>
     Err(Wrong::Syntax)
 }
 
-/// The next word as the operand of a signal.
 #[tactic(auto, unfolding(words::specs::Parts::read_as, words::specs::Reading::bind))]
 fn next_signal(words: &mut Words<'_>) -> Result<Call, Wrong>
     ensures { Gives (λ call. (call, words.new)) result (call_by signal_form words.old) }
@@ -123,7 +122,6 @@ fn next_signal(words: &mut Words<'_>) -> Result<Call, Wrong>
     Ok(Call::Signal { address })
 }
 
-/// The next word as the operand of a poll.
 #[tactic(auto, unfolding(words::specs::Parts::read_as, words::specs::Reading::bind))]
 fn next_poll(words: &mut Words<'_>) -> Result<Call, Wrong>
     ensures { Gives (λ call. (call, words.new)) result (call_by poll_form words.old) }
@@ -132,7 +130,6 @@ fn next_poll(words: &mut Words<'_>) -> Result<Call, Wrong>
     Ok(Call::Poll { address })
 }
 
-/// The next word as the operand of a wait.
 #[tactic(auto, unfolding(words::specs::Parts::read_as, words::specs::Reading::bind))]
 fn next_wait(words: &mut Words<'_>) -> Result<Call, Wrong>
     ensures { Gives (λ call. (call, words.new)) result (call_by wait_form words.old) }
@@ -141,7 +138,6 @@ fn next_wait(words: &mut Words<'_>) -> Result<Call, Wrong>
     Ok(Call::Wait { address })
 }
 
-/// The next words as the operands of a send.
 #[tactic(auto, unfolding(words::specs::Parts::read_as, words::specs::Reading::bind))]
 fn next_send(words: &mut Words<'_>) -> Result<Call, Wrong>
     ensures { Gives (λ call. (call, words.new)) result (call_by send_form words.old) }
@@ -154,7 +150,6 @@ fn next_send(words: &mut Words<'_>) -> Result<Call, Wrong>
     })
 }
 
-/// The next words as the operands of a call to an endpoint.
 #[tactic(auto, unfolding(words::specs::Parts::read_as, words::specs::Reading::bind))]
 fn next_endpoint_call(words: &mut Words<'_>) -> Result<Call, Wrong>
     ensures { Gives (λ call. (call, words.new)) result (call_by call_form words.old) }
@@ -175,7 +170,6 @@ fn next_fetch(_words: &mut Words<'_>) -> Result<Call, Wrong>
     Ok(Call::Fetch)
 }
 
-/// The next words as the operand of a delete.
 #[tactic(auto, unfolding(words::specs::Parts::read_as, words::specs::Reading::bind))]
 fn next_delete(words: &mut Words<'_>) -> Result<Call, Wrong>
     ensures { Gives (λ call. (call, words.new)) result (call_by delete_form words.old) }
@@ -184,7 +178,6 @@ fn next_delete(words: &mut Words<'_>) -> Result<Call, Wrong>
     Ok(Call::Delete { slot })
 }
 
-/// The next words as the operand of a revoke.
 #[tactic(auto, unfolding(words::specs::Parts::read_as, words::specs::Reading::bind))]
 fn next_revoke(words: &mut Words<'_>) -> Result<Call, Wrong>
     ensures { Gives (λ call. (call, words.new)) result (call_by revoke_form words.old) }
@@ -193,7 +186,6 @@ fn next_revoke(words: &mut Words<'_>) -> Result<Call, Wrong>
     Ok(Call::Revoke { slot })
 }
 
-/// The next words as the operands of a read.
 #[tactic(auto, unfolding(words::specs::Parts::read_as, words::specs::Reading::bind))]
 fn next_read(words: &mut Words<'_>) -> Result<Call, Wrong>
     ensures { Gives (λ call. (call, words.new)) result (call_by read_form words.old) }
@@ -202,7 +194,6 @@ fn next_read(words: &mut Words<'_>) -> Result<Call, Wrong>
     Ok(Call::Read { address, index })
 }
 
-/// The next words as the operands of a setting of a space.
 #[tactic(auto, unfolding(words::specs::Parts::read_as, words::specs::Reading::bind))]
 fn next_set_space(words: &mut Words<'_>) -> Result<Call, Wrong>
     ensures { Gives (λ call. (call, words.new)) result (call_by set_space_form words.old) }
@@ -211,7 +202,6 @@ fn next_set_space(words: &mut Words<'_>) -> Result<Call, Wrong>
     Ok(Call::SetSpace { thread, space })
 }
 
-/// The next word as the operand of a clearing of a space.
 #[tactic(auto, unfolding(words::specs::Parts::read_as, words::specs::Reading::bind))]
 fn next_clear_space(words: &mut Words<'_>) -> Result<Call, Wrong>
     ensures { Gives (λ call. (call, words.new)) result (call_by clear_space_form words.old) }
@@ -220,7 +210,6 @@ fn next_clear_space(words: &mut Words<'_>) -> Result<Call, Wrong>
     Ok(Call::ClearSpace { thread })
 }
 
-/// The next word as the operand of a suspend.
 #[tactic(auto, unfolding(words::specs::Parts::read_as, words::specs::Reading::bind))]
 fn next_suspend(words: &mut Words<'_>) -> Result<Call, Wrong>
     ensures { Gives (λ call. (call, words.new)) result (call_by suspend_form words.old) }
@@ -229,7 +218,6 @@ fn next_suspend(words: &mut Words<'_>) -> Result<Call, Wrong>
     Ok(Call::Suspend { thread })
 }
 
-/// The next word as the operand of a resume.
 #[tactic(auto, unfolding(words::specs::Parts::read_as, words::specs::Reading::bind))]
 fn next_resume(words: &mut Words<'_>) -> Result<Call, Wrong>
     ensures { Gives (λ call. (call, words.new)) result (call_by resume_form words.old) }
@@ -238,7 +226,6 @@ fn next_resume(words: &mut Words<'_>) -> Result<Call, Wrong>
     Ok(Call::Resume { thread })
 }
 
-/// The next words as the operands of a bind.
 #[tactic(auto, unfolding(words::specs::Parts::read_as, words::specs::Reading::bind))]
 fn next_bind(words: &mut Words<'_>) -> Result<Call, Wrong>
     ensures { Gives (λ call. (call, words.new)) result (call_by bind_form words.old) }
@@ -247,7 +234,6 @@ fn next_bind(words: &mut Words<'_>) -> Result<Call, Wrong>
     Ok(Call::Bind { context, thread })
 }
 
-/// The next word as the operand of an unbind.
 #[tactic(auto, unfolding(words::specs::Parts::read_as, words::specs::Reading::bind))]
 fn next_unbind(words: &mut Words<'_>) -> Result<Call, Wrong>
     ensures { Gives (λ call. (call, words.new)) result (call_by unbind_form words.old) }
@@ -256,7 +242,6 @@ fn next_unbind(words: &mut Words<'_>) -> Result<Call, Wrong>
     Ok(Call::Unbind { context })
 }
 
-/// The next words as the operands of a receive.
 #[tactic(auto, unfolding(words::specs::Parts::in_turn, words::specs::Parts::read_as, words::specs::Reading::bind))]
 fn next_receive(words: &mut Words<'_>) -> Result<Call, Wrong>
     ensures { Gives (λ call. (call, words.new)) result (call_by receive_form words.old) }
@@ -271,7 +256,6 @@ fn next_receive(words: &mut Words<'_>) -> Result<Call, Wrong>
     })
 }
 
-/// The next words as the operands of a reply.
 #[tactic(auto, unfolding(words::specs::Parts::in_turn, words::specs::Parts::read_as, words::specs::Reading::bind))]
 fn next_reply(words: &mut Words<'_>) -> Result<Call, Wrong>
     ensures { Gives (λ call. (call, words.new)) result (call_by reply_form words.old) }
@@ -284,7 +268,6 @@ fn next_reply(words: &mut Words<'_>) -> Result<Call, Wrong>
     })
 }
 
-/// The next words as the operands of a copy.
 #[tactic(auto, unfolding(words::specs::Parts::in_turn, words::specs::Parts::read_as, words::specs::Reading::bind))]
 fn next_copy(words: &mut Words<'_>) -> Result<Call, Wrong>
     ensures { Gives (λ call. (call, words.new)) result (call_by copy_form words.old) }
@@ -295,7 +278,6 @@ fn next_copy(words: &mut Words<'_>) -> Result<Call, Wrong>
     Ok(Call::Copy { to, from, rights })
 }
 
-/// The next words as the operands of a mint.
 #[tactic(auto, unfolding(words::specs::Parts::in_turn, words::specs::Parts::read_as, words::specs::Reading::bind))]
 fn next_mint(words: &mut Words<'_>) -> Result<Call, Wrong>
     ensures { Gives (λ call. (call, words.new)) result (call_by mint_form words.old) }
@@ -312,7 +294,6 @@ fn next_mint(words: &mut Words<'_>) -> Result<Call, Wrong>
     })
 }
 
-/// The next words as the operands of a move.
 #[tactic(auto, unfolding(words::specs::Parts::in_turn, words::specs::Parts::read_as, words::specs::Reading::bind))]
 fn next_move(words: &mut Words<'_>) -> Result<Call, Wrong>
     ensures { Gives (λ call. (call, words.new)) result (call_by move_form words.old) }
@@ -322,7 +303,6 @@ fn next_move(words: &mut Words<'_>) -> Result<Call, Wrong>
     Ok(Call::Move { to, from })
 }
 
-/// The next words as the operands of a retype.
 #[tactic(auto, unfolding(words::specs::Parts::in_turn, words::specs::Parts::read_as, words::specs::Reading::bind))]
 fn next_retype(words: &mut Words<'_>) -> Result<Call, Wrong>
     ensures { Gives (λ call. (call, words.new)) result (call_by retype_form words.old) }
@@ -343,7 +323,6 @@ fn next_retype(words: &mut Words<'_>) -> Result<Call, Wrong>
     })
 }
 
-/// The next words as the operands of a write.
 #[tactic(auto, unfolding(words::specs::Parts::in_turn, words::specs::Parts::read_as, words::specs::Reading::bind))]
 fn next_write(words: &mut Words<'_>) -> Result<Call, Wrong>
     ensures { Gives (λ call. (call, words.new)) result (call_by write_form words.old) }
@@ -358,7 +337,6 @@ fn next_write(words: &mut Words<'_>) -> Result<Call, Wrong>
     })
 }
 
-/// The next words as the operands of a configure.
 #[tactic(auto, unfolding(words::specs::Parts::in_turn, words::specs::Parts::read_as, words::specs::Reading::bind))]
 fn next_configure(words: &mut Words<'_>) -> Result<Call, Wrong>
     ensures { Gives (λ call. (call, words.new)) result (call_by configure_form words.old) }
@@ -375,7 +353,6 @@ fn next_configure(words: &mut Words<'_>) -> Result<Call, Wrong>
     })
 }
 
-// The name of a call.
 fn name_of(call: &Call) -> &'static str
     ensures { result.now ≡ by_form (λ form operands. form.name) call.now }
 {

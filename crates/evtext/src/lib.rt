@@ -1,7 +1,6 @@
 //! The texts of scripts, which are events, and of logs, which are events and what they answered.
 //!
-//! `causes`, `breaches` and the commands stand on it. It knows no label and no policy, and nothing
-//! of `captext`.
+//! It knows no label and no policy, and nothing of `captext`.
 #![tactic(auto)]
 
 mod call;

@@ -1,4 +1,4 @@
-//! How logs are read and written.
+//! The reading and the writing of logs.
 ghost use Rattle.std.specs.{List.zip, Prelude.{ℕ, ◌++◌, ◌≡◌, ◌≢◌, Err, IfErr, IfOk, List, Ok, OnOk}};
 ghost use Rattle.base.specs.Refusals.{out_of_memory};
 ghost use Rattle.machine.specs.declared.call.{Event.Event as EventOf, Outcome.Outcome as OutcomeOf};

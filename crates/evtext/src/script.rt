@@ -1,4 +1,4 @@
-//! How scripts are read and written.
+//! The reading and the writing of scripts.
 ghost use Rattle.std.specs.Prelude.{ℕ, ◌++◌, ◌≡◌, ◌≢◌, IfErr, IfOk, List, Ok, OnOk};
 ghost use Rattle.base.specs.Refusals.{out_of_memory};
 ghost use Rattle.machine.specs.declared.call.Event.{Event as EventOf};

@@ -58,7 +58,7 @@ fn put_digits(text: &mut Vec<u8>, number: u64)
     text.push_reserved(b'0' + pair % 10);
 }
 
-// The same, where numbers of one digit are the most.
+// Puts the number in decimal at the end of the text, which has room for it. Numbers of one digit are the most.
 fn put_decimal(text: &mut Vec<u8>, number: u64)
     requires { vec_len text.old + length (decimal number) ≤ vec_capacity text.old }
     ensures { text.new.items ≡ text.old.items ++ decimal number }

@@ -8,8 +8,8 @@ use std::alloc::{AllocError, Global};
 use std::fmt;
 use table::Table;
 
-/// Adds what the capability in a slot gives over a label that the policy lacks, and what may be
-/// done; gives how many edges are missing.
+/// Adds what the capability in a slot gives over a label that the policy lacks, and what may be done; gives how many
+/// edges are missing.
 pub(crate) fn push_capability(
     alloc: Global,
     sentence: &mut String,
@@ -23,7 +23,7 @@ pub(crate) fn push_capability(
     Ok(missing.len())
 }
 
-/// The same, for the edges that are missing.
+/// Adds what the missing edges let the holder's label do, and what may be done.
 fn push_missing(
     alloc: Global,
     sentence: &mut String,

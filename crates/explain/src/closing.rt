@@ -23,8 +23,7 @@ const LABELS: usize = Label::COUNT as usize;
 /// Of a description the place is an element, as in
 /// ``my.system:7: A1 `app` may notify `fs` by channel 1: edge app notify fs``.
 ///
-/// Each is what the verdict asks for first, where the edges of the lines before are there. So each
-/// line costs a verdict.
+/// Each is what the verdict asks for first if the edges of the lines before are there. So each line costs a verdict.
 ///
 /// # Errors
 ///
@@ -139,7 +138,7 @@ fn is_in_table(denial: &Denial) -> bool {
     )
 }
 
-/// The edge that a policy lacks where it is denied so: of the two for which P1 asks, the one that isn't there.
+/// The edge that a policy lacks where it is denied so: for P1 the one of two that isn't there.
 pub(crate) fn mending_edge(table: &Table, policy: &Policy, denial: &Denial) -> Option<Edge> {
     match *denial {
         Denial::Policy(

@@ -25,8 +25,8 @@ pub struct Names<'a> {
 
 /// Returns a sentence on a denial: the line of its place, why the rule is broken there, and what may be done.
 ///
-/// Of A1 it names all edges that the policy lacks for the capability. The place of a rule on the policy alone
-/// is the first edge by which the rule asks for another. The system was judged by these rules.
+/// For A1 it names all edges that the policy lacks for the capability. The place of a rule on the policy alone is the
+/// first edge by which the rule asks for another. The system was judged by these rules.
 ///
 /// # Errors
 ///

@@ -1,4 +1,4 @@
-//! On which grounds the sharp rules require an edge.
+//! The grounds on which the sharp rules require an edge.
 use base::{Edge, Kind, Label, Labels};
 use captext::label_name;
 use policy::{DOMAIN, Policy, is_given_by_control, subjects};
@@ -236,7 +236,7 @@ fn tell_called<W: fmt::Write>(
     )
 }
 
-/// The first sharp rule that requires an edge by these, and on which grounds: of several the first.
+/// The first sharp rule that requires an edge by these, and the first of its grounds.
 pub(crate) fn first_grounds(view: &View<'_>, edge: Edge) -> Option<Grounds> {
     if !edge.kind.is_structural() {
         return grounds_of_use(view, &edge);
@@ -259,7 +259,7 @@ pub(crate) fn first_grounds(view: &View<'_>, edge: Edge) -> Option<Grounds> {
     }
 }
 
-/// The same, for an edge of use.
+/// The first such grounds for an edge of use.
 fn grounds_of_use(view: &View<'_>, edge: &Edge) -> Option<Grounds> {
     if let Some(grounds) = shared(view, edge, Labels::all()) {
         return Some(grounds);

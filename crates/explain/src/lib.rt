@@ -1,7 +1,7 @@
-//! Words to a person: why a table and a policy are denied, and what may be done; where edges of the reach of a
-//! table come from, or of a policy, or why there are none; and that a word is no label.
+//! Words to a person on denials, edges and labels: why a table and a policy are denied, and what may be done; where
+//! edges of the reach of a table come from, or of a policy, or why there are none; and that a word is no label.
 //!
-//! `breaches`, `notes` and `serving` stand on it. It knows no claim, no run, no device and no command.
+//! It knows no claim, no run, no device and no command.
 #![tactic(auto)]
 
 mod asked;

@@ -1,4 +1,4 @@
-//! Which line of a file an edge of a policy has, and the place that a denial names.
+//! The line of a file that an edge of a policy has, and the line of the place that a denial names.
 use base::{Edge, Refusal};
 use policy::Policy;
 use sources::Sheet;

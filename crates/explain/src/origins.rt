@@ -17,8 +17,8 @@ use table::Table;
 use verdict::Denial;
 
 /// Returns a line for each edge of the reason why a policy allows the one label to do something to the other, and then
-/// for each edge by which a rule asks for one of those before: where it comes from. Where nothing is allowed, it
-/// returns why that is so.
+/// for each edge by which a rule asks for one of those before: where it comes from. It returns why nothing is allowed,
+/// if that is so.
 ///
 /// Each label counts as one whose threads make calls.
 ///
@@ -282,7 +282,7 @@ fn asked_by_policy<R: Threads + Sync>(
     rule_for(rt, alloc, table, &edges, edge)
 }
 
-/// By which rule an edge is asked for, and the edges by which it is.
+/// The rule by which an edge is asked for, and the edges by which it is.
 #[derive(Drop)]
 struct Asked {
     rule: &'static str,
@@ -303,7 +303,7 @@ fn rule_for<R: Threads + Sync>(
     asked
 }
 
-/// The same, where an empty policy is given the edges.
+/// The rule by which closing comes to an edge. `policy` is empty before, and is given the other edges.
 fn rule_of<R: Threads + Sync>(
     rt: &R,
     alloc: Global,

@@ -47,7 +47,7 @@ pub(crate) fn remedy_at<'a>(sheet: Sheet<'a>, denial: &Denial) -> Option<Remedy<
     }
 }
 
-/// The same where there is no element.
+/// Tells why the place of a denial gives an edge, where there is no element.
 fn tell_without_names<W: fmt::Write>(
     f: &mut fmt::Formatter<W>,
     sheet: Sheet<'_>,

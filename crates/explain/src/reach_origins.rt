@@ -391,8 +391,8 @@ fn tell_change<W: fmt::Write>(
 }
 
 /// Returns a line for each edge of the reason for what the one label's threads may do to the other's objects, and then
-/// for each edge by which a rule requires one of those before: where it comes from. Where nothing may be done, it
-/// returns why that is so. The reach is that of the sheet's table.
+/// for each edge by which a rule requires one of those before: where it comes from. It returns why nothing may be done,
+/// if that is so. The reach is that of the sheet's table.
 ///
 /// # Errors
 ///

@@ -35,7 +35,7 @@ pub(crate) fn push_sharp(
 ) -> Result<(), AllocError> {
     match grounds_at(&View::of(table, policy), broken) {
         Some(grounds) => push_reason(alloc, sentence, table, &grounds, broken),
-        // Where a rule is broken, there are grounds.
+        // A broken rule has grounds.
         None => {
             let follows = Follows {
                 table,
@@ -53,7 +53,7 @@ pub(crate) fn push_sharp(
     }
 }
 
-/// The same, where the rule requires the edge on these grounds.
+/// Adds why a sharp rule is broken, which requires the edge on these grounds.
 fn push_reason(
     alloc: Global,
     sentence: &mut String,

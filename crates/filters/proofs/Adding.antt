@@ -4,7 +4,7 @@ use Rattle.std.proofs.lemmas.{Bool.false≢true, List.{Elements.{All-nil, All-pu
 use Rattle.base.specs.{declared.labels.Labels.Labels}
 use Rattle.filters.specs.{Sets.{AreFirst, IsSame, Precedes}, Stages.{AreAdded, IsTried}}
 
--- where no set is of a kind, none is added
+-- none is added if no set is of the kind
 pub none_added : (Is : Labels → Type 0) → ((set : Labels) → ¬ Is set) → (old : List Labels) (most : ℕ) → length old ≤ most → AreAdded Is old old most true
 none_added Is none old most few = record {
   more = [];
@@ -18,7 +18,7 @@ none_added Is none old most few = record {
   full = λ some. absurd (false≢true (sym some));
 }
 
--- where there is no room for one more, some may be left
+-- some may be left if there is no room for one more
 pub none_fit : (Is : Labels → Type 0) (old : List Labels) (most : ℕ) → length old ≡ most → AreAdded Is old old most false
 none_fit Is old most full = record {
   more = [];
@@ -47,7 +47,7 @@ one_added Is one is alone old new most grown room = record {
   full = λ some. absurd (false≢true (sym some));
 }
 
--- so where it is the one set of a kind, the first of that kind are added
+-- the first sets of a kind are added with its one set
 pub one_tried : (Is : Labels → Type 0) (one : Labels) → Is one → ((set : Labels) → Is set → IsSame one set) → (old new : List Labels) (most : ℕ)
     (added : Bool) → IsTried one old new most added → AreAdded Is old new most added
 one_tried Is one is alone old new most true tried =

@@ -1,4 +1,4 @@
--- How many labels pass a test: of two tests, of a part, and of one label.
+-- Numbers of labels that pass a test: of two tests, of a part, and of one label.
 use Rattle.std.proofs.Common.{ℕ, ◌+◌, ◌<◌, ◌==◌, ◌||◌, ◌∙◌, ◌≡◌, ◌≤◌, ◌⊎◌, Bool, ap, arith, cond, false, inl, inr, refl, suc, sym, true, zero}
 use Rattle.std.proofs.lemmas.Bool.{cases_order, eq-eqb, eqb-true, false≢true}
 use Rattle.filters.specs.Sets.{count_below}
@@ -20,7 +20,7 @@ count_or p q r is apart (suc n) =
       by false false true is apart x y z more = absurd (false≢true (sym is))
       by false false false is apart x y z more = omega (arith, more)
 
--- where none is counted, none passes
+-- none passes if none is counted
 pub count_none : (p : ℕ → Bool) (n : ℕ) → count_below p n ≡ 0 → (l : ℕ) → l < n → p l ≡ false
 unfolding count_below
 count_none p zero none l below = absurd (omega (arith, below))
@@ -44,7 +44,7 @@ module _ (p q : ℕ → Bool) (part : (l : ℕ) → p l ≡ true → q l ≡ tru
     by false true then_so x y more = omega (arith, more)
     by false false then_so x y more = omega (arith, more)
 
-  -- and where it has no fewer, it has all
+  -- a part has all labels if it has no fewer
   pub count_whole : (n : ℕ) → count_below q n ≤ count_below p n → (l : ℕ) → l < n → q l ≡ true → p l ≡ true
   unfolding count_below
   count_whole zero no_fewer l below is = absurd (omega (arith, below))
@@ -83,7 +83,7 @@ module _ (p : ℕ → Bool) (a : ℕ) (is : (l : ℕ) → p l ≡ (l == a)) wher
     by true has (inr (inr after)) earlier = absurd (omega (arith, below, after))
     by false has (inr (inr after)) earlier = absurd (omega (arith, below, after))
 
--- and where none passes, none is counted
+-- none is counted if none passes
 pub count_nothing : (p : ℕ → Bool) → ((l : ℕ) → p l ≡ false) → (n : ℕ) → count_below p n ≡ 0
 unfolding count_below
 count_nothing p none zero = refl

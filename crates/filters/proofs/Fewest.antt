@@ -1,4 +1,4 @@
--- The smallest sets: a size more at a time, where no set has fewer labels.
+-- The smallest sets, looked for a size more at a time, while no set has fewer labels.
 use Rattle.std.proofs.Common.{ℕ, ◌&&◌, ◌==◌, ◌||◌, not, ◌+◌, ◌<◌, ◌↔◌, ◌≡◌, ◌≢◌, ◌≤◌, ◌⊎◌, Bool, List, arith, false, inl, inr, length, ap, refl, sym, true, ◌∙◌}
 use Rattle.std.proofs.lemmas.Bool.{and_from, and_parts, cases_order, eq-eqb, eqb-true, false≢true, or_left, or_right}
 use Rattle.base.specs.{declared.labels.Labels.Labels, Labels.is_in}
@@ -9,7 +9,7 @@ use Rattle.filters.specs.declared.{searching.Stage.Stage, smallest.Smallest.{Sma
 use Rattle.filters.proofs.Arrows.{chain_of, way_of}
 use Rattle.filters.proofs.Counting.{count_nothing}
 
--- of kinds that are one, the first sets are
+-- two kinds that are one have the same first sets
 pub first_alike : (Is Are : Labels → Type 0) → ((s : Labels) → Is s ↔ Are s) → (sets : List Labels) (all : Bool) → AreFirst Is sets all → AreFirst Are sets all
 first_alike Is Are alike sets all first = record {
   each = λ k d below. (alike _).0 (first.each k d below);
@@ -68,7 +68,7 @@ module _ (rows : List Labels) (from to : ℕ) (others : Labels) where
         cuts = sized.is.cuts;
       }
 
-    -- where none was found, sets have more labels
+    -- sets have more labels if none of this size was found
     pub more : (sets : List Labels) (all : Bool) (most : ℕ) → 0 < most → length sets ≡ 0 → AreFirst (Completes rows from to begun) sets all
         → (all ≡ false → length sets ≡ most) → ((set : Labels) → Separates rows from to others set → size ≤ size_of set) → (set : Labels)
         → Separates rows from to others set → size + 1 ≤ size_of set
@@ -84,7 +84,7 @@ module _ (rows : List Labels) (from to : ℕ) (others : Labels) where
       by (inr (inl less)) = omega (arith, less)
       by (inr (inr over)) = absurd (omega (arith, over, least set separates))
 
--- of kinds that are one, the smallest sets are
+-- two kinds that are one have the same smallest sets
 pub smallest_alike : (Is Are : Labels → Type 0) → ((s : Labels) → Is s ↔ Are s) → (most : ℕ) (answer : Smallest) → IsSmallest Is most answer
     → IsSmallest Are most answer
 smallest_alike Is Are alike most smallest.Direct none = λ set are. none set ((alike set).1 are)

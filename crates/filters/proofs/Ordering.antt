@@ -46,7 +46,7 @@ listed_behind xs ys set (k, one, below, at, same) =
 module _ (Is Fore Hind : Labels → Type 0) (fore : (s : Labels) → Fore s → Is s) (hind : (s : Labels) → Hind s → Is s)
     (parts : (s : Labels) → Is s → Fore s ⊎ Hind s) (order : (s t : Labels) → Fore s → Hind t → Precedes s t) (xs : List Labels)
   where
-    -- where some of the first part aren't listed, none of the other is
+    -- the first sets of the first part are those of all, if some of that part aren't listed
     pub first_of_fore : AreFirst Fore xs false → AreFirst Is xs false
     first_of_fore are = record {
       each = λ k d below. fore (get_or xs k d) (are.each k d below);

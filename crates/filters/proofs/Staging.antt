@@ -83,7 +83,7 @@ module _ (rows : List Labels) (from to : ℕ) (stage : Stage) (is : IsStage from
         by true has = absurd (false≢true (sym (way.beside l has) ∙ there))
         by false lacks = ap (λ b. is_in set l && b) lacks ∙ never (is_in set l)
 
-    -- where a way has no label that may be chosen, no set completes the stage
+    -- no set completes the stage if a way has no label that may be chosen
     pub none_chosen : (between : Labels) → AreBetween rows (is_in packed) from to between
         → ((l : ℕ) → (is_in between l && is_in stage.allowed l) ≡ false) → (set : Labels) → ¬ Completes rows from to stage set
     none_chosen between way none set completes = completes.cuts (way.leads (is_in set) (λ l there. by l there (is_in set l) refl)) where

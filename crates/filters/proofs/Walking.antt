@@ -186,7 +186,7 @@ module _ (rows : List Labels) (set : FilterTest) (from to : ℕ) where
       within = omega (arith, below);
     }
 
-    -- once all are done, no way leads to the end
+    -- no way leads to the end once all are done
     pub none_leads : length steps ≤ at → set to ≡ false → ¬ Way rows set from to
     none_leads all free way = end (reached way) where
       reached : {y : ℕ} → Way rows set from y → (set y ≡ true) ⊎ IsStepTo steps y

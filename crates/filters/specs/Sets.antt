@@ -12,7 +12,7 @@ count_below test (suc n) = cond (test n) 1 0 + count_below test n
 abbrev pub size_of : Labels → ℕ
 size_of set = count_below (is_in set) Label.COUNT
 
--- the same labels
+-- two sets that have the same labels
 abbrev pub IsSame : Labels → Labels → Type 0
 IsSame one other = (l : ℕ) → is_in one l ≡ is_in other l
 

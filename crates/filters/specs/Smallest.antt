@@ -1,26 +1,26 @@
--- The sets of programs through which all goes that one label does and that comes to another, and the smallest of them (confine's own).
+-- Sets of programs through which all flows from one label to another go, and the smallest of them (confine's own).
 use Rattle.std.specs.Prelude.{ℕ, ◌<◌, ◌≡◌, ◌≤◌, false, length, true}
 use Rattle.base.specs.{declared.labels.Labels.Labels, Labels.is_in}
 use Rattle.reach.specs.Extents.{Limits}
 use Rattle.flows.specs.Flowing.{GoesThrough}
 use Rattle.filters.specs.{Sets.{AreFirst, size_of}, declared.smallest.{Smallest.{Smallest, Smallest as smallest}, Sets.Sets, TheConstants.MOST_FILTERS}}
 
--- programs, without the two labels, through which each chain of flows from the one label to the other goes
+-- programs, without the two labels, through which each chain of flows from the one to the other goes
 pub record IsFilterSet (limits : Limits) (from to : ℕ) (set : Labels) : Type 0 where
   pub programs : (l : ℕ) → is_in set l ≡ true → limits.acts l ≡ true
   pub not_from : is_in set from ≡ false
   pub not_to : is_in set to ≡ false
   pub through : GoesThrough limits (is_in set) from to
 
--- of the sets of a kind
+-- sets of a kind
 
 module _ (Is : Labels → Type 0) where
-  -- one with so many labels
+  -- a set of the kind with this number of labels
   pub record HasSize (size : ℕ) (set : Labels) : Type 0 where
     pub is : Is set
     pub has : size_of set ≡ size
 
-  -- the first of those that have the fewest labels; where these aren't all, there are as many as are wanted
+  -- the first of those that have the fewest labels: all of them, or as many as are wanted
   pub record AreSmallest (most : ℕ) (sets : Sets) : Type 0 where
     pub size : ℕ
     pub small : size ≤ MOST_FILTERS
@@ -36,7 +36,7 @@ module _ (Is : Labels → Type 0) where
     pub is : Is set
     pub more : (other : Labels) → Is other → MOST_FILTERS < size_of other
 
-  -- there is none; or each is large; or these are the smallest
+  -- the answer is that there is none, that each is large, or the smallest ones
   abbrev pub IsSmallest : ℕ → Smallest → Type 0
   IsSmallest most smallest.Direct = (set : Labels) → ¬ Is set
   IsSmallest most smallest.Larger = AreLarger

@@ -23,21 +23,21 @@ pub record IsStage (from to : ℕ) (stage : Stage) : Type 0 where
   pub chosen_few : (l : ℕ) → is_in stage.chosen l ≡ true → l < Label.COUNT
   pub allowed_few : (l : ℕ) → is_in stage.allowed l ≡ true → l < Label.COUNT
 
--- a set that has all that is chosen, and so many of the others that it may have, and that leaves no way
+-- a set with all that is chosen and as many of the other labels as are still to be chosen, which leaves no way
 pub record Completes (rows : List Labels) (from to : ℕ) (stage : Stage) (set : Labels) : Type 0 where
   pub has : (l : ℕ) → is_in stage.chosen l ≡ true → is_in set l ≡ true
   pub within : (l : ℕ) → is_in set l ≡ true → (is_in stage.chosen l ≡ true) ⊎ (is_in stage.allowed l ≡ true)
   pub size : size_of set ≡ size_of stage.chosen + stage.room
   pub cuts : ¬ Way rows (is_in set) from to
 
--- of the labels that may be chosen those that can complete a set. Where no more is to be chosen, it is complete
+-- labels that may be chosen, with all that can complete a set; the set is complete if no more is to be chosen
 pub record AreUseful (rows : List Labels) (from to : ℕ) (stage : Stage) (useful : Labels) : Type 0 where
   pub among : (l : ℕ) → is_in useful l ≡ true → is_in stage.allowed l ≡ true
   pub enough : (set : Labels) → Completes rows from to stage set → (l : ℕ) → is_in set l ≡ true
       → (is_in stage.chosen l ≡ true) ⊎ (is_in useful l ≡ true)
   pub done : stage.room ≡ 0 → ¬ Way rows (is_in stage.chosen) from to
 
--- the first sets of a kind come behind those that were there; where these aren't all, no more are wanted
+-- the first sets of a kind come behind those that were there: all of them, unless no more are wanted
 pub record AreAdded (Is : Labels → Type 0) (old new : List Labels) (most : ℕ) (all : Bool) : Type 0 where
   pub more : List Labels
   pub is : new ≡ old ++ more

@@ -1,4 +1,4 @@
-//! The smallest sets of programs through which all goes that one label does and that comes to another.
+//! The smallest sets of programs through which all flows from one label to another go.
 //!
 //! It decides nothing, and knows no code of the kernel.
 #![tactic(auto)]

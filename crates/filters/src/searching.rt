@@ -80,8 +80,8 @@ fn add_set(sets: &mut Vec<Labels>, set: Labels, most: usize) -> Result<bool, All
     Ok(true)
 }
 
-// Of the labels that may be chosen those that can complete a set, if there is such a set at all. As many ways
-// that have no label in common are looked for as labels are still to be chosen: a set has a label of each.
+// The labels that may be chosen and can complete a set, if there is such a set at all. It looks for as many ways with
+// no label in common as labels are still to be chosen: a set has a label of each.
 fn useful(
     alloc: Global,
     rows: &[Labels],

@@ -1,4 +1,4 @@
-//! The smallest sets of programs through which all goes from one label to another.
+//! The smallest sets of programs through which all flows from one label to another go.
 ghost use Rattle.std.specs.Prelude.{◌<◌, ◌≡◌, ◌≢◌, ◌≤◌, IfOk, false, length};
 ghost use Rattle.base.specs.Labels.{is_in};
 ghost use Rattle.base.specs.declared.label.TheConstants.Label as Label;
@@ -23,20 +23,20 @@ pub struct Sets {
     pub all: bool,
 }
 
-/// The smallest sets of programs through which all goes that one label does and that comes to another.
+/// The smallest sets of programs through which all flows from one label to another go.
 #[derive(Drop)]
 pub enum Smallest {
-    /// No set of programs is one: something goes through none but the two labels themselves.
+    /// No set of programs is one: something flows through none but the two labels themselves.
     Direct,
     /// Each such set has more than [`MOST_FILTERS`] programs.
     Larger,
-    /// The sets with the fewest programs. If nothing goes from the one label to the other, that is the empty set.
+    /// The sets with the fewest programs. That is the empty set if nothing flows from the one label to the other.
     Fewest(Sets),
 }
 
 impl<'a> FlowGraph<'a> {
-    /// Returns the smallest sets of programs through which all goes that the label `from` does and that comes to
-    /// the label `to`, and at most `most` of them.
+    /// Returns the smallest sets of programs through which all flows from the label `from` to the label `to` go, at
+    /// most `most` of them.
     ///
     /// # Errors
     ///

@@ -1,4 +1,4 @@
--- Where one more object of any kind loses its links, the threads that are reached are those of the set with it.
+-- One more object, of any kind, that loses its links: the threads that are reached are those of the set with it.
 use Rattle.std.{specs.Prelude.{None, Option, Some, option_map}, proofs.Common.{◌||◌, ◌∙◌, ◌≡◌, ◌≢◌, Bool, ap, false, refl, subst, sym}}
 use Rattle.std.proofs.{Common.true, lemmas.Option.{none-some, same_Some}}
 use Rattle.base.specs.declared.ids.ObjId.{ObjId}
@@ -27,7 +27,7 @@ module _ (old : Machine) (links : LinksAgree old) (done : ObjId → Bool) (x : O
       (no_queue_at old links done x object is not_endpoint not_notification)
       (λ context e. no_context context (same_Some object (o.Context context) (sym is ∙ e))))
 
-  -- one that had lost them before
+  -- an object that had lost its links before
   again : done x ≡ true → Follows old done now → Follows old (plus done x) now
   again before = subst (λ (d : ObjId → Bool). Follows old d now) (λ i q. by_tie q (same_id q x) refl i) where
     by_tie : (q : ObjId) (tie : Bool) → same_id q x ≡ tie → done q ≡ (done q || same_id q x)
@@ -67,7 +67,7 @@ module _ (old : Machine) (links : LinksAgree old) (done : ObjId → Bool) (x : O
     by_object (Some _) is =
         unlinked _ is (λ e. cc) (λ e. cc) (λ tcb e. cc) (λ holding e. cc) (λ context e. cc) (rw (there_now _ is) refl)
 
-  -- where there is no reply, no thread is halted
+  -- no thread is halted if there is no reply
   pub no_holder : ((holding : Reply) → object_of old x ≢ Some (o.Reply holding)) → with_holder_halted now x ≡ now
   unfolding with_holder_halted
   no_holder other = by_object (object_of old x) refl where

@@ -1,4 +1,4 @@
--- Which threads are reached where some objects have lost their links, and that all is finalised where each that goes has.
+-- Threads that are reached where some objects have lost their links; and that all is finalised once each that goes has.
 use Rattle.std.{specs.Prelude.{Contains, None, Option, Some, option_map}, proofs.Common.{[], ℕ, ◌&&◌, ◌||◌, ◌∙◌, ◌∷◌, ◌≡◌, Bool, List, ap}}
 use Rattle.std.proofs.{Common.{cond, false, not, refl, sym, true}, lemmas.{Bool.false≢true, List.Elements.All-contains_itself}}
 use Rattle.std.proofs.lemmas.List.Elements.{All-weaker}

@@ -1,4 +1,4 @@
--- Where one more object has lost its links, the threads that are reached are those of the set with it.
+-- One more object that has lost its links, kind by kind: the threads that are reached are those of the set with it.
 use Rattle.std.{specs.Prelude.{None, Option, Some, option_map}, proofs.Common.{◌&&◌, ◌||◌, ◌∙◌, ◌≡◌, ◌≢◌, Bool, ap, cond, false, not, refl}}
 use Rattle.std.proofs.{Common.{subst, sym, true}, lemmas.{Bool.false≢true, Option.{none-some, same_Some}}}
 use Rattle.base.specs.declared.ids.ObjId.{ObjId}

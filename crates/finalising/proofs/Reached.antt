@@ -1,6 +1,6 @@
--- What a machine is where some of its threads were halted, some aborted and some unbound from their scheduling contexts, in whatever
--- order: read off the machine as it was, object by object and queue by queue (seL4 manual, "Threads and Execution", "Endpoints",
--- "Notifications" and "Scheduling Contexts").
+-- A machine of which some threads were halted, some aborted and some unbound from their scheduling contexts, in whatever order: it is read
+-- off the machine as it was, object by object and queue by queue (seL4 manual, "Threads and Execution", "Endpoints", "Notifications" and
+-- "Scheduling Contexts").
 use Rattle.std.specs.Prelude.{◌||◌, ◌≡◌, Bool, List, None, false, if◌then◌else◌, option_map}
 use Rattle.base.specs.declared.ids.ObjId.{ObjId}
 use Rattle.machine.specs.declared.{object.Object.Object, thread.{RunState.RunState, Tcb.Tcb}}

@@ -1,4 +1,4 @@
--- Where one more thread is halted, aborted or unbound, the machine is told by one more thread that is.
+-- One more thread that is halted, aborted or unbound: the machine is then told by the threads so far with that one.
 use Rattle.std.{specs.Prelude.{None, Option, Some, option_map}, proofs.Common.{◌&&◌, ◌||◌, ◌∙◌, ◌≡◌, ◌≢◌, ◌⊎◌, Bool, List, ap, cond, false}}
 use Rattle.std.proofs.{Common.{inl, inr, not, refl, subst, sym, true}, lemmas.{List.Elements.filter_agree, Option.{none-some, same_Some}}}
 use Rattle.base.specs.declared.ids.ObjId.{ObjId}

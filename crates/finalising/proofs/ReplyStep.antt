@@ -1,4 +1,4 @@
--- Where one more reply lets go of its thread, the threads that are reached are those of the set with it.
+-- One more reply that lets go of its thread: the threads that are reached are those of the set with it.
 use Rattle.std.{specs.Prelude.{Some, option_map}, proofs.Common.{ℕ, ◌&&◌, ◌||◌, ◌∙◌, ◌≡◌, Bool, ap, false, not, refl, subst, sym, true}}
 use Rattle.std.proofs.lemmas.Bool.{false≢true}
 use Rattle.base.specs.declared.ids.ObjId.{ObjId}

@@ -1,4 +1,4 @@
--- What one more object in a set adds to the tests of who is reached.
+-- Tests of which threads are reached: what one more object in a set adds to them.
 use Rattle.std.{specs.Prelude.{None, Option, Some}, proofs.Common.{◌&&◌, ◌||◌, ◌∙◌, ◌≡◌, ◌≢◌, Bool, ap, false, refl, subst, sym, true}}
 use Rattle.std.proofs.lemmas.Bool.{false≢true}
 use Rattle.base.specs.declared.ids.ObjId.{ObjId}

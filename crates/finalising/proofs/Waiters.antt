@@ -1,4 +1,4 @@
--- Where the first that waits is aborted, the others are left to be.
+-- Threads that wait at an object, to be aborted: once the first is, the others are left to be.
 use Rattle.std.{specs.{List.fold, Prelude.{None, Option, Some, option_map}}, proofs.Common.{[], ◌<◌, ◌∙◌, ◌∷◌, ◌≡◌, List, ap, arith}}
 use Rattle.std.proofs.Common.{length, refl, sym}
 use Rattle.base.specs.declared.ids.ObjId.{ObjId}

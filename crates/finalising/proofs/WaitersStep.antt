@@ -1,4 +1,4 @@
--- Where all that wait at one more object are aborted, the threads that are reached are those of the set with it.
+-- One more object at which all that wait are aborted: the threads that are reached are those of the set with it.
 use Rattle.std.{specs.{List.{fold, list_any}, Prelude.{All, Contains, None, Option, Some}}, proofs.Common.{[], ◌&&◌, ◌||◌, ◌∙◌, ◌∷◌, ◌≡◌}}
 use Rattle.std.proofs.{Common.{Bool, List, ap, false, not, refl, subst, sym, true}, lemmas.{Bool.false≢true, List.Elements.All-cons}}
 use Rattle.std.proofs.lemmas.List.Elements.{All-contains, All-nil, All-weaker}

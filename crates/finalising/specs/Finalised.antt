@@ -19,7 +19,7 @@ abbrev pub with_link_cut : Machine → Option ObjId → Machine
 with_link_cut m None = m
 with_link_cut m (Some thread) = with_unbound m thread
 
--- what an object that is no reply is linked to is so no more
+-- an object that is no reply has lost its links
 unfoldable pub with_links_cut : Machine → ObjId → Machine
 with_links_cut m id = by_content (object_of m id) where
   by_content : Option Object → Machine

@@ -1,5 +1,5 @@
--- What a machine is where some of its objects go and nothing is linked to them any more: who stays is finalised, and who goes is in no
--- queue, has no one in its own, and can be removed (seL4 manual, "Deletion, Revocation, and Recycling").
+-- A machine in which nothing is linked any more to the objects that go: who stays is finalised, and who goes is in no queue, has no one in
+-- its own, and can be removed (seL4 manual, "Deletion, Revocation, and Recycling").
 use Rattle.std.specs.Prelude.{◌≡◌, Bool, None, false, option_map, true}
 use Rattle.base.specs.declared.ids.ObjId.{ObjId}
 use Rattle.machine.specs.{Changes.first_waiting, Finalising.{finalised, staying_in}, Machine.{Machine, object_of, queue_of}}

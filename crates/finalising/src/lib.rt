@@ -1,6 +1,6 @@
-//! What removed objects leave behind: blocked threads are released, and threads and scheduling contexts are unbound.
+//! The finalising of removed objects: blocked threads are released, and threads and scheduling contexts are unbound.
 //!
-//! `removal` stands on it. It knows no policy.
+//! It knows no policy.
 #![tactic(auto)]
 
 mod kinds;

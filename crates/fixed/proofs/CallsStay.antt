@@ -1,4 +1,4 @@
--- What each call does leaves a fixed system as it is, or the call isn't done.
+-- Calls in a fixed system: each leaves it as it is, or isn't done.
 use Rattle.std.{specs.Prelude.{Err, None, Ok, Option, Result, Some, if◌then◌else◌, is_ok}, proofs.Common.{ℕ, ◌≡◌, Bool, List}}
 use Rattle.std.proofs.Common.{false, inl, inr, refl, subst, sym, true}
 use Rattle.base.specs.declared.{ids.ObjId.ObjId, refusal.Cause.Cause}

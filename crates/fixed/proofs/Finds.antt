@@ -1,5 +1,5 @@
--- What a thread finds by a lookup is in a slot of a CNode; so where no such slot holds a capability for a CNode or a thread, it finds
--- none, and no slot address leads it anywhere.
+-- Lookups of threads: what one finds is in a slot of a CNode; so if no such slot holds a capability for a CNode or a thread, the thread
+-- finds none, and no slot address leads it anywhere.
 use Rattle.std.{specs.Prelude.{Err, None, Ok, Option, Result, Some, option_map}, proofs.Common.{[], ℕ, ◌∙◌, ◌∷◌, ◌≡◌, ◌≢◌, Bool, List, ap}}
 use Rattle.std.proofs.Common.{arith, length, refl, subst, suc, sym, zero}
 use Rattle.base.specs.declared.{ids.{ObjId.ObjId, SlotRef.SlotRef}, refusal.{Cause.Cause as cause, LookupFailure.LookupFailure}}
@@ -103,7 +103,7 @@ lookup_node m caller address slot left e = by_caller (object_of m caller) refl w
   by_caller (Some (o.Tcb tcb)) is = by_root tcb is (level_at m (root_of caller)) refl
   by_caller _ is = let failed : lookup_of m caller address ≡ Err (cause.FailedLookup InvalidRoot) = rw is refl in cc
 
--- so in a fixed system nothing is found of CNodes and threads
+-- nothing is found of CNodes and threads in a fixed system
 module _ (m : Machine) (fixed : IsFixedAt m) (caller : ObjId) where
   pub found_apart :
       (address : ℕ) (slot : SlotRef) (left : ℕ) (held : Cap) → lookup_of m caller address ≡ Ok (slot, left) → cap_of m slot ≡ Some held

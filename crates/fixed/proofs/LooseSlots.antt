@@ -1,4 +1,4 @@
--- A table is of a fixed system exactly if none of its filled slots is loose.
+-- Loose slots: a table is of a fixed system exactly if none of its filled slots is loose.
 use Rattle.std.proofs.Common.{ℕ, ◌<◌, ◌∙◌, ◌≡◌, ◌≢◌, ◌≤◌, Option, Some, ap, arith, false, length, refl, slice_get, sym, true}
 use Rattle.std.proofs.lemmas.Option.{slice_get_within}
 use Rattle.base.specs.declared.ids.SlotRef.{SlotRef}
@@ -32,7 +32,7 @@ loose_breaks t slot is fixed = by_parts (kind_at t slot.holder) (initial_cap t s
       let none = fixed slot held filled at in loose_detail held.detail is none.0 none.1
   by_parts _ _ at filled is = false≢true is
 
--- where no filled slot is loose
+-- none of the first filled slots is loose
 abbrev pub NoneLoose : Layout → ℕ → Type 0
 NoneLoose t n = (k : ℕ) → k < n → (filled : Filled) → slice_get t.caps k ≡ Some filled → is_loose t filled.slot ≡ false
 

@@ -1,4 +1,4 @@
--- Every run of a fixed system leaves it as it is, by induction over its events, and each call is refused that needs a capability for a
+-- Runs of a fixed system: each leaves it as it is, by induction over its events, and each call is refused that needs a capability for a
 -- CNode or for a thread.
 use Rattle.std.proofs.Common.{[], ◌∙◌, ◌∷◌, ◌≡◌, ◌⊎◌, Err, List, Ok, Result, ap, inl, inr, refl, subst, sym}
 use Rattle.base.specs.declared.refusal.Cause.{Cause}

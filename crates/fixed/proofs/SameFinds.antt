@@ -1,4 +1,4 @@
--- Where a system stays fixed, each thread finds at each address the capability that it found at boot.
+-- Lookups in a system that stays fixed: each thread finds at each address the capability that it found at boot.
 use Rattle.std.{specs.Prelude.{Err, None, Ok, Option, Result, Some, option_map}, proofs.Common.{[], ℕ, ◌∙◌, ◌∷◌, ◌≡◌, ◌≢◌, ◌⊎◌, Bool, List}}
 use Rattle.std.proofs.Common.{ap, inl, inr, refl, suc, sym, zero}
 use Rattle.base.specs.declared.{ids.{ObjId.ObjId, SlotRef.SlotRef}, refusal.{Cause.Cause as cause, LookupFailure.LookupFailure}}
@@ -99,7 +99,7 @@ module _ (boot m : Machine) (stays : StaysFixed boot m) where
     by_level old new was is (Some level) at =
         rw (is, was, level_alike (root_of thread), at) (ap counted (walk_alike 65 level (bits 64 address)))
 
-  -- so a thread finds the capability that it found
+  -- a thread finds the capability that it found
   pub find_alike : (thread : ObjId) (address : ℕ) → find_cap m thread address ≡ find_cap boot thread address
   unfolding find_cap
   find_alike thread address =

@@ -1,4 +1,4 @@
--- Which slots of a capability table keep its system from being fixed (confine's own).
+-- Loose slots of a capability table, which keep its system from being fixed (confine's own).
 use Rattle.std.specs.Prelude.{Bool, Option, Some, false, true}
 use Rattle.base.specs.declared.ids.SlotRef.{SlotRef}
 use Rattle.machine.specs.declared.{cap.{Cap.Cap, Detail.{Detail, Detail as d}}, object.ObjectKind.{ObjectKind, ObjectKind as kind}}

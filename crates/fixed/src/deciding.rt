@@ -1,4 +1,4 @@
-//! Whether a capability table is of a fixed system.
+//! The decision whether a capability table is of a fixed system.
 ghost use Rattle.std.specs.Prelude.{◌↔◌, ◌≡◌, IsTrue};
 ghost use Rattle.fixed.specs.Fixed.{IsFixed};
 ghost use Rattle.fixed.specs.Loose.{is_loose, is_loose_cap};

@@ -65,7 +65,7 @@ module _ (limits : Limits) (filters : FilterTest) (from : ℕ) where
       neither true c is = is
       neither false c is = refl
 
-    -- where all are done, no other is led to
+    -- a chain leads to no other label once all are done
     pub all_reached : ((a : ℕ) → (reached a && not (done a)) ≡ false) → (l : ℕ) → (reached l ≡ true) ↔ Leads limits filters from l
     all_reached all l = (are.led l, to) where
       is_done : (b c : Bool) → (b && not c) ≡ false → b ≡ true → c ≡ true

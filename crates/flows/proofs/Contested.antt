@@ -8,7 +8,7 @@ module _ (test : EdgeTest) (acts : ActorTest) (l : ℕ) where
   abbrev pub IsOnce : ℕ → Type 0
   IsOnce n = IsBelow (MayWaitFor test acts l) n
 
-  -- two do
+  -- two labels below the number wait
   abbrev pub IsTwice : ℕ → Type 0
   IsTwice n = IsBelow (λ k. MayWaitFor test acts l k × IsOnce k) n
 

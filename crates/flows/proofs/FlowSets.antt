@@ -1,4 +1,4 @@
--- To whom a label's flows come, as the labels that depend on one that it affects.
+-- The labels to which a label's flows come: those that depend on one that it affects.
 use Rattle.std.proofs.{Common.{ℕ, ◌&&◌, ◌<◌, ◌∙◌, ◌≡◌, Bool, List, arith, ap, false, not, refl, subst, sym, true}, lemmas.Bool.{and_from, and_parts}}
 use Rattle.base.specs.{declared.labels.Labels.Labels, Labels.is_in}
 use Rattle.std.proofs.Common.{inl, inr}
@@ -43,7 +43,7 @@ module _ (limits : Limits) (affected needed : List Labels) (are : AreFlowRows li
               ((are.affects.each from below flow.object).1 flow.flows.affects) (ap not flow.beside);
         }
 
--- and from whom flows come to a label, as the labels whose row has a label that it sees
+-- the labels from which flows come to one: those whose row has a label that it sees
 module _ (limits : Limits) (affected needed : List Labels) (are : AreFlowRows limits affected needed) (few : (x : ℕ) → limits.acts x ≡ true → x < 256)
     (to : ℕ) (below : to < 256) (filters rest : Labels)
     (rest_is : (l : ℕ) → is_in rest l ≡ (is_in (row_at needed to) l && not (is_in filters l))) (x : ℕ) (b : Bool) where

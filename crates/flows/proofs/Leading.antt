@@ -66,7 +66,7 @@ module _ (limits : Limits) (filters : FilterTest) (to : ℕ) where
       neither true c is = is
       neither false c is = refl
 
-    -- where all are done, from no other one leads
+    -- a chain leads from no other label once all are done
     pub all_leading : ((a : ℕ) → (leading a && not (done a)) ≡ false) → (l : ℕ) → (leading l ≡ true) ↔ Leads limits filters l to
     all_leading all l = (are.lead l, λ leads. back leads are.ends (inl refl)) where
       is_done : (b c : Bool) → (b && not c) ≡ false → b ≡ true → c ≡ true

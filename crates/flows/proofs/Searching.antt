@@ -103,7 +103,7 @@ module _ (limits : Limits) (filters : FilterTest) (to : ℕ) (done leading : ℕ
     closed = λ b l is goes flow. grown_is b ∙ or_left (leading b) (b == x) (are.closed b l is goes flow);
   }
 
-  -- once all that flow to it are among them, a label is done
+  -- a label is done once all that flow to it are among them
   pub one_done : (a : ℕ) (more : ℕ → Bool) → ((x : ℕ) → FlowsBeside limits filters x a → leading x ≡ true)
       → ((l : ℕ) → more l ≡ (done l || (l == a))) → AreLeading limits filters to more leading
   one_done a more all more_is = record {
@@ -166,7 +166,7 @@ module _ (limits : Limits) (filters : FilterTest) (from to : ℕ) (links : List 
           | inr (inr more) ↦ absurd (omega (arith, more, before, next))
         ]
 
-  -- where no link is left, it is at the end
+  -- the way is at the end if no link is left
   pub arrived : (chain : List Link) (at : ℕ) → IsOnTheWay chain at 0 → IsChain limits filters from chain to
   arrived chain at is = by is.found where
     by : IsFound to links 0 at → IsChain limits filters from chain to

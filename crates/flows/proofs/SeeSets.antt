@@ -1,4 +1,4 @@
--- What a label sees, as a union of sets of labels; and that the labels of a set are few.
+-- The labels that a label sees, as a union of sets of labels; and that the labels of a set are few.
 use Rattle.std.{specs.List.list_any, proofs.Common.{ℕ, ◌%◌, ◌/◌, ◌<◌, ◌||◌, ◌∙◌, ◌≡◌, ◌≤◌, ◌⊎◌, Bool, ap, arith, false, inl, inr, length, not}}
 use Rattle.std.proofs.{Common.{refl, sym, true}, lemmas.{Bool.{cases_lt, false≢true}, List.get_or_past}}
 use Rattle.base.{specs.{declared.labels.Labels.Labels, Labels.{is_in, is_in_part, no_part}}, proofs.LabelParts.in_no_part}

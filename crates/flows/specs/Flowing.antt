@@ -1,4 +1,4 @@
--- To whom what a label does may come, through whom, and what is then kept in every run (confine's own).
+-- Flows from a label to others: to whom what it does may come, through whom, and what is then kept in every run (confine's own).
 use Rattle.std.specs.Prelude.{ℕ, ◌≡◌, ◌⊎◌, Bool, false, true}
 use Rattle.machine.specs.Layout.{Layout}
 use Rattle.integrity.specs.Apart.{NeverChanges}
@@ -22,11 +22,11 @@ pub record FlowsBy (limits : Limits) (x l y : ℕ) : Type 0 where
   pub affects : MayAffect limits x l
   pub depends : DependsOn limits y l
 
--- by objects of some label
+-- what x does may come to y by objects of some label
 abbrev pub FlowsTo : Limits → ℕ → ℕ → Type 0
 FlowsTo limits x y = (l : ℕ) × FlowsBy limits x l y
 
--- by objects of a label that is no filter
+-- what x does may come to y by objects of a label that is no filter
 pub record FlowsBeside (limits : Limits) (filters : FilterTest) (x y : ℕ) : Type 0 where
   pub object : ℕ
   pub flows : FlowsBy limits x object y

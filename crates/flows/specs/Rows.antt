@@ -1,4 +1,4 @@
--- For each label, whose objects it may affect and on whose it depends, and the labels whose row has one of a set (confine's own).
+-- Rows of labels: for each label, whose objects it may affect and on whose it depends; and whose row has a label of a set (confine's own).
 use Rattle.std.specs.Prelude.{ℕ, ◌<◌, ◌↔◌, ◌≡◌, List, get_or, length, true}
 use Rattle.base.specs.{declared.labels.Labels.Labels, Labels.{is_in, no_labels}}
 use Rattle.base.specs.declared.label.TheConstants.Label as Label

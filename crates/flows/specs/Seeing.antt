@@ -1,4 +1,4 @@
--- On whose objects it depends what the calls of a label's threads return, whether they wait, and whom they meet (confine's own).
+-- The objects on which a call of a label's thread depends: what it returns, whether the thread waits, and whom it meets (confine's own).
 use Rattle.std.specs.Prelude.{ℕ, ◌≡◌, ◌≢◌, true}
 use Rattle.base.specs.declared.kind.Kind.{Kind, TheVariants.{Await, Call, Context, Control, Notify, Read, Receive, Reply, Runs}}
 use Rattle.base.specs.declared.kind.Kind.TheVariants.{Send, Space}
@@ -9,7 +9,7 @@ use Rattle.reach.specs.Extents.{Limits}
 abbrev pub MayWaitFor : EdgeTest → ActorTest → ℕ → ℕ → Type 0
 MayWaitFor test acts notification a = (acts a ≡ true) × (test a Await notification ≡ true)
 
--- threads of two labels may
+-- threads of two labels may wait for this notification
 pub record IsContested (test : EdgeTest) (acts : ActorTest) (notification : ℕ) : Type 0 where
   pub one : ℕ
   pub other : ℕ

@@ -1,4 +1,4 @@
-//! To whom what a label does may come, and through whom.
+//! Flows between labels: to whom what a label does may come, and through whom.
 ghost use Rattle.std.specs.Prelude.{ℕ, ◌↔◌, ◌≡◌, IfErr, IfOk, IsTrue, false, true};
 ghost use Rattle.base.specs.{Labels.is_in, Refusals.out_of_memory};
 ghost use Rattle.reach.specs.Extents.{limits_of};
@@ -59,7 +59,7 @@ impl<'a> Flows<'a> {
         self.next_beside(from, Labels::none())
     }
 
-    /// Returns the labels to which what this one does may come at once, but by objects of filters.
+    /// Returns the labels to which what this one does may come at once, other than by objects of filters.
     pub fn next_beside(&self, from: Label, filters: Labels) -> Labels
         ensures { (y : ℕ) → (is_in result y ≡ true) ↔ FlowsBeside (limits_of self.now) (is_in filters) from y }
     {
@@ -69,7 +69,7 @@ impl<'a> Flows<'a> {
         meeting(&self.needed, affected.difference(filters))
     }
 
-    /// Returns the labels of which what they do may come to this one at once, but by objects of filters.
+    /// Returns the labels that do what may come to this one at once, other than by objects of filters.
     pub fn previous_beside(&self, to: Label, filters: Labels) -> Labels
         ensures { (x : ℕ) → (is_in result x ≡ true) ↔ FlowsBeside (limits_of self.now) (is_in filters) x to }
     {
@@ -78,7 +78,7 @@ impl<'a> Flows<'a> {
         meeting(&self.affected, needed.difference(filters))
     }
 
-    /// Returns the labels that are no filters by whose objects what the one label does may come to the other.
+    /// Returns the labels, but for filters, by whose objects what the one label does may come to the other.
     pub(crate) fn objects_between(&self, from: Label, to: Label, filters: Labels) -> Labels
         ensures { (l : ℕ) → (is_in result l ≡ true)
             ↔ (FlowsBy (limits_of self.now) from l to × (is_in filters l ≡ false)) }
@@ -94,7 +94,7 @@ impl<'a> Flows<'a> {
     pub fn reached_beside(&self, from: Label, filters: Labels) -> Labels
         ensures { (l : ℕ) → (is_in result l ≡ true) ↔ Leads (limits_of self.now) (is_in filters) from l }
     {
-        // For the labels of `done`, all to which they flow are in `reached`, unless a chain ends with them.
+        // `reached` has all labels to which those of `done` flow, unless a chain ends with them.
         let mut done = filters.difference(Labels::only(from));
         let mut reached = Labels::only(from);
         while let Some(label) = reached.difference(done).first() {
@@ -126,7 +126,7 @@ impl<'a> Flows<'a> {
     fn sources_of(&self, to: Label, filters: Labels) -> Labels
         ensures { (l : ℕ) → (is_in result l ≡ true) ↔ Leads (limits_of self.now) (is_in filters) l to }
     {
-        // For the labels of `done`, all that flow to them are in `leading`, unless a chain starts with them.
+        // `leading` has all labels that flow to those of `done`, unless a chain starts with them.
         let mut done = filters.difference(Labels::only(to));
         let mut leading = Labels::only(to);
         while let Some(label) = leading.difference(done).first() {

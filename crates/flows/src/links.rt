@@ -56,7 +56,7 @@ impl<'a> Flows<'a> {
     fn search(&self, alloc: Global, to: Label, filters: Labels) -> Result<Sources, AllocError>
         ensures { IfOk result (AreSources (limits_of self.now) (is_in filters) to) }
     {
-        // For the labels of `done`, all that flow to them are in `labels`, unless a chain starts with them.
+        // `labels` has all that flow to those of `done`, unless a chain starts with them.
         let mut done = filters.difference(Labels::only(to));
         let mut labels = Labels::only(to);
         let mut links = Vec::new(alloc);
@@ -102,7 +102,7 @@ fn first_of(labels: Labels, turn: Labels) -> Option<Label>
     }
 }
 
-// Once all whose turn it is are done, it is the turn of all that were found.
+// The turn of all that were found comes once all whose turn it is are done.
 fn turn_after(turn: Labels, found: Labels, done: Labels) -> Labels {
     match turn.difference(done).first() {
         Some(_) => turn,

@@ -1,4 +1,4 @@
-//! For each label, whose objects it may affect and on whose it depends.
+//! Rows of labels: for each label, whose objects it may affect and on whose it depends.
 ghost use Rattle.std.specs.Prelude.{ℕ, ◌<◌, ◌↔◌, ◌≡◌, IfOk, true};
 ghost use Rattle.base.specs.declared.label.TheConstants.Label as Label;
 ghost use Rattle.base.specs.Labels.{is_in};

@@ -1,4 +1,4 @@
-//! On whose objects the calls of a label's threads depend.
+//! The labels on whose objects the calls of a label's threads depend.
 ghost use Rattle.std.specs.Prelude.{[], ℕ, ◌↔◌, ◌∷◌, ◌≡◌, true};
 ghost use Rattle.base.specs.Labels.{is_in};
 ghost use Rattle.policy.specs.{Change.{MayAnswer, MayHoldCaller}, Policy.allows, Steps.IsSource};

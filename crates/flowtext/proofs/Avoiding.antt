@@ -1,4 +1,4 @@
--- Where nothing flows beside the programs that a chain avoids, it avoids none.
+-- Chains that avoid programs: one avoids none if nothing flows beside the programs that it avoids.
 use Rattle.std.proofs.Common.{ℕ, ◌&&◌, ◌==◌, ◌∙◌, ◌≡◌, Bool, ap, false, not, refl, sym, true}
 use Rattle.std.proofs.lemmas.Bool.{and_parts, eq-eqb}
 use Rattle.base.specs.{declared.labels.Labels.Labels, Labels.is_in}

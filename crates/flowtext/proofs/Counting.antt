@@ -1,4 +1,4 @@
--- How many members a set has.
+-- The number of a set's members.
 use Rattle.std.{specs.List.{filter, range_with_len}, proofs.Common.{[], ℕ, ◌+◌, ◌∙◌, ◌∷◌, ◌≡◌, Bool, ap, arith, cond, false, length, refl}}
 use Rattle.std.proofs.Common.{suc, true, zero}
 use Rattle.std.proofs.lemmas.List.{length-append, Elements.filter-append}

@@ -34,7 +34,7 @@ smallest_text t (smallest.Fewest sets) = flat_map (set_line t) sets.sets.items +
 abbrev pub reached_text : Layout → Smallest → List Link → List ℕ
 reached_text t sets links = smallest_text t sets ++ flat_map (link_line t) links
 
--- the programs that a chain avoids: where no set of programs is one, all others; else none
+-- the programs that a chain avoids: all others if no set of programs is one, else none
 abbrev pub avoided_in : Limits → ℕ → ℕ → Smallest → FilterTest
 avoided_in limits from to smallest.Direct = programs_beside limits from to
 avoided_in limits from to _ = λ l. false
@@ -43,7 +43,7 @@ avoided_in limits from to _ = λ l. false
 abbrev pub AreAvoided : Limits → ℕ → ℕ → Smallest → Labels → Type 0
 AreAvoided limits from to sets avoided = (l : ℕ) → is_in avoided l ≡ avoided_in limits from to sets l
 
--- it says that nothing flows from the one label to the other, which is so; or what is so of the flows, and a chain
+-- the text says that nothing flows from the one label to the other, which is so; or what is so of the flows, and a chain
 pub data IsFlowText (reach : TableReach) (from to : ℕ) (text : List ℕ) : Type 0 where
   none :
       (nobody : Labels) → ((l : ℕ) → is_in nobody l ≡ false) → GoesThrough (limits_of reach) (is_in nobody) from to → text ≡ codes "none\n"

@@ -17,8 +17,8 @@ through how many other programs all flows from one to another go, in any run:
   . nothing flows, d: directly, +: more than 5
 ";
 
-/// Returns the matrix of the flows between the programs of a table: in the row of one and the column of another, how
-/// many programs the smallest sets have through which all goes from the one to the other.
+/// Returns the matrix of the flows between the programs of a table: in the row of one and the column of another, the
+/// number of programs in the smallest sets through which all flows from the one to the other go.
 ///
 /// # Errors
 ///

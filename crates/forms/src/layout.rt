@@ -1,4 +1,4 @@
-//! Whether a line is one of its text at all: 50.
+//! The layout of lines: whether one is a line of its text at all (fault 50).
 use crate::classes::Class;
 use crate::file::File;
 use crate::form::{Form, call_named, form_of};
@@ -118,7 +118,7 @@ pub fn bytes_flaw<'a>(file: File, line: Line<'a>, before: &str) -> Option<Layout
     }
 }
 
-// The same, for a text without comments.
+// What is wrong with the bytes of a line of a text without comments, if anything is.
 fn line_flaw<'a>(line: Line<'a>, before: &str) -> Option<LayoutFlaw<'a>> {
     if !line.has_line_feed {
         return Some(LayoutFlaw::NoLineFeed);

@@ -1,7 +1,6 @@
 //! The files, the forms of their lines, and what is said of a line that isn't spelled as its form has it.
 //!
-//! `reptext`, the crates of commands and those with words to a person stand on it. It knows nothing
-//! of a kernel or a policy.
+//! It knows nothing of a kernel or a policy.
 #![tactic(auto)]
 
 mod classes;

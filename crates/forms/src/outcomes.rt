@@ -1,4 +1,4 @@
-//! Whether an entry of a log has an outcome: 50.
+//! Outcomes in entries of a log: whether an entry has one (fault 50).
 use crate::lines::word;
 use crate::shapes::pattern_flaw;
 use crate::wanted::WordFlaw;

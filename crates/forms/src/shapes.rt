@@ -1,4 +1,4 @@
-//! Whether the words of a line are those of its form: 50.
+//! Shapes of lines: whether the words of a line are those of its form (fault 50).
 use crate::form::Form;
 use crate::lines::{part, word};
 use crate::wanted::{MOST, Wanted, WordFlaw, word_flaw};

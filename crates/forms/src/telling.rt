@@ -1,4 +1,4 @@
-//! What is said of the layout of a line, and of an outcome.
+//! Words on the layout of a line, and on an outcome.
 use crate::file::File;
 use crate::form::Form;
 use crate::layout::{LayoutFlaw, OfLayout};

@@ -32,7 +32,7 @@ fn write_and_wait<J: Naming, R: Wait>(rt: &R, kernel: &Kernel<J>, caller: &mut C
     caller.call(rt, kernel, thread, Call::Wait { address: 0 });
 }
 
-/// Each caller's calls are made in a host thread of its own.
+/// Makes each caller's calls in a host thread of its own.
 fn all_write_and_wait<J: Naming + Send + Sync, R: Threads + Wait + Sync>(
     rt: &R,
     kernel: &Kernel<J>,
@@ -66,7 +66,7 @@ fn has_all(rt: &impl Abort, ended: &Ended) {
 ///
 /// # Errors
 ///
-/// [`Fail`] where something that the test needs isn't made, or the kernel isn't closed.
+/// [`Fail`] if something that the test needs isn't made, or the kernel isn't closed.
 pub fn play_all_wait<J: Naming + Send + Sync, R: Abort + AllocGlobal + Threads + Wait + Sync>(
     rt: &R,
     table: &Table,

@@ -1,4 +1,4 @@
-//! A kernel, and seats that are known to be its own, so that no test has to say so.
+//! A kernel and callers with seats known to be its own, so that no test has to say so.
 ghost use Rattle.std.specs.Prelude.{◌≡◌, ◌≢◌, All, IfOk};
 ghost use Rattle.cores.specs.Seats.{IsOf};
 ghost use Rattle.histories.specs.Fitting.{IsFit};
@@ -103,11 +103,11 @@ impl<J: Naming> Caller<J> {
         assert_eq!(rt; self.call(rt, kernel, thread, call), outcome);
     }
 
-    /// Meets another of the same kernel.
+    /// Meets another caller of the same kernel.
     ///
     /// # Errors
     ///
-    /// 42 where a seat is of another kernel.
+    /// 42 if a seat is of another kernel.
     pub fn meet(&mut self, kernel: &Kernel<J>, other: &mut Caller<J>) -> Result<(), Refusal> {
         kernel.meet(&mut self.seat, &mut other.seat)?;
         Ok(())
@@ -126,11 +126,11 @@ impl<J: Naming> Caller<J> {
         kernel.call(rt, &mut self.seat, thread, call)
     }
 
-    /// Meets one of another kernel, which comes second.
+    /// Meets a caller of another kernel, which comes second.
     ///
     /// # Errors
     ///
-    /// 42 where a seat is of another kernel.
+    /// 42 if a seat is of another kernel.
     pub fn meet_stranger<K: Naming>(
         &mut self,
         kernel: &Kernel<J>,
@@ -142,11 +142,11 @@ impl<J: Naming> Caller<J> {
         Ok(())
     }
 
-    /// Meets one of another kernel, which comes first.
+    /// Meets a caller of another kernel, which comes first.
     ///
     /// # Errors
     ///
-    /// 42 where a seat is of another kernel.
+    /// 42 if a seat is of another kernel.
     pub fn be_met<K: Naming>(
         &mut self,
         kernel: &Kernel<J>,
@@ -173,7 +173,6 @@ pub struct Ended {
     pub log: Log,
 }
 
-// Each seat as a caller.
 fn callers_of<J: Naming + Send + Sync, R: Threads + Sync>(
     rt: &R,
     seats: Vec<Seat>,
@@ -189,7 +188,6 @@ fn callers_of<J: Naming + Send + Sync, R: Threads + Sync>(
     )
 }
 
-// The seats of these callers.
 fn seats_of<J: Naming + Send + Sync, R: Threads + Sync>(
     rt: &R,
     callers: Vec<Caller<J>>,
@@ -209,7 +207,7 @@ fn seats_of<J: Naming + Send + Sync, R: Threads + Sync>(
 ///
 /// # Errors
 ///
-/// [`AllocError`] where memory is refused.
+/// [`AllocError`] if memory is refused.
 pub fn with_callers<J: Naming + Send + Sync, R: Threads + Sync>(
     rt: &R,
     opened: Opened,
@@ -247,7 +245,7 @@ fn closed_with<J: Naming>(kernel: Kernel<J>, seats: &mut [Seat]) -> Result<Ended
 ///
 /// # Errors
 ///
-/// [`Fail`] where memory is refused, or the kernel isn't closed.
+/// [`Fail`] if memory is refused, or the kernel isn't closed.
 pub fn closed<J: Naming + Send + Sync, R: Threads + Sync>(
     rt: &R,
     running: Running<J>,
@@ -270,7 +268,7 @@ pub fn closed<J: Naming + Send + Sync, R: Threads + Sync>(
 ///
 /// # Errors
 ///
-/// [`Fail`] where the kernel isn't closed.
+/// [`Fail`] if the kernel isn't closed.
 pub fn closed_alone<J: Naming>(alloc: Global, kernel: Kernel<J>) -> Result<Ended, Fail> {
     let mut none: Vec<Seat> = Vec::new(alloc);
     closed_with(kernel, none.as_mut_slice())
@@ -304,7 +302,7 @@ fn seats_with<J: Naming + Send + Sync, K: Naming, R: Threads + Sync>(
     }
 }
 
-// Tries to close the kernel with these seats: what comes back.
+// Tries to close the kernel with these seats, and returns what comes back.
 fn kept<J: Naming>(kernel: Kernel<J>, seats: &mut [Seat]) -> Option<(Kernel<J>, Refusal)>
     requires { All (IsFit J.ticket) seats.old }
 {
@@ -317,8 +315,8 @@ fn kept<J: Naming>(kernel: Kernel<J>, seats: &mut [Seat]) -> Option<(Kernel<J>, 
     }
 }
 
-/// Tries to close the kernel with its callers and with one of another kernel: what comes back, the
-/// kernel and a refusal.
+/// Tries to close the kernel with its callers and with one of another kernel, and returns what comes
+/// back: the kernel and a refusal.
 pub fn kept_with<J: Naming + Send + Sync, K: Naming, R: Threads + Sync>(
     rt: &R,
     running: Running<J>,

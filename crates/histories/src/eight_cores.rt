@@ -15,7 +15,7 @@ use std::thread;
 use std::thread::Threads;
 use table::Table;
 
-/// Each caller makes its rounds in a thread of its own.
+/// Makes each caller's rounds in a thread of its own.
 fn all_make_rounds<J: Naming + Send + Sync, R: Threads + Wait + Sync>(
     rt: &R,
     kernel: &Kernel<J>,
@@ -31,7 +31,7 @@ fn all_make_rounds<J: Naming + Send + Sync, R: Threads + Wait + Sync>(
     );
 }
 
-/// How many of their calls the log had room for, and how many found it full.
+/// Returns how many of their calls the log had room for, and how many found it full.
 fn counts<J: Naming>(callers: &[Caller<J>]) -> (u64, u64) {
     let mut entered: u64 = 0;
     let mut full: u64 = 0;
@@ -42,7 +42,7 @@ fn counts<J: Naming>(callers: &[Caller<J>]) -> (u64, u64) {
     (entered, full)
 }
 
-/// One call more of each finds the log full.
+/// Asserts that one more call of each finds the log full.
 fn each_finds_it_full<J: Naming, R: Abort + Wait>(
     rt: &R,
     kernel: &Kernel<J>,
@@ -54,7 +54,7 @@ fn each_finds_it_full<J: Naming, R: Abort + Wait>(
     }
 }
 
-/// The first meets each other.
+/// Has the first caller meet each other.
 fn first_meets_all<J: Naming, R: Abort>(rt: &R, kernel: &Kernel<J>, callers: &mut [Caller<J>]) {
     assert_eq!(rt; callers.len(), 8);
     if let Some((first, others)) = callers.split_first_mut() {
@@ -78,7 +78,7 @@ fn make_calls<J: Naming + Send + Sync, R: Abort + Threads + Wait + Sync>(
     first_meets_all(rt, kernel, callers);
 }
 
-/// Where no call found the log full, it has 200 entries on each core.
+/// Asserts that the log has 200 entries on each core if no call found it full.
 fn has_all(rt: &impl Abort, room: u64, ended: &Ended) {
     if room == 1_600 {
         for core in 0..8u8 {
@@ -100,7 +100,7 @@ fn report(room: u64) -> &'static str {
 ///
 /// # Errors
 ///
-/// [`Fail`] where something that the test needs isn't made, or the kernel isn't closed.
+/// [`Fail`] if something that the test needs isn't made, or the kernel isn't closed.
 pub fn play_rounds<J: Naming + Send + Sync, R: Abort + AllocGlobal + Threads + Wait + Sync>(
     rt: &R,
     table: &Table,

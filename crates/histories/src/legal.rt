@@ -1,4 +1,4 @@
-//! What a kernel leaves that was closed: its log is a run, and its state the one at the end.
+//! Assertions on a kernel that was closed: its log is a run, and its state the one at the end.
 ghost use Rattle.std.specs.Prelude.{IfOk};
 ghost use Rattle.machine.specs.WellFormed.{IsWellFormed};
 
@@ -26,7 +26,7 @@ pub fn entries_on(log: &[Entry], core: u8) -> usize {
         .count()
 }
 
-// What the engine comes to with the log, and what it writes.
+// The engine's end on the log, and what it writes.
 fn replayed<R: AllocGlobal>(rt: &R, system: &System, log: &[u8]) -> (End, Vec<u8>) {
     let mut table = Watched::new(system.table.as_bytes());
     let mut policy = Watched::new(system.policy.as_bytes());
@@ -43,7 +43,7 @@ fn replayed<R: AllocGlobal>(rt: &R, system: &System, log: &[u8]) -> (End, Vec<u8
     (end, out.into_inner())
 }
 
-// The engine writes this report of the log.
+// Asserts that the engine writes this report of the log.
 fn is_replayed_as<R: Abort + AllocGlobal>(rt: &R, system: &System, log: &[u8], report: &str) {
     let (end, written) = replayed(rt, system, log);
     assert_eq!(rt; end, End::Status(0));
@@ -56,7 +56,7 @@ fn is_read_back<R: Abort + AllocGlobal>(rt: &R, log: &[Entry], text: &[u8]) -> R
     Ok(())
 }
 
-// The log's text is read back, and the engine reports this of it.
+// Asserts that the log's text is read back, and that the engine reports this of it.
 fn has_text<R: Abort + AllocGlobal>(
     rt: &R,
     system: &System,
@@ -84,7 +84,7 @@ fn outcomes_are(rt: &impl Abort, outcomes: &[Outcome], log: &[Entry]) {
     }
 }
 
-// A run of the log's events on the boot state has the log's outcomes, and ends in the same state.
+// Asserts that a run of the log's events on the boot state has the log's outcomes, and ends in the same state.
 fn is_run_on<R: Abort + AllocGlobal>(
     rt: &R,
     state: &mut State,
@@ -117,7 +117,7 @@ fn is_run<R: Abort + AllocGlobal>(rt: &R, table: &Table, ended: &mut Ended) -> R
 ///
 /// # Errors
 ///
-/// [`Fail`] where something that the test needs isn't made.
+/// [`Fail`] if something that the test needs isn't made.
 pub fn is_legal<R: Abort + AllocGlobal>(
     rt: &R,
     system: &System,
@@ -141,11 +141,11 @@ fn leaves<R: Abort + AllocGlobal>(
     })
 }
 
-/// Closes the kernel with its callers, and asserts all that of what is left.
+/// Closes the kernel with its callers, and asserts what [`is_legal`] does of its log and state.
 ///
 /// # Errors
 ///
-/// [`Fail`] where something that the test needs isn't made, or the kernel isn't closed.
+/// [`Fail`] if something that the test needs isn't made, or the kernel isn't closed.
 pub fn ends_in<J: Naming + Send + Sync, R: Abort + AllocGlobal + Threads + Sync>(
     rt: &R,
     system: &System,
@@ -156,11 +156,11 @@ pub fn ends_in<J: Naming + Send + Sync, R: Abort + AllocGlobal + Threads + Sync>
     leaves(rt, system, table, closed(rt, running), report)
 }
 
-/// Closes the kernel with no seat, and asserts all that of what is left.
+/// Closes the kernel with no seat, and asserts what [`is_legal`] does of its log and state.
 ///
 /// # Errors
 ///
-/// [`Fail`] where something that the test needs isn't made, or the kernel isn't closed.
+/// [`Fail`] if something that the test needs isn't made, or the kernel isn't closed.
 pub fn ends_alone_in<J: Naming, R: Abort + AllocGlobal>(
     rt: &R,
     system: &System,

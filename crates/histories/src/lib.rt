@@ -1,8 +1,7 @@
 //! Threads of the host that call one kernel, each by a seat of its own, and seats that don't fit:
 //! what no text can say, so that it is no case.
 //!
-//! No crate stands on it: it has tests alone. It knows no command line, and no words of
-//! `--explain`.
+//! It knows no command line, and no words of `--explain`.
 #![tactic(auto)]
 
 #[cfg(test)]

@@ -1,4 +1,4 @@
-//! Sizes of a log and numbers of seats at their limits, and seats that are odd.
+//! Sizes of a log and numbers of seats at their limits, and unusual seats.
 use crate::callers::{Caller, Running};
 use crate::legal::{ends_alone_in, ends_in};
 use crate::memory::made;
@@ -17,7 +17,7 @@ use verdict::Accepted;
 
 const CORES: [u64; 65] = [1; 65];
 
-/// How a kernel of this size and so many seats is refused: by the code, 0 where it is opened.
+/// Returns the code by which a kernel of this size and this many seats is refused, 0 if it is opened.
 fn code_of<R: AllocGlobal>(
     rt: &R,
     accepted: &Accepted<'_>,
@@ -51,7 +51,7 @@ fn has_code<R: Abort + AllocGlobal>(
 ///
 /// # Errors
 ///
-/// [`Fail`] where something that the test needs isn't made.
+/// [`Fail`] if something that the test needs isn't made.
 pub fn refuse_sizes_and_seats<R: Abort + AllocGlobal>(
     rt: &R,
     accepted: &Accepted<'_>,
@@ -91,7 +91,7 @@ fn all_signal<J: Naming, R: Abort + Wait>(rt: &R, kernel: &Kernel<J>, callers: &
 ///
 /// # Errors
 ///
-/// [`Fail`] where something that the test needs isn't made, or the kernel isn't closed.
+/// [`Fail`] if something that the test needs isn't made, or the kernel isn't closed.
 pub fn play_one_core<J: Naming + Send + Sync, R: Abort + AllocGlobal + Threads + Wait + Sync>(
     rt: &R,
     table: &Table,
@@ -133,7 +133,7 @@ fn is_refused<J: Naming, R: Abort + Wait>(rt: &R, kernel: &Kernel<J>, callers: &
 ///
 /// # Errors
 ///
-/// [`Fail`] where something that the test needs isn't made, or the kernel isn't closed.
+/// [`Fail`] if something that the test needs isn't made, or the kernel isn't closed.
 pub fn play_no_thread<J: Naming + Send + Sync, R: Abort + AllocGlobal + Threads + Wait + Sync>(
     rt: &R,
     table: &Table,
@@ -202,7 +202,7 @@ fn one_removes_the_other<J: Naming, R: Abort + Wait>(
 ///
 /// # Errors
 ///
-/// [`Fail`] where something that the test needs isn't made, or the kernel isn't closed.
+/// [`Fail`] if something that the test needs isn't made, or the kernel isn't closed.
 pub fn play_vanished<J: Naming + Send + Sync, R: Abort + AllocGlobal + Threads + Wait + Sync>(
     rt: &R,
     table: &Table,

@@ -6,7 +6,7 @@ use cores::{Kernel, Naming};
 use machine::{Call, CapData, MemoryKind, SlotAddress};
 use std::sync::Wait;
 
-/// How many rounds a thread makes.
+/// The number of rounds that a thread makes.
 const ROUNDS: u64 = 25;
 
 // A slot of the shared CNode.
@@ -53,7 +53,7 @@ fn makes(core: u8) -> [Call; 4] {
     ]
 }
 
-// An even core sends a capability, and an odd one takes it.
+// The call by which an even core sends a capability, and an odd one takes it.
 fn passes(core: u8) -> Call {
     let core = u64::from(core);
     if core % 2 == 0 {
@@ -71,7 +71,7 @@ fn passes(core: u8) -> Call {
     }
 }
 
-// Removes what was made, by whomever.
+// The calls that remove what was made, by whichever thread.
 fn removes(core: u8) -> [Call; 3] {
     let core = u64::from(core);
     [

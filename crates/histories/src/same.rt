@@ -1,4 +1,4 @@
-//! Whether two states are the same: their objects, slots, derivation trees, words of frames and queues.
+//! Comparison of two states: their objects, slots, derivation trees, words of frames and queues.
 use base::{ObjId, SlotRef};
 use objects::State;
 use std::process::Abort;

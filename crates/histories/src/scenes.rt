@@ -1,4 +1,4 @@
-//! A system that is accepted, a kernel that is opened for it, and what a test does with them.
+//! Scenes: a system that is accepted, a kernel that is opened for it, and what a test does with them.
 ghost use Rattle.std.specs.Prelude.{◌≡◌, All};
 ghost use Rattle.cores.specs.Seats.{IsOf};
 
@@ -27,9 +27,9 @@ use verdict::{Accepted, judge};
 /// A use of a kernel by a test.
 #[derive(Clone, Copy)]
 pub enum Scene {
-    /// A signal and two polls, over a log of so many entries.
+    /// A signal and two polls, over a log with room for `size` entries.
     SignalAndPolls { size: usize },
-    /// Rounds over a log that has room for so many of their 1,600 calls.
+    /// Rounds over a log that has room for `room` of their 1,600 calls.
     Rounds { room: u64 },
     /// 64 seats of one core, and a log of one entry less.
     OneCore,
@@ -60,7 +60,7 @@ pub enum Plan<'a> {
 ///
 /// # Errors
 ///
-/// [`AllocError`] where memory is refused.
+/// [`AllocError`] if memory is refused.
 pub fn cores_of(alloc: Global, numbers: &[u64]) -> Result<Vec<CoreNo>, AllocError> {
     let mut cores = Vec::with_capacity(alloc, numbers.len())?;
     for number in numbers {
@@ -87,7 +87,7 @@ fn play<J: Naming + Send + Sync, R: Abort + AllocGlobal + Threads + Wait + Sync>
     }
 }
 
-// The scene, with the kernel by a name.
+// Plays the scene, with the kernel by a name.
 fn play_named<J: Naming + Send + Sync, R: Abort + AllocGlobal + Threads + Wait + Sync>(
     rt: &R,
     table: &Table,
@@ -104,7 +104,7 @@ fn play_named<J: Naming + Send + Sync, R: Abort + AllocGlobal + Threads + Wait +
     }
 }
 
-// The scene, with the kernel that is opened for it.
+// Plays the scene, with the kernel that is opened for it.
 fn play_opened<R: Abort + AllocGlobal + Threads + Wait + Sync>(
     rt: &R,
     accepted: &Accepted<'_>,
@@ -169,7 +169,7 @@ fn carry_out_with<R: Abort + AllocGlobal + Threads + Wait + Sync>(
 ///
 /// # Errors
 ///
-/// [`Fail`] where something that the test needs isn't made, accepted, opened or closed.
+/// [`Fail`] if something that the test needs isn't made, accepted, opened or closed.
 pub fn carry_out<R: Abort + AllocGlobal + Threads + Wait + Sync>(
     rt: &R,
     system: &System,

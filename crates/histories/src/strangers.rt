@@ -1,4 +1,4 @@
-//! Seats of a kernel of another number, in each place.
+//! Seats of a kernel of another number, in each place where a seat is used.
 ghost use Rattle.std.specs.Prelude.{◌≡◌, ◌≢◌, All};
 ghost use Rattle.cores.specs.Seats.{IsOf};
 
@@ -25,7 +25,7 @@ fn foreign() -> Refusal {
     Refusal::from(Misuse::ForeignSeat)
 }
 
-/// One of these is refused in each place of a call and of a meeting.
+/// Asserts that one of these is refused in each place of a call and of a meeting.
 fn is_refused<J: Naming, K: Naming, R: Abort + Wait>(
     rt: &R,
     kernel: &Kernel<J>,
@@ -53,7 +53,7 @@ fn are_refused<J: Naming, K: Naming, R: Abort + Wait>(
     }
 }
 
-/// The kernel isn't closed with a stranger among its seats. It is handed back with its one entry.
+/// Asserts that the kernel isn't closed with a stranger among its seats, and is handed back with its one entry.
 fn is_kept<J: Naming + Send + Sync, K: Naming, R: Abort + AllocGlobal + Threads + Sync>(
     rt: &R,
     table: &Table,
@@ -81,7 +81,7 @@ fn all_signal<J: Naming, R: Abort + Wait>(rt: &R, kernel: &Kernel<J>, callers: &
     }
 }
 
-/// Each kernel has an entry. The stranger is refused here, and is good for its own kernel as before.
+/// Asserts that the stranger is refused here, and fits its own kernel as before; each kernel has an entry.
 fn visit<J: Naming + Send + Sync, K: Naming, R: Abort + AllocGlobal + Threads + Wait + Sync>(
     rt: &R,
     table: &Table,
@@ -124,7 +124,7 @@ fn visit_from<J: Naming + Send + Sync, K: Naming, R: Abort + AllocGlobal + Threa
     }
 }
 
-// The kernel by its name.
+// Makes the visit, with the kernel by its name.
 fn visit_named<J: Naming + Send + Sync, K: Naming, R: Abort + AllocGlobal + Threads + Wait + Sync>(
     rt: &R,
     table: &Table,
@@ -175,7 +175,7 @@ fn visit_running<K: Naming + Send + Sync, R: Abort + AllocGlobal + Threads + Wai
     }
 }
 
-// The stranger's kernel by its name.
+// Makes the visit, with the stranger's kernel by its name.
 fn stranger_named<K: Naming + Send + Sync, R: Abort + AllocGlobal + Threads + Wait + Sync>(
     rt: &R,
     accepted: &Accepted<'_>,
@@ -208,7 +208,7 @@ fn stranger_opened<R: Abort + AllocGlobal + Threads + Wait + Sync>(
 ///
 /// # Errors
 ///
-/// [`Fail`] where something that the test needs isn't made, opened or handed back.
+/// [`Fail`] if something that the test needs isn't made, opened or handed back.
 pub fn refuse_a_stranger<R: Abort + AllocGlobal + Threads + Wait + Sync>(
     rt: &R,
     accepted: &Accepted<'_>,

@@ -1,4 +1,4 @@
-//! The systems of these tests, as their texts say them.
+//! The systems of these tests, as texts.
 
 /// The texts of a system.
 #[derive(Clone, Copy)]

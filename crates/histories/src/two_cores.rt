@@ -40,7 +40,7 @@ pub fn full() -> Outcome {
     Outcome::Refused(Refusal::from(Misuse::LogFull))
 }
 
-/// One signals, they meet, and the other polls.
+/// Has one signal, both meet, and the other poll.
 fn call_and_meet<J: Naming, R: Abort + Wait>(
     rt: &R,
     kernel: &Kernel<J>,
@@ -52,7 +52,7 @@ fn call_and_meet<J: Naming, R: Abort + Wait>(
     second.is_answered(rt, kernel, POLLER, POLL, word(4));
 }
 
-/// The log has room for both polls: then each call finds it full.
+/// Polls with a log that has room for both polls: then each call finds it full.
 fn both_polls<J: Naming, R: Abort + Wait>(
     rt: &R,
     kernel: &Kernel<J>,
@@ -66,7 +66,7 @@ fn both_polls<J: Naming, R: Abort + Wait>(
     assert_eq!(rt; second.meet(kernel, first), Ok(()));
 }
 
-/// The log has room for one of the polls.
+/// Polls with a log that has room for one of the polls.
 fn one_poll<J: Naming, R: Abort + Wait>(
     rt: &R,
     kernel: &Kernel<J>,
@@ -108,7 +108,7 @@ fn report(size: usize) -> &'static str {
 ///
 /// # Errors
 ///
-/// The failure of the test, where the calls don't end as they must.
+/// The failure of the test, if the calls don't end as they must.
 pub fn play_signal_and_polls<
     J: Naming + Send + Sync,
     R: Abort + AllocGlobal + Threads + Wait + Sync,
@@ -139,7 +139,7 @@ fn the_second_poll_finds_the_log_full(rt: HostRuntime) -> Result<(), Fail> {
     signal_and_poll(&rt, 2)
 }
 
-/// The text of a table, once that is one of version 2.
+/// The text of a table, as one of version 2.
 fn upgraded(alloc: Global, text: &str) -> Result<Vec<u8>, Fail> {
     let mut table = made(read_table(alloc, text.as_bytes()))?;
     table.upgrade();

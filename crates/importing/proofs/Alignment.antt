@@ -1,13 +1,12 @@
--- The next multiple of a power of two.
+-- The next multiple of a power of two: it is a multiple, and isn't below the number.
 use Rattle.std.proofs.{Common.{ℕ, ◌%◌, ◌*◌, ◌+◌, ◌-◌, ◌/◌, ◌<◌, ◌^◌, ◌≡◌, ◌≤◌, arith}, Math.Nat.{div-add-mod, mod-lt, mul-mod_left}}
 use Rattle.std.proofs.{Math.Nat.mul_comm, lemmas.Nat.pow_pos}
 use Rattle.importing.specs.Objects.{aligned_up}
 
--- it is a multiple
 pub is_multiple : (next bits : ℕ) → aligned_up next bits % 2 ^ bits ≡ 0
 is_multiple next bits = mul-mod_left ((next + (2 ^ bits - 1)) / 2 ^ bits) (2 ^ bits)
 
--- a number plus what a multiple lacks reaches the next one
+-- a number plus one less than the size reaches the next multiple
 reaches : (next size : ℕ) → 0 < size → next ≤ (next + (size - 1)) / size * size
 reaches next size some =
     let whole : size * ((next + (size - 1)) / size) + (next + (size - 1)) % size ≡ next + (size - 1) = div-add-mod _ _ in
@@ -15,6 +14,5 @@ reaches next size some =
     let turned : (next + (size - 1)) / size * size ≡ size * ((next + (size - 1)) / size) = mul_comm _ _ in
     omega (arith, whole, rest, turned)
 
--- it isn't below
 pub is_above : (next bits : ℕ) → next ≤ aligned_up next bits
 is_above next bits = reaches next (2 ^ bits) (pow_pos bits)

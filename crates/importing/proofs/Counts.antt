@@ -1,4 +1,4 @@
--- There are as many names as subjects.
+-- Names of subjects: there are as many as subjects.
 use Rattle.std.proofs.{Common.{[], ℕ, ◌++◌, ◌+◌, ◌∷◌, ◌≡◌, Err, List, Ok, Result, ap, arith, length, suc, sym}, lemmas.List.length_push}
 use Rattle.words.specs.{declared.faults.Fault.Fault, Reading.bind}
 use Rattle.microkit.specs.{declared.labels.Subject.Subject, Description.Description, Labels.{label_at, named_at, names_from, names_of}}

@@ -1,4 +1,4 @@
--- The filled slots of a table that is built up come from the capabilities of its description, one from each.
+-- Filled slots of a table that is built up: they come from the capabilities of its description, one from each.
 use Rattle.std.{specs.{List.AllZip, Prelude.unwrap_or}, proofs.Common.{[], ℕ, ◌++◌, ◌∙◌, ◌∷◌, ◌≡◌, List, Ok, Option, Some, ap}}
 use Rattle.std.proofs.{Common.{map, refl, subst, sym}}
 use Rattle.machine.specs.{declared.layout.Filled.Filled, Layout.Layout}

@@ -24,13 +24,13 @@ none_meets [] object next ends above = refl
 none_meets (initial ∷ objects) object next ends above =
     or_from _ _ (misses initial.object object next ends.0 above) (none_meets objects object next ends.1 above)
 
--- it overlaps none
+-- the object that lies above overlaps none
 pub free_above : (t : Layout) (object : Object) (next : ℕ) → EndBelow t.objects next → next ≤ address_of object
     → is_free t object ≡ true
 unfolding is_free
 free_above t object next ends above = ap not (none_meets t.objects object next ends above)
 
--- with it, all end where it does, or below
+-- all objects, with this one, end where it does, or below
 pub ends_more : (objects : List Initial) (initial : Initial) (next : ℕ) → EndBelow objects next → next ≤ address_of initial.object
     → EndBelow (objects ++ initial ∷ []) (end_of initial.object)
 ends_more [] initial next ends above = (omega arith, tt)
@@ -44,7 +44,7 @@ pub no_control : (t : Layout) (object : Object) → ((core : ℕ) → is_control
 no_control t (o.Control control) memory = absurd (let same = memory control.core in grind (arith, nat_tests))
 no_control t _ memory = refl
 
--- a table takes it
+-- a table takes the object
 pub admits : (t : Layout) (name : List ℕ) (label : ℕ) (object : Object) (next : ℕ) → EndBelow t.objects next
     → is_name name ≡ true → is_some (object_named t name) ≡ false → label < length t.labels → IsPlaced next object
     → has_room t object ≡ true → end_of object ≤ ADDRESS_END

@@ -1,4 +1,4 @@
--- The ids of ends that are found are ids.
+-- Ends of channels that are found by an id: the id of the other end is one too, below 62.
 use Rattle.std.{specs.Option.option_and_then, proofs.Common.{ℕ, ◌<◌, ◌≡◌, List, None, Option, Some, arith, slice_get}}
 use Rattle.std.proofs.lemmas.{Bool.Decides.nat_tests, Grind.common_steps}
 use Rattle.microkit.specs.declared.description.{Channel.Channel, End.End}

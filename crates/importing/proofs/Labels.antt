@@ -1,4 +1,4 @@
--- How labels are added one after another.
+-- Labels of a table, added one after another.
 use Rattle.std.{specs.List.{AllByRecursion, AllPairs}, proofs.Common.{[], ℕ, ◌++◌, ◌+◌, ◌<◌, ◌∙◌, ◌∷◌, ◌≡◌, ◌≢◌, ◌≤◌, Bool, List, add-one}}
 use Rattle.std.proofs.Common.{ap, arith, cond, false, get_or, length, nat_le, refl, subst, suc, sym, take, true, zero}
 use Rattle.std.proofs.lemmas.{Bool.Decides.nat_tests, List.{get_or-map, get_or-take, length-take-le}}
@@ -9,7 +9,7 @@ use Rattle.machine.specs.declared.layout.Version.TheVariants as version
 use Rattle.table.{specs.{Building.{AdmitsLabel, with_label}, Names.label_named}, proofs.FrontLemmas.no_place}
 use Rattle.importing.{specs.{Built.{labelled, version_for}, Groups.{labels_at, name_at}}, proofs.Items.length_seen}
 
--- the first so many labels
+-- a table with the first labels, this many
 abbrev pub first_labels : List (List ℕ) → ℕ → Layout
 first_labels names i = record (labelled names) { labels = take i names }
 
@@ -56,7 +56,7 @@ admits_next names i d all distinct few below =
       room = subst (λ n. n < most_labels (version_for (length names))) (sym size) (room i (length names) below few);
     }
 
--- the same of the names at some places
+-- the name at a place among the labels, by the names of all subjects
 
 named : (names : List (List ℕ)) (places : List ℕ) (i item : ℕ) (name : List ℕ) → i < length places → item ≡ get_or places i 0
     → name ≡ name_at names item → get_or (labels_at names places) i (name_at names item) ≡ name

@@ -1,4 +1,4 @@
--- Capabilities in slots that follow one another, and lists that are joined one after another.
+-- Capabilities in successive slots, and lists that are joined one after another.
 use Rattle.std.{specs.List.{flat_map, range_with_len}, proofs.Common.{[], ℕ, ◌++◌, ◌+◌, ◌<◌, ◌∙◌, ◌∷◌, ◌≡◌, ◌≤◌, List, add-one, ap}}
 use Rattle.std.proofs.{Common.{append_assoc, arith, drop, get_or, length, map, refl, suc, sym, zero}, lemmas.Grind.flat_map-append}
 use Rattle.std.proofs.lemmas.List.{append-nil, drop_all}
@@ -41,7 +41,7 @@ map_end : {X : Type 0} (f : ℕ → X) (xs : List ℕ) (x : ℕ) → map f (xs +
 map_end f [] x = refl
 map_end f (y ∷ xs) x = ap (λ ys. f y ∷ ys) (map_end f xs x)
 
--- what a row of numbers shows, with one number more
+-- the view of a row of numbers, with one more number
 pub map_more : {X : Type 0} (f : ℕ → X) (n : ℕ) → map f (range_with_len 0 (n + 1)) ≡ map f (range_with_len 0 n) ++ f n ∷ []
 map_more f n =
     let same : 0 + n ≡ n = omega arith in

@@ -1,4 +1,4 @@
--- The labels are names of subjects, each at a place of its own: each is spelled as a label, and no two are one.
+-- Labels as names of subjects, each at a place of its own: each is spelled as a label, and no two are the same.
 use Rattle.std.{specs.{Global.Vec, List.{AllByRecursion, AllPairs, range_with_len}}, proofs.Common.{[], ℕ, ◌+◌, ◌<◌, ◌∙◌, ◌∷◌, ◌≡◌, ◌≢◌}}
 use Rattle.std.proofs.Common.{◌≤◌, Bool, List, Ok, ap, arith, cond, false, filter, get_or, length, map, refl, subst, suc, sym, true, zero}
 use Rattle.std.proofs.lemmas.List.{get_or-map, FromFn.{get_or-range_with_len, length-range_with_len}, Kept.AllPairs-filter}
@@ -51,7 +51,7 @@ pairs_range names n few distinct i j d before within =
     ∙ sym (ap (name_at names) one) ∙ same ∙ ap (name_at names) other
     ∙ at_place names j [] (omega (arith, inside, few)))
 
--- how many subjects have names
+-- the number of subjects that have names
 named_all : (d : Description) (names : List (Vec ℕ)) (subjects : List Subject) → names_of d ≡ Ok (bytes_of names)
     → subjects ≡ subjects_of d → length subjects ≤ length (bytes_of names)
 named_all d names subjects named are =

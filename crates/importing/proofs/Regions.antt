@@ -1,10 +1,10 @@
--- How the regions that a user maps are found, one map after another.
+-- The search for the regions that a user maps, map by map.
 use Rattle.std.proofs.Common.{[], ℕ, ◌++◌, ◌+◌, ◌<◌, ◌∙◌, ◌∷◌, ◌≡◌, ◌≤◌, List, add-one, ap, append_assoc, arith, cond, drop, drop-cons}
 use Rattle.std.proofs.{Common.{false, get_or, length, map, refl, suc, sym, take, true, zero}, lemmas.List.{append-nil, drop_all}}
 use Rattle.microkit.specs.declared.description.{Map.Map, User.User}
 use Rattle.importing.specs.{declared.slots.Held.Held, Maps.{frame_held, is_new, regions_from}}
 
--- one more of a list
+-- one more element of a list
 pub take_more : {X : Type 0} (xs : List X) (i : ℕ) (d : X) → i < length xs → take i xs ++ get_or xs i d ∷ [] ≡ take (i + 1) xs
 take_more {X = X} xs i d below = rw add-one (sym (by xs i below))
   where
@@ -16,7 +16,7 @@ take_more {X = X} xs i d below = rw add-one (sym (by xs i below))
 pub drop_more : {X : Type 0} (xs : List X) (i : ℕ) (d : X) → i < length xs → drop i xs ≡ get_or xs i d ∷ drop (i + 1) xs
 drop_more xs i d below = rw add-one (drop-cons xs i d below)
 
--- the map at a place tells
+-- the map at a place decides
 step : (maps : List Map) (user : User) (i : ℕ) (one : Map) → i < length maps → get_or maps i one ≡ one
     → regions_from (take i maps) user (drop i maps)
     ≡ cond (is_new maps user i one) (one.region ∷ regions_from (take (i + 1) maps) user (drop (i + 1) maps))

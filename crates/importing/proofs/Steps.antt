@@ -1,4 +1,4 @@
--- How objects are added one after another.
+-- Objects of a table, added one after another.
 use Rattle.std.proofs.Common.{ℕ, ◌+◌, ◌<◌, ◌∙◌, ◌∷◌, ◌≡◌, ◌≤◌, Err, List, Ok, add-one, ap, drop, drop-cons, get_or, length}
 use Rattle.std.proofs.lemmas.List.{drop_all}
 use Rattle.words.specs.{Reading.{bind}, declared.faults.Fault.{Fault}}
@@ -24,7 +24,7 @@ one_added plan pieces i none built next below added =
     ap (λ left. pieces_added plan left built) (pieces_from pieces i none below)
     ∙ ap (λ step. bind step (λ b. pieces_added plan (drop (i + 1) pieces) b)) added
 
--- or refused
+-- one is refused
 pub one_refused : (plan : Plan) (pieces : List Piece) (i : ℕ) (none : Piece) (built : Built) (fault : Fault) → i < length pieces
     → piece_added plan (get_or pieces i none) built ≡ Err fault → pieces_added plan (drop i pieces) built ≡ Err fault
 unfolding pieces_added bind

@@ -1,4 +1,4 @@
--- How capabilities and bindings are added one after another, where the tests say that the table takes them.
+-- Capabilities and bindings of a table, added one after another if the tests say that the table takes them.
 use Rattle.std.proofs.Common.{ℕ, ◌+◌, ◌<◌, ◌∙◌, ◌≡◌, ◌≤◌, Err, List, Ok, Option, Some, ap, arith, drop, get_or, length, true}
 use Rattle.std.proofs.lemmas.{Bool.{and_parts, not-true}, List.drop_all}
 use Rattle.words.specs.{declared.faults.Fault.Fault, Reading.bind}
@@ -9,7 +9,7 @@ use Rattle.table.specs.Building.{AdmitsBinding, AdmitsCap}
 use Rattle.importing.specs.{declared.{pieces.{Grant.Grant, Piece.Piece}, tables.Bond.Bond}, Tables.{bond_added, bonds_added, grant_added}}
 use Rattle.importing.{specs.Tables.{grants_added, is_context, is_thread, takes_binding, takes_cap}, proofs.Regions.drop_more}
 
--- a filled slot that a table may take, it admits
+-- a table admits a filled slot that it takes
 pub admits_cap : (t : Layout) (filled : Filled) → takes_cap t filled ≡ true → filled.cap.original ≡ true → AdmitsCap t filled
 unfolding takes_cap
 admits_cap t filled takes original =
@@ -34,7 +34,7 @@ one_grant d pieces grants i none t next below added =
     ap (λ left. grants_added d pieces left t) (drop_more grants i none below)
     ∙ ap (λ step. bind step (λ u. grants_added d pieces (drop (i + 1) grants) u)) added
 
--- or refused
+-- one is refused
 pub bad_grant : (d : Description) (pieces : List Piece) (grants : List Grant) (i : ℕ) (none : Grant) (t : Layout) (fault : Fault)
     → i < length grants → grant_added d pieces (get_or grants i none) t ≡ Err fault
     → grants_added d pieces (drop i grants) t ≡ Err fault
@@ -43,7 +43,7 @@ bad_grant d pieces grants i none t fault below refused =
     ap (λ left. grants_added d pieces left t) (drop_more grants i none below)
     ∙ ap (λ step. bind step (λ u. grants_added d pieces (drop (i + 1) grants) u)) refused
 
--- a binding that a table may take, it admits
+-- a table admits a binding that it takes
 
 thread_kind : (o : Option ObjectKind) → is_thread o ≡ true → o ≡ Some kind.Tcb
 thread_kind o is = grind arith
@@ -74,7 +74,7 @@ one_bond d pieces bonds i none t next below added =
     ap (λ left. bonds_added d pieces left t) (drop_more bonds i none below)
     ∙ ap (λ step. bind step (λ u. bonds_added d pieces (drop (i + 1) bonds) u)) added
 
--- or refused
+-- one is refused
 pub bad_bond : (d : Description) (pieces : List Piece) (bonds : List Bond) (i : ℕ) (none : Bond) (t : Layout) (fault : Fault)
     → i < length bonds → bond_added d pieces (get_or bonds i none) t ≡ Err fault
     → bonds_added d pieces (drop i bonds) t ≡ Err fault

@@ -1,4 +1,4 @@
--- What a table that is built up has: the objects, capabilities and bindings of the whole lists.
+-- A table that is built up has the objects, capabilities and bindings of the whole lists.
 use Rattle.std.{specs.Prelude.unwrap_or, proofs.Common.{[], ℕ, ◌&&◌, ◌++◌, ◌∙◌, ◌∷◌, ◌≡◌, Bool, Err, List, None, Ok, Option, Result, Some}}
 use Rattle.std.proofs.Common.{ap, append_assoc, cond, false, is_some, length, map, nat_le, nat_lt, not, refl, subst, sym, true}
 use Rattle.std.proofs.lemmas.List.{append-nil, map-append}
@@ -25,7 +25,7 @@ pub found : {X : Type 0} (line : ℕ) (wrong : Wrong) (o : Option X) (x : X) →
 found line wrong None x e = absurd cc
 found line wrong (Some y) x e = ap (λ z. Some z) (same_ok y x e)
 
--- a step that came to something
+-- a step that had a result
 pub stepped : {E X Y : Type 0} (r : Result X E) (next : X → Result Y E) (y : Y) → bind r next ≡ Ok y → (x : X) × (r ≡ Ok x) × (next x ≡ Ok y)
 unfolding bind
 stepped (Err e) next y h = absurd cc
@@ -173,7 +173,7 @@ pieces_whole plan (piece ∷ pieces) b c e =
           }),
     )
 
--- without pairs each capability is original
+-- each capability is original in a table without pairs
 
 original : (t : Layout) (slot : SlotRef) (detail : Detail) → t.pairs ≡ [] → is_original t slot detail ≡ true
 unfolding is_original source_of initial_parent

@@ -1,4 +1,4 @@
--- How a table is built up from a description: its labels, then one object after another (confine's own).
+-- Building up a table from a description: its labels, then one object after another (confine's own).
 use Rattle.std.specs.{List.AllByRecursion, Prelude.{[], ℕ, ◌&&◌, ◌∷◌, ◌≤◌, Err, List, None, Ok, Option, Result, Some, if◌then◌else◌}}
 use Rattle.std.specs.Prelude.{is_some, length, nat_le, nat_lt, not, unwrap_or}
 use Rattle.base.specs.declared.limits.TheConstants.{ADDRESS_END}
@@ -12,8 +12,8 @@ use Rattle.table.specs.{Building.{has_room, with_initial}, Names.object_named}
 use Rattle.importing.specs.{declared.pieces.{Grant.Grant, Piece.Piece}, Groups.{leader_of, name_at}, Objects.object_of}
 use Rattle.importing.specs.Plan.{label_of, part_of, piece_line, subject_of}
 
--- what a table is built up from: what has a name and how it is called, the maps of regions if some share a label, and which subjects
--- have a label of their own
+-- the plan of a table: what has a name and which, the maps of regions if some share a label, and the subjects that have a label of their
+-- own
 pub record Plan : Type 0 where
   pub description : Description
   pub subjects : List Subject
@@ -43,16 +43,16 @@ labelled names = record (empty_layout (version_for (length names))) { labels = n
 abbrev pub started : List (List ℕ) → Built
 started names = record { table = labelled names; next = 4096 }
 
--- what is there, or a fault
+-- what is there, or a fault if nothing is
 abbrev pub or_fault : {X : Type 0} → ℕ → Wrong → Option X → Result X Fault
 or_fault line wrong None = Err (fault_at line wrong)
 or_fault line wrong (Some x) = Ok x
 
--- the table with an object more
+-- the table with one more object
 abbrev pub with_object : Built → List ℕ → Initial → Built
 with_object built name initial = record { table = with_initial built.table name initial; next = end_of initial.object }
 
--- an object more of this name, if the name is new (52), its label is there (51), and the table keeps to its limits (54)
+-- one more object of this name, if the name is new (52), its label is there (51), and the table keeps within its limits (54)
 unfoldable pub object_placed : ℕ → List ℕ → ℕ → Object → Built → Result Built Fault
 object_placed line name label object built =
     if is_some (object_named built.table name) then Err (fault_at line Double) else
@@ -60,7 +60,7 @@ object_placed line name label object built =
     if not (has_room built.table object && nat_le (end_of object) ADDRESS_END) then Err (fault_at line Limit) else
     Ok (with_object built name (record { label = label; object = object }))
 
--- the same, if the word is a name, as each is whose label and number are within their limits
+-- one more object, if the word is a name, as each word is whose label and number are within their limits
 unfoldable pub object_added : ℕ → List ℕ → ℕ → Object → Built → Result Built Fault
 object_added line word label object built = do
   name ← or_fault line Limit (name_of word)
@@ -70,14 +70,14 @@ object_added line word label object built = do
 abbrev pub piece_label : Plan → Piece → Option ℕ
 piece_label plan piece = label_of plan.labelled (leader_of plan.uses (subject_of plan.description piece))
 
--- the name of a piece's own subject, which goes for its object also where its label is another region's
+-- the name of a piece's own subject, which its object is called by even if its label is another region's
 abbrev pub piece_subject : Plan → Piece → List ℕ
 piece_subject plan piece = name_at plan.names (unwrap_or (label_of plan.subjects (subject_of plan.description piece)) 0)
 
 abbrev pub piece_name : Plan → Piece → List ℕ
 piece_name plan piece = object_name (piece_subject plan piece) (part_of plan.description piece)
 
--- the object of a piece more
+-- the table with the object of a piece
 unfoldable pub piece_added : Plan → Piece → Built → Result Built Fault
 piece_added plan piece built = do
   label ← or_fault (piece_line plan.description piece) UnknownName (piece_label plan piece)

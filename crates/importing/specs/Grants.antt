@@ -1,4 +1,4 @@
--- The capabilities that the CNodes of domains and virtual machines have (confine's own).
+-- Capabilities in the CNodes of domains and virtual machines (confine's own).
 use Rattle.std.specs.{List.{filter_map, flat_map, range_with_len}, Prelude.{[], ℕ, ◌++◌, ◌+◌, ◌-◌, ◌∷◌, List, Option, length, option_map}}
 use Rattle.microkit.specs.Description.{Description}
 use Rattle.machine.specs.declared.cap.Detail.{Detail, Detail as detail}
@@ -31,7 +31,6 @@ slot_grant d minting n index = option_map (grant (space_of n) index) (slot_held 
 abbrev pub slot_grants : Description → Minting → ℕ → List Grant
 slot_grants d minting n = filter_map (slot_grant d minting n) (range_with_len 0 MAPS)
 
--- what a domain's CNode has
 unfoldable pub domain_grants : Description → Minting → ℕ → List Grant
 domain_grants d minting n =
     slot_grants d minting n ++ numbered (space_of n) MAPS (maps_held d.maps (user.Domain n))
@@ -41,7 +40,6 @@ unfoldable pub guest_grants : Description → Minting → ℕ → List Grant
 guest_grants d minting n =
     numbered (guest_space_of n) 1 (guest_held d minting n)
 
--- what all CNodes have
 unfoldable pub grants_of : Description → Minting → List Grant
 grants_of d minting =
     flat_map (domain_grants d minting) (range_with_len 0 (length d.domains))

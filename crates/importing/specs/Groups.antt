@@ -1,4 +1,4 @@
--- Which regions share a label, where a table would have more labels than it may (confine's own).
+-- Regions that share a label, if a table would have more labels than it may (confine's own).
 use Rattle.std.specs.{List.{filter_map, list_all, list_any, range_with_len}, Option.option_map_or, Prelude.{[], ℕ, ◌&&◌, ◌==◌, ◌||◌, Bool}}
 use Rattle.std.specs.Prelude.{List, false, filter, if◌then◌else◌, length, map, nat_le, not, position, slice_get, unwrap_or}
 use Rattle.base.specs.declared.label.TheConstants.Label as Label
@@ -10,15 +10,15 @@ use Rattle.importing.specs.{Maps.is_user, Plan.same_subject}
 abbrev pub uses_of : List Map → ℕ → List Map
 uses_of maps region = filter (λ (map : Map). map.region == region) maps
 
--- what a user may do by a map it may also do by another one
+-- a user may do by the other map all that it may do by the one
 abbrev pub is_met_by : Map → Map → Bool
 is_met_by one other = is_user other.user one.user && (other.writable || not one.writable)
 
--- what users may do by some maps they may also do by others
+-- users may do by the other maps all that they may do by the one
 abbrev pub are_met_by : List Map → List Map → Bool
 are_met_by uses others = list_all (λ (one : Map). list_any (is_met_by one) others) uses
 
--- by some maps the same users have the same rights as by others
+-- the same users have the same rights by some maps as by others
 unfoldable pub are_alike : List Map → List Map → Bool
 are_alike uses others = are_met_by uses others && are_met_by others uses
 
@@ -30,11 +30,11 @@ uses_in d =
 abbrev pub uses_at : List (List Map) → ℕ → List Map
 uses_at uses region = unwrap_or (slice_get uses region) []
 
--- the first region that the same users map with the same rights; the region itself where no maps are given
+-- the first region that the same users map with the same rights; the region itself if no maps are given
 abbrev pub first_alike : List (List Map) → ℕ → ℕ
 first_alike uses region = unwrap_or (position (are_alike (uses_at uses region)) uses) region
 
--- whose label a subject has: its own, or that of the first region like it
+-- the subject whose label a subject has: itself, or the first region like it
 unfoldable pub leader_of : List (List Map) → Subject → Subject
 leader_of uses (subject.Region region) = subject.Region (first_alike uses region)
 leader_of uses one = one
@@ -43,14 +43,14 @@ leader_of uses one = one
 abbrev pub leads : List (List Map) → List Subject → ℕ → Bool
 leads uses subjects place = option_map_or (λ one. same_subject (leader_of uses one) one) (slice_get subjects place) false
 
--- the places of those that have, which are in the order of the labels
+-- the places of the subjects with a label of their own, in the order of the labels
 unfoldable pub places_of : List (List Map) → List Subject → List ℕ
 places_of uses subjects = filter (leads uses subjects) (range_with_len 0 (length subjects))
 
 abbrev pub leaders_at : List Subject → List ℕ → List Subject
 leaders_at subjects places = filter_map (slice_get subjects) places
 
--- what has a label of its own
+-- the subjects with a label of their own
 unfoldable pub labelled_of : Description → List Subject
 labelled_of d = leaders_at (subjects_of d) (places_of (uses_in d) (subjects_of d))
 

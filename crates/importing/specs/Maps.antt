@@ -1,4 +1,4 @@
--- What CNodes have in slots that follow one another: the maps of a domain, from slot 458 on, and what a virtual machine has (confine's own).
+-- Capabilities in successive slots of CNodes: the maps of a domain, from slot 458 on, and all of a virtual machine's (confine's own).
 use Rattle.std.specs.{List.{filter_map, list_any, position}, Option.{option_and_then, option_map_or}}
 use Rattle.std.specs.Prelude.{[], ℕ, ◌&&◌, ◌++◌, ◌==◌, ◌||◌, ◌∷◌, Bool, List, None, Option, if◌then◌else◌}
 use Rattle.std.specs.Prelude.{map, not, slice_get, take}
@@ -9,7 +9,7 @@ use Rattle.machine.specs.declared.cap.Detail.{Detail as detail}
 use Rattle.importing.specs.{declared.{pieces.Minting.Minting, slots.Held.Held}, Slots.{capability, parent_held}}
 use Rattle.importing.specs.declared.pieces.Form.TheVariants as form
 
--- two users are one
+-- the test that two users are the same
 
 abbrev pub user_code : User → ℕ
 user_code (user.Domain n) = 0

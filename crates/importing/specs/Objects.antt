@@ -1,4 +1,4 @@
--- What the objects of a description are at boot, and where they lie (compare the seL4 manual, "Memory Allocation").
+-- Objects of a description at boot, and where they lie (compare the seL4 manual, "Memory Allocation").
 use Rattle.std.specs.{List.list_all, Prelude.{ℕ, ◌&&◌, ◌*◌, ◌+◌, ◌-◌, ◌/◌, ◌^◌, ◌||◌, ◌≡◌, ◌≤◌, Bool, List, None, Option, Some, false}}
 use Rattle.std.specs.Prelude.{if◌then◌else◌, nat_le, nat_lt, not, option_map, slice_get, true}
 use Rattle.base.specs.declared.limits.TheConstants.{MAX_PERIOD}
@@ -19,7 +19,7 @@ abbrev pub fits_radix : List Grant → Piece → ℕ → Bool
 fits_radix grants piece radix =
     list_all (λ (grant : Grant). not (same_piece grant.holder piece) || nat_lt grant.index (2 ^ radix)) grants
 
--- the least radix, from 9 up, with which it has
+-- the least radix, from 9 up, with which a CNode has these slots
 unfoldable pub radix_of : List Grant → Piece → Option ℕ
 radix_of grants piece =
     if fits_radix grants piece 9 then Some 9 else
@@ -67,7 +67,6 @@ abbrev pub share_in : Option Domain → Option Share
 share_in None = None
 share_in (Some domain) = share_of domain.core domain.schedule
 
--- the share of a domain
 unfoldable pub domain_share : Description → ℕ → Option Share
 domain_share d n = share_in (slice_get d.domains n)
 
@@ -83,7 +82,6 @@ abbrev pub share_for : Description → Option Processor → Option Share
 share_for d None = None
 share_for d (Some processor) = machine_share d processor.machine processor.core
 
--- the share of a virtual processor
 unfoldable pub processor_share : Description → ℕ → Option Share
 processor_share d n = share_for d (slice_get d.processors n)
 
@@ -103,7 +101,7 @@ object_of d grants piece next = by_form piece.form
     by_form form.ProcessorTime = context_of (processor_share d piece.number) next
     by_form form.Frame = Some (frame_of next)
 
--- a size of at most 2 ^ 17 bytes, which is that of a CNode of radix 12
+-- a size of at most 2 ^ 17 bytes, the size of a CNode of radix 12
 abbrev pub IsSmall : Option ℕ → Type 0
 IsSmall None = Unit {0}
 IsSmall (Some bits) = bits ≤ 17

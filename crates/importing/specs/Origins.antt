@@ -1,4 +1,4 @@
--- What each capability of the table of a description comes from (confine's own).
+-- Origins of the capabilities in the table of a description (confine's own).
 use Rattle.std.specs.Prelude.{◌++◌, ◌≡◌, List, Some}
 use Rattle.machine.specs.declared.layout.Filled.{Filled}
 use Rattle.microkit.specs.Description.{Description}

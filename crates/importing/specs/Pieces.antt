@@ -1,4 +1,4 @@
--- The objects of the table that a description becomes, in their order (confine's own; compare the Microkit user manual, "Concepts").
+-- Objects of the table that a description becomes, in their order (confine's own; compare the Microkit user manual, "Concepts").
 use Rattle.std.specs.{List.{list_any, range_with_len}, Option.{option_map_or}}
 use Rattle.std.specs.Prelude.{ℕ, ◌&&◌, ◌++◌, ◌==◌, ◌||◌, Bool, List, false, filter, length, map, true}
 use Rattle.microkit.specs.{Description.{Description, Domain, Machine}, Labels.{is_mapped as is_mapped_by}}
@@ -19,7 +19,6 @@ form_code form.Time = 7
 form_code form.ProcessorTime = 8
 form_code form.Frame = 9
 
--- two pieces are one
 abbrev pub same_piece : Piece → Piece → Bool
 same_piece one other = form_code one.form == form_code other.form && one.number == other.number
 
@@ -50,7 +49,7 @@ is_called d domain = is_called_by d.channels domain || (has_children d.domains d
 abbrev pub is_mapped : List Map → ℕ → Bool
 is_mapped maps region = is_mapped_by maps region
 
--- a piece of a form for each of so many numbers, and for those that pass a test
+-- a piece of a form for each of this many numbers, and for those that pass a test
 
 abbrev pub each : Form → ℕ → List Piece
 each form count = map (λ n. record { form = form; number = n }) (range_with_len 0 count)
@@ -66,7 +65,7 @@ holders_of d =
     ++ (each form.Main (length d.domains)
     ++ each form.Processor (length d.processors)))
 
--- the notifications, replies and endpoints. Each domain has a reply object, also where nobody calls it
+-- the notifications, replies and endpoints; each domain has a reply object, even if nobody calls it
 unfoldable pub messages_of : Description → List Piece
 messages_of d =
     each form.Bell (length d.domains)

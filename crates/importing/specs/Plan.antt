@@ -1,4 +1,4 @@
--- What each object is called, whose it is, and where the description has it (confine's own).
+-- Names, labels and lines of objects, by the description (confine's own).
 use Rattle.std.specs.{List.position, Option.{option_map_or}, Prelude.{ℕ, ◌&&◌, ◌==◌, Bool, List, Option, if◌then◌else◌, slice_get}}
 use Rattle.microkit.specs.{Description.{Description}, Labels.{line_of, may_call}}
 use Rattle.microkit.specs.declared.{description.{Channel.{Channel}, Processor.{Processor}}, labels.Subject.{Subject}, names.Part.{Part}}
@@ -21,7 +21,7 @@ processor_line d n = option_map_or (λ (processor : Processor). processor.line) 
 abbrev pub time_of : List Channel → ℕ → Subject
 time_of channels n = if may_call channels n then subject.Time n else subject.Domain n
 
--- what a piece has its label by
+-- the subject whose label a piece has
 unfoldable pub subject_of : Description → Piece → Subject
 subject_of d piece = by_form piece.form
   where
@@ -69,11 +69,10 @@ same_subject one other = subject_code one == subject_code other && subject_numbe
 abbrev pub label_of : List Subject → Subject → Option ℕ
 label_of subjects subject = position (λ (other : Subject). same_subject other subject) subjects
 
--- the line of a domain
 abbrev pub domain_line : Description → ℕ → ℕ
 domain_line d n = line_of d (subject.Domain n)
 
--- the line of what a piece is of
+-- the line of the element that a piece belongs to
 unfoldable pub piece_line : Description → Piece → ℕ
 piece_line d piece = by_form piece.form
   where

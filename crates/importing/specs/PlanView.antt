@@ -1,4 +1,4 @@
--- What a plan says, without where it lies in memory (confine's own).
+-- Plans as values, without where they lie in memory (confine's own).
 use Rattle.std.specs.{Global.Vec, Prelude.{List, map}}
 use Rattle.microkit.specs.{declared.description.Map.Map, LabelView.bytes_of, View.description_of}
 use Rattle.importing.specs.Built.{Plan}

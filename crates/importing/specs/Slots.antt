@@ -1,4 +1,4 @@
--- Which capability a slot of a domain's CNode has, but for the maps (Microkit user manual, "Concepts"; the slots are those of its library).
+-- The capability in each slot of a domain's CNode, except the maps (Microkit user manual, "Concepts"; the slots are those of its library).
 -- Each has the line of the element that it comes from.
 use Rattle.std.specs.{List.position, Option.{option_and_then, option_map_or}, Prelude.{ℕ, ◌&&◌, ◌+◌, ◌-◌, ◌==◌, ◌^◌, Bool, List, None}}
 use Rattle.std.specs.Prelude.{Option, Some, false, if◌then◌else◌, is_some, nat_lt, option_map, slice_get}
@@ -34,7 +34,7 @@ abbrev pub entry_held : Minting → ℕ → ℕ → ℕ → ℕ → Held
 entry_held minting line n rights badge =
     capability line form.Entry n (detail.Endpoint (record { rights = endpoint_rights minting rights; badge = badge }))
 
--- slot 1: what the domain receives from, which is its endpoint if it is called, else its notification
+-- slot 1: what the domain receives from: its endpoint if it is called, else its notification
 unfoldable pub input_held : Description → Minting → ℕ → Held
 input_held d minting n =
     if is_called d n then entry_held minting (domain_line d n) n 1 0 else bell_held minting (domain_line d n) n 1 0
@@ -110,7 +110,7 @@ abbrev pub processor_number : List Processor → ℕ → ℕ → Option ℕ
 processor_number processors n id =
     position (λ (processor : Processor). processor.id.domain == n && processor.id.number == id) processors
 
--- its thread, from the line of the virtual processor
+-- the thread of that virtual processor, from the line of the virtual processor
 unfoldable pub processor_held : Description → ℕ → ℕ → Option Held
 processor_held d n id =
     option_map (λ number. capability (processor_line d number) form.Processor number detail.Tcb)

@@ -17,7 +17,7 @@ use Rattle.importing.specs.{Built.{Plan, or_fault, pieces_added, started}, Grant
 use Rattle.importing.specs.{Groups.{line_at, places_of, uses_in}, Pieces.{pieces_of, same_piece}, Plan.piece_line}
 use Rattle.importing.specs.declared.pieces.Form.TheVariants as form
 
--- each subject has an object, and there are at most as many objects as a table may have
+-- each subject has an object, and the objects are no more than a table may have
 abbrev pub subject_beyond : Description → Option Subject → Result (Unit {0}) Fault
 subject_beyond d None = Ok tt
 subject_beyond d (Some subject) = Err (fault_at (line_of d subject) Limit)
@@ -25,7 +25,7 @@ subject_beyond d (Some subject) = Err (fault_at (line_of d subject) Limit)
 unfoldable pub subjects_fit : Description → List Subject → Result (Unit {0}) Fault
 subjects_fit d subjects = subject_beyond d (slice_get subjects MAX_OBJECTS)
 
--- there are at most as many labels as a table of version 2 may have
+-- the labels are no more than a table of version 2 may have
 abbrev pub label_beyond : Description → List Subject → Option ℕ → Result (Unit {0}) Fault
 label_beyond d subjects None = Ok tt
 label_beyond d subjects (Some place) = Err (fault_at (line_at subjects d place) Limit)
@@ -53,11 +53,11 @@ takes_cap t filled =
     && (may_hold (initial_of t filled.slot.holder) filled.cap.detail
     && (is_fitting t filled.cap && not (repeats_untyped t filled.cap))))
 
--- the table with a filled slot more, if it may take it
+-- the table with one more filled slot, if it may take it
 unfoldable pub cap_added : ℕ → Filled → Layout → Result Layout Fault
 cap_added line filled t = if takes_cap t filled then Ok (with_filled t filled) else Err (fault_at line UnknownName)
 
--- the table with a capability more
+-- the table with one more capability
 unfoldable pub grant_added : Description → List Piece → Grant → Layout → Result Layout Fault
 grant_added d pieces grant t = do
   holder ← or_fault (piece_line d grant.holder) UnknownName (piece_number pieces grant.holder)
@@ -73,7 +73,7 @@ grants_added d pieces (grant ∷ grants) t = grant_added d pieces grant t >>= λ
 abbrev pub bond_of : ℕ → Bond
 bond_of n = record { thread = record { form = form.Main; number = n }; context = record { form = form.Time; number = n } }
 
--- those of all domains; no virtual processor runs at boot
+-- the bindings of all domains; no virtual processor runs at boot
 abbrev pub bonds_of : Description → List Bond
 bonds_of d = map bond_of (range_with_len 0 (length d.domains))
 
@@ -108,7 +108,7 @@ unfoldable pub bonds_added : Description → List Piece → List Bond → Layout
 bonds_added d pieces [] t = Ok t
 bonds_added d pieces (bond ∷ bonds) t = bond_added d pieces bond t >>= λ next. bonds_added d pieces bonds next
 
--- a table of which the tree is tested, which has no pairs
+-- a table without pairs, after the test of its tree
 unfoldable pub finished : Layout → Result Layout Fault
 finished t = by (tree_fault (with_originals t))
   where
@@ -116,7 +116,6 @@ finished t = by (tree_fault (with_originals t))
     by None = Ok (with_originals t)
     by (Some pair) = Err (fault_at 0 Tree)
 
--- what the table is built up from
 abbrev pub plan_for : Description → List (List ℕ) → List Grant → Plan
 plan_for d names grants =
     record {

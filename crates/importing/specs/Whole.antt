@@ -1,4 +1,4 @@
--- The table of a description as whole lists: which objects, capabilities and bindings it has (confine's own).
+-- The table of a description as whole lists of objects, capabilities and bindings (confine's own).
 use Rattle.std.specs.Prelude.{[], ℕ, ◌++◌, ◌∷◌, ◌≡◌, List, Ok, Some, length, map, unwrap_or}
 use Rattle.machine.specs.{Layout.{Layout}, Objects.end_of, declared.layout.{Binding.Binding, Filled.Filled, Initial.Initial}}
 use Rattle.microkit.specs.{Description.{Description}, Labels.{names_of, subjects_of}}

@@ -27,12 +27,12 @@ use words::{Fault, Wrong, name_of};
 #[derive(Drop)]
 pub(crate) struct Plan<'a> {
     pub description: &'a Description,
-    /// What has a label or shares one, and what its objects are called by.
+    /// The parts that have a label or share one; their objects are called by them.
     pub subjects: Vec<Subject>,
     pub names: Vec<Vec<u8>>,
     /// The maps of each region, if some share a label.
     pub uses: Vec<Vec<Map>>,
-    /// What has a label of its own, by its places among the subjects.
+    /// The parts that have a label of their own, by their places among the subjects.
     pub places: Vec<usize>,
     pub labelled: Vec<Subject>,
     pub grants: Vec<Grant>,
@@ -90,7 +90,7 @@ impl Builder {
     ///
     /// # Errors
     ///
-    /// The first fault of a piece; 40 where memory is refused.
+    /// The first fault of a piece; 40 if memory is refused.
     #[tactic(auto, using(crate::proofs::Steps::none_left, crate::proofs::Steps::one_added, crate::proofs::Steps::one_refused))]
     pub(crate) fn add_pieces(
         &mut self,
@@ -178,7 +178,7 @@ impl Builder {
     }
 }
 
-// Whether one object more is within the limits, and ends within the addresses that there are.
+// Whether one more object is within the limits, and ends within the addresses that there are.
 fn is_within(draft: &Draft, object: &Object) -> bool
     ensures { result ≡ (has_room draft.now object.now && nat_le (end_of object.now) ADDRESS_END) }
 {
@@ -215,7 +215,7 @@ fn piece_label(plan: &Plan<'_>, piece: Piece) -> Option<usize>
     label_of(&plan.labelled, leader)
 }
 
-// The name of a piece's object, which goes by its own subject.
+// The name of a piece's object, by its own subject.
 fn piece_name(alloc: Global, plan: &Plan<'_>, piece: Piece) -> Result<Vec<u8>, AllocError>
     ensures { IfOk result (λ name. name.items ≡ piece_name (plan_of plan.now) piece) }
 {

@@ -1,4 +1,4 @@
-//! The capabilities that the CNodes of domains and virtual machines have.
+//! Capabilities in the CNodes of domains and virtual machines.
 ghost use Rattle.std.specs.{List.{filter_map, flat_map, range_with_len}, Prelude.{◌≡◌, ◌≤◌, IfOk, length}};
 ghost use Rattle.microkit.specs.View.{description_of};
 ghost use Rattle.importing.specs.Grants.{domain_grants, domain_root, grant, grants_of, guest_grants, guest_space_of};
@@ -93,7 +93,6 @@ fn slot_grants(
         .collect(alloc)
 }
 
-// What a domain's CNode has.
 #[tactic(auto, unfolding(crate::specs::Grants::domain_grants))]
 fn domain_grants(
     alloc: Global,
@@ -111,7 +110,6 @@ fn domain_grants(
     Ok(grants)
 }
 
-// What a virtual machine's CNode has.
 #[tactic(auto, unfolding(crate::specs::Grants::guest_grants))]
 fn guest_grants(
     alloc: Global,
@@ -125,7 +123,7 @@ fn guest_grants(
     numbered(alloc, guest_space_of(machine), 1, &found)
 }
 
-/// Returns what all CNodes have.
+/// Returns the capabilities in all CNodes.
 #[tactic(auto, unfolding(crate::specs::Grants::grants_of))]
 pub(crate) fn grants_of(
     alloc: Global,

@@ -1,4 +1,4 @@
-//! Which regions share a label, where a table would have more labels than it may.
+//! Regions that share a label, if a table would have more labels than it may.
 ghost use Rattle.std.specs.{List.{filter_map, list_all, list_any, range_with_len}, Option.{option_map_or}};
 ghost use Rattle.std.specs.Prelude.{[], ◌&&◌, ◌||◌, ◌==◌, ◌≡◌, false, filter, IfOk, length, map, not, position};
 ghost use Rattle.std.specs.Prelude.{slice_get, unwrap_or};
@@ -23,7 +23,7 @@ fn uses_of(alloc: Global, maps: &[Map], region: usize) -> Result<Vec<Map>, Alloc
         .collect(alloc)
 }
 
-// Whether what a user may do by a map it may also do by another one.
+// Whether a user may do by the other map all that it may do by the one.
 fn is_met_by(one: &Map, other: &Map) -> bool
     ensures { result ≡ is_met_by one.now other.now }
 {
@@ -42,7 +42,7 @@ fn are_met_by(uses: &[Map], others: &[Map]) -> bool
     uses.iter().all(|one| is_met(one, others))
 }
 
-// Whether by some maps the same users have the same rights as by others.
+// Whether the same users have the same rights by some maps as by others.
 #[tactic(auto, unfolding(crate::specs::Groups::are_alike))]
 fn are_alike(uses: &[Map], others: &[Map]) -> bool
     ensures { result ≡ are_alike uses.now others.now }
@@ -67,7 +67,7 @@ pub(crate) fn uses_in(
     }
 }
 
-// The maps of each of so many regions.
+// The maps of each of this many regions.
 #[tactic(auto, using(crate::proofs::Numbers::map_more, crate::proofs::Items::seen_more))]
 fn all_uses(alloc: Global, maps: &[Map], count: usize) -> Result<Vec<Vec<Map>>, AllocError>
     ensures { IfOk result (λ uses. maps_of uses.items ≡ map (uses_of maps.now) (range_with_len 0 count)) }
@@ -96,7 +96,7 @@ fn place_alike(uses: &[Vec<Map>], own: &[Map]) -> Option<usize>
     found_alike(uses, own)
 }
 
-// The same, of the maps as they lie in memory.
+// `place_alike`, stated of the maps as stored.
 fn found_alike(uses: &[Vec<Map>], own: &[Map]) -> Option<usize>
     ensures { result ≡ position (λ one. are_alike own.now one.items) uses.now }
 {
@@ -114,7 +114,7 @@ fn first_alike(uses: &[Vec<Map>], region: usize) -> usize
     }
 }
 
-/// Returns whose label a subject has: its own, or that of the first region like it.
+/// Returns the subject whose label a subject has: itself, or the first region like it.
 #[tactic(auto, unfolding(crate::specs::Groups::leader_of))]
 pub(crate) fn leader_of(uses: &[Vec<Map>], subject: Subject) -> Subject
     ensures { result ≡ leader_of (maps_of uses.now) subject }
@@ -169,7 +169,7 @@ pub(crate) fn leaders_at(
         .collect(alloc)
 }
 
-/// Returns what has a label of its own, in the order of the labels.
+/// Returns the subjects with a label of their own, in the order of the labels.
 ///
 /// These are all subjects, if there are at most 256. Otherwise regions that the same users map with
 /// the same rights share the label of the first of them.

@@ -1,7 +1,6 @@
-//! How a system description becomes a capability table.
+//! Tables of system descriptions: how each description becomes a capability table.
 //!
-//! `separation`, `sources`, `remarks` and the commands stand on it. It knows no policy, and no text
-//! of a table.
+//! The crate knows no policy, and no text of a table.
 #![tactic(auto)]
 
 mod builder;

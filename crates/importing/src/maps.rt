@@ -1,5 +1,5 @@
-//! What CNodes have in slots that follow one another: the maps of a domain, from slot 458 on, and
-//! what a virtual machine has.
+//! Capabilities in successive slots of CNodes: the maps of a domain, from slot 458 on, and all of a
+//! virtual machine's.
 ghost use Rattle.std.specs.Prelude.{[], ◌&&◌, ◌++◌, ◌==◌, ◌||◌, ◌≡◌, ◌≤◌, IfOk, length, map, not, take};
 ghost use Rattle.microkit.specs.View.{description_of};
 ghost use Rattle.importing.specs.Maps.{fault_of, faults_held, frame_held, frame_line, frame_rights, giving_map, guest_held};
@@ -29,7 +29,7 @@ fn user_number(user: User) -> usize
     }
 }
 
-/// Whether two users are one.
+/// Whether two users are the same.
 pub(crate) fn is_user(one: User, other: User) -> bool
     ensures { result ≡ is_user one other }
 {
@@ -68,7 +68,7 @@ fn gives_rights(one: &Map, user: User, region: usize, written: bool) -> bool
     is_user(one.user, user) && one.region == region && (one.writable || !written)
 }
 
-// The first such map.
+// The first map of a user that gives all the rights that the user has for a region.
 fn giving_map(maps: &[Map], user: User, region: usize) -> Option<usize>
     ensures { result ≡ giving_map maps.now user region }
 {
@@ -146,7 +146,7 @@ fn faults_held(
         .collect(alloc)
 }
 
-/// Returns what a virtual machine has: its maps, then an endpoint for each virtual processor.
+/// Returns the capabilities of a virtual machine: its maps, then an endpoint for each virtual processor.
 #[tactic(auto, unfolding(crate::specs::Maps::guest_held))]
 pub(crate) fn guest_held(
     alloc: Global,

@@ -1,4 +1,4 @@
-//! What the objects of a description are at boot, and where they lie.
+//! Objects of a description at boot, and where they lie.
 ghost use Rattle.std.specs.{List.list_all, Option.option_map};
 ghost use Rattle.std.specs.{Prelude.{◌%◌, ◌<◌, ◌^◌, ◌||◌, ◌≡◌, ◌≤◌, IfSome, None, Some, nat_lt, not, slice_get}};
 ghost use Rattle.base.specs.declared.limits.TheConstants.{ADDRESS_END};
@@ -19,7 +19,7 @@ use microkit::{Description, Schedule};
 
 /// Returns the object of a piece, at the next multiple of its size from an address on.
 ///
-/// The result is `None` where a limit of objects of its kind is passed.
+/// The result is `None` if a limit of objects of its kind is passed.
 #[tactic(auto, unfolding(crate::specs::Objects::object_of))]
 pub(crate) fn object_of(
     description: &Description,

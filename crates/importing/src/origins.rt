@@ -1,4 +1,4 @@
-//! What the objects and capabilities of the table of a description come from.
+//! Origins of the objects and capabilities in the table of a description.
 ghost use Rattle.std.specs.Prelude.{◌≡◌, IfOk};
 ghost use Rattle.microkit.specs.View.{description_of};
 ghost use Rattle.importing.specs.{Origins.origins_of, Pieces.pieces_of};
@@ -8,7 +8,7 @@ use crate::pieces::{Grant, Minting, Piece, pieces_of};
 use microkit::Description;
 use std::alloc::{AllocError, Global};
 
-/// What the objects and capabilities of the table of a description come from.
+/// The parts of a description that the objects and capabilities of its table come from.
 #[derive(Debug, Drop)]
 pub struct Origins {
     /// What each object is for, in the order of the table's objects.
@@ -17,13 +17,13 @@ pub struct Origins {
     pub grants: Vec<Grant>,
 }
 
-/// Returns what the objects and capabilities of a description's table come from.
+/// Returns the origins of the objects and capabilities of a description's table.
 ///
 /// The table is the one that [`table_of`](crate::table_of) returns for the same rights.
 ///
 /// # Errors
 ///
-/// [`AllocError`] where memory is refused.
+/// [`AllocError`] if memory is refused.
 pub fn origins_of(
     alloc: Global,
     description: &Description,

@@ -1,4 +1,4 @@
-//! The objects that a description becomes, and the capabilities that their holders have.
+//! Pieces: the objects that a description becomes, and the capabilities that their holders have.
 ghost use Rattle.std.specs.{List.{list_any, range_with_len}, Prelude.{◌++◌, ◌==◌, ◌≡◌, IfOk, filter, length, map}};
 ghost use Rattle.microkit.specs.{Description.{Domain as DomainOf, Machine as MachineOf}, View.description_of};
 ghost use Rattle.microkit.specs.View.{domain_of, machine_of};
@@ -19,7 +19,7 @@ pub enum Minting {
     All,
 }
 
-/// What an object is for.
+/// The purpose of an object.
 #[derive(Clone, Copy, Debug)]
 pub enum Form {
     /// The CNode of a domain.
@@ -83,7 +83,7 @@ pub struct Grant {
     pub line: u64,
 }
 
-/// Returns whether two pieces are one.
+/// Returns whether two pieces are the same.
 pub(crate) fn same_piece(one: Piece, other: Piece) -> bool
     ensures { result ≡ same_piece one other }
 {
@@ -118,7 +118,7 @@ fn holders_of(alloc: Global, description: &Description) -> Result<Vec<Piece>, Al
     Ok(pieces)
 }
 
-// The notifications, replies and endpoints. Each domain has a reply object, also where nobody calls it.
+// The notifications, replies and endpoints. Each domain has a reply object, even if nobody calls it.
 #[tactic(auto, unfolding(crate::specs::Pieces::messages_of))]
 fn messages_of(alloc: Global, description: &Description) -> Result<Vec<Piece>, AllocError>
     ensures { IfOk result (λ pieces. pieces.items ≡ messages_of (description_of description.now)) }
@@ -178,8 +178,7 @@ fn frames_of(alloc: Global, maps: &[Map], count: usize) -> Result<Vec<Piece>, Al
         .collect(alloc)
 }
 
-/// Returns whether a domain is called: by another one, or by a fault of a child or of a virtual
-/// machine.
+/// Returns whether a domain is called, by another one or by a fault of a child or of a virtual machine.
 #[tactic(auto, using(crate::proofs::Items::any_seen), unfolding(crate::specs::Pieces::is_called))]
 pub fn is_called(description: &Description, domain: usize) -> bool
     ensures { result ≡ is_called (description_of description.now) domain }
@@ -198,7 +197,6 @@ fn is_called_by(channels: &[Channel], domain: usize) -> bool
     })
 }
 
-// Whether a domain has children.
 fn has_children(domains: &[Domain], domain: usize) -> bool
     ensures { result ≡ list_any (λ one. has_parent domain (domain_of one)) domains.now }
 {
@@ -215,7 +213,6 @@ fn has_parent(one: &Domain, domain: usize) -> bool
     }
 }
 
-// Whether a domain has a virtual machine.
 fn has_guest(machines: &[Machine], domain: usize) -> bool
     ensures { result ≡ list_any (λ one. (machine_of one).domain == domain) machines.now }
 {

@@ -1,4 +1,4 @@
-//! What each object is called, whose it is, and where a description has it.
+//! Names, labels and lines of objects, by the description.
 ghost use Rattle.std.specs.{List.position, Prelude.{◌==◌, ◌≡◌, IfOk, map, string_bytes}};
 ghost use Rattle.microkit.specs.{declared.labels.Subject.Subject, LabelView.bytes_of, Labels.{line_of, may_call}};
 ghost use Rattle.microkit.specs.{Names.{object_name, part_word}, View.{description_of, domain_of, machine_of}};
@@ -10,7 +10,7 @@ use crate::pieces::{Form, Piece};
 use microkit::{Channel, Description, Part, Subject};
 use std::alloc::{AllocError, Global};
 
-/// Returns what a piece has its label by.
+/// Returns the subject whose label a piece has.
 #[tactic(auto, unfolding(crate::specs::Plan::subject_of))]
 pub(crate) fn subject_of(description: &Description, piece: Piece) -> Subject
     ensures { result ≡ subject_of (description_of description.now) piece }
@@ -121,7 +121,7 @@ pub(crate) fn label_of(subjects: &[Subject], subject: Subject) -> Option<usize>
         .position(|other| same_subject(*other, subject))
 }
 
-/// Whether two subjects are one.
+/// Whether two subjects are the same.
 pub(crate) fn same_subject(one: Subject, other: Subject) -> bool
     ensures { result ≡ same_subject one other }
 {
@@ -154,7 +154,7 @@ pub(crate) fn domain_line(description: &Description, domain: usize) -> u64
     line_of(description, Subject::Domain(domain))
 }
 
-/// Returns the line of the element that a piece is of.
+/// Returns the line of the element that a piece belongs to.
 ///
 /// It is the line of a domain, a virtual machine, a virtual processor or a region.
 #[tactic(auto, unfolding(crate::specs::Plan::piece_line))]

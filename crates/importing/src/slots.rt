@@ -1,4 +1,4 @@
-//! Which capability a slot of a domain's CNode has, but for the maps.
+//! The capability in each slot of a domain's CNode, except the maps.
 ghost use Rattle.std.specs.{List.position, Option.option_map_or};
 ghost use Rattle.std.specs.Prelude.{◌&&◌, ◌-◌, ◌<◌, ◌==◌, ◌^◌, ◌≡◌, IfSome, Some, is_some, nat_lt, slice_get};
 ghost use Rattle.base.specs.Rights.{rights_with};
@@ -16,7 +16,7 @@ use bitflags::Flags;
 use machine::{Badged, Detail};
 use microkit::{Channel, Description, Domain, End, Id, Processor};
 
-/// A capability: the object that it is for, and what else it says.
+/// A capability: the object that it is for, and its detail.
 #[derive(Clone, Copy, Debug)]
 pub struct Held {
     pub target: Piece,
@@ -131,7 +131,6 @@ fn every_right() -> Rights
     read_write().union(Rights::GRANT).union(Rights::GRANT_REPLY)
 }
 
-// A capability for a domain's notification.
 fn bell_held(minting: Minting, line: u64, domain: usize, rights: Rights, badge: u64) -> Held
     ensures { result ≡ bell_held minting line domain rights.0 badge }
 {
@@ -147,7 +146,6 @@ fn bell_held(minting: Minting, line: u64, domain: usize, rights: Rights, badge: 
     )
 }
 
-// A capability for a domain's endpoint.
 fn entry_held(minting: Minting, line: u64, domain: usize, rights: Rights, badge: u64) -> Held
     ensures { result ≡ entry_held minting line domain rights.0 badge }
 {

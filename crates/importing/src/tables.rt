@@ -1,4 +1,4 @@
-//! The table that a description becomes.
+//! Tables of descriptions: their capabilities and bindings are added to their objects.
 ghost use Rattle.std.specs.{List.{AllByRecursion, AllPairs, range_with_len}, Prelude.{◌≡◌, ◌≢◌, ◌≤◌, IfOk, Some}};
 ghost use Rattle.std.specs.Prelude.{length, map, position, true};
 ghost use Rattle.base.specs.declared.label.TheConstants.Label as LabelLimits;
@@ -31,14 +31,14 @@ pub(crate) struct Bond {
     pub context: Piece,
 }
 
-// The number of an object is the place of its piece.
+// The number of a piece's object: its place among the pieces.
 fn piece_number(pieces: &[Piece], piece: Piece) -> Option<usize>
     ensures { result ≡ piece_number pieces.now piece }
 {
     pieces.iter().position(|one| same_piece(*one, piece))
 }
 
-// The same, or the fault of an unknown name.
+// The number of a piece's object, or the fault of an unknown name.
 fn known_number(pieces: &[Piece], piece: Piece, line: u64) -> Result<usize, Fault>
     ensures { result ≡ or_fault line UnknownName (piece_number pieces.now piece) }
 {
@@ -192,7 +192,7 @@ fn add_bonds(
     Ok(())
 }
 
-// Each domain's thread with its context.
+// The bindings of each domain's thread to its context.
 fn bonds_of(alloc: Global, domains: usize) -> Result<Vec<Bond>, AllocError>
     ensures { IfOk result (λ bonds. bonds.items ≡ map bond_of (range_with_len 0 domains)) }
 {
@@ -210,7 +210,6 @@ fn bonds_of(alloc: Global, domains: usize) -> Result<Vec<Bond>, AllocError>
         .collect(alloc)
 }
 
-// The table of a draft.
 #[tactic(auto, unfolding(crate::specs::Tables::finished))]
 fn finish(draft: Draft) -> Result<Table, Fault>
     ensures { Reads (λ table. table) result (finished draft) }
@@ -240,7 +239,7 @@ fn fill_up(
     add_bonds(draft, description, pieces, &bonds)
 }
 
-// Each subject has an object, and a table has at most so many.
+// Checks that there are no more subjects than a table may have objects: each has one.
 #[tactic(auto, unfolding(crate::specs::Tables::subjects_fit))]
 fn check_subjects(description: &Description, subjects: &[Subject]) -> Result<(), Fault>
     ensures { result ≡ subjects_fit (description_of description.now) subjects.now }
@@ -251,7 +250,7 @@ fn check_subjects(description: &Description, subjects: &[Subject]) -> Result<(),
     }
 }
 
-// A table has at most so many labels.
+// Checks that there are no more labels than a table may have.
 #[tactic(auto, unfolding(crate::specs::Tables::labels_fit))]
 fn check_labels(
     description: &Description,
@@ -267,7 +266,6 @@ fn check_labels(
     }
 }
 
-// The plan of a description.
 #[tactic(auto, unfolding(crate::specs::Tables::planned, crate::specs::Groups::labelled_of, words::specs::Reading::bind))]
 fn planned(alloc: Global, description: &Description, minting: Minting) -> Result<Plan<'_>, Fault>
     ensures exact { Reads (λ plan. plan_of plan) result (planned (description_of description.now) minting) }
@@ -315,7 +313,6 @@ fn objects_by(alloc: Global, plan: &Plan<'_>, pieces: &[Piece]) -> Result<Draft,
     }
 }
 
-// The table of a plan.
 #[tactic(auto, unfolding(crate::specs::Tables::table_by, words::specs::Reading::bind))]
 fn table_by(alloc: Global, plan: &Plan<'_>, pieces: &[Piece]) -> Result<Table, Fault>
     requires names { AllByRecursion IsLabelName (labels_at (bytes_of plan.now.names.items) plan.now.places.items) }
@@ -339,13 +336,13 @@ fn table_by(alloc: Global, plan: &Plan<'_>, pieces: &[Piece]) -> Result<Table, F
 /// # Errors
 ///
 /// The fault and its line: 54 for the first label, object, slot, thread, address or share of time that
-/// passes a limit of tables, and for a CNode that needs more than 4,096 slots; 51 where a capability
-/// or a binding is of an object that the table doesn't have or of another kind, and 52 where two
-/// virtual processors of a virtual machine have one id, none of which a description has that was
-/// read. 40 at line 0 where memory is refused.
+/// passes a limit of tables, and for a CNode that needs more than 4,096 slots; 51 if a capability
+/// or a binding is of an object that the table doesn't have or of another kind, and 52 if two
+/// virtual processors of a virtual machine have one id: no description that was read has either.
+/// 40 at line 0 if memory is refused.
 #[tactic(auto, using(crate::proofs::Whole::table_whole))]
 pub fn table_of(alloc: Global, description: &Description, minting: Minting) -> Result<Table, Fault>
-    // Which table it is, or which fault is the first.
+    // The table, or the first fault.
     ensures exact { Reads (λ table. table) result (table_at (description_of description.now) minting) }
     // The table as whole lists.
     ensures whole { IfOk result (λ table. IsTableOf (description_of description.now) minting table) }

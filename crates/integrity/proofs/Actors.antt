@@ -1,4 +1,4 @@
--- What follows where only labels that may act have calls that aren't refused; and which labels may act.
+-- Labels that may act: only their threads change objects, if all calls of other labels are refused.
 use Rattle.std.proofs.Common.{ℕ, ◌≡◌, ◌⊎◌, Some, inl, inr, refl, subst, sym, true}
 use Rattle.base.specs.declared.{ids.ObjId.ObjId, kind.Kind.Kind as authority}
 use Rattle.machine.specs.{declared.call.{Event.Event, Outcome.Outcome}, Authority.label_of, Layout.Layout, Machine.Machine}
@@ -8,7 +8,7 @@ use Rattle.policy.specs.{Domain.EdgeTest, Sharp.UsesRise}
 use Rattle.integrity.specs.{Acting.{MayAct, Starts, MayAct.{started, starts}}, Apart.NeverChanges, Safe.{IsReached, RefusesOthers}}
 use Rattle.integrity.{specs.Shrinks.IsSame, proofs.Asleep.acts_of}
 
--- where uses rise, a label controls what a label that it controls controls
+-- a label controls what a label that it controls controls, if uses rise
 pub acts_by_control :
     (t : Layout) (allowed : EdgeTest) → UsesRise allowed → {a : ℕ} → MayAct t allowed a
     → Starts t a ⊎ ((b : ℕ) × Starts t b × (allowed b authority.Control a ≡ true))
@@ -31,7 +31,6 @@ pub control_acts :
 control_acts t allowed a (inl from_boot) = starts from_boot
 control_acts t allowed a (inr above) = started (starts above.1) above.2
 
--- a refused step leaves each object as it was
 refused_same :
     (m next : Machine) (event : Event) (outcome : Outcome) (id : ObjId) → Step m event outcome next → IsRefused outcome
     → IsSame m next id
@@ -40,7 +39,7 @@ refused_same m next event outcome id step refused =
     (record { content = refl; queue = refl; words = refl; slots = λ index. refl })
 
 module _ (t : Layout) (allowed : EdgeTest) (refuses : RefusesOthers t allowed) where
-  -- so a step that changes an object is of a label that may act
+  -- a step that changes an object is of a label that may act
   pub change_acts :
       (m next : Machine) (event : Event) (outcome : Outcome) (id : ObjId) → IsReached t m → Step m event outcome next
       → ¬ IsSame m next id → (a : ℕ) × (label_of t m event.thread ≡ Some a) × MayAct t allowed a

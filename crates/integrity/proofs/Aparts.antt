@@ -1,4 +1,4 @@
--- Where the bounds are kept, labels are kept apart: an object has one label, before a step or, if it is made, after it.
+-- Labels are kept apart by the bounds on steps: an object has one label, before a step or, if it is made, after it.
 use Rattle.std.proofs.{Common.{ℕ, ◌∙◌, ◌≡◌, ◌⊎◌, Some, inl, inr, subst, sym}, lemmas.Option.{none-some, same_Some}}
 use Rattle.base.specs.declared.ids.ObjId.{ObjId}
 use Rattle.machine.specs.{declared.call.Event.Event, Authority.label_of, Layout.Layout, Machine.Machine}
@@ -7,7 +7,6 @@ use Rattle.integrity.specs.{Acting.HoldsOfActors, Allowed.IsLabelled, Altered.{I
 use Rattle.integrity.specs.{Apart.{NeverChanges, OnlyTakes}, Safe.KeepsNarrowBounds, Shrinks.{IsSame, Shrinks}}
 use Rattle.integrity.proofs.ObjectLabels.{labelled_there}
 
--- two labels of an object are one
 one_label :
     (t : Layout) (m next : Machine) (id : ObjId) (one other : ℕ) → IsLabelled t m next id one → IsLabelled t m next id other
     → one ≡ other

@@ -1,4 +1,4 @@
--- A message's capability arrives within the authority of who sends it and of who receives it: over an endpoint by which the one
+-- The arrival of a message's capability is within the authority of its sender and of its receiver: over an endpoint by which the one
 -- may grant to the other, either may make it arrive.
 use Rattle.std.proofs.{Common.{ℕ, ◌∙◌, ◌≡◌, ◌⊎◌, Err, Ok, Option, Result, Some, ap, inl, inr, refl, sym, true}, lemmas.Option.same_Some}
 use Rattle.base.specs.declared.{ids.ObjId.ObjId, kind.Kind.{Kind, Kind as authority}, refusal.Cause.Cause}
@@ -39,7 +39,7 @@ module _
     target : IsControlled t allowed m b ends.target.holder
     target = led_controlled t allowed m held closed.uses_rise b receiver done.to ends.target gets done.leads_to
 
-    -- what the capability gives the sender has, so the receiver has it, and so has the CNode
+    -- the sender has what the capability gives, so the receiver has it, and so has the CNode
     edges :
         (k : Kind) (to : ℕ) → gives ends.held.detail k ≡ true → label_of t m ends.held.object ≡ Some to
         → allowed target.label k to ≡ true

@@ -9,13 +9,13 @@ use Rattle.integrity.specs.Awake.{IsAsleep, OthersSleep, SleepsOrActs}
 use Rattle.integrity.specs.{Acting.MayAct, Shrinks.{IsBlocked, Lessens, LosesLink, Shrinks, Stops, Lessens.{as_it_was, freed, released}}}
 use Rattle.integrity.{specs.Shrinks.{Lessens.unbound, Stops.{aborted, goes_on, halted}}, proofs.Shrinking.same_tcb}
 
--- an object has one label, and where that may act, each label of the object may
+-- an object has one label, so each of its labels may act if one may
 pub acts_of :
     (t : Layout) (allowed : EdgeTest) (m : Machine) (id : ObjId) (label : ℕ) → label_of t m id ≡ Some label
     → MayAct t allowed label → (a : ℕ) → label_of t m id ≡ Some a → MayAct t allowed a
 acts_of t allowed m id label labelled acts a at = subst (MayAct t allowed) (same_Some label a (sym labelled ∙ at)) acts
 
--- a thread that stays as it is sleeps on, or still is of a label that may act
+-- an unchanged thread sleeps on, or still is of a label that may act
 pub sleeps_on :
     (t : Layout) (allowed : EdgeTest) (m next : Machine) (id : ObjId) (thread : Tcb) → label_of t next id ≡ label_of t m id
     → SleepsOrActs t allowed m id thread → SleepsOrActs t allowed next id thread
@@ -30,7 +30,7 @@ not_blocked thread (inr ready) blocked = subst IsBlocked ready.0 blocked
 pub asleep_waits : (thread : Tcb) (receiving : Receiving) → IsAsleep thread → thread.state ≡ state.Receiving receiving → ⊥
 asleep_waits thread receiving asleep waits = not_blocked thread asleep (subst IsBlocked (sym waits) tt)
 
--- so a blocked thread is of a label that may act
+-- a blocked thread is of a label that may act
 pub blocked_acts :
     (t : Layout) (allowed : EdgeTest) (m : Machine) (id : ObjId) (thread : Tcb) → OthersSleep t allowed m
     → object_of m id ≡ Some (o.Tcb thread) → IsBlocked thread.state → (label : ℕ) → label_of t m id ≡ Some label
@@ -45,7 +45,7 @@ pub unbound_sleeps : (thread : Tcb) → IsAsleep thread → IsAsleep (record thr
 unbound_sleeps thread (inl inactive) = inl inactive
 unbound_sleeps thread (inr ready) = inr (ready.0, refl)
 
--- and where it only loses links
+-- a thread that sleeps still sleeps if it only loses links
 
 stops_asleep : (old new : Tcb) → Stops old new → LosesLink old.context new.context → IsAsleep old → IsAsleep new
 stops_asleep old new (goes_on same inbox) link (inl inactive) = inl (same ∙ inactive)

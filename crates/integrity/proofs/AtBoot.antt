@@ -1,4 +1,4 @@
--- The boot state of a table belongs to it: in particular the label of untyped memory is found by any address in it.
+-- The boot state of a table belongs to it: in particular, any address in untyped memory gives the memory's label.
 use Rattle.machine.specs.Machine.{object_of}
 use Rattle.std.proofs.Common.{ℕ, ◌&&◌, ◌<◌, ◌∙◌, ◌≡◌, ◌≢◌, ◌≤◌, Bool, None, Option, Some, ap, arith, false, find, inl, inr, nat_le, nat_lt}
 use Rattle.std.proofs.{Common.{option_map, refl, slice_get, subst, sym, true}, lemmas.Bool.{and_from, and_parts, cases_order, le-leb}}
@@ -106,7 +106,6 @@ bound_memory :
 bound_memory t id (o.Untyped _) memory e = sym e
 bound_memory t id _ memory e = cc
 
--- a thread lends nothing at boot
 bound_lends :
     (t : Layout) (id : ObjId) (object : Object) (thread : Tcb) (context : ObjId) → IsBlank object
     → o.Tcb thread ≡ bound t id object → context_lent thread.state ≡ Some context → ⊥
@@ -122,7 +121,7 @@ bound_thread_is :
 bound_thread_is t id (o.Tcb tcb) thread e = (tcb, refl, same_tcb thread (record tcb { context = bound_context t id }) e)
 bound_thread_is t id _ thread e = cc
 
--- at boot a thread sleeps, or its label acts from boot on
+-- a thread sleeps at boot, or its label acts from boot on
 pub boot_asleep : (t : Layout) (allowed : EdgeTest) (m : Machine) → IsLawful t → IsBoot t m → OthersSleep t allowed m
 boot_asleep t allowed m lawful boot id thread at =
     let declared = declared_at t m boot id (o.Tcb thread) at in
@@ -232,7 +231,7 @@ boot_idlers t allowed m lawful boot id thread receiving at waits none label labe
     subst IsBlank is.1 (initial_lawful t lawful id declared.initial declared.declares).blank in
     absurd (subst IsAtRest (ap (λ (x : Tcb). x.state) (sym is.2) ∙ waits) blank.0)
 
--- nor is a context lent
+-- no context is lent at boot
 pub boot_borrowers : (t : Layout) (allowed : EdgeTest) (m : Machine) → IsLawful t → IsBoot t m → BorrowersMayIdle t allowed m
 boot_borrowers t allowed m lawful boot id lent lends = by_content (object_of m id) refl where
   by_content : (content : Option Object) → object_of m id ≡ content → IsIdleBorrower t allowed m lent

@@ -1,4 +1,4 @@
--- Who waits acts: the label of a blocked thread may act and may have threads, so that each test of those who act holds of it.
+-- Blocked threads act: the label of each may act and may have threads, so each test that holds of all such labels holds of it.
 use Rattle.std.proofs.Common.{ℕ, ◌∙◌, ◌≡◌, Bool, None, Option, Some, ap, false, find, if◌then◌else◌, inl, inr, length, nat_lt}
 use Rattle.std.proofs.{Common.{option_and_then, option_map, refl, sym, true}, lemmas.Option.{none-some, same_Some}}
 use Rattle.base.specs.declared.ids.ObjId.{ObjId}
@@ -18,7 +18,7 @@ memory_kind initial address has = by initial.object refl where
   by (o.Untyped memory) is = refl
   by _ is = let seen : has_memory_at address initial ≡ false = rw is refl in cc
 
--- what a label of initial objects comes from
+-- the initial object that a label comes from
 some_label :
     (found : Option Initial) (label : ℕ) → option_map (λ (i : Initial). i.label) found ≡ Some label
     → (initial : Initial) × (found ≡ Some initial) × (initial.label ≡ label)

@@ -1,4 +1,4 @@
--- What a thread lent: it runs on it, a finalised thread lends nothing anew, and a borrower whose label may idle stays one.
+-- Loans of contexts: a thread runs on what it lent, a finalised thread lends nothing anew, and a borrower whose label may idle stays one.
 use Rattle.std.proofs.Common.{◌≤◌}
 use Rattle.std.proofs.Common.{ℕ, ◌≡◌, Bool, Some, ap, arith, cond, false, option_map, true}
 use Rattle.std.proofs.lemmas.Option.{none-some}
@@ -38,7 +38,7 @@ finalised_lends m vanished (o.Tcb tcb) lent e =
     halted_lends vanished tcb (is_halted vanished tcb.state) (is_aborted vanished tcb.state) lent e
 finalised_lends m vanished _ lent e = absurd (none-some lent e)
 
--- a borrower stays one where no number is given back, and it has no other label
+-- a borrower stays one if no number is given back, and has no other label
 pub borrower_stays :
     (t : Layout) (allowed : EdgeTest) (m next : Machine) (lent : Lent) → m.next ≤ next.next
     → ((label : ℕ) → label_of t next lent.borrower ≡ Some label → label_of t m lent.borrower ≡ Some label)

@@ -1,5 +1,4 @@
--- A step bounded by who may act is an allowed one: what may be changed is within full authority, and what may shrink within cut or full
--- authority.
+-- Steps bounded by the labels that act are allowed ones: changes are within full authority, and losses within cut or full authority.
 use Rattle.std.proofs.Common.{ℕ, ◌⊎◌, inl, inr}
 use Rattle.base.specs.declared.ids.ObjId.{ObjId}
 use Rattle.machine.specs.{declared.call.Event.Event, Layout.Layout, Machine.Machine}

@@ -1,5 +1,5 @@
--- What goes with capabilities that a label may remove is for objects that a label reaches which it controls: where that reaches a CNode
--- it may use what the CNode holds, and where it reaches a thread the label controls the thread too, which reaches its space.
+-- Capabilities that go with those that a label may remove are for objects within the reach of a label that it controls: through a CNode
+-- that label may use what the CNode holds, and of a thread the remover controls the label, which reaches the thread's space.
 use Rattle.std.proofs.Common.{ℕ, ◌<◌, ◌∙◌, ◌≡◌, ◌≢◌, ◌⊎◌, Bool, Some, ap, arith, false, inl, inr, option_map, refl, subst, sym, true}
 use Rattle.std.proofs.lemmas.Option.{same_Some}
 use Rattle.base.specs.{declared.{ids.{ObjId.ObjId, SlotRef.SlotRef}, kind.Kind.{Kind, Kind as authority}}, Kinds.is_structural}
@@ -36,13 +36,13 @@ of_use kind.Context = refl
 of_use kind.Frame = refl
 of_use kind.Control = refl
 
--- what a label may do that another controls, that one may do
+-- a label may do what a label that it controls may do
 pub rises :
     (allowed : EdgeTest) → UsesRise allowed → (a b : ℕ) → allowed a authority.Control b ≡ true
     → (k : Kind) → is_structural k ≡ false → (to : ℕ) → allowed b k to ≡ true → allowed a k to ≡ true
 rises allowed rise a b control k plain to = rise a b k (record { domain = inr control; of_use = plain }) to
 
--- what has slots is a CNode or a thread
+-- a CNode or a thread
 
 abbrev pub HasSlots : Machine → ObjId → Type 0
 HasSlots m id = (kind_of m id ≡ Some kind.CNode) ⊎ (kind_of m id ≡ Some kind.Tcb)
@@ -82,7 +82,7 @@ module _
     over_is : (k : ObjectKind) → kind_of m slot.holder ≡ Some k → over.of_kind ≡ k
     over_is k is = same_Some over.of_kind k (sym over.is ∙ is)
 
-    -- what a CNode holds the label may use that is controlled
+    -- the controlled label may use what a CNode holds
     from_node : kind_of m slot.holder ≡ Some kind.CNode → allowed over.controlled (use_of (kind_of_detail held.detail)) to.0 ≡ true
     from_node node =
         closed.uses_rise over.controlled over.label used (record { domain = domain over.reach; of_use = plain }) to.0
@@ -107,7 +107,7 @@ module _
         (ap (λ k. allowed over.controlled (use_of k) over.label) (sym (over_is kind.Tcb thread)) ∙ has)
     thread_control thread (inr space) = let two : kind.CNode ≡ kind.Tcb = sym space.0 ∙ over_is kind.Tcb thread in cc
 
-    -- and its space is reached
+    -- an object with slots hands the reach on to what they hold
     hands_on : HasSlots m slot.holder → Reached held.object
     hands_on (inl node) = record {
       controlled = over.controlled;
@@ -157,7 +157,7 @@ module _
       let goes = (gone_decided m chosen loses.last).0 (loses.all loses.last loses.final loses.there loses.its_own) in
       subst Reached loses.its_own (gone_reached goes loses.final loses.there)
 
-  -- which, but for a CNode, a label may use that is controlled
+  -- the controlled label may use an object that is reached, unless it is a CNode
   pub reached_used :
       (id : ObjId) (k : ObjectKind) (label : ℕ) → kind_of m id ≡ Some k → k ≢ kind.CNode → (at : IsInReach t allowed a m id)
       → label_of t m id ≡ Some label → allowed at.controlled (use_of k) label ≡ true
@@ -171,7 +171,7 @@ module _
         ∙ ap (allowed at.controlled (use_of at.of_kind)) (same_Some label at.label (sym labelled ∙ at.labelled)) ∙ has
     by_way (inr space) = absurd (other (sym one ∙ space.0))
 
-  -- and so may the label
+  -- a may use an object that vanishes, unless it is a CNode
   pub vanished_used :
       (id : ObjId) (k : ObjectKind) (label : ℕ) → kind_of m id ≡ Some k → k ≢ kind.CNode → vanishes m chosen id ≡ true
       → label_of t m id ≡ Some label → allowed a (use_of k) label ≡ true
@@ -185,7 +185,7 @@ module _
     by_control : (k : Kind) → is_removed k ≡ true → allowed at.controlled k at.label ≡ true → WayToAlter allowed acts a at.label
     by_control k removing has = inr (controls (removes at.controlled k removing at.control has))
 
-    -- what the controlled label may do, a may do
+    -- a may do what the controlled label may do
     may_too : (k : Kind) → is_structural k ≡ false → allowed at.controlled k at.label ≡ true → allowed a k at.label ≡ true
     may_too k plain has = rises allowed closed.uses_rise a at.controlled at.control k plain at.label has
 

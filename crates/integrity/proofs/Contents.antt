@@ -1,5 +1,5 @@
--- Contents that a thread, a notification, a reply and a scheduling context may get in a step, and a change that a label may make, and
--- one by which an object only shrinks.
+-- Contents that a thread, a notification, a reply and a scheduling context may get in a step: by a change that a label may make, or by
+-- one that only shrinks the object.
 use Rattle.std.proofs.Common.{ℕ, ◌+◌, ◌<◌, ◌∙◌, ◌≡◌, ◌⊎◌, List, Some, ap, inl, inr, refl, subst, sym, true}
 use Rattle.base.specs.declared.{ids.ObjId.ObjId, kind.Kind.Kind}
 use Rattle.base.specs.declared.kind.Kind.TheVariants as authority
@@ -24,14 +24,14 @@ pub changed :
 changed t allowed began a m next id label labelled may awake =
     record { label = label; labelled = inl labelled; may = inl (record { actor = awake.actor; way = may awake }) }
 
--- the label may make the object's smaller, and it shrinks
+-- the label may make the object's smaller, and the object shrinks
 pub shrunk :
     (t : Layout) (allowed : EdgeTest) (began : Machine) (a : ℕ) (m next : Machine) (id : ObjId) (label : ℕ)
     → label_of t m id ≡ Some label → Takes t allowed began a label → Shrinks m next id → Alters t allowed began a m next id
 shrunk t allowed began a m next id label labelled may shrinks awake =
     record { label = label; labelled = inl labelled; may = inr (record { actor = awake.actor; way = may awake }, shrinks) }
 
--- .. as it only loses links
+-- the object shrinks, since it only loses links
 pub loses_links :
     (t : Layout) (allowed : EdgeTest) (began : Machine) (a : ℕ) (m : Machine) (id : ObjId) (label : ℕ) (old new : Object)
     → label_of t m id ≡ Some label → Takes t allowed began a label → object_of m id ≡ Some old → Lessens old new
@@ -40,8 +40,8 @@ loses_links t allowed began a m id label old new labelled take there less thread
     shrunk t allowed began a m (with_object m id new) id label labelled take (lessened m id old new threads there queue less)
 
 module _ (t : Layout) (allowed : EdgeTest) (began : Machine) (event : Event) (a : ℕ) (m : Machine) (id : ObjId) where
-  -- a thread stays where it is, each link was there or is in the policy, the number of what it lent was given out, its label may idle if it
-  -- waits for a message without a context, and so may that of whom it lent one, and it sleeps, or its label may act
+  -- a thread stays where it is, each link was there or is in the policy, and what it lent has a number that was given out; its label may
+  -- idle if it waits for a message without a context, and so may that of its borrower; and it sleeps, or its label may act
   pub tcb_fits :
       (old new : Tcb) → object_of m id ≡ Some (o.Tcb old) → new.address ≡ old.address
       → ((end : ObjId) (k : Kind) → links (o.Tcb new) k end ≡ true

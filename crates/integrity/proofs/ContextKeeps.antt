@@ -35,7 +35,7 @@ module _
     context : (context : Context) × (object_of m id ≡ Some (o.Context context))
     context = context_of_kind (object_of m id) (found_kind sound.well_formed finds)
 
-    -- so it may get a thread that the label controls
+    -- it may get a thread that the label controls
     may_link : (thread : ℕ) → allowed a authority.Control thread ≡ true → IsOpened t allowed m m a id
     may_link thread controls = record {
       label = to_context.label;
@@ -43,7 +43,7 @@ module _
       has = λ awake. shares (binds thread may_use controls);
     }
 
-  -- a context is configured, where the event may do so
+  -- a context is configured, if the event may do so
   pub configure_keeps :
       (control address budget period : ℕ) → (done : ConfigureDone m caller control address budget period next)
       → MayConfigure t allowed m event done.id → Keeps t allowed m event a m next

@@ -1,5 +1,5 @@
--- The changes by which a thread and a scheduling context are linked, and are so no more, keep what a part of a call keeps, where the
--- labels of the two allow it; and so does a context that goes over from a thread to another.
+-- Changes that link a thread and a scheduling context, end the link, or hand the context to another thread: each keeps what a part of a
+-- call keeps, if the labels of the two allow it.
 use Rattle.std.proofs.Common.{ℕ, ◌∙◌, ◌≡◌, ◌≢◌, ◌⊎◌, List, None, Option, Some, ap, inl, inr, refl, subst, sym, true}
 use Rattle.std.proofs.lemmas.Option.{none-some, same_Some}
 use Rattle.base.specs.declared.{ids.ObjId.ObjId, kind.Kind.Kind}
@@ -41,11 +41,11 @@ set_here m id new = object_of-with_object m id new id ∙ at_itself id (Some new
 set_beside : (m : Machine) (id q : ObjId) (new : Object) → q ≢ id → object_of (with_object m id new) q ≡ object_of m q
 set_beside m id q new apart = object_of-with_object m id new q ∙ at_other q id (Some new) (object_of m q) apart
 
--- if the step's label may act, so may the label of a thread
+-- the label of a thread may act if the step's label may act
 abbrev pub ActsAt : Layout → EdgeTest → Machine → ℕ → Machine → ObjId → Type 0
 ActsAt t allowed began a m thread = IsAwake t allowed began a → (label : ℕ) → label_of t m thread ≡ Some label → MayAct t allowed label
 
--- a thread may come to run on a context: it does so, or the policy has the edge
+-- a thread may run on a context: it does so already, or the policy has the edge
 abbrev pub MayRun : Layout → EdgeTest → Machine → ObjId → Tcb → ObjId → Type 0
 MayRun t allowed m thread tcb context =
     (links (o.Tcb tcb) authority.Runs context ≡ true)
@@ -86,7 +86,7 @@ module _
       ]
       within end k is = inl is
 
-  -- and the context gets another thread, or none
+  -- the context gets another thread, or none
   pub linked_keeps :
       (id thread : ObjId) (context : Context) (tcb : Tcb) (link back : Option ObjId) → object_of m id ≡ Some (o.Context context)
       → IsThread m thread tcb
@@ -115,7 +115,7 @@ module _
       set_beside m thread id (o.Tcb (runs_on tcb link)) (apart_by_kind m id thread context tcb its there) in
       changed t allowed began a mid next id may.label (same_label t m mid id beside ∙ may.labelled) may.has
 
-  -- or it may make it smaller, and the context only loses its thread
+  -- the label may make the context smaller, and the context only loses its thread
   pub context_loses :
       (id thread : ObjId) (context : Context) (tcb : Tcb) (link : Option ObjId) (label : ℕ)
       → object_of m id ≡ Some (o.Context context) → IsThread m thread tcb → label_of t m id ≡ Some label

@@ -1,5 +1,4 @@
--- An empty slot gets a capability, which keeps what a part of a call keeps if the policy has the capability's edges and its pair
--- of the tree.
+-- Filling an empty slot keeps what a part of a call keeps, if the policy has the capability's edges and that of its pair in the tree.
 use Rattle.std.{specs.Prelude.if◌then◌else◌, proofs.Common.{ℕ, ◌∙◌, ◌≡◌, ◌≢◌, ◌⊎◌, Bool, None, Option, Some, ap, false, inl, inr, refl}}
 use Rattle.std.proofs.{Common.{subst, sym, true}, lemmas.{Bool.false≢true, Option.same_Some}}
 use Rattle.base.specs.{declared.{ids.{ObjId.ObjId, SlotRef.SlotRef}, kind.Kind.{Kind, Kind as authority}}, Kinds.is_structural}
@@ -39,7 +38,7 @@ pub record MayFill
       (above : SlotRef) (from : ℕ) → parent ≡ Some above → label_of t m above.holder ≡ Some from
       → allowed from authority.Derive label ≡ true
 
--- a CNode of a label may have the capability, where the policy has its edges from that label, and the label may keep any
+-- a CNode of a label may have the capability, if the policy has its edges from that label, and the label may keep any
 pub in_node :
     (t : Layout) (allowed : EdgeTest) (m : Machine) (slot : SlotRef) (new : Cap) (label : ℕ)
     → kind_of m slot.holder ≡ Some kind.CNode → label_of t m slot.holder ≡ Some label
@@ -53,7 +52,7 @@ in_node t allowed m slot new label is_node labelled edges keeps =
       λ from begins. subst (MayKeep t allowed) (same_Some label from (sym labelled ∙ begins)) keeps,
     )
 
--- a copy's label is one that its source's may derive to; then the label of its parent may
+-- the label of a copy's parent may derive to a label to which the source's may derive
 pub copy_derives :
     (t : Layout) (allowed : EdgeTest) (m : Machine) → IsHeld t allowed m → DerivesOn allowed
     → (source : SlotRef) (held : Cap) (at to : ℕ) → label_of t m source.holder ≡ Some at → allowed at authority.Derive to ≡ true

@@ -1,4 +1,4 @@
--- What grows doesn't shrink.
+-- Gains of an object are no shrinking: a word, a budget, a member, a capability, a message, a link, memory or a wait.
 use Rattle.std.proofs.Common.{◌<◌, ◌∙◌, ◌≡◌, ◌≢◌, ◌≤◌, ◌⊎◌, List, None, Some, ap, arith, inl, inr, length, subst, sym}
 use Rattle.std.proofs.lemmas.Option.{none-some, same_Some}
 use Rattle.base.specs.declared.ids.{ObjId.ObjId, SlotRef.SlotRef}
@@ -82,7 +82,7 @@ queue_grows m next id object old new there was is longer (inr less) =
     let le' : length new ≤ length old = rw (sym before, sym after) le in
     omega (arith, longer, le')
 
--- what is there after shrinking was there before, and has less
+-- a part that is left after shrinking was there before, and has less
 left_over :
     (m next : Machine) (id : ObjId) (object : Object) → object_of next id ≡ Some object → Shrinks m next id → HasLess m next id
 left_over m next id object there (inl gone) = absurd (none-some object (sym gone ∙ there))

@@ -6,14 +6,14 @@ use Rattle.machine.specs.WellFormed.{IsWellFormed}
 use Rattle.policy.specs.Domain.{EdgeTest}
 use Rattle.integrity.specs.Invariant.{IsBare, IsHeld, IsSound}
 
--- what only an object that is there has, one that isn't there hasn't
+-- what only a present object has, an absent one hasn't
 missing :
     {X : Type 0} (m : Machine) (id : ObjId) (part : Option X) → object_of m id ≡ None
     → ((x : X) → part ≡ Some x → (object : Object) × (object_of m id ≡ Some object)) → part ≡ None
 missing m id None absent there = refl
 missing m id (Some x) absent there = let object = there x refl in absurd (none-some object.0 (sym absent ∙ object.1))
 
--- an object that isn't there has nothing
+-- an absent object has nothing
 pub bare_of : (m : Machine) → IsWellFormed m → (id : ObjId) → object_of m id ≡ None → IsBare m id
 bare_of m formed id absent = record {
   queue = missing m id (queue_of m id) absent (λ threads at. formed.parts.queue_of_object id threads at);

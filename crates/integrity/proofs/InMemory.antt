@@ -1,4 +1,4 @@
--- What lies in the range of untyped memory has the label of that memory.
+-- Objects in the range of untyped memory have the label of that memory.
 use Rattle.std.proofs.Common.{ℕ, ◌+◌, ◌<◌, ◌∙◌, ◌≡◌, ◌≢◌, ◌≤◌, Bool, None, Option, Some, ap, arith, false, if◌then◌else◌, length, nat_lt}
 use Rattle.std.proofs.{Common.{option_and_then, option_map, refl, sym, true}, lemmas.{Nat.pow_pos, Option.{none-some, same_Some}}}
 use Rattle.base.specs.declared.ids.ObjId.{ObjId}

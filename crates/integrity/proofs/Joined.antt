@@ -1,5 +1,5 @@
--- What a machine's capabilities and pairs name is there, and the numbers of what its links name were given out: in a well-formed
--- machine, and after a change of a content without links.
+-- The ends of capabilities, pairs and links: those of capabilities and pairs are there, and the numbers of those of links were given
+-- out, in a well-formed machine, and after a change of a content without links.
 use Rattle.std.proofs.{Common.{◌<◌, ◌∙◌, ◌≡◌, Some, ap, arith, false, inl, inr, refl, sym, true}, lemmas.Bool.{and_parts, false≢true}}
 use Rattle.std.proofs.lemmas.Option.{same_Some}
 use Rattle.base.specs.declared.{ids.{ObjId.ObjId, SlotRef.SlotRef}, kind.Kind.{Kind, Kind as authority}}
@@ -12,7 +12,6 @@ use Rattle.machine.{specs.WellFormed.{IsWellFormed, WaitsAt}, proofs.{Ids.{at_it
 use Rattle.machine.proofs.{LookUps.{number_of-with_object, object_of-with_object, one_id, parent_of-with_object}, RunsLinks.named_so}
 use Rattle.machine.proofs.RunsLinks.{runs_by}
 
--- an object is there
 abbrev pub IsThere : Machine → ObjId → Type 0
 IsThere m id = (object : Object) × (object_of m id ≡ Some object)
 
@@ -93,7 +92,7 @@ module _
     ends = link_end;
   }
 
--- a content that links to nothing replaces another
+-- a content without links replaces another
 pub joined_set :
     (m : Machine) (id : ObjId) (old new : Object) → object_of m id ≡ Some old → ((k : Kind) (end : ObjId) → links new k end ≡ false)
     → IsJoined m → IsJoined (with_object m id new)

@@ -1,4 +1,4 @@
--- What each part of a call keeps, and that two parts, one after the other, keep it: what the headline asks of each row.
+-- Parts of a call, and what each keeps; two parts, one after the other, keep it too. The headline needs it of each call.
 use Rattle.std.proofs.{Common.{ℕ, ◌∙◌, ◌≡◌, ◌≤◌, ◌⊎◌, None, Option, Some, ap, arith, inl, inr, refl, subst, sym}, lemmas.Option.none-some}
 use Rattle.std.proofs.lemmas.Option.{same_Some}
 use Rattle.base.specs.declared.ids.ObjId.{ObjId}
@@ -10,11 +10,11 @@ use Rattle.integrity.specs.{Allowed.IsLabelled, Altered.{MayAlter, MayChangeOrSh
 use Rattle.integrity.{specs.{Budgets.MayConfigure, Invariant.IsHeld, Shrinks.IsSame}, proofs.ObjectLabels.{label_stays, labelled_there}}
 use Rattle.integrity.proofs.{ObjectLabels.same_label, Shrinking.{same_context, same_same, same_shrinks, shrinks_same, shrinks_shrinks}}
 
--- an object is as it was, or changed within the bounds of a label, where only some labels act
+-- an object is as it was, or changed within the bounds of a label, if only some labels act
 abbrev pub Acts : Layout → EdgeTest → ActorTest → ℕ → Machine → Machine → ObjId → Type 0
 Acts t allowed acts a m next id = IsSame m next id ⊎ MayAlter t allowed acts a m next id
 
--- the label of a step may so change an object
+-- the label of a step may alter an object
 abbrev pub Alters : Layout → EdgeTest → Machine → ℕ → Machine → Machine → ObjId → Type 0
 Alters t allowed began a m next id = (awake : IsAwake t allowed began a) → MayAlter t allowed awake.acts a m next id
 
@@ -39,18 +39,17 @@ pub record Keeps (t : Layout) (allowed : EdgeTest) (began : Machine) (event : Ev
   pub grows : m.next ≤ next.next
   -- threads whose labels may not act sleep on, if the step's label may act
   pub sleeps : IsAwake t allowed began a → OthersSleep t allowed m → OthersSleep t allowed next
-  -- who is held by a reply since it called is served, if the step's label may act
+  -- a caller that a reply holds is served, if the step's label may act
   pub serves : IsAwake t allowed began a → CallersAreServed t allowed m → CallersAreServed t allowed next
   -- a context that is there before and after keeps its core, budget and period, unless the event may configure it
   pub budgets :
       (id : ObjId) (old new : Context) → object_of m id ≡ Some (o.Context old) → object_of next id ≡ Some (o.Context new)
       → (new.share ≡ old.share) ⊎ MayConfigure t allowed began event id
 
--- some event of a thread, for what is kept and doesn't hang on the event
+-- an event of a thread, for what is kept whatever the event is
 abbrev pub some_event : ObjId → Event
 some_event thread = record { core = 0; thread = thread; call = Signal 0 }
 
--- nothing changed
 pub unchanged :
     (t : Layout) (allowed : EdgeTest) (began : Machine) (event : Event) (a : ℕ) (m : Machine) → IsHeld t allowed m
     → Keeps t allowed began event a m m
@@ -97,7 +96,7 @@ may_may allowed acts a label other m mid next id same (inr take) (inr also) =
 module _
     (t : Layout) (allowed : EdgeTest) (began : Machine) (event : Event) (a : ℕ) (m mid next : Machine) (held : IsHeld t allowed m)
     (first : Keeps t allowed began event a m mid) (more : Keeps t allowed began event a mid next) where
-  -- what was there and went isn't there again
+  -- an object that was there and went isn't there again
   not_again :
       (id : ObjId) (old new : Object) → object_of m id ≡ Some old → object_of mid id ≡ None → object_of next id ≡ Some new → ⊥
   not_again id old new was gone is =
@@ -106,7 +105,7 @@ module _
       let grows = first.grows in
       omega (arith, low, high, grows)
 
-  -- so what is there before and after is there between
+  -- an object that is there before and after is there between
   between :
       (id : ObjId) (old new : Object) → object_of m id ≡ Some old → object_of next id ≡ Some new
       → (middle : Object) × (object_of mid id ≡ Some middle)

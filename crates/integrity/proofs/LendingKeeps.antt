@@ -1,5 +1,5 @@
--- A call that lends its context to the receiver keeps what a part of a call keeps: the receiver may run on it, since it receives where
--- one calls that runs on it; and so does an answer with which the context goes back to the thread that lent it.
+-- A call that lends its context to the receiver, and an answer that gives it back, keep what a part of a call keeps: the receiver may run
+-- on the context, since it receives where a thread that runs on it calls.
 use Rattle.std.proofs.Common.{arith}
 use Rattle.integrity.proofs.Borrowers.{lent_back}
 use Rattle.integrity.specs.Keeping.{IsIdleBorrower}
@@ -160,7 +160,7 @@ module _
         sound_after t allowed began event a m waits sound calls
         (lending_formed m thread receiver tcb its sound.well_formed there receives apart id free)
 
-    -- the context goes over where none was lent to the receiver, and the thread runs on it
+    -- the context goes over if none was lent to the receiver, and the thread runs on it
     goes_over : context_under (object_of m receiver) ≡ None → Keeps t allowed began event a waits (with_handed waits thread receiver)
     goes_over alone =
         handed_keeps t allowed began event a waits waits_sound thread receiver

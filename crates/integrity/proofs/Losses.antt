@@ -1,4 +1,4 @@
--- An object that only loses something shrinks.
+-- Losses of an object are shrinking.
 use Rattle.std.proofs.Common.{[], ℕ, ◌++◌, ◌<◌, ◌∙◌, ◌∷◌, ◌≡◌, ◌≢◌, ◌⊎◌, List, None, Some, ap, arith, inl, inr, refl}
 use Rattle.std.proofs.lemmas.Bool.{cases_order}
 use Rattle.base.specs.declared.ids.{ObjId.ObjId, SlotRef.SlotRef}
@@ -16,7 +16,7 @@ one_left : (before after : List ObjId) (thread : ObjId) → IsPart (before ++ af
 one_left [] after thread = left (all_stayed after)
 one_left (x ∷ before) after thread = stayed (one_left before after thread)
 
--- whoever is neither ready nor inactive waits for something
+-- a thread that is neither ready nor inactive is blocked
 pub blocked : (run : RunState) → run ≢ state.Ready → run ≢ state.Inactive → IsBlocked run
 blocked (state.Sending _) awake active = tt
 blocked (state.Receiving _) awake active = tt

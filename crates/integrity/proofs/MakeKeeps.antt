@@ -1,5 +1,5 @@
--- An object that is made from untyped memory keeps what a part of a call keeps: the memory is the caller's to control, so that all kinds
--- of authority over it are, and its capability comes into a CNode that is the caller's to control too.
+-- Making an object from untyped memory keeps what a part of a call keeps: the caller's label controls the memory's label, and so has
+-- all kinds of authority over it, and it controls the CNode into which the capability comes.
 use Rattle.std.{specs.Prelude.if◌then◌else◌, proofs.Common.{ℕ, ◌+◌, ◌<◌, ◌∙◌, ◌≡◌, ◌≢◌, ◌≤◌, Bool, None, Some, ap, arith, false, inl, inr}}
 use Rattle.std.proofs.{Common.{option_map, refl, subst, sym, true}, lemmas.{Bool.false≢true, Nat.pow_pos, Option.{none-some, same_Some}}}
 use Rattle.base.specs.{declared.{ids.{ObjId.ObjId, SlotRef.SlotRef}, kind.Kind.{Kind, Kind as authority}}, Kinds.is_structural}
@@ -42,7 +42,7 @@ new_sleeps memory.Tcb bits at thread is =
     inl (sym (ap (λ (x : Tcb). x.state) (same_tcb new thread is)))
 new_sleeps _ bits at thread is = cc
 
--- and takes memory
+-- a new object takes memory
 new_takes : (of : MemoryKind) (bits : ℕ) → 0 < new_size of bits
 new_takes memory.Untyped bits = pow_pos bits
 new_takes memory.CNode bits = pow_pos (bits + 5)
@@ -199,7 +199,7 @@ module _
   unfolding with_object makeable
   here_label = new_label t allowed began event a m1 marks.held joined1 object makeable
 
-  -- each kind that the capability gives is the CNode's label's too
+  -- the CNode's label has each kind that the capability gives
   edges : (k : Kind) → gives (new_detail of) k ≡ true → allowed may.node.label k may.label ≡ true
   edges k given =
       closed.uses_fall a may.node.label k may.label (controlled_put t allowed m a slot.holder may.node) of_use

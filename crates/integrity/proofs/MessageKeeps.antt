@@ -1,5 +1,5 @@
--- Send, Call, Receive, Reply and Fetch within a caller's authority: the endpoint or the reply that is found is one that its label
--- may use so, and whom a message or an answer reaches waits there by a recorded edge.
+-- Send, Call, Receive, Reply and Fetch within a caller's authority: its label may use the endpoint or the reply that is found, and the
+-- thread that a message or an answer reaches waits there by a recorded edge.
 use Rattle.policy.specs.Sharp.{MayIdle}
 use Rattle.std.{specs.Prelude.{if◌then◌else◌, is_ok}, proofs.Common.{ℕ, ◌&&◌, ◌∙◌, ◌≡◌, ◌≢◌, ◌⊎◌, Bool, List, None, Option, Some, ap}}
 use Rattle.std.proofs.{Common.{false, inl, inr, refl, subst, sym, true}, lemmas.Bool.{and_from, and_parts, false≢true}}
@@ -37,7 +37,7 @@ use Rattle.integrity.specs.Keeping.{IsSharp}
 abbrev pub RunsOn : Machine → ObjId → Type 0
 RunsOn m thread = (tcb : Tcb) → IsThread m thread tcb → tcb.context ≡ None → ⊥
 
--- who waits for an answer is blocked, and is in no queue
+-- a thread that waits for an answer is blocked, and is in no queue
 
 calling_blocked : (run : RunState) (id : ObjId) → IsCallingThrough run id → IsBlocked run
 calling_blocked (state.Called _) id calls = tt
@@ -126,7 +126,7 @@ module _
         to_end.label to_end.labelled (λ awake. modifies authority.Send refl may_send) sending_links
         (λ receiving waits none. cc)
 
-    -- or who waits to receive gets it
+    -- or a thread that waits to receive gets the message
     module _ (receiver : ObjId) (receiving : Receiving) (waits : IsReceiver m open_to.id receiver receiving) where
       message_keeps : Makes m (delivered m thread sending receiver receiving)
       message_keeps =
@@ -176,7 +176,7 @@ module _
             },
           )
 
-      -- the reply through which the call is answered is one that the receiver named, and may hold who calls it
+      -- the reply through which the call is answered is one that the receiver named, and may hold the caller
       answers_within :
           (id : ObjId) (r : ℕ) → answer_through sending receiving.reply ≡ Some id → label_of t after id ≡ Some r
           → MayHold t allowed m a r a
@@ -209,7 +209,7 @@ module _
             };
           }
 
-      -- and the receiver may run on what the caller runs on, where the call may be answered
+      -- the receiver may run on what the caller runs on, if the call may be answered
       called_message_keeps : Makes m (called_through after thread receiver (answer_through sending receiving.reply))
       called_message_keeps =
           let receives =
@@ -316,7 +316,7 @@ module _
         let found = done.finds_reply q names in
         reached t allowed m event a m sound closed.uses_rise thread found.0 q d.Reply mine found.1
 
-    -- whom its reply held is halted
+    -- the thread that its reply held is halted
     ends : Makes m ended
     ends = by_named done.reply refl where
       by_named : (reply : Option ObjId) → done.reply ≡ reply → Makes m (with_reply_ended m reply)
@@ -442,7 +442,7 @@ module _
           keeps_keeps t allowed m event a m ended (sent arrived sender sending done.reply) before ends
           (keeps_keeps t allowed m event a ended arrived (sent arrived sender sending done.reply) ends.held takes sent_keeps)
 
-    -- or the caller waits for one, and its reply with it
+    -- or the caller waits for a message, and its reply with it
 
     abbrev receiving : Receiving
     receiving = record { endpoint = id; reply = done.reply; slot = slot }

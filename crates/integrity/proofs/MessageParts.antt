@@ -1,6 +1,5 @@
--- What the parts of a message's way keep: a receiver gets it, who called waits for the answer, and the thread of a reply is
--- halted. All that these take is what a label has over an endpoint or a reply that is found, and the recorded edges of the
--- threads there.
+-- Parts of a message's way, and what they keep: a receiver gets it, the caller waits for the answer, and the thread of a reply is halted.
+-- They take only what a label has over an endpoint or a reply that is found, and the recorded edges of the threads there.
 use Rattle.integrity.{specs.Keeping.IsIdleBorrower, proofs.Borrowers.borrower_stays}
 use Rattle.std.{specs.Prelude.{if◌then◌else◌, is_ok}, proofs.Common.{ℕ, ◌&&◌, ◌<◌, ◌∙◌, ◌≡◌, ◌≢◌, ◌⊎◌, Bool, List, None, Option, Some, ap}}
 use Rattle.std.proofs.{Common.{arith, false, inl, inr, option_map, refl, subst, sym, true}, lemmas.{Bool.and_from, Option.none-some}}
@@ -28,7 +27,7 @@ use Rattle.integrity.proofs.{ObjectLabels.{labelled_there, same_label}, Reach.fo
 use Rattle.integrity.specs.Keeping.{IsSharp}
 use Rattle.policy.specs.Sharp.{UsesRise}
 
--- an answer goes through a reply only where the sender may be answered
+-- an answer goes through a reply only if the sender may be answered
 pub answers_allowed :
     (sending : Sending) (named : Option ObjId) (id : ObjId) → answer_through sending named ≡ Some id → sending.can_reply ≡ true
 answers_allowed sending named id e = by_leave sending.can_reply refl where
@@ -85,7 +84,6 @@ module _ (t : Layout) (allowed : EdgeTest) (began : Machine) (event : Event) (a 
       let new = labelled_there t next id after is in
       same_Some after before (sym is ∙ label_kept m next id old.0 new.0 keeps old.1 new.1 ∙ was)
 
-  -- a borrower stays one
   pub borrower_kept :
       (m next : Machine) (lent : Lent) → Does m next → IsIdleBorrower t allowed m lent → IsIdleBorrower t allowed next lent
   borrower_kept m next lent keeps before =
@@ -131,7 +129,7 @@ module _ (t : Layout) (allowed : EdgeTest) (began : Machine) (event : Event) (a 
     thread_edge thread end tcb k from to there has source target =
         sound.confined from k to (by_link thread end (o.Tcb tcb) there has source target)
 
-    -- and so is whom a reply holds
+    -- the edge from a reply to the thread that it holds is in the policy
     pub holds_edge :
         (id thread : ObjId) (answers : Reply) (from to : ℕ) → object_of m id ≡ Some (o.Reply answers)
         → holds_thread answers.state thread ≡ true → label_of t m id ≡ Some from → label_of t m thread ≡ Some to

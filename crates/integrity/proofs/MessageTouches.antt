@@ -1,5 +1,5 @@
--- The changes by which threads, queues and replies are linked, and are so no more, keep what a part of a call keeps, where the
--- labels of the objects that they touch allow it.
+-- Changes that link threads, queues and replies, or end these links, keep what a part of a call keeps, if the labels of the objects that
+-- they touch allow it.
 use Rattle.std.{specs.Prelude.{None, Option, Some, cond}, proofs.Common.{[], ℕ, ◌++◌, ◌<◌, ◌∙◌, ◌∷◌, ◌≡◌, ◌≢◌, ◌⊎◌, List, ap, arith, inl}}
 use Rattle.std.proofs.{Common.{inr, not, refl, subst, sym, true}, lemmas.{Bool.false≢true, Option.{none-some, same_Some}}}
 use Rattle.base.specs.declared.{ids.ObjId.ObjId, kind.Kind.Kind}
@@ -27,7 +27,7 @@ use Rattle.machine.specs.{declared.thread.Lent.Lent, Step.Reply.loan_in}
 use Rattle.integrity.specs.Keeping.{IsIdleBorrower}
 use Rattle.integrity.proofs.Borrowers.{lent_back}
 
--- what each change is
+-- the two cases of each change
 
 -- a reply holds somebody, or nobody, if it is there
 holds_or_stays :
@@ -93,7 +93,7 @@ emptied_is :
 unfolding emptied
 emptied_is m thread tcb there = rw there (tcb_is m thread tcb (record tcb { inbox = inbox.Empty }) there)
 
--- a thread that waits at nothing and names nothing is linked with its context alone, lends none, and receives nothing
+-- an idle thread is linked with its context alone, lends none, and receives nothing
 
 idle_links : (run : RunState) (k : Kind) (end : ObjId) → IsIdle run → state_links run k end ≡ true → ⊥
 idle_links state.Ready k end idle e = false≢true e
@@ -117,19 +117,19 @@ links_left old new same idle authority.Runs end e =
     runs_also new old end (λ bound. sym same ∙ bound) (λ lent. absurd (idle_lends new.state end idle lent)) e
 links_left old new same idle k end e = absurd (idle_links new.state k end idle e)
 
--- a label may change an object's, or make it smaller, and the object has a queue, as each that is there
+-- a label may change an object's, or make it smaller, and the object has a queue, as every present object has
 abbrev pub MayLessen : Layout → EdgeTest → Machine → ℕ → Machine → ObjId → ℕ → Type 0
 MayLessen t allowed began a m id label =
     Changes t allowed began a label
     ⊎ (Takes t allowed began a label × (threads : List ObjId) × (queue_of m id ≡ Some threads))
 
--- a label may change a thread's, or make it smaller where the thread's wait only ends
+-- a label may change a thread's, or make it smaller if the thread's wait only ends
 abbrev pub MayRelease : Layout → EdgeTest → Machine → ℕ → Machine → ObjId → ℕ → Tcb → Tcb → Type 0
 MayRelease t allowed began a m thread label old new =
     Changes t allowed began a label
     ⊎ (Takes t allowed began a label × Stops old new × (threads : List ObjId) × (queue_of m thread ≡ Some threads))
 
--- a reply that holds nobody who called
+-- a reply that holds no caller
 free_apart : (thread : ObjId) → reply.Free ≡ reply.Called thread → ⊥
 free_apart thread is = cc
 
@@ -165,7 +165,7 @@ apart_by_kind m id thread holding tcb reply_there there same = differ (sym there
   differ : ◌≡◌ {A = Option Object} (Some (o.Tcb tcb)) (Some (o.Reply holding)) → ⊥
   differ e = cc
 
--- who is there has a queue, also where a thread left one
+-- a present object has a queue, also after a thread left one
 queue_left :
     (m : Machine) (id thread q : ObjId) (threads : List ObjId) → queue_of m q ≡ Some threads
     → (rest : List ObjId) × (queue_of (without_waiting m id thread) q ≡ Some rest)
@@ -403,7 +403,7 @@ module _
       (sym (released_there m thread tcb change there ∙ tcb_is mid thread tcb new at))
       (keeps_keeps t allowed began event a m mid (with_object mid thread (o.Tcb new)) held left set)
 
-  -- a thread of the label waits at an object, and lends nothing; where it waits for a message without a context, the label may idle
+  -- a thread of the label waits at an object, and lends nothing; if it waits for a message without a context, the label may idle
   pub blocked_keeps :
       (caller : ObjId) (tcb : Tcb) (id : ObjId) (run : RunState) (object : Object) → IsThread m caller tcb → IsIdle tcb.state
       → context_lent run ≡ None → label_of t m caller ≡ Some a → object_of m id ≡ Some object → id ≢ caller
@@ -535,7 +535,7 @@ module _
       links_kept authority.Runs end e = e
       links_kept _ end e = e
 
--- a machine is sound that a sound one leads to, if it is well formed
+-- a well-formed machine to which a sound one leads is sound
 pub sound_after :
     (t : Layout) (allowed : EdgeTest) (began : Machine) (event : Event) (a : ℕ) (m next : Machine) → IsSound t allowed m
     → Keeps t allowed began event a m next → IsWellFormed next → IsSound t allowed next

@@ -1,4 +1,4 @@
--- A new object keeps what a part of a call keeps: it lies where the label is one on which the caller's has full authority, and links to
+-- A new object keeps what a part of a call keeps: the caller's label has full authority over the label where it lies, and it links to
 -- nothing.
 use Rattle.std.proofs.Common.{[], ℕ, ◌+◌, ◌<◌, ◌∙◌, ◌≡◌, ◌≢◌, ◌≤◌, ◌⊎◌, None, Option, Some, ap, arith, false, if◌then◌else◌, inl, inr}
 use Rattle.std.proofs.{Common.{length, nat_lt, option_and_then, option_map, refl, replicate, sym, true}, lemmas.Bool.{false≢true, le-ltb}}
@@ -51,7 +51,6 @@ module _
   unfolding next id
   elsewhere q apart = object_of-with_new m object q ∙ at_other q id (Some object) (object_of m q) apart
 
-  -- no object has the number yet
   below_apart : (q : ObjId) → q.0 < m.next → q ≢ id
   unfolding id
   below_apart q below same = let number : q.0 ≡ m.next = ap (λ (i : ObjId). i.0) same in omega (arith, below, number)
@@ -210,7 +209,7 @@ module _
     | inr new ↦ absurd (asleep_waits thread receiving (made.sleeps thread (sym new.1)) waits)
   ]
 
-  -- nor does one that is made lend anything
+  -- a thread that is made lends nothing
   borrowers : BorrowersMayIdle t allowed next
   borrowers q lent lends = elim (one_or_two q id) [
     | inl same ↦

@@ -1,4 +1,4 @@
--- Who changes a context's share has the edges for it.
+-- The edges of a label that changes a context's share: schedcontrol, and context to the context's label.
 use Rattle.std.proofs.{Common.{ℕ, ◌∙◌, ◌≡◌, ◌≢◌, ◌⊎◌, Some, ap, false, inl, inr, sym}, lemmas.{Bool.false≢true, Option.same_Some}}
 use Rattle.base.specs.declared.{ids.ObjId.ObjId, kind.Kind.Kind as authority}
 use Rattle.machine.specs.{declared.{call.Event.Event, object.{Context.Context, Object.Object as o}}, Authority.label_of, Layout.Layout}
@@ -6,7 +6,7 @@ use Rattle.machine.specs.Machine.{Machine, object_of}
 use Rattle.policy.specs.Domain.{EdgeTest}
 use Rattle.integrity.specs.Budgets.{KeepsBudgets, MayConfigure}
 
--- whoever changes a share may configure it
+-- a label that changes a share may configure the context
 changer :
     (t : Layout) (allowed : EdgeTest) (m next : Machine) (event : Event) (id : ObjId) (old new : Context)
     → object_of m id ≡ Some (o.Context old) → object_of next id ≡ Some (o.Context new) → new.share ≢ old.share

@@ -1,5 +1,5 @@
--- Signal, Poll and Wait within a caller's authority: the notification that is found is one that its label may notify or await, and
--- who waits there awaits it by a recorded edge.
+-- Signal, Poll and Wait within a caller's authority: its label may notify or await the notification that is found, and the thread that
+-- waits there awaits it by a recorded edge.
 use Rattle.std.proofs.Common.{ℕ, ◌∙◌, ◌≡◌, ◌≢◌, ◌⊎◌, Bool, None, Option, Some, ap, inl, inr, refl, subst, sym, true}
 use Rattle.base.specs.declared.{ids.ObjId.ObjId, kind.Kind.{Kind, Kind as authority}}
 use Rattle.machine.specs.declared.{call.Event.Event, cap.{Badged.Badged, Detail.Detail as d}, object.Notification.Notification}
@@ -41,7 +41,7 @@ module _
       set_keeps t allowed m event a m id held (o.Notification old) (o.Notification new)
       (notification_fits t allowed m event a m id old new was same) (changed t allowed m a m _ id label labelled has)
 
-  -- the first who waits at a notification is woken
+  -- the thread that waits first at a notification is woken
   wake_keeps :
       (id : ObjId) (badge label : ℕ) (next : Machine) → label_of t m id ≡ Some label → allowed a authority.Notify label ≡ true
       → Wakes m id badge next → Keeps t allowed m event a m next

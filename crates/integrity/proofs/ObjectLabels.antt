@@ -1,4 +1,4 @@
--- The label of an object depends on its number and its address alone.
+-- Labels of objects: an object's label depends on its number and its address alone.
 use Rattle.std.proofs.Common.{ℕ, ◌∙◌, ◌≡◌, None, Option, Some, ap, if◌then◌else◌, length, nat_lt, option_and_then, option_map, sym}
 use Rattle.std.proofs.lemmas.Option.{none-some}
 use Rattle.base.specs.declared.ids.ObjId.{ObjId}
@@ -9,7 +9,7 @@ use Rattle.machine.specs.{Layout.declared_label, Machine.{Machine, object_of}, O
 label_by : Layout → ObjId → ℕ → Option ℕ
 label_by t id address = if nat_lt id.0 (length t.objects) then declared_label t id else label_at t address
 
--- an object that is there in two machines or in neither has the same label, if its address stays
+-- an object has the same label in two machines if it is in both or in neither, and its address stays
 module _ (t : Layout) (m next : Machine) (id : ObjId) where
   label_there : (n : Machine) (object : Object) → object_of n id ≡ Some object → label_of t n id ≡ label_by t id (address_of object)
   unfolding label_of label_by
@@ -31,7 +31,7 @@ module _ (t : Layout) (m next : Machine) (id : ObjId) where
       → kind_of next id ≡ kind_of m id
   kind_stays old new was is same = ap (option_map kind_of_object) is ∙ ap Some same ∙ sym (ap (option_map kind_of_object) was)
 
--- what has a label, or a kind, is there
+-- an object that has a label, or a kind, is there
 
 pub labelled_there :
     (t : Layout) (m : Machine) (id : ObjId) (label : ℕ) → label_of t m id ≡ Some label

@@ -1,5 +1,4 @@
--- What a thread finds at an address is held in the domain of its label, so that the label has the authority that the capability
--- gives.
+-- Capabilities that a thread finds at an address: they are held in the domain of its label, so the label has the authority that they give.
 use Rattle.std.proofs.Common.{[], ℕ, ◌∙◌, ◌≡◌, Ok, Some, ap, false, inl, inr, option_map, refl, sym, true}
 use Rattle.base.specs.{declared.{ids.{ObjId.ObjId, SlotRef.SlotRef}, kind.Kind.{Kind, Kind as authority}}, Kinds.is_structural}
 use Rattle.machine.specs.declared.{cap.Cap.Cap, object.ObjectKind.ObjectKind as kind, slot_address.SlotAddress.SlotAddress}
@@ -26,13 +25,13 @@ pub record IsWithin (t : Layout) (allowed : EdgeTest) (m : Machine) (a : ℕ) (n
   pub domain : IsInDomain allowed a label
   pub keeper : MayKeep t allowed label → MayKeep t allowed a
 
--- where a label controls a CNode, the CNode's label may be handed what the label keeps
+-- a label that controls a CNode may hand what it keeps to the CNode's label
 pub controlled_keeps :
     (t : Layout) (allowed : EdgeTest) (m : Machine) (a : ℕ) (node : ObjId) → (c : IsControlled t allowed m a node)
     → MayKeep t allowed c.label
 controlled_keeps t allowed m a node c = handed c.keeper c.controls
 
--- .. and put there
+-- it may put it there
 pub controlled_put :
     (t : Layout) (allowed : EdgeTest) (m : Machine) (a : ℕ) (node : ObjId) → (c : IsControlled t allowed m a node)
     → MayPut allowed (MayKeep t allowed) a c.label
@@ -54,14 +53,14 @@ module _ (t : Layout) (allowed : EdgeTest) (m : Machine) (held : IsHeld t allowe
         rise a within.label k (record { domain = within.domain; of_use = of_use }) to
         (held.confined within.label k to (by_cap slot cap filled within.is_node given within.labelled labelled))
 
-    -- it keeps where that is a capability for a CNode
+    -- it keeps if that is a capability for a CNode
     within_keeps :
         (slot : SlotRef) (cap : Cap) → IsWithin t allowed m a slot.holder → cap_of m slot ≡ Some cap
         → kind_of_detail cap.detail ≡ kind.CNode → MayKeep t allowed a
     within_keeps slot cap within filled for_node =
         within.keeper (held.nodes slot cap filled within.is_node for_node within.label within.labelled)
 
-    -- so a CNode in the domain hands it on
+    -- a CNode in the domain hands the domain on
     pub shown_controlled :
         (slot : SlotRef) (node : ObjId) → IsWithin t allowed m a slot.holder → Shows m slot node → IsControlled t allowed m a node
     shown_controlled slot node within s =
@@ -100,7 +99,7 @@ module _ (t : Layout) (allowed : EdgeTest) (m : Machine) (held : IsHeld t allowe
           keeper = λ keeps. finds keeps space;
         }) ends
 
-    -- who finds a capability for a CNode keeps
+    -- a label that finds a capability for a CNode keeps
     pub found_keeps :
         (caller : ObjId) (address : ℕ) (slot : SlotRef) (left : ℕ) (cap : Cap) → label_of t m caller ≡ Some a
         → lookup_of m caller address ≡ Ok (slot, left) → cap_of m slot ≡ Some cap → kind_of_detail cap.detail ≡ kind.CNode
@@ -108,7 +107,7 @@ module _ (t : Layout) (allowed : EdgeTest) (m : Machine) (held : IsHeld t allowe
     found_keeps caller address slot left cap labelled ends filled for_node =
         within_keeps slot cap (found_within caller address slot left labelled ends) filled for_node
 
-    -- where a slot address leads, the label controls the CNode
+    -- the label controls the CNode to which a slot address leads
     pub led_controlled :
         (caller : ObjId) (address : SlotAddress) (slot : SlotRef) → label_of t m caller ≡ Some a → LeadsTo m caller address slot
         → IsControlled t allowed m a slot.holder

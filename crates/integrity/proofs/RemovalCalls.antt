@@ -1,5 +1,5 @@
--- Delete and Revoke within a caller's authority: the slot that the call names is in a CNode that the caller's label controls, and what
--- descends from it is in objects to which that CNode's label may derive.
+-- Delete and Revoke within a caller's authority: the caller's label controls the CNode of the slot that the call names, and that CNode's
+-- label may derive to the objects that hold what descends from the slot.
 use Rattle.std.proofs.Common.{ℕ, ◌≡◌, ◌⊎◌, Bool, None, Ok, Some, inl, inr, subst, sym}
 use Rattle.base.specs.declared.ids.{ObjId.ObjId, SlotRef.SlotRef}
 use Rattle.machine.specs.{declared.{call.Event.Event, cap.Cap.Cap, slot_address.SlotAddress.SlotAddress}, Authority.label_of}

@@ -66,7 +66,7 @@ object_link_was m vanished (o.Reply holding) _ end e = absurd (false≢true e)
 object_link_was m vanished (o.Context context) k end e = absurd (false≢true e)
 object_link_was m vanished _ k end e = e
 
--- nor does a thread lend anew
+-- a finalised thread doesn't lend anew
 object_lent_was :
     (m : Machine) (vanished : ObjId → Bool) (object : Object) (thread : Tcb) (context : ObjId)
     → finalised m vanished object ≡ o.Tcb thread → context_lent thread.state ≡ Some context
@@ -86,7 +86,7 @@ module _ (t : Layout) (m : Machine) (chosen : SlotRef → Bool) where
   abbrev vanished : ObjId → Bool
   vanished = vanishes m chosen
 
-  -- what stays keeps its label and its kind
+  -- an object that stays keeps its label and its kind
 
   pub label_was : (id : ObjId) (label : ℕ) → label_of t (removed m chosen) id ≡ Some label → label_of t m id ≡ Some label
   label_was id label e =
@@ -114,7 +114,7 @@ module _ (t : Layout) (m : Machine) (chosen : SlotRef → Bool) where
         let holder = sound.well_formed.slots.holder parent above.0 above.1 in
         sound.of_table.labelled parent.holder holder.0 holder.1
 
-    -- where a slot descends from another, its holder may be derived to
+    -- the holder of a slot that descends from another may be derived to
     pub descends_derive :
         DerivesOn allowed → {slot above : SlotRef} → Descends m slot above → (from to : ℕ) → label_of t m above.holder ≡ Some from
         → label_of t m slot.holder ≡ Some to → allowed from authority.Derive to ≡ true

@@ -1,5 +1,5 @@
--- What a removal changes is of labels that the label may change or make smaller: what vanished, what was linked with that, the queues
--- and replies that who was aborted or halted leaves, and the objects of the chosen slots.
+-- Objects that a removal changes are of labels that the remover may change or make smaller: what vanished, what was linked with it, the
+-- queues and replies that aborted or halted threads leave, and the objects of the chosen slots.
 use Rattle.std.{specs.Prelude.{◌&&◌, ◌||◌, Contains, None, Option, Some, filter, is_some, option_map}, proofs.Common.{[], ℕ, ◌<◌, ◌∙◌, ◌∷◌}}
 use Rattle.std.proofs.Common.{◌≡◌, ◌≢◌, ◌⊎◌, Bool, List, ap, arith, cond, false, inl, inr, not, refl, subst, suc, sym, true, zero}
 use Rattle.std.proofs.lemmas.{Bool.{cases_order, false≢true}, Option.same_Some}
@@ -56,21 +56,21 @@ wait_link tcb (state.Waiting notification) end is at = record {
 }
 wait_link tcb _ end is at = absurd at
 
--- it is blocked
+-- a thread that waits at an object is blocked
 waits_blocked : (run : RunState) (end : ObjId) → WaitsAt run end → IsBlocked run
 waits_blocked (state.Sending sending) end at = tt
 waits_blocked (state.Receiving receiving) end at = tt
 waits_blocked (state.Waiting notification) end at = tt
 waits_blocked _ end at = absurd at
 
--- and it waits at an endpoint or a notification, which each capability for it may reset
+-- it waits at an endpoint or a notification, which each capability for it may reset
 waits_reset : (run : RunState) (k : ObjectKind) → WaitsAtKind run k → (use_of k ≡ authority.Reset) × (k ≢ kind.CNode)
 waits_reset (state.Sending sending) kind.Endpoint at = (refl, λ e. cc)
 waits_reset (state.Receiving receiving) kind.Endpoint at = (refl, λ e. cc)
 waits_reset (state.Waiting notification) kind.Notification at = (refl, λ e. cc)
 waits_reset _ _ at = absurd at
 
--- who is aborted waits at what vanished
+-- an aborted thread waited at what vanished
 aborted_end :
     (vanished : ObjId → Bool) (run : RunState) → is_aborted vanished run ≡ true
     → (end : ObjId) × WaitsAt run end × (vanished end ≡ true)
@@ -79,7 +79,6 @@ aborted_end vanished (state.Receiving receiving) gone = (receiving.endpoint, ref
 aborted_end vanished (state.Waiting notification) gone = (notification, refl, gone)
 aborted_end vanished _ gone = absurd (false≢true gone)
 
--- wherever that is
 aborted_there :
     (vanished : ObjId → Bool) (run : RunState) (end : ObjId) → WaitsAt run end → is_aborted vanished run ≡ true → vanished end ≡ true
 aborted_there vanished (state.Sending sending) end at gone = ap vanished (sym at) ∙ gone
@@ -111,7 +110,7 @@ called_blocked : (run : RunState) (id : ObjId) → IsCallingThrough run id → I
 called_blocked (state.Called calling) id at = tt
 called_blocked _ id at = absurd at
 
--- where it is halted, the reply vanished
+-- the reply of a halted thread vanished
 
 names_halted :
     (vanished : ObjId → Bool) (run : RunState) (id : ObjId) → IsReceivingWith run id → is_halted vanished run ≡ true → vanished id ≡ true
@@ -127,7 +126,7 @@ called_halted vanished (state.Called calling) id at gone = by_halt (vanished cal
   by_halt false is gone = absurd (false≢true gone)
 called_halted vanished _ id at gone = absurd at
 
--- who waits with a reply receives where it waits
+-- a thread that waits with a reply receives where it waits
 receives_link :
     (tcb : Tcb) (run : RunState) (id end : ObjId) → tcb.state ≡ run → IsReceivingWith run id → WaitsAt run end
     → links (o.Tcb tcb) authority.Receive end ≡ true
@@ -150,7 +149,7 @@ all_stay leaving (x ∷ threads) = by_first (leaving x) refl (all_stay leaving t
   by_first false is (inl same) = inl (ap (λ xs. x ∷ xs) same)
   by_first false is (inr found) = inr (found.0, other_in x threads found.0 found.1, found.2)
 
--- a number below a bound that passes a test, or none does
+-- some number below a bound passes a test, or none does
 any_below : (test : ℕ → Bool) (n : ℕ) → ((i : ℕ) × (test i ≡ true)) ⊎ ((i : ℕ) → i < n → test i ≡ false)
 any_below test zero = inr (λ i less. absurd (omega (arith, less)))
 any_below test (suc n) = by_last (test n) refl (any_below test n) where
@@ -199,7 +198,7 @@ module _
       → label_of t m id ≡ Some from → label_of t m end ≡ Some to → allowed from k to ≡ true
   link_edge id end object k from to at has source target = sound.confined from k to (by_link id end object at has source target)
 
-  -- what a label may do that a controls, a may do
+  -- a may do what a label that it controls may do
   may_too :
       (b : ℕ) (k : Kind) (to : ℕ) → allowed a authority.Control b ≡ true → is_structural k ≡ false → allowed b k to ≡ true
       → allowed a k to ≡ true
@@ -229,7 +228,7 @@ module _
     waits : IsBlocked tcb.state → awake.acts label ≡ true
     waits blocked = blocked_actor t allowed m m a awake awake.others sound.of_table thread tcb at blocked label labelled
 
-    -- where a reply waits with the thread
+    -- the thread's reply waits with it
     halted_receiver : (id : ObjId) → IsReceivingWith tcb.state id → vanished id ≡ true → Alters label
     halted_receiver id named gone =
         let answers = sound.well_formed.links.receiver_reply thread id tcb at named in
@@ -244,7 +243,7 @@ module _
           };
         }))
 
-    -- where the thread called through a reply
+    -- the thread called through a reply
     halted_caller : (id : ObjId) → IsCallingThrough tcb.state id → vanished id ≡ true → Alters label
     halted_caller id called gone =
         let answers = sound.well_formed.links.called_reply thread id tcb at called in
@@ -273,7 +272,7 @@ module _
         halted_caller calling.reply (subst (λ (s : RunState). IsCallingThrough s calling.reply) (sym is) refl) gone
     halted_alters _ is gone = absurd (false≢true gone)
 
-    -- where the thread waits
+    -- the thread waits at an object
     record IsWaiting (end : ObjId) : Type 0 where
       end_label : ℕ
       end_labelled : label_of t m end ≡ Some end_label
@@ -301,7 +300,7 @@ module _
         (link_edge thread end.0 (o.Tcb tcb) link.kind label its.end_label at link.linked labelled its.end_labelled)
         (waits (waits_blocked tcb.state end.0 end.1))))
 
-    -- the thread leaves: it vanishes, and its label is controlled, or is halted, or aborted
+    -- the thread leaves: it vanishes, and its label is controlled, or it is halted, or aborted
     leaving :
         {X : Type 0} → leaves m vanished thread ≡ true → (allowed a authority.Control label ≡ true → X)
         → ((is_halted vanished tcb.state || is_aborted vanished tcb.state) ≡ true → X) → X
@@ -347,7 +346,7 @@ module _
         leaving left (λ control. inr (controls (releases label control (waits (called_blocked tcb.state id called)) holds)))
         (λ released. gone_alters id to (called_halted vanished tcb.state id called released) target)
 
-    -- where a thread waits that leaves
+    -- a thread leaves the object at which it waits
     left_alters : (id : ObjId) (to : ℕ) → label_of t m id ≡ Some to → WaitsAt tcb.state id → leaves m vanished thread ≡ true → Alters to
     left_alters id to target waiting left =
         leaving left (λ control. inl (modifies link.kind link.changing (may_too label link.kind to control link.of_use edge)))
@@ -404,7 +403,7 @@ module _
       (id : ObjId) (holding : Reply) (label : ℕ) → object_of m id ≡ Some (o.Reply holding) → label_of t m id ≡ Some label
       → (finalised m vanished (o.Reply holding) ≡ o.Reply holding) ⊎ Alters label
   reply_alters id holding label at labelled = by_state holding.state refl where
-    -- whose thread leaves, or not
+    -- its thread leaves, or not
     held :
         (thread : ObjId) (its : ReplyState) → holding.state ≡ its → (leaves m vanished thread ≡ true → Alters label) → (b : Bool)
         → leaves m vanished thread ≡ b

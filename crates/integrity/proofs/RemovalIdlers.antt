@@ -1,5 +1,5 @@
--- A removal leaves a thread that waits for a message without a context only where the thread's label may idle: its context vanished,
--- and so the last capability for it stood in a CNode, whose label may use it. Nobody is lent a context by it.
+-- Threads that a removal leaves waiting for a message without a context are of labels that may idle: the last capability for the
+-- vanished context stood in a CNode, whose label may use it. The removal lends nobody a context.
 use Rattle.std.proofs.Common.{ℕ, ◌∙◌, ◌≡◌, ◌⊎◌, Bool, None, Option, Some, ap, cond, false, inl, inr, option_map, refl, sym, true}
 use Rattle.std.proofs.lemmas.Option.{none-some, same_Some}
 use Rattle.base.specs.declared.{ids.{ObjId.ObjId, SlotRef.SlotRef}, kind.Kind.Kind as authority}
@@ -16,7 +16,7 @@ use Rattle.machine.{specs.Step.Reply.loan_in, proofs.RemovalLooks.next-removed}
 use Rattle.integrity.proofs.Borrowers.{borrower_stays, finalised_lends}
 use Rattle.integrity.proofs.{Cascade.{HasSlots, counted_kinds, gives_use}, RemovalConfined.label_was, Shrinking.same_tcb}
 
--- a link after a removal is gone, where it was or what it led to vanished
+-- a link after a removal is gone if it was, or if it led to what vanished
 lost : (vanished : ObjId → Bool) (link : Option ObjId) → cond (leads_nowhere vanished link) None link ≡ None
     → (link ≡ None) ⊎ ((end : ObjId) × (link ≡ Some end) × (vanished end ≡ true))
 lost vanished None gone = inl refl
@@ -111,7 +111,7 @@ module _ (t : Layout) (allowed : EdgeTest) (m : Machine) (chosen : SlotRef → B
         | inr gone ↦ left_idle id gone.0 old there gone.1 gone.2 label before
       ]
 
-  -- whom a thread lent its context before is the same, and has the same label if it is still there
+  -- the borrower of a thread is as before, and has the same label if it is still there
   pub removed_borrowers : BorrowersMayIdle t allowed (removed m chosen)
   removed_borrowers id lent lends = by_content (object_of (removed m chosen) id) refl where
     by_content : (content : Option Object) → object_of (removed m chosen) id ≡ content → IsIdleBorrower t allowed (removed m chosen) lent

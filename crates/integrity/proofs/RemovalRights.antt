@@ -1,4 +1,4 @@
--- Which capabilities a label may remove by Delete, Revoke and Clearspace: one in a CNode that it controls, those that descend from
+-- The capabilities that a label may remove by Delete, Revoke and Clearspace: one in a CNode that it controls, those that descend from
 -- there, and one in the root slot of a thread that it controls.
 use Rattle.std.proofs.{Common.{ℕ, ◌∙◌, ◌≡◌, ◌≢◌, Some, ap, inl, inr, option_map, refl, sym, true}, lemmas.Option.same_Some}
 use Rattle.base.specs.declared.{ids.{ObjId.ObjId, SlotRef.SlotRef}, kind.Kind.Kind as authority}
@@ -24,12 +24,12 @@ module _ (t : Layout) (allowed : EdgeTest) (a : ℕ) (m : Machine) (sound : IsSo
   to : (slot : SlotRef) (held : Cap) → cap_of m slot ≡ Some held → (label : ℕ) × (label_of t m held.object ≡ Some label)
   to = target_label t allowed m (held_of t allowed m sound)
 
-  -- what a capability is for is a label's to use
+  -- a label may use what a capability is for
   abbrev IsUsed : ℕ → Cap → Type 0
   IsUsed by held =
       (label : ℕ) → label_of t m held.object ≡ Some label → allowed by (use_of (kind_of_detail held.detail)) label ≡ true
 
-  -- so it is in a CNode of the label
+  -- a capability in a CNode of the label is used so
   used_in :
       (slot : SlotRef) (held : Cap) → (mine : IsControlled t allowed m a slot.holder) → cap_of m slot ≡ Some held
       → IsUsed mine.label held
@@ -37,8 +37,8 @@ module _ (t : Layout) (allowed : EdgeTest) (a : ℕ) (m : Machine) (sound : IsSo
       sound.confined mine.label (use_of (kind_of_detail held.detail)) label
       (by_cap slot held filled mine.is_node (gives_use held.detail) mine.labelled labelled)
 
-  -- a child of such a capability is for the same object, or for one that lies in the untyped memory which the label controls; and the label
-  -- keeps, so that it may do everything to what it controls
+  -- a child of such a capability is for the same object, or for one in the untyped memory that the label controls; and the label keeps, so
+  -- it may do everything to what it controls
   module _
       (by : ℕ) (keeps : MayKeep t allowed by) (slot : SlotRef) (held : Cap) (filled : cap_of m slot ≡ Some held) (parent : SlotRef) (over : Cap)
       (above : cap_of m parent ≡ Some over) where
@@ -84,7 +84,7 @@ module _ (t : Layout) (allowed : EdgeTest) (a : ℕ) (m : Machine) (sound : IsSo
       | inr at ↦ made_used at.0 at.1 at.2 at.3 at.4 used
     ]
 
-  -- and so is each descendant
+  -- each descendant is used so
   descends_used :
       (by : ℕ) → MayKeep t allowed by → {slot above : SlotRef} → Descends m slot above
       → ((over : Cap) → cap_of m above ≡ Some over → IsUsed by over) → (held : Cap) → cap_of m slot ≡ Some held → IsUsed by held

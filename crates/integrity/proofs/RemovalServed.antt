@@ -1,4 +1,4 @@
--- A removal holds nobody anew: who is held by a reply since it called was so before, and its label is served as it was.
+-- Callers that replies hold after a removal: each was held so before, and its label is served as it was.
 use Rattle.std.proofs.Common.{◌<◌, ◌∙◌, ◌≡◌, Bool, Some, ap, cond, false, refl, subst, sym, true}
 use Rattle.base.specs.declared.ids.{ObjId.ObjId, SlotRef.SlotRef}
 use Rattle.machine.specs.declared.object.{Object.{Object, Object as o}, Reply.Reply, ReplyState.{ReplyState, ReplyState as reply}}

@@ -1,4 +1,4 @@
--- What a removal changes shrinks: an object vanishes, or loses capabilities, waiting threads and links.
+-- Objects that a removal changes shrink: they vanish, or lose capabilities, waiting threads and links.
 use Rattle.std.{specs.Prelude.{None, Option, Some, filter, option_map}, proofs.Common.{[], ◌∙◌, ◌∷◌, ◌≡◌, ◌⊎◌, Bool, List, ap, cond, false}}
 use Rattle.std.proofs.{Common.{inl, inr, not, refl, sym, true}, lemmas.Bool.false≢true}
 use Rattle.base.specs.declared.ids.{ObjId.ObjId, SlotRef.SlotRef}
@@ -15,7 +15,7 @@ use Rattle.integrity.specs.Shrinks.{HasLess, IsBlocked, IsPart, IsSame, Lessens,
 use Rattle.integrity.specs.Shrinks.{Lessens.{as_it_was, freed, released, unbound as unbinds}, Stops.{aborted, goes_on, halted}}
 use Rattle.integrity.proofs.Held.{bare_of}
 
--- who stay of a list, in their order, are a part of it
+-- the elements that stay of a list, in their order, are a part of it
 pub part_of_all : (test : ObjId → Bool) (all : List ObjId) → IsPart (filter test all) all
 part_of_all test [] = ended
 part_of_all test (x ∷ all) = by_test (test x) (part_of_all test all) where
@@ -29,7 +29,7 @@ link_lost vanished link = by_end (leads_nowhere vanished link) where
   by_end true = inr refl
   by_end false = inl refl
 
--- who is halted or aborted waited for something
+-- a halted or aborted thread waited for something
 
 halted_blocked : (vanished : ObjId → Bool) (run : RunState) → is_halted vanished run ≡ true → IsBlocked run
 halted_blocked vanished (state.Receiving receiving) is = tt
@@ -134,7 +134,7 @@ none_either : (b : Bool) → ◌≡◌ {A = Option Object} (cond b None None) No
 none_either true = refl
 none_either false = refl
 
--- what isn't there before isn't after
+-- an object that isn't there before isn't there after
 pub absent_after : (m : Machine) (chosen : SlotRef → Bool) (id : ObjId) → object_of m id ≡ None → object_of (removed m chosen) id ≡ None
 absent_after m chosen id absent =
     object_of-removed m chosen id

@@ -1,4 +1,4 @@
--- Retype within a caller's authority: the untyped memory and the CNode are controlled by the caller's label, and so is all that is made.
+-- Retype within a caller's authority: the caller's label controls the untyped memory and the CNode, and so all that is made.
 use Rattle.std.{specs.Prelude.if◌then◌else◌, proofs.Common.{[], ℕ, ◌+◌, ◌∙◌, ◌∷◌, ◌≡◌, Bool, List, Some, ap, arith, false, option_map}}
 use Rattle.std.proofs.Common.{refl, subst, suc, sym, true, zero}
 use Rattle.base.specs.declared.{ids.{ObjId.ObjId, SlotRef.SlotRef}, kind.Kind.Kind as authority}
@@ -15,7 +15,7 @@ use Rattle.integrity.proofs.{MakeKeeps.{MayMake, make_keeps}, ObjectLabels.{kind
 use Rattle.integrity.proofs.{Reach.{found_in_reach, found_within, shown_controlled}, Walks.shows}
 use Rattle.integrity.specs.Keeping.{IsSharp}
 
--- a machine that is made so is the one that the row says
+-- a machine that is made by the row's relation is the one that the row computes
 makes_is :
     (m next : Machine) (source : Source) (of : MemoryKind) (bits : ℕ) (slot : SlotRef)
     → MakesObject m source (taken (new_size of bits) source.memory).watermark
@@ -38,8 +38,8 @@ unfolding AreOf
 window_of node offset zero = tt
 window_of node offset (suc count) = (refl, window_of node (offset + 1) count)
 
--- what a retype has at hand all the while: a label over which the caller's has control, for the untyped memory; a CNode that it controls;
--- and the CNode that holds the memory's capability, in its domain
+-- what holds all through a retype: the caller's label has control over the memory's label, it controls the CNode, and the CNode that
+-- holds the memory's capability is in its domain
 record HasAtHand (t : Layout) (allowed : EdgeTest) (a : ℕ) (node : ObjId) (m : Machine) (source : Source) : Type 0 where
   label : ℕ
   labelled : label_of t m source.id ≡ Some label
@@ -52,7 +52,7 @@ record HasAtHand (t : Layout) (allowed : EdgeTest) (a : ℕ) (node : ObjId) (m :
 
 module _ (t : Layout) (allowed : EdgeTest) (began : Machine) (event : Event) (a : ℕ) (closed : IsSharp t allowed) where
   module _ (of : MemoryKind) (bits : ℕ) (node : ObjId) where
-    -- what is there is there after one was made
+    -- an object that is there is there after one was made
     there_after :
         (m next : Machine) (source : Source) (mark : ℕ) (object : Object) (slot : SlotRef)
         → MakesObject m source mark object (new_detail of) slot next → (q : ObjId) (old : Object) → object_of m q ≡ Some old

@@ -21,7 +21,7 @@ use Rattle.integrity.proofs.{SpaceKeeps.{clear_space_keeps, set_space_keeps}, Th
 use Rattle.integrity.proofs.{MessageKeeps.RunsOn, Shrinking.same_tcb, WordsKeeps.{read_keeps, write_keeps}}
 use Rattle.integrity.specs.Keeping.{IsSharp}
 
--- one clause for each call
+-- a made call of each kind
 call_keeps :
     (t : Layout) (allowed : EdgeTest) (event : Event) (a : ℕ) (m next : Machine) → IsSound t allowed m → IsSharp t allowed
     → (made : Call) → event.call ≡ made → label_of t m event.thread ≡ Some a → IsCaller m event.thread → RunsOn m event.thread
@@ -93,7 +93,7 @@ admitted_runs m core caller share e =
     let same : found.0 ≡ is.thread = same_ok (sym found.1 ∙ ap thread_in is.there) in
     (is.thread, is.there, runs.0, subst (λ (thread : Tcb). running_share m thread ≡ Ok runs.0) same runs.1)
 
--- so a thread that is admitted is of a label that may act
+-- an admitted thread is of a label that may act
 admitted_acts :
     (t : Layout) (allowed : EdgeTest) (m : Machine) (core : ℕ) (caller : ObjId) (share : Share) → OthersSleep t allowed m
     → admitted m core caller ≡ Ok share → (a : ℕ) → label_of t m caller ≡ Some a → MayAct t allowed a
@@ -107,7 +107,7 @@ admitted_acts t allowed m core caller share others e a labelled =
     by thread running can (inl asleep) = absurd (not_running m thread running can asleep)
     by thread running can (inr acts) = acts a labelled
 
--- and runs on a context
+-- an admitted thread runs on a context
 admitted_on :
     (m : Machine) (core : ℕ) (caller : ObjId) (share : Share) → IsCaller m caller → admitted m core caller ≡ Ok share → RunsOn m caller
 admitted_on m core caller share is e tcb there none =
@@ -138,7 +138,7 @@ step_admits m next event outcome (ends e) = by_made (made_by m event) refl e whe
       let admission = both_done (admitted m event.core event.thread) _ made is in inr (admission.0, admission.1)
   by_made (Err cause) is same = inl (subst IsRefused (ap (λ p. p.0) same) tt)
 
--- so it is of a label that may act
+-- a step that isn't refused is of a label that may act
 step_acts :
     (t : Layout) (allowed : EdgeTest) (m next : Machine) (event : Event) (outcome : Outcome) → IsSound t allowed m
     → OthersSleep t allowed m → Step m event outcome next → IsRefused outcome ⊎ IsOfActing t allowed m event
@@ -150,13 +150,13 @@ step_acts t allowed m next event outcome sound others step = elim (step_admits m
       inr (label.0, label.1, admitted_acts t allowed m event.core event.thread admission.0 others admission.1 label.0 label.1)
 ]
 
--- what the machines of a run keep: they are sound, each thread sleeps whose label may not act, and who called is served
+-- what the machines of a run keep: they are sound, each thread whose label may not act sleeps, and each caller is served
 pub record IsKept (t : Layout) (allowed : EdgeTest) (m : Machine) : Type 0 where
   pub sound : IsSound t allowed m
   pub others : OthersSleep t allowed m
   pub served : CallersAreServed t allowed m
 
--- the label of a thread that may act is awake in such a machine, by each test that holds of all who may act and may have threads
+-- the label of a thread that may act is awake in such a machine, by each test that holds of all that may act and may have threads
 abbrev awake_at :
     (t : Layout) (allowed : EdgeTest) (m : Machine) → IsKept t allowed m → (acts : ActorTest) → HoldsOfActors t allowed acts
     → (thread : ObjId) (tcb : Tcb) → object_of m thread ≡ Some (o.Tcb tcb) → (a : ℕ) → label_of t m thread ≡ Some a
@@ -170,7 +170,7 @@ awake_at t allowed m kept acts actors thread tcb there a labelled acting = recor
   actor = actors a acting (has_threads t m kept.sound.of_table thread tcb there a labelled);
 }
 
--- a step of such a machine is bounded by who may act, guards budgets, and leads to such a machine
+-- a step of such a machine is bounded by the labels that may act, guards budgets, and leads to such a machine
 record StepKeeps (t : Layout) (allowed : EdgeTest) (m : Machine) (event : Event) (next : Machine) : Type 0 where
   kept : IsKept t allowed next
   narrow : (acts : ActorTest) → HoldsOfActors t allowed acts → IsNarrowStep t allowed acts m event next
@@ -250,7 +250,7 @@ abbrev pub StartsKept : Layout → EdgeTest → Type 0
 StartsKept t allowed =
     (boot : Machine) → IsBoot t boot → IsSound t allowed boot × OthersSleep t allowed boot × CallersAreServed t allowed boot
 
--- so is each machine that a run from there reaches
+-- each machine that a run from the boot state reaches is such a machine
 pub kept_at : (t : Layout) (allowed : EdgeTest) → IsSharp t allowed → StartsKept t allowed → (m : Machine) → IsReached t m → IsKept t allowed m
 kept_at t allowed closed at_boot m reached =
     let first = at_boot reached.boot reached.booted in
@@ -260,7 +260,7 @@ kept_at t allowed closed at_boot m reached =
 pub sound_at : (t : Layout) (allowed : EdgeTest) → IsSharp t allowed → StartsKept t allowed → (m : Machine) → IsReached t m → IsSound t allowed m
 sound_at t allowed closed at_boot m reached = (kept_at t allowed closed at_boot m reached).sound
 
--- the headline, where the boot state is such a machine
+-- the headline, if the boot state is such a machine
 pub safe_from : (t : Layout) (allowed : EdgeTest) → IsSharp t allowed → StartsKept t allowed → IsSafe t allowed
 safe_from t allowed closed at_boot =
     record {

@@ -1,4 +1,4 @@
--- Setting an object's content, and changing who waits at it, touch that object alone.
+-- Changes of an object's content, or of the threads that wait at it, touch that object alone.
 use Rattle.std.proofs.Common.{ℕ, ◌∙◌, ◌≡◌, List, Some}
 use Rattle.base.specs.declared.ids.ObjId.{ObjId}
 use Rattle.machine.specs.{declared.{call.Event.Event, object.Object.Object}, Layout.Layout, Machine.{Machine, object_of, queue_of}}

@@ -1,5 +1,5 @@
--- Copy, Mint and Move within a caller's authority: both slots are in CNodes that its label controls, so that the labels of both may do the
--- same, and derive on one another.
+-- Copy, Mint and Move within a caller's authority: its label controls the CNodes of both slots, so the labels of both may do the same, and
+-- derive to each other.
 use Rattle.std.{specs.Prelude.if◌then◌else◌, proofs.Common.{ℕ, ◌∙◌, ◌≡◌, ◌≢◌, ◌⊎◌, Bool, None, Some, ap, false, inl, inr, refl, subst, sym}}
 use Rattle.std.proofs.{Common.true, lemmas.Option.{none-some, same_Some}}
 use Rattle.base.specs.{declared.{ids.{ObjId.ObjId, SlotRef.SlotRef}, kind.Kind.{Kind, Kind as authority}}, Kinds.is_structural}
@@ -15,7 +15,7 @@ use Rattle.integrity.proofs.{FillKeeps.in_node, Held.{bare_of, held_of}, Keeps.K
 use Rattle.integrity.proofs.SlotKeeps.{IsAllowedIn, SlotsFit, opened, slots_keep}
 use Rattle.integrity.specs.Keeping.{IsSharp}
 
--- one label is near another: what may derive to it may derive to the other, and where it may derive to the other may
+-- one label is near another: what may derive to the one may derive to the other, and what the one may derive to, the other may
 record IsNear (allowed : EdgeTest) (label other : ℕ) : Type 0 where
   down : (from : ℕ) → allowed from authority.Derive label ≡ true → allowed from authority.Derive other ≡ true
   up : (to : ℕ) → allowed label authority.Derive to ≡ true → allowed other authority.Derive to ≡ true
@@ -34,7 +34,7 @@ module _
   derives one other x y =
       closed.keepers_derive a x.label y.label (inr x.controls) (controlled_put t allowed m a other y)
 
-  -- and may do the same
+  -- labels that the caller's controls may do the same
   same_edges :
       (one other : ObjId) (x : Controlled one) (y : Controlled other) (k : Kind) (end : ℕ) → is_structural k ≡ false
       → allowed x.label k end ≡ true → allowed y.label k end ≡ true
@@ -135,7 +135,7 @@ module _
       up = λ end edge. closed.derives_on y.label x.label end (derives other one y x) edge;
     }
 
-    -- a slot that is one of the two, and the other of them, have near labels
+    -- a slot that is one of the two has a label near that of the other
     at_controlled :
         (q slot was : SlotRef) → q ≡ slot → (y : Controlled slot.holder) → Controlled was.holder → (label : ℕ)
         → label_of t m q.holder ≡ Some label
@@ -145,7 +145,7 @@ module _
         same_Some y.label label (sym y.labelled ∙ ap (λ (s : SlotRef). label_of t m s.holder) (sym at) ∙ begins) in
         (x.label, x.labelled, subst (λ l. IsNear allowed x.label l) is (near_controlled was.holder slot.holder x y))
 
-    -- a slot's label is near that of the slot that it has changed names with
+    -- a slot's label is near that of the slot in whose place it came
     near :
         (q : SlotRef) (label : ℕ) → label_of t m q.holder ≡ Some label
         → (other : ℕ) × (label_of t m (exchange done.source done.target q).holder ≡ Some other) × IsNear allowed other label
@@ -159,7 +159,7 @@ module _
       by_tie false true apart is = at_controlled q done.target done.source (one_slot q done.target is) goal_mine start_mine label begins
       by_tie false false apart also = (label, begins, record { down = λ start edge. edge; up = λ end edge. edge })
 
-    -- each pair was one of the slots that have changed names
+    -- each pair was one of the slots before they changed places
     move_pairs :
         (q parent : SlotRef) (start end : ℕ) → parent_of next q ≡ Some parent → label_of t m parent.holder ≡ Some start
         → label_of t m q.holder ≡ Some end → allowed start authority.Derive end ≡ true
@@ -174,7 +174,7 @@ module _
         (by_pair (exchange done.source done.target q) (exchange done.source done.target parent) was above.1 below.1) in
         below.2.down start (above.2.up below.0 edge)
 
-    -- an object that has neither slot keeps what its slots hold
+    -- an object with neither slot keeps what its slots hold
     others_keep :
         (id : ObjId) → id ≢ done.target.holder → id ≢ done.source.holder → (index : ℕ)
         → cap_of next (record { holder = id; index = index }) ≡ cap_of m (record { holder = id; index = index })

@@ -1,5 +1,5 @@
--- A change of slots keeps what a part of a call keeps: each capability and pair of the tree that is new is in the policy, and the
--- objects whose slots change are the caller's to change.
+-- A change of slots keeps what a part of a call keeps: the policy has each new capability and pair of the tree, and the caller may change
+-- the objects whose slots change.
 use Rattle.machine.specs.Step.Reply.{loan_in}
 use Rattle.integrity.proofs.Borrowers.{borrower_stays}
 use Rattle.std.proofs.{Common.{ℕ, ◌∙◌, ◌≡◌, ◌⊎◌, None, Some, ap, arith, inl, inr, refl, sym, true}, lemmas.Option.{none-some, same_Some}}
@@ -23,15 +23,15 @@ pub record IsOpened (t : Layout) (allowed : EdgeTest) (began m : Machine) (a : �
   pub labelled : label_of t m id ≡ Some label
   pub has : Changes t allowed began a label
 
--- a CNode that it controls is such an object
+-- a CNode that the label controls is such an object
 pub opened :
     (t : Layout) (allowed : EdgeTest) (began m : Machine) (a : ℕ) (node : ObjId) → IsControlled t allowed m a node
     → IsOpened t allowed began m a node
 opened t allowed began m a node c =
     record { label = c.label; labelled = c.labelled; has = λ awake. modifies authority.Control refl c.controls }
 
--- the policy has the edges of a capability in a slot: all that it gives, in a slot of a CNode, whose label may keep any, and space, in a
--- thread's root slot
+-- the policy has the edges of a capability in a slot: in a CNode all that it gives, if its label may keep any, and space in a thread's
+-- root slot
 abbrev pub IsAllowedIn : Layout → EdgeTest → Machine → SlotRef → Cap → Type 0
 IsAllowedIn t allowed m slot cap =
     ((kind_of m slot.holder ≡ Some kind.CNode)
@@ -42,7 +42,7 @@ IsAllowedIn t allowed m slot cap =
     × ((from to : ℕ) → label_of t m slot.holder ≡ Some from → label_of t m cap.object ≡ Some to
     → allowed from authority.Space to ≡ true))
 
--- what a change of slots has to meet
+-- the conditions on a change of slots
 pub record SlotsFit (t : Layout) (allowed : EdgeTest) (began : Machine) (a : ℕ) (m next : Machine) : Type 0 where
   pub same : SameObjects m next
   -- a capability was there, or its edges are in the policy
@@ -55,7 +55,7 @@ pub record SlotsFit (t : Layout) (allowed : EdgeTest) (began : Machine) (a : ℕ
   pub slots :
       (id : ObjId) → ((index : ℕ) → cap_of next (record { holder = id; index = index }) ≡ cap_of m (record { holder = id; index = index }))
       ⊎ IsOpened t allowed began m a id
-  -- the object of a capability is of its kind, and what is absent has nothing
+  -- the object of a capability is of its kind, and an absent object has nothing
   pub kinds : (q : SlotRef) (cap : Cap) → cap_of next q ≡ Some cap → kind_of next cap.object ≡ Some (kind_of_detail cap.detail)
   pub bare : (id : ObjId) → object_of next id ≡ None → IsBare next id
 

@@ -89,7 +89,7 @@ module _
         done.finds_node.left mine
         done.finds_node.ends
 
-    -- so the caller's label keeps, and may put what it keeps where it controls the thread
+    -- the caller's label keeps, and may put what it keeps where it controls the thread
     may_put : MayPut allowed (MayKeep t allowed) a at_thread.label
     may_put = record {
       keeps =
@@ -98,7 +98,6 @@ module _
       controls = may_act;
     }
 
-    -- the label of what stays stays
     still :
         (id : ObjId) (object : Object) (label : ℕ) → object_of mid id ≡ Some object → label_of t m id ≡ Some label
         → label_of t mid id ≡ Some label

@@ -1,4 +1,4 @@
--- The boot state of a lawful table is sound, its threads sleep whose labels may not act, and it holds nobody who called.
+-- The boot state of a lawful table: it is sound, threads whose labels may not act sleep, and no reply holds a caller.
 use Rattle.machine.specs.{Boot.IsBoot, Layout.Layout, Machine.Machine, WellFormed.IsWellFormed}
 use Rattle.policy.specs.Domain.{EdgeTest}
 use Rattle.table.specs.Rules.{IsLawful}

@@ -1,5 +1,5 @@
--- Changes that leave kinds, labels, capabilities and the derivation tree as they are: a machine stays confined where its new links
--- are allowed.
+-- Changes that leave kinds, labels, capabilities and the derivation tree as they are: the machine stays confined if its new links are
+-- allowed.
 use Rattle.std.proofs.Common.{ℕ, ◌∙◌, ◌≡◌, Some, sym, true}
 use Rattle.base.specs.declared.{ids.{ObjId.ObjId, SlotRef.SlotRef}, kind.Kind.Kind}
 use Rattle.machine.specs.{declared.object.Object.Object, Authority.{label_of, links, HasAuthority.{by_cap, by_link, by_pair, by_root}}}

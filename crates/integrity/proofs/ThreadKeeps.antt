@@ -17,7 +17,7 @@ use Rattle.integrity.proofs.{Keeps.{Takes, unchanged}, MessageParts.{IsReached, 
 use Rattle.integrity.proofs.MessageTouches.{MayLessen, released_keeps}
 use Rattle.integrity.specs.Keeping.{IsSharp}
 
--- a thread that goes on is as it was, or can run, or is aborted
+-- a resumed thread is as it was, or can run, or is aborted
 data Resumes (m : Machine) (thread : ObjId) (next : Machine) : Type 0 where
   goes_on : next ≡ m → Resumes m thread next
   can_run : next ≡ with_ready m thread → Resumes m thread next
@@ -44,14 +44,14 @@ module _
     pub may_control : allowed a authority.Control to_thread.label ≡ true
     may_control = to_thread.edge authority.Control refl refl
 
-    -- what the thread's label may use, the caller's may use
+    -- the caller's label may use what the thread's label may use
     agrees :
         (k : Kind) (to : ℕ) → is_structural k ≡ false → allowed to_thread.label k to ≡ true → allowed a k to ≡ true
     agrees k to of_use edge =
         closed.uses_rise a to_thread.label k (record { domain = inr may_control; of_use = of_use }) to edge
 
     module _ (tcb : Tcb) (there : IsThread m thread tcb) where
-      -- the reply that it waits with is the caller's to use too, and one that holds it since it called only loses it
+      -- the caller's label may use the reply that it waits with, and a reply that it called through only loses it
       names_loses : (id : ObjId) (to : ℕ) → Names tcb.state id → label_of t m id ≡ Some to → MayLessen t allowed m a m id to
       names_loses id to names target = by_run tcb.state refl names where
         by_run : (run : RunState) → tcb.state ≡ run → Names run id → MayLessen t allowed m a m id to
@@ -79,7 +79,7 @@ module _
             )
         by_run _ is named = absurd named
 
-      -- where it waits the caller may wait or send too
+      -- the caller's label may wait or send where the thread waits
       waits_loses :
           (id : ObjId) (to : ℕ) → WaitsAt tcb.state id → label_of t m id ≡ Some to
           → Changes t allowed m a to ⊎ Takes t allowed m a to

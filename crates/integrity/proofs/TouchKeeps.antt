@@ -1,5 +1,5 @@
--- A change of one object's content, words or queue keeps what a part of a call keeps: the object stays of its kind and where it is,
--- and its new links, its budget and the change are allowed.
+-- A change of one object's content, words or queue keeps what a part of a call keeps: the object keeps its kind and its address, and its
+-- new links, its budget and the change are allowed.
 use Rattle.std.proofs.Common.{ℕ, ◌<◌, ◌∙◌, ◌≡◌, ◌≢◌, ◌≤◌, ◌⊎◌, None, Some, ap, arith, inl, inr, option_map, refl, subst, sym, true}
 use Rattle.std.proofs.lemmas.Option.{none-some, same_Some}
 use Rattle.base.specs.declared.{ids.{ObjId.ObjId, SlotRef.SlotRef}, kind.Kind.Kind}
@@ -47,13 +47,13 @@ pub record Fits
   pub idles :
       (thread : Tcb) (receiving : Receiving) → new ≡ o.Tcb thread → thread.state ≡ state.Receiving receiving → thread.context ≡ None
       → (label : ℕ) → label_of t m id ≡ Some label → MayIdle allowed label
-  -- who is lent a context may idle
+  -- the borrower of a context may idle
   pub borrows : (lent : Lent) → loan_in (Some new) ≡ Some lent → IsIdleBorrower t allowed m lent
   -- a thread sleeps, or its label may act
   pub sleeps :
       IsAwake t allowed began a → OthersSleep t allowed m → (thread : Tcb) → new ≡ o.Tcb thread
       → SleepsOrActs t allowed m id thread
-  -- who is held by a reply since it called is served
+  -- a caller that the reply holds is served
   pub serves :
       IsAwake t allowed began a → CallersAreServed t allowed m → (reply : Reply) → new ≡ o.Reply reply
       → IsHeldAfterCall t allowed m id reply
@@ -61,7 +61,7 @@ pub record Fits
       (before after : Context) → old ≡ o.Context before → new ≡ o.Context after
       → (after.share ≡ before.share) ⊎ MayConfigure t allowed began event id
 
--- it may keep the content that it has
+-- an object may keep the content that it has
 pub same_fits :
     (t : Layout) (allowed : EdgeTest) (began : Machine) (event : Event) (a : ℕ) (m : Machine) (id : ObjId) → IsHeld t allowed m
     → (object : Object) → object_of m id ≡ Some object → Fits t allowed began event a m id object object
@@ -232,7 +232,6 @@ module _
     ]
   ]
 
-  -- each other thread sleeps on
   sleeps : IsAwake t allowed began a → OthersSleep t allowed m → OthersSleep t allowed next
   unfolding Seen
   sleeps awake others q thread at =
@@ -243,7 +242,7 @@ module _
             (fits.sleeps awake others thread (sym (new_at q (o.Tcb thread) same at)))
       ])
 
-  -- what held a thread that called still does, and is still served
+  -- a reply that held a caller still does, and the caller is still served
   held_on :
       (q : ObjId) (reply : Reply) → IsHeldAfterCall t allowed m q reply → IsHeldAfterCall t allowed next q reply
   held_on q reply holds thread is =

@@ -1,5 +1,4 @@
--- Walks through a capability space: a property of CNodes that each capability hands on, from a CNode to the one that it is for, holds
--- of the CNode where a lookup ends.
+-- Walks through a capability space: a property that capabilities hand on from CNode to CNode holds of the CNode where a lookup ends.
 use Rattle.std.proofs.Common.{[], ℕ, ◌∙◌, ◌∷◌, ◌≡◌, Bool, Err, List, None, Ok, Option, Result, Some, ap, arith, length, refl, subst, suc}
 use Rattle.std.proofs.Common.{sym, zero}
 use Rattle.base.specs.declared.{ids.{ObjId.ObjId, SlotRef.SlotRef}, refusal.{Cause.Cause as cause, LookupFailure.LookupFailure}}

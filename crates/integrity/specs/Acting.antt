@@ -1,4 +1,4 @@
--- Which labels may act: those with a thread that can run at boot, and those that a label that may act controls (confine's own;
+-- Labels that may act: those with a thread that can run at boot, and those that a label that may act controls (confine's own;
 -- compare 'seL4 Enforces Integrity', section 4, where the thread that acts may be of any label).
 use Rattle.std.specs.Prelude.{ℕ, ◌≡◌, ◌⊎◌, Some, true}
 use Rattle.base.specs.declared.{ids.ObjId.ObjId, kind.Kind.Kind as authority}
@@ -32,6 +32,6 @@ pub record MayHaveThreads (t : Layout) (a : ℕ) : Type 0 where
   pub labelled : initial.label ≡ a
   pub is_source : (kind_of_object initial.object ≡ kind.Tcb) ⊎ (kind_of_object initial.object ≡ kind.Untyped)
 
--- a test of labels holds of each one that may act and may have threads
+-- a test holds of each label that may act and may have threads
 abbrev pub HoldsOfActors : Layout → EdgeTest → ActorTest → Type 0
 HoldsOfActors t allowed acts = (a : ℕ) → MayAct t allowed a → MayHaveThreads t a → acts a ≡ true

@@ -10,17 +10,17 @@ use Rattle.integrity.specs.Shrinks.{IsSame, Shrinks}
 abbrev pub IsLabelled : Layout → Machine → Machine → ObjId → ℕ → Type 0
 IsLabelled t m next id label = (label_of t m id ≡ Some label) ⊎ ((object_of m id ≡ None) × (label_of t next id ≡ Some label))
 
--- modifying authority of a label over an object's label: full, or cut where the object only shrinks
+-- modifying authority of a label over an object's label: full, or cut if the object only shrinks
 abbrev pub MayModify : EdgeTest → ℕ → ℕ → Machine → Machine → ObjId → Type 0
 MayModify allowed caller label m next id = IsFull allowed caller label ⊎ (IsCut allowed caller label × Shrinks m next id)
 
--- what became of an object is within a label's authority: the object has a label on which the label has modifying authority
+-- an object changes within a label's authority: the object has a label on which the label has modifying authority
 pub record MayChange (t : Layout) (allowed : EdgeTest) (caller : ℕ) (m next : Machine) (id : ObjId) : Type 0 where
   pub label : ℕ
   pub labelled : IsLabelled t m next id label
   pub may : MayModify allowed caller label m next id
 
--- the thread that makes the step has a label, within whose authority the change is
+-- the thread that makes the step has a label, and the change is within the label's authority
 pub record IsModified (t : Layout) (allowed : EdgeTest) (m next : Machine) (thread id : ObjId) : Type 0 where
   pub caller : ℕ
   pub calls : label_of t m thread ≡ Some caller

@@ -1,4 +1,4 @@
--- Steps bounded by who may act: which objects a step may change where only threads of some labels act (the integrity of each object in
+-- Steps bounded by the labels that act: the objects that a step may change if only some labels act (the integrity of each object in
 -- 'seL4 Enforces Integrity', section 4; the bounds are confine's own).
 use Rattle.std.specs.Prelude.{ℕ, ◌≡◌, ◌⊎◌, Some}
 use Rattle.base.specs.declared.ids.ObjId.{ObjId}
@@ -6,18 +6,18 @@ use Rattle.machine.specs.{declared.call.Event.Event, Authority.label_of, Layout.
 use Rattle.policy.specs.{Change.{ActorTest, MayChange}, Domain.EdgeTest, NarrowTake.MayShrink}
 use Rattle.integrity.specs.{Allowed.IsLabelled, Shrinks.{IsSame, Shrinks}}
 
--- a label may change an object's label, or make it smaller where the object only shrinks
+-- a label may change an object's label, or make it smaller if the object only shrinks
 abbrev pub MayChangeOrShrink : EdgeTest → ActorTest → ℕ → ℕ → Machine → Machine → ObjId → Type 0
 MayChangeOrShrink allowed acts caller label m next id =
     MayChange allowed acts caller label ⊎ (MayShrink allowed acts caller label × Shrinks m next id)
 
--- what became of an object is within a label's bounds: the object has a label that the label may so change
+-- an object changes within a label's bounds: the object has a label that the label may so change
 pub record MayAlter (t : Layout) (allowed : EdgeTest) (acts : ActorTest) (caller : ℕ) (m next : Machine) (id : ObjId) : Type 0 where
   pub label : ℕ
   pub labelled : IsLabelled t m next id label
   pub may : MayChangeOrShrink allowed acts caller label m next id
 
--- the thread that makes the step has a label, within whose bounds the change is
+-- the thread that makes the step has a label, and the change is within the label's bounds
 pub record IsAltered (t : Layout) (allowed : EdgeTest) (acts : ActorTest) (m next : Machine) (thread id : ObjId) : Type 0 where
   pub caller : ℕ
   pub calls : label_of t m thread ≡ Some caller

@@ -15,6 +15,6 @@ AtEachStep t a l Holds =
 abbrev pub NeverChanges : Layout → ℕ → ℕ → Type 0
 NeverChanges t a l = AtEachStep t a l IsSame
 
--- each object of the other's stays as it is, or shrinks
+-- each object of the other label stays as it is, or shrinks
 abbrev pub OnlyTakes : Layout → ℕ → ℕ → Type 0
 OnlyTakes t a l = AtEachStep t a l (λ m next id. IsSame m next id ⊎ Shrinks m next id)

@@ -1,5 +1,5 @@
--- What every state of a run from an accepted table keeps of threads: those whose label may not act sleep, and whoever is held by a
--- reply since it called has called where a server of that reply receives (confine's own).
+-- Threads in every state of a run from an accepted table: those whose label may not act sleep, and each caller that a reply holds has
+-- called where a server of that reply receives (confine's own).
 use Rattle.std.specs.Prelude.{ℕ, ◌<◌, ◌≡◌, ◌⊎◌, None, Some, true}
 use Rattle.base.specs.declared.{ids.ObjId.ObjId, kind.Kind.Kind as authority}
 use Rattle.machine.specs.declared.{object.{Object.Object as o, Reply.Reply}, thread.{RunState.RunState as state, Tcb.Tcb}}
@@ -30,7 +30,7 @@ pub record IsServed (t : Layout) (allowed : EdgeTest) (reply caller : ℕ) : Typ
   pub receives : allowed server authority.Receive endpoint ≡ true
   pub calls : allowed caller authority.Call endpoint ≡ true
 
--- who is held by a reply since it called was made, and its label is so served
+-- a caller that a reply holds was made, and its label is so served
 abbrev pub IsHeldAfterCall : Layout → EdgeTest → Machine → ObjId → Reply → Type 0
 IsHeldAfterCall t allowed m id reply =
     (thread : ObjId) → reply.state ≡ answers.Called thread
@@ -40,7 +40,7 @@ IsHeldAfterCall t allowed m id reply =
 abbrev pub CallersAreServed : Layout → EdgeTest → Machine → Type 0
 CallersAreServed t allowed m = (id : ObjId) (reply : Reply) → object_of m id ≡ Some (o.Reply reply) → IsHeldAfterCall t allowed m id reply
 
--- the label of a step may act, and the machine where the step begins is such a state; with a test that holds of all who may act
+-- the label of a step may act, and the machine where the step begins is such a state; with a test that holds of all that may act
 pub record IsAwake (t : Layout) (allowed : EdgeTest) (began : Machine) (a : ℕ) : Type 0 where
   pub acting : MayAct t allowed a
   pub others : OthersSleep t allowed began

@@ -1,4 +1,4 @@
--- Who may change what a scheduling context is configured for: its core, budget and period (seL4 manual, "Scheduling Contexts",
+-- Configuration of a scheduling context, its core, budget and period: who may change it (seL4 manual, "Scheduling Contexts",
 -- SchedControl_Configure; the edges are confine's own).
 use Rattle.std.specs.Prelude.{ℕ, ◌≡◌, ◌⊎◌, None, Ok, Option, Some, true}
 use Rattle.base.specs.declared.{ids.{ObjId.ObjId, SlotRef.SlotRef}, kind.Kind.Kind as authority}
@@ -9,7 +9,7 @@ use Rattle.machine.specs.declared.object.ObjectKind.TheVariants as kind
 use Rattle.machine.specs.{Lookup.lookup_of, Machine.{Machine, cap_of, object_of}}
 use Rattle.policy.specs.Domain.{EdgeTest}
 
--- the addresses through which a call configures a context, if it is such a call: the control's, and the context's
+-- the addresses of the control and of the context, if the call is one that configures a context
 abbrev pub configures : Call → Option (ℕ × ℕ)
 configures (call.Configure control context _ _) = Some (control, context)
 configures _ = None

@@ -1,5 +1,5 @@
--- Which labels keep capabilities for CNodes, and so may receive, copy, move and make capabilities: those of which a CNode holds one at
--- boot, those that find one in the space of a keeper, and those whose CNodes a keeper may put one into (confine's own).
+-- Keepers: labels that keep capabilities for CNodes, and so may receive, copy, move and make capabilities. A CNode of theirs holds one at
+-- boot, or they find one in the space of a keeper, or a keeper may put one into their CNodes (confine's own).
 use Rattle.std.specs.Prelude.{ℕ, ◌<◌, ◌≡◌, None, Some, true}
 use Rattle.base.specs.declared.{ids.{ObjId.ObjId, SlotRef.SlotRef}, kind.Kind.Kind as authority}
 use Rattle.machine.specs.{declared.{cap.Cap.Cap, layout.Initial.Initial}, Capabilities.kind_of_detail, Layout.{Layout, initial_cap, initial_of}}
@@ -21,14 +21,14 @@ pub record HoldsNode (t : Layout) (a : ℕ) : Type 0 where
   pub in_node : kind_of_object holder.object ≡ kind.CNode
   pub labelled : holder.label ≡ a
 
--- a label may keep one: it holds one at boot, finds one of a label that may keep one, or may be handed one, as a label that may keep one
--- controls it
+-- a label may keep one: it holds one at boot, finds one of a label that may keep one, or is controlled by a label that may keep one,
+-- which may hand it over
 pub data MayKeep (t : Layout) (allowed : EdgeTest) : ℕ → Type 0 where
   holds : {a : ℕ} → HoldsNode t a → MayKeep t allowed a
   finds : {a b : ℕ} → MayKeep t allowed b → allowed a authority.Space b ≡ true → MayKeep t allowed a
   handed : {a b : ℕ} → MayKeep t allowed b → allowed b authority.Control a ≡ true → MayKeep t allowed a
 
--- a test of labels holds of each one that may keep
+-- a test holds of each label that may keep
 abbrev pub HoldsOfKeepers : Layout → EdgeTest → KeeperTest → Type 0
 HoldsOfKeepers t allowed keeps = (a : ℕ) → MayKeep t allowed a → keeps a ≡ true
 
@@ -53,6 +53,6 @@ pub record IsIdleBorrower (t : Layout) (allowed : EdgeTest) (m : Machine) (lent 
 abbrev pub BorrowersMayIdle : Layout → EdgeTest → Machine → Type 0
 BorrowersMayIdle t allowed m = (id : ObjId) (lent : Lent) → loan_in (object_of m id) ≡ Some lent → IsIdleBorrower t allowed m lent
 
--- the policy is sharply closed, where the labels that may keep are the keepers
+-- the policy is sharply closed, and the keepers are the labels that may keep
 abbrev pub IsSharp : Layout → EdgeTest → Type 0
 IsSharp t allowed = IsSharplyClosed allowed (MayKeep t allowed)

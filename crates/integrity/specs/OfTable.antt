@@ -1,6 +1,5 @@
--- What every state of a run from a table's boot state keeps of the table: each object has a label, and initial objects stay
--- what and where they were declared ('seL4 Enforces Integrity', section 3: the labelling of a state; confine's own for made
--- objects).
+-- States of a run from a table's boot state, and what each keeps of the table: each object has a label, and initial objects keep the
+-- declared kind and address ('seL4 Enforces Integrity', section 3: the labelling of a state; confine's own for made objects).
 use Rattle.std.specs.Prelude.{ℕ, ◌<◌, ◌≡◌, ◌≢◌, ◌≤◌, Some, length}
 use Rattle.base.specs.declared.ids.ObjId.{ObjId}
 use Rattle.machine.specs.declared.{layout.Initial.Initial, object.{Object.{Object, Object as o}, Untyped.Untyped}, thread.Tcb.Tcb}
@@ -9,13 +8,13 @@ use Rattle.machine.specs.{Authority.{label_at, label_of, context_lent}, Layout.{
 use Rattle.machine.specs.Objects.{address_of, end_of, kind_of_object}
 
 pub record IsOfTable (t : Layout) (m : Machine) : Type 0 where
-  -- each object that is there has a label
+  -- each present object has a label
   pub labelled : (id : ObjId) (object : Object) → object_of m id ≡ Some object → (label : ℕ) × (label_of t m id ≡ Some label)
   -- an initial object keeps its kind and its address
   pub initial :
       (id : ObjId) (object : Object) (declared : Initial) → object_of m id ≡ Some object → initial_of t id ≡ Some declared
       → (kind_of_object object ≡ kind_of_object declared.object) × (address_of object ≡ address_of declared.object)
-  -- what is made of untyped memory gets the label of that memory, wherever in its range it lies
+  -- untyped memory gives its label to what is made of it, wherever in its range that lies
   pub ranged :
       (id : ObjId) (memory : Untyped) (label address : ℕ) → object_of m id ≡ Some (o.Untyped memory)
       → label_of t m id ≡ Some label

@@ -1,4 +1,4 @@
--- Which capabilities a label's thread may remove, and how it reaches what they are for ('seL4 Enforces Integrity', section 4, the
+-- The capabilities that a label's thread may remove, and how it reaches what they are for ('seL4 Enforces Integrity', section 4, the
 -- deletions that it allows, restated for this profile).
 use Rattle.std.specs.Prelude.{ℕ, ◌≡◌, ◌⊎◌, Bool, Some, true}
 use Rattle.base.specs.declared.{ids.SlotRef.SlotRef, kind.Kind.{Kind, Kind as authority}}
@@ -23,8 +23,8 @@ abbrev pub MayReach : EdgeTest → ℕ → ObjectKind → ℕ → Type 0
 MayReach allowed controlled of_kind label =
     (allowed controlled (use_of of_kind) label ≡ true) ⊎ ((of_kind ≡ kind.CNode) × (allowed controlled authority.Space label ≡ true))
 
--- a capability may go from its slot: a controls the label of the slot's holder, or one from which capabilities may be derived to it,
--- and the label that it controls reaches what the capability is for
+-- a capability may go from its slot: a controls the label of the slot's holder, or one that may derive to it, and the label that it
+-- controls reaches what the capability is for
 pub record MayGo (t : Layout) (allowed : EdgeTest) (a : ℕ) (m : Machine) (slot : SlotRef) (held : Cap) : Type 0 where
   pub controlled : ℕ
   pub control : allowed a authority.Control controlled ≡ true

@@ -26,8 +26,8 @@ KeepsIntegrity t allowed =
     (m next : Machine) (event : Event) (outcome : Outcome) → IsReached t m → Step m event outcome next
     → IsAllowedStep t allowed m event next
 
--- no step changes an object of a label that its caller's label may not change, unless the object only shrinks and the caller's label may
--- make that label's objects smaller; this is so for each test of labels that holds of all that may act and may have threads
+-- a step changes an object only if its caller's label may change the object's label, or if the object only shrinks and the caller's
+-- label may make it smaller; for each test of labels that holds of all that may act and may have threads
 abbrev pub KeepsNarrowBounds : Layout → EdgeTest → Type 0
 KeepsNarrowBounds t allowed =
     (acts : ActorTest) → HoldsOfActors t allowed acts
@@ -40,7 +40,7 @@ GuardsBudgets t allowed =
     (m next : Machine) (event : Event) (outcome : Outcome) → IsReached t m → Step m event outcome next
     → KeepsBudgets t allowed m event next
 
--- after every list of kernel calls each object that is there has a label, so that no authority goes unseen
+-- each present object has a label after every list of kernel calls, so that no authority goes unseen
 abbrev pub LabelsObjects : Layout → Type 0
 LabelsObjects t =
     (m : Machine) → IsReached t m → (id : ObjId) (object : Object) → object_of m id ≡ Some object

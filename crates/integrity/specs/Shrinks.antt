@@ -1,4 +1,4 @@
--- What it is for an object to stay as it was, and to shrink: it only loses capabilities, waiting threads and links
+-- Objects that stay as they were, and objects that shrink: those that only lose capabilities, waiting threads and links
 -- ('seL4 Enforces Integrity', section 4, where deletion may reach the objects of others).
 use Rattle.std.specs.Prelude.{[], ℕ, ◌∷◌, ◌≡◌, ◌⊎◌, List, None, Option, Some}
 use Rattle.base.specs.declared.ids.ObjId.{ObjId}
@@ -7,14 +7,13 @@ use Rattle.machine.specs.declared.object.ReplyState.TheVariants as reply
 use Rattle.machine.specs.declared.thread.Inbox.TheVariants as inbox
 use Rattle.machine.specs.{declared.thread.{RunState.RunState as state, Tcb.Tcb}, Machine.{Machine, cap_of, object_of, queue_of, words_of}}
 
--- an object is its content, who waits at it, its words, and what its slots hold: all of it is as it was, and so is its absence
+-- an object's content, the threads that wait at it, its words and what its slots hold are as they were, and so is its absence
 pub record IsSame (m next : Machine) (id : ObjId) : Type 0 where
   pub content : object_of next id ≡ object_of m id
   pub queue : queue_of next id ≡ queue_of m id
   pub words : words_of next id ≡ words_of m id
   pub slots : (index : ℕ) → cap_of next (record { holder = id; index = index }) ≡ cap_of m (record { holder = id; index = index })
 
--- a thread that waits for something
 abbrev pub IsBlocked : RunState → Type 0
 IsBlocked (state.Sending _) = Unit {0}
 IsBlocked (state.Receiving _) = Unit {0}

@@ -1,4 +1,4 @@
-//! Laws about what a label may change, and about what its authority leads to.
+//! Laws on what a label may change, and on what its authority leads to.
 ghost use Rattle.std.specs.Prelude.{[], ℕ, ◌++◌, ◌<◌, ◌∷◌, ◌≡◌, ◌≢◌, ◌⊎◌, All, List, None, Some, false, length, true};
 ghost use Rattle.base.specs.declared.{ids.{ObjId.ObjId as Id, SlotRef.SlotRef as Slot}, kind.Kind.Kind};
 ghost use Rattle.base.specs.Kinds.{is_structural};
@@ -14,9 +14,7 @@ ghost use Rattle.machine.specs.declared.thread.RunState.TheVariants as run;
 ghost use Rattle.policy.specs.{Cut.{IsBase, IsCut, IsHolding, IsNear, is_link}, Domain.EdgeTest};
 ghost use Rattle.integrity.specs.{Budgets.KeepsBudgets, Shrinks.{IsBlocked, Shrinks}};
 
-/// A law: by some changes an object doesn't shrink.
-///
-/// These changes are:
+/// A law: by these changes an object doesn't shrink:
 ///
 /// - its pending word, or its core, budget or period changes
 /// - more threads wait at it than before
@@ -100,7 +98,7 @@ pub fn gains_are_no_shrinking()
 
 /// A law: a change of a context's core, budget or period needs authority.
 ///
-/// No step guards budgets that makes such a change, where the caller's label has no schedcontrol
+/// No step that makes such a change guards budgets if the caller's label has no schedcontrol
 /// edge, or no context edge to the context's label.
 pub fn a_budget_needs_authority()
     ensures schedcontrol { (t : Layout) (allowed : EdgeTest) (m next : Machine) (event : Event)
@@ -122,9 +120,7 @@ pub fn a_budget_needs_authority()
         → ¬ KeepsBudgets t allowed m event next }
 {}
 
-/// A law: by some changes an object shrinks.
-///
-/// These changes are:
+/// A law: by these changes an object shrinks:
 ///
 /// - it vanishes
 /// - only a capability of it is removed, or one of the threads that wait at it, or its link to a

@@ -1,9 +1,7 @@
 //! Confinement and integrity: every run stays within a closed policy that has all authority of its boot state.
 //!
 //! The boot state is that of a table. The policy has the authority of every state of the run, and
-//! no step changes more than it allows.
-//!
-//! `reach`, `verdict` and `cores` stand on it. It knows no code of the kernel, only the definitions
+//! no step changes more than it allows. The crate knows no code of the kernel, only the definitions
 //! and laws of the steps.
 #![tactic(auto)]
 

@@ -1,4 +1,4 @@
-//! A law about the objects that a thread makes.
+//! The law on objects that a thread makes: they stay within the bounds of its label.
 ghost use Rattle.std.specs.Prelude.{ℕ, ◌≡◌, ◌⊎◌, Ok, Some};
 ghost use Rattle.base.specs.declared.ids.ObjId.{ObjId as Id};
 ghost use Rattle.machine.specs.{declared.{call.Made.Made, object.MemoryKind.MemoryKind}, Authority.label_of};
@@ -12,7 +12,7 @@ ghost use Rattle.integrity.specs.{OfTable.IsOfTable, Shrinks.IsSame};
 /// The machine stays within a sharply closed policy, each object has a label, and no object changes or is
 /// made but within the bounds.
 ///
-/// The bounds are for a machine of a run, where only threads of labels that may act wait or have
+/// The bounds are for a machine of a run, in which only threads of labels that may act wait or have
 /// called.
 pub fn what_is_made_stays_within_authority()
     ensures confined { (t : Layout) (allowed : EdgeTest) (a : ℕ) (m next : Machine) (caller : Id) (untyped : ℕ)

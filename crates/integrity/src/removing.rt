@@ -1,4 +1,4 @@
-//! Laws about removals: what they change, and whose it is.
+//! Laws on removals: what they change, and of which labels.
 ghost use Rattle.std.specs.Prelude.{ℕ, ◌≡◌, ◌⊎◌, Bool, None, Ok, Some};
 ghost use Rattle.base.specs.declared.ids.{ObjId.ObjId as Id, SlotRef.SlotRef as Slot};
 ghost use Rattle.machine.specs.declared.{call.Made.Made, object.Context.Context as Bound};

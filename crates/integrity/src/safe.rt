@@ -1,4 +1,4 @@
-//! The headline and its laws: which systems are safe, and what that says of labels.
+//! The headline and its laws: which systems are safe, and what follows for labels.
 ghost use Rattle.std.specs.Prelude.{ℕ, ◌≡◌, ◌≢◌, ◌↔◌, ◌⊎◌, Some, true};
 ghost use Rattle.base.specs.declared.{ids.ObjId.ObjId as Id, kind.Kind.Kind as authority};
 ghost use Rattle.machine.specs.{declared.call.{Event.Event, Outcome.Outcome}, Authority.label_of, Boot.IsBoot};
@@ -17,7 +17,7 @@ use table::boot_states_are_well_formed;
 
 /// A law, the headline over the definitions alone: every run of a confined system is safe.
 ///
-/// A system is confined where its policy is closed and has all authority of the boot state of its
+/// A system is confined if its policy is closed and has all authority of the boot state of its
 /// lawful table. The runs are those from the boot state.
 pub fn confined_systems_are_safe()
     ensures { (t : Layout) (allowed : EdgeTest)
@@ -97,11 +97,11 @@ pub fn idlers_wait_without_contexts()
     boot_states_are_well_formed();
 }
 
-/// A law: if steps keep to the bounds of who may act in every run from the boot state, they keep labels apart.
+/// A law: steps keep labels apart, if in every run from the boot state they keep to the bounds by the labels that act.
 ///
 /// No step of a thread of a label changes, makes or removes an object of a label that it may not
-/// change and may not make smaller. Where it may not change it, each object stays as it is, or
-/// shrinks. This is so for each test of labels that holds of all that may act and may have threads.
+/// change and may not make smaller. If it may not change it, each object stays as it is, or
+/// shrinks. This holds for each test of labels that holds of all that may act and may have threads.
 pub fn bounded_systems_keep_labels_apart()
     ensures apart { (t : Layout) (allowed : EdgeTest) (acts : ActorTest) (a l : ℕ)
         → KeepsNarrowBounds t allowed
@@ -142,7 +142,7 @@ pub fn changes_are_of_labels_that_act()
 
 /// A law: a label may act exactly if it acts from boot on, or a label that does controls it.
 ///
-/// The policy keeps to the rule that who finds its capabilities with a label has its edges of use.
+/// The policy keeps the rule that a label has the edges of use of a label in which it finds its capabilities.
 pub fn labels_act_from_boot_or_by_control()
     ensures { (t : Layout) (allowed : EdgeTest) (a : ℕ)
         → UsesRise allowed

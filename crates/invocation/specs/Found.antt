@@ -1,4 +1,4 @@
--- The command line that was found in the words (confine's own).
+-- Command lines as they are found in words (confine's own).
 use Rattle.std.specs.Prelude.{[], ℕ, ◌∷◌, ◌≡◌, Bool, List, None, Option, Some, codes, false, option_copied, option_map, true}
 use Rattle.clap.specs.{declared.parser.matches.{ArgMatches.ArgMatches, Found.Found}, Matches.{first_value, one_text, subcommand_name_of}}
 use Rattle.clap.specs.{Simple.subcommand_rows_of, Walk.rows_of}
@@ -31,7 +31,7 @@ AreFound found words =
     ∷ (codes "surplus", words.surplus) ∷ (codes "split", words.split) ∷ (codes "all", words.all) ∷ (codes "take", words.take)
     ∷ (codes "reads", words.reads) ∷ (codes "as-claims", words.as_claims) ∷ [])
 
--- a line asks for what its command and the words found for that make
+-- a line asks for what its command and the words found for it make
 pub record IsAskedIn (matches : ArgMatches) (line : CommandLine) : Type 0 where
   pub words : Words
   pub found : Found
@@ -40,6 +40,6 @@ pub record IsAskedIn (matches : ArgMatches) (line : CommandLine) : Type 0 where
   pub read : AreFound found words
   pub asks : command_line_of words ≡ Some line
 
--- a line asks for what a command and words make that were found, by the library for command lines, in the words of the line
+-- a line asks for what a command and words make that the library for command lines found in the words of the line
 abbrev pub IsRead : CommandLine → Type 0
 IsRead line = (matches : ArgMatches) × IsAskedIn matches line

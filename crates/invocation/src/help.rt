@@ -1,9 +1,8 @@
-//! The texts of `--help`: what each command is for, what its files hold, and an example to be
-//! pasted into a shell. `tests/command-line` runs the examples, and compares what they print with
-//! what is shown.
+//! Texts of `--help`: the purpose of each command, what its files hold, and an example to paste into a shell.
+//! `tests/command-line` runs the examples, and compares what they print with what is shown.
 //!
 //! A constant `ABOUT_..` is the line on a command, and `EXAMPLE_..` its example. The others are the
-//! texts on the argument or option of their name; `WRONG_..` is printed where an option has a wrong
+//! texts on the argument or option of their name; `WRONG_..` is printed if an option has a wrong
 //! value.
 
 pub const ABOUT: &str =
@@ -300,7 +299,7 @@ end
     };
 }
 
-// An example of that table, and of a policy to which it keeps.
+// An example of that table, and of a policy that it keeps to.
 macro_rules! with_policy {
     ($first:literal, $then:literal) => {
         with_table!(

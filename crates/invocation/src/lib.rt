@@ -1,6 +1,6 @@
 //! The command line of the program `confine`: its words and its help texts.
 //!
-//! `confine` stands on it. It carries no request out: it opens no file, and knows no engine.
+//! It carries no request out: it opens no file, and knows no engine.
 #![tactic(auto)]
 
 pub mod help;

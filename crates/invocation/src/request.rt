@@ -1,4 +1,4 @@
-//! How a request is read from a command line: the commands, their words and options.
+//! Requests as they are read from a command line: the commands, their words and options.
 ghost use Rattle.std.specs.Prelude.{◌≡◌, IfOk, IfSome};
 ghost use Rattle.clap.specs.Matches.{found_of};
 ghost use Rattle.requests.specs.Requests.{IsWithinLimits, OnInTurn};
@@ -69,7 +69,7 @@ fn misused(
     command.error(kind, message)
 }
 
-// What is wrong with a command line that makes no request.
+// The error of a command line that makes no request.
 fn misuse_of(alloc: Global, matches: &ArgMatches<'_>) -> Result<(ErrorKind, String), AllocError> {
     let Some((name, found)) = matches.subcommand() else {
         let message = String::from_str(alloc, "a command is missing")?;
@@ -100,7 +100,7 @@ fn misuse_of(alloc: Global, matches: &ArgMatches<'_>) -> Result<(ErrorKind, Stri
     Ok((ErrorKind::InvalidValue, String::from_str(alloc, message)?))
 }
 
-// A policy in the place that it had where these commands still took one, and the words that remain.
+// A policy in the place that it had when these commands still took one, and the words that remain.
 #[derive(Clone, Copy)]
 struct Unneeded<'a> {
     policy: &'a str,
@@ -144,7 +144,7 @@ const FILES: [&str; 7] = [
     "claims",
 ];
 
-// How many files are standard input, which can be read once.
+// The number of files that are standard input, which can be read once.
 fn inputs(found: &ArgMatches<'_>) -> u64 {
     let mut inputs = 0;
     for id in &FILES {
@@ -155,7 +155,7 @@ fn inputs(found: &ArgMatches<'_>) -> u64 {
     inputs
 }
 
-// The file of claims, where the strongest that hold are asked for.
+// The file of claims, if the strongest that hold are asked for.
 fn claims_with_all<'a>(found: &ArgMatches<'a>) -> Option<&'a str> {
     if found.get_flag("all") {
         found.get_str("claims")
@@ -262,7 +262,6 @@ fn words_of<'a>(verb: Verb, found: &ArgMatches<'a>) -> Words<'a>
     }
 }
 
-// The command of a verb.
 fn command_of<'a>(alloc: Global, verb: Verb) -> Result<Command<'a>, AllocError> {
     match verb {
         Verb::Import => import_command(alloc),
@@ -473,7 +472,7 @@ fn on_system<'a>(
     )
 }
 
-// A command with the options that each has: how it tells what it finds.
+// A command with the options that each has for how findings are told.
 fn telling<'a>(
     alloc: Global,
     name: &'a str,
@@ -503,12 +502,12 @@ fn rules<'a>(alloc: Global) -> Arg<'a> {
     option(alloc, "rules", "RULES", help::RULES).default_value("closed")
 }
 
-// The option for a policy that is asked in place of the table.
+// The option for a policy that is asked instead of the table.
 fn allowing<'a>(alloc: Global) -> Arg<'a> {
     option(alloc, "policy", "POLICY", help::POLICY_ALLOWS)
 }
 
-// One word more than a command takes: it took a policy before, and a command line that has one is told so.
+// One word more than a command takes: the command took a policy before, and a command line with one is told so.
 fn one_word_more<'a>(alloc: Global) -> Arg<'a> {
     word(alloc, "unneeded", "WORD", "")
         .required(false)
@@ -520,7 +519,7 @@ fn workers<'a>(alloc: Global) -> Arg<'a> {
     option(alloc, "workers", "N", help::WORKERS).default_value("1")
 }
 
-// The option for how long runs are looked for that sentences show.
+// The option for the time in which runs are searched that sentences show.
 fn seconds<'a>(alloc: Global) -> Arg<'a> {
     option(alloc, "seconds", "N", help::SECONDS).default_value("10")
 }

@@ -1,4 +1,4 @@
--- The boot state of a table with one object, one capability or one pair more, and which slots a boot state has.
+-- The boot state of a table with one object, one capability or one pair more, and the slots that a boot state has.
 use Rattle.std.specs.{declared.cmp.Ordering.TheVariants.Less, Cmp.tied_itself, List.{AllPairs, find}, Option.option_or, Ordering.is_eq}
 use Rattle.std.{specs.Prelude.{IsSome, IsTrue, None, Option, Some, is_some, option_map, slice_get}, proofs.Common.{[], ℕ, ◌++◌, ◌+◌, ◌<◌}}
 use Rattle.std.proofs.Common.{◌∙◌, ◌∷◌, ◌≡◌, ◌≢◌, Bool, List, ap, arith, cond, false, get_or, length, refl, replicate, suc, sym, take, true}
@@ -15,8 +15,6 @@ use Rattle.machine.proofs.LookUps.{parent_of-with_new, parent_of-with_parent, qu
 use Rattle.machine.proofs.LookUps.{queue_of-with_parent, slot_total, words_of-empty, words_of-with_cap, words_of-with_new}
 use Rattle.machine.proofs.LookUps.{words_of-with_parent}
 use Rattle.table.specs.Rules.{HasSlot}
-
--- ids that don't tie differ
 
 apart_ids : (q id : ObjId) → same_id q id ≡ false → q.0 ≢ id.0
 apart_ids q id tie same =
@@ -52,7 +50,7 @@ map-cond f false x found = refl
 abbrev pub with_last_object : Layout → Initial → Layout
 with_last_object t initial = record t { objects = t.objects ++ initial ∷ [] }
 
--- the boot state of a table that says nothing of objects and what is in them
+-- the boot state of a table without objects
 pub boot-nothing : (t : Layout) → IsBoot (record t { objects = []; caps = []; pairs = [] }) empty_machine
 unfolding initial_of initial_cap initial_parent empty_machine
 boot-nothing t = record {
@@ -108,7 +106,7 @@ boot-object t m initial boot =
       going = boot.going;
     }
 
--- a list with one element more has it under its slot, which is above the slots of the others
+-- a list with one element more, under a slot above those of the others, has it there
 find-last :
     {A X : Type 0} (key : A → SlotRef) (value : A → X) (xs : List A) (x d : A)
     → ((k : ℕ) → k < length xs → slot_cmp (key (get_or xs k d)) (key x) ≡ Less) → (q : SlotRef)
@@ -151,7 +149,7 @@ below_next key xs i d rise within k lower =
     let below : k < i = omega (arith, length-take-le i xs (omega arith)) in
     rw (get_or-take i xs k d below) (rise k i d below within)
 
--- the slots of those that aren't put there yet are empty
+-- slots that aren't filled yet are empty
 pub boot-vacant :
     (t : Layout) (m : Machine) (i : ℕ) (d : Filled) → AllPairs (λ one other. slot_cmp one.slot other.slot ≡ Less) t.caps
     → i < length t.caps → IsBoot (record t { caps = take i t.caps; pairs = [] }) m → cap_of m (get_or t.caps i d).slot ≡ None
@@ -209,7 +207,6 @@ boot-derived t m i d rise within boot =
       going = boot.going;
     })
 
--- the boot state has the objects that the table declares
 pub boot-object_there :
     (t : Layout) (m : Machine) (id : ObjId) (initial : Initial) → IsBoot t m → slice_get t.objects id.0 ≡ Some initial
     → IsSome (object_of m id)
@@ -217,7 +214,7 @@ unfolding initial_of
 boot-object_there t m id initial boot declared =
     ap is_some (boot.objects id ∙ ap (option_map (λ initial. bound t id initial.object)) declared)
 
--- and its slots
+-- the boot state has the slots that the table declares
 pub boot-has_slot : (t : Layout) (m : Machine) (slot : SlotRef) → IsBoot t m → HasSlot t.objects slot → IsTrue (has_slot m slot)
 unfolding initial_of
 boot-has_slot t m slot boot has =

@@ -1,4 +1,4 @@
--- The next pair of a table, whose earlier pairs are a state's derivation tree, may come to the tree.
+-- The next pair of a table may be added to the tree of a state that has the pairs before it.
 use Rattle.std.specs.{declared.cmp.Ordering.TheVariants.Less, List.find, Ordering.is_eq, Prelude.{AllPairs, IsSome, IsTrue, None, Option}}
 use Rattle.std.{specs.Prelude.{Some, option_map}, proofs.Common.{[], ℕ, ◌+◌, ◌<◌, ◌∙◌, ◌∷◌, ◌≡◌, Bool, List, ap, cond, false, get_or}}
 use Rattle.std.proofs.{Common.{length, refl, suc, sym, take, true, zero}, lemmas.Bool.false≢true}
@@ -8,7 +8,7 @@ use Rattle.machine.specs.Machine.{Machine, cap_of, has_slot, parent_of, same_slo
 use Rattle.table.specs.Tree.{IsPairOf}
 use Rattle.kernel.proofs.BootLemmas.{below_next, boot-derived, find-missing}
 
--- what is found among the first elements of a list is found in the list
+-- an element found among the first of a list is found in the list
 find-first : {X : Type 0} (p : X → Bool) (n : ℕ) (xs : List X) (x : X) → find p (take n xs) ≡ Some x → find p xs ≡ Some x
 find-first p zero xs x is = cc
 find-first p (suc n) [] x is = cc
@@ -53,7 +53,7 @@ module _ (t : Layout) (m : Machine) (i : ℕ) (d : Pair) where
         (find-missing (λ pair. same_slot pair.child next.child) (take i t.pairs) d
         (λ k lower. ap is_eq (below_next (λ (p : Pair). p.child) t.pairs i d rise within k lower)))
 
-    -- the pairs of the state are the table's then
+    -- the pairs of the state are then the table's
     pub next_ranked :
         (slot parent : SlotRef) → parent_of (with_parent m next.child next.parent) slot ≡ Some parent
         → initial_parent t slot ≡ Some parent

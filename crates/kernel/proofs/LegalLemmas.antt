@@ -1,5 +1,4 @@
--- Which entries are steps; and a log that stops at an entry is no run, since of two steps of an event with one outcome both lead to
--- one machine.
+-- Entries of a log as steps: a log that stops at an entry is no run, since two steps of an event with one outcome lead to one machine.
 use Rattle.std.{specs.{List.{All, zip}, Prelude.{Option, is_some, length, map, not, slice_get, take}}, proofs.Common.{[], ℕ, ◌++◌, ◌<◌}}
 use Rattle.std.proofs.Common.{◌∙◌, ◌∷◌, ◌≡◌, ◌≢◌, ◌⊎◌, Bool, Err, List, None, Ok, Result, Some, ap, arith, inl, inr, refl, subst, suc, sym}
 use Rattle.std.proofs.{Common.{zero, ◌+◌}, Math.{Nat.le_refl, Seq.take-length}, lemmas.{Bool.cases_order, List.{map_push, take_more}}}
@@ -13,11 +12,11 @@ use Rattle.untyped.specs.Making.{refusal_in}
 use Rattle.kernel.specs.Legal.{Entry, Follows, IsLack, IsLeftAt, IsReachedIn, LacksMemoryIn, Leads, StopsAt, next_of}
 use Rattle.kernel.{specs.Refusals.lasting_refusal, proofs.RunLemmas.run_further}
 
--- of a call that takes memory, what it is refused in any case is what its row says
+-- a call that takes memory is refused in any case as its row says
 lasting_is : (m : Machine) (event : Event) → takes_memory event.call ≡ Bool.true → lasting_refusal m event ≡ refusal_in (made_by m event)
 lasting_is m event takes = rw takes refl
 
--- one that could be made may lack memory
+-- a call that could be made may lack memory
 made_lacks :
     (m : Machine) (event : Event) (made : Result (Made × Machine) Cause) → takes_memory event.call ≡ Bool.true
     → made_by m event ≡ made → refusal_in made ≡ None → Step m event (Refused out_of_memory) m
@@ -30,7 +29,7 @@ may_lack :
     → Step m event (Refused out_of_memory) m
 may_lack m event takes none = made_lacks m event (made_by m event) takes refl (sym (lasting_is m event takes) ∙ none)
 
--- one that is refused in any case comes to that refusal
+-- a call that is refused in any case has that refusal
 refused_is :
     (m : Machine) (event : Event) (refusal : Refusal) (made : Result (Made × Machine) Cause) → made_by m event ≡ made
     → refusal_in made ≡ Some refusal → Step m event (Refused refusal) m
@@ -43,14 +42,14 @@ is_refused :
     → lasting_refusal m event ≡ Some refusal → Step m event (Refused refusal) m
 is_refused m event refusal takes some = refused_is m event refusal (made_by m event) refl (sym (lasting_is m event takes) ∙ some)
 
--- and lacks no memory
+-- it lacks no memory
 refused_lacks_none :
     (m : Machine) (event : Event) (outcome : Outcome) (next : Machine) (refusal : Refusal) (made : Result (Made × Machine) Cause)
     → made_by m event ≡ made → refusal_in made ≡ Some refusal → ¬ (LacksMemory m event outcome next)
 refused_lacks_none m event outcome next refusal (Ok made) is some lack = cc
 refused_lacks_none m event outcome next refusal (Err cause) is some lack = cc (lack.could)
 
--- nor is it refused for want of memory
+-- it isn't refused for want of memory
 refused_lasts :
     (refusal : Refusal) (made : Result (Made × Machine) Cause) → refusal_in made ≡ Some refusal → refusal ≢ out_of_memory
 refused_lasts refusal (Ok made) is = cc
@@ -70,14 +69,14 @@ not_lacking m event refusal takes some next step =
       by (inr (inl lack)) = refused_lacks_none m event (Refused refusal) m refusal (made_by m event) refl row lack
       by (inr (inr lack)) = refused_lacks_none m event (Refused out_of_memory) next refusal (made_by m event) refl row lack
 
--- the step of a call that lacked no memory is the one that its event makes where there is memory
+-- the step of a call that lacked no memory is the one that its event makes if there is memory
 pub with_memory :
     (m : Machine) (event : Event) (came : Outcome) (next : Machine) → Step m event came next → ¬ (IsLack event came)
     → next ≡ next_of m event
 with_memory m event came next (ends is) memory = sym (ap (λ (step : Outcome × Machine). step.1) is)
 with_memory m event came next (lacks lack) memory = absurd (memory (lack.takes, lack.refused))
 
--- and so is a refusal that comes in any case
+-- a refusal that comes in any case is such a step too
 refused_next :
     (m : Machine) (event : Event) (refusal : Refusal) → takes_memory event.call ≡ Bool.true
     → lasting_refusal m event ≡ Some refusal → m ≡ next_of m event
@@ -86,7 +85,7 @@ refused_next m event refusal takes some =
     with_memory m event (Refused refusal) m (is_refused m event refusal takes some)
     (λ lack. refused_lasts refusal (made_by m event) row (cc (lack.1)))
 
--- so it may end for want of memory exactly where it isn't refused in any case
+-- an event may end for want of memory exactly if it isn't refused in any case
 pub follows_lack :
     (m : Machine) (event : Event) (refusal : Option Refusal) (lacking : Bool) → takes_memory event.call ≡ Bool.true
     → lasting_refusal m event ≡ refusal → is_some refusal ≡ not lacking → Follows m event (Refused out_of_memory) m lacking
@@ -114,7 +113,7 @@ one_next m event outcome next after one other = by (steps_agree m event outcome 
   by (inl same) = same.1
   by (inr lack) = lacking_agree m event outcome next after one other lack
 
--- where a beginning of the entries is a run, each entry in it is a step from where those before it lead
+-- each entry of a run at the beginning is a step from where those before it lead
 step_within :
     (first last mid : Machine) (entries : List Entry) (at most : ℕ) (entry : Entry) → Leads first (take most entries) last
     → slice_get entries at ≡ Some entry → at < most → Leads first (take at entries) mid
@@ -136,7 +135,7 @@ no_run first last entries at stops ran =
     let step = step_within first last stops.last entries at (length entries) stops.entry all stops.here (slice_get_within entries at stops.entry stops.here) stops.led in
     stops.stuck step.0 step.1
 
--- entries that lead somewhere, and one more
+-- entries that lead somewhere, and one more entry
 pub led_further :
     (first last next : Machine) (entries : List Entry) (entry : Entry) → Leads first entries last → Step last entry.0 entry.1 next
     → Leads first (entries ++ entry ∷ []) next
@@ -144,7 +143,7 @@ led_further first last next entries entry ran step =
     let further = run_further first (map (λ (e : Entry). e.0) entries) (map (λ (e : Entry). e.1) entries) last entry.0 entry.1 next ran step in
     rw (map_push (λ (e : Entry). e.0) entries entry, map_push (λ (e : Entry). e.1) entries entry) further
 
--- of two entries where it stops the later one isn't reached
+-- a run stops at the earlier of two entries, and doesn't reach the later
 not_later :
     (first : Machine) (entries : List Entry) (at other : ℕ) → StopsAt first entries at → StopsAt first entries other → at < other → ⊥
 not_later first entries at other stops further below =
@@ -159,7 +158,7 @@ one_stop first entries at other one two = elim (cases_order at other) [
   | inr (inr above) ↦ absurd (not_later first entries other at two one above)
 ]
 
--- how each entry of a legal log ends
+-- the end of each entry of a legal log
 
 zipped : (entries : List Entry) → zip (map (λ entry. entry.0) entries) (map (λ entry. entry.1) entries) ≡ entries
 zipped [] = refl
@@ -170,9 +169,9 @@ legal_ends first last entries ran =
     subst (All Ended) (zipped entries)
     (runs_end first (map (λ (e : Entry). e.0) entries) (map (λ (e : Entry). e.1) entries) last ran)
 
--- how the machine stands where a log stops, or lacks memory: it is reached by the log's events
+-- the machine where a log stops, or lacks memory, is reached by the log's events
 
--- an event that isn't the step that its entry tells came to something else
+-- an event that isn't the step that its entry claims ended otherwise
 pub stops :
     (first last next : Machine) (entries : List Entry) (at : ℕ) (entry : Entry) → slice_get entries at ≡ Some entry
     → Leads first (take at entries) last → Follows last entry.0 entry.1 next Bool.false
@@ -180,7 +179,7 @@ pub stops :
 stops first last next entries at entry here led follows =
     (record { entry = entry; here = here; last = last; led = led; stuck = follows.0 }, follows.1)
 
--- what an event makes where there is memory is a step
+-- what an event makes if there is memory is a step
 makes_next : (m : Machine) (event : Event) (next : Machine) → next ≡ next_of m event → Step m event (step_of m event).0 next
 makes_next m event next is = subst (λ (after : Machine). Step m event (step_of m event).0 after) (sym is) (ends refl)
 

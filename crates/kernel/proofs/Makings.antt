@@ -1,4 +1,4 @@
--- What the code of an event came to is a step: it was made, or refused by a condition or for want of memory.
+-- Ends of events in code are steps: the event was made, or refused by a condition or for want of memory.
 use Rattle.std.{specs.Prelude.IsOk, proofs.Common.{◌≡◌, Bool, Err, Ok, Result, refl, subst, sym}}
 use Rattle.base.specs.{declared.refusal.Cause.Cause, Refusals.refusal_of}
 use Rattle.machine.specs.declared.call.{Event.Event, Made.Made, Outcome.TheVariants.Refused, Unmade.{Unmade, Unmade as unmade}}

@@ -1,4 +1,4 @@
--- A run that goes one step further.
+-- A run with one more step.
 use Rattle.std.proofs.Common.{[], ◌++◌, ◌∷◌, List, refl, subst, sym}
 use Rattle.machine.specs.{declared.call.{Event.Event, Outcome.Outcome}, Machine.Machine, Run.Run, Step.Step}
 

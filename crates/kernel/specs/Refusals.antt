@@ -1,10 +1,10 @@
--- What a call that takes memory is refused whatever the memory (confine's own).
+-- Refusals of a call that takes memory which come whatever the memory (confine's own).
 use Rattle.std.specs.Prelude.{Bool, None, Option}
 use Rattle.base.specs.declared.refusal.Refusal.{Refusal}
 use Rattle.machine.specs.{declared.call.Event.Event, Machine.Machine, Step.{made_by, takes_memory}}
 use Rattle.untyped.specs.Making.{refusal_in}
 
--- of a call that takes no memory nothing is said
+-- the refusal that a call that takes memory gets in any case; none for other calls
 abbrev pub lasting_refusal : Machine → Event → Option Refusal
 lasting_refusal m event = by (takes_memory event.call) where
   by : Bool → Option Refusal

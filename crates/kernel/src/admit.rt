@@ -1,4 +1,4 @@
-//! How a thread is admitted to make a call on a core.
+//! Admission of a thread that makes a call on a core.
 ghost use Rattle.std.specs.Prelude.{◌≡◌};
 ghost use Rattle.machine.specs.{Machine.object_of, Step.{admitted, running_share, share_of, thread_in}};
 
@@ -43,9 +43,9 @@ fn running(state: &State, thread: &Tcb) -> Result<Share, Cause>
 ///
 /// # Errors
 ///
-/// The first of these: [`Cause::NoSuchThread`] (34) where there is no such thread,
-/// [`Cause::NotRunnable`] (32) where it isn't ready or has no context that is configured, and
-/// [`Cause::WrongCore`] (33) where that is for another core.
+/// The first of these: [`Cause::NoSuchThread`] (34) if there is no such thread,
+/// [`Cause::NotRunnable`] (32) if it isn't ready or has no context that is configured, and
+/// [`Cause::WrongCore`] (33) if that is for another core.
 #[tactic(auto, unfolding(machine::specs::Step::admitted))]
 pub fn admit(state: &State, core: CoreNo, caller: ObjId) -> Result<Share, Cause>
     ensures { result ≡ admitted state.now core caller }

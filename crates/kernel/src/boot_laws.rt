@@ -1,4 +1,4 @@
-//! A law about boot states.
+//! The law on boot states.
 ghost use Rattle.std.specs.Prelude.{◌≡◌};
 ghost use Rattle.machine.specs.{Boot.IsBoot, Layout.Layout, Machine.Machine};
 

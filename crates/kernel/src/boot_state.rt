@@ -28,7 +28,7 @@ fn bound(table: &Table, id: ObjId, object: Object) -> Object
     }
 }
 
-/// A state with the table's objects, whose slots are empty.
+/// Returns a state with the table's objects, whose slots are empty.
 fn with_objects(alloc: Global, table: &Table) -> Result<State, AllocError>
     ensures { IfOk result (IsBoot (objects_alone table.now)) }
 {
@@ -69,14 +69,14 @@ fn derive(state: &mut State, table: &Table)
 
 /// Returns the boot state of a capability table.
 ///
-/// The state is well formed, and as the boot rule says: nothing is made of untyped memory, nobody
+/// The state is well formed, and follows the boot rule: nothing is made of untyped memory, nobody
 /// waits or has received anything, each thread is ready or inactive as it was declared, no
 /// notification has a word, replies are free, frames are zero, and a capability without a parent is
 /// original.
 ///
 /// # Errors
 ///
-/// 40 where memory is refused.
+/// 40 if memory is refused.
 pub fn boot(alloc: Global, table: &Table) -> Result<State, Refusal>
     ensures booted { IfOk result (IsBoot table.now) }
     ensures well_formed { IfOk result IsWellFormed }

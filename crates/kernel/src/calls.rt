@@ -111,7 +111,7 @@ fn make_with_memory(state: &mut State, event: &Event) -> Result<Made, Unmade>
 ///
 /// A refused call leaves the state as it was.
 ///
-/// No call but a retype takes memory, and is refused 40 where there is none. Every other refusal is
+/// Only a retype takes memory, and is refused 40 if there is none. Every other refusal is
 /// by a condition of the call: a code of the seL4 manual from 1 to 10, or 32, 33, 34 or 44.
 pub fn step(state: &mut State, event: Event) -> Outcome
     requires { IsWellFormed state.old }
@@ -124,7 +124,7 @@ pub fn step(state: &mut State, event: Event) -> Outcome
     take_step(state, &event)
 }
 
-/// The same as [`step`], of an event that isn't copied.
+/// Makes one whole kernel call as [`step`] does, of an event by reference.
 pub(crate) fn take_step(state: &mut State, event: &Event) -> Outcome
     requires { IsWellFormed state.old }
     ensures stepped { Step state.old event.now result state.new }
@@ -179,9 +179,9 @@ fn settle_call(state: &mut State, event: &Event) -> Outcome
     Outcome::Done(answer)
 }
 
-/// Returns why a retype is refused, however much memory there is.
+/// Returns the refusal of a retype that comes however much memory there is.
 ///
-/// The answer is `None` where [`step`] could make the retype, and for any other call.
+/// The answer is `None` if [`step`] could make the retype, and for any other call.
 #[tactic(auto, unfolding(machine::specs::Step::made_by))]
 pub fn retype_refusal(state: &State, event: Event) -> Option<Refusal>
     requires { IsWellFormed state.now }

@@ -1,6 +1,6 @@
 //! The reference kernel: the boot state of a capability table, the step that one event makes, and runs of events.
 //!
-//! `runs`, `cores` and `report` stand on it. It knows no label and no policy.
+//! The crate knows no label and no policy.
 #![tactic(auto)]
 
 mod admit;

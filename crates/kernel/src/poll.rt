@@ -8,11 +8,11 @@ use cspace::{find, permit};
 use machine::{Answer, Made, ObjectKind};
 use objects::State;
 
-/// Takes the word of the notification at an address, which is 0 where it has none (seL4 manual, "Notifications").
+/// Takes the word of the notification at an address, or 0 if it has none (seL4 manual, "Notifications").
 ///
 /// # Errors
 ///
-/// Those of [`find`], and [`Cause::InvalidCapability`] (2) where the right Read is missing.
+/// Those of [`find`], and [`Cause::InvalidCapability`] (2) if the right Read is missing.
 #[tactic(auto, unfolding(machine::specs::Step::Poll::poll_of))]
 pub fn poll(state: &mut State, caller: ObjId, address: u64) -> Result<Made, Cause>
     ensures { Makes state.old state.new result (poll_of state.old caller address) }

@@ -1,4 +1,4 @@
-//! How a log is replayed.
+//! Replays of logs, and the law on where a log stops.
 ghost use Rattle.std.specs.Prelude.{ℕ, ◌≡◌, All, Bool, Decides, IfErr, IfOk, List, MatchOption, OnErr, take};
 ghost use Rattle.base.specs.Refusals.{out_of_memory};
 ghost use Rattle.machine.specs.{declared.call.Outcome.TheVariants.Refused, Machine.Machine};
@@ -14,15 +14,15 @@ use steps::calls_are_refused_by_conditions;
 
 /// Replays a log, entry after entry, up to the first entry that isn't the step that it claims.
 ///
-/// Returns `None` where all are, and else the index, from 0, of the first that isn't. A retype that
+/// Returns `None` if all are, and else the index, from 0, of the first that isn't. A retype that
 /// was refused memory is a step that changes nothing, wherever it could be made.
 ///
-/// Where it stops at an entry, the event of that entry was made, and its outcome is another than
-/// the log's.
+/// If it stops at an entry, the event of that entry was made, and its outcome is not the
+/// log's.
 ///
 /// # Errors
 ///
-/// 40, where a retype could be done that has another outcome in the log, and is refused memory
+/// 40, if a retype could be done that has another outcome in the log, and is refused memory
 /// here. Then the entries before it were made.
 pub fn replay(state: &mut State, entries: &[(Event, Outcome)]) -> Result<Option<usize>, Refusal>
     requires { IsWellFormed state.old }
@@ -73,7 +73,7 @@ fn is_lack(event: &Event, outcome: &Outcome) -> bool
     event.call.takes_memory() && *outcome == Outcome::Refused(Refusal::OUT_OF_MEMORY)
 }
 
-// Whether the call of an event, one that takes memory, can end for lack of it: where it could be made.
+// Whether the call of an event, one that takes memory, can end for lack of it: it could be made.
 fn could_lack(state: &State, event: &Event) -> bool
     requires formed { IsWellFormed state.now }
     requires takes { takes_memory event.now.call ≡ Bool.true }
@@ -82,7 +82,7 @@ fn could_lack(state: &State, event: &Event) -> bool
     retype_refusal(state, *event).is_none()
 }
 
-/// A law: a log that stops at an entry isn't legal, and where it stops there is one such entry.
+/// A law: a log that stops at an entry isn't legal, and stops at that entry alone.
 pub fn logs_stop_where_they_are_no_run()
     ensures illegal { (first last : Machine) (entries : List Entry) (at : ℕ) → StopsAt first entries at
         → ¬ (Leads first entries last) }

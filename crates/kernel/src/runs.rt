@@ -1,4 +1,4 @@
-//! How a script is run.
+//! Runs of scripts.
 ghost use Rattle.std.specs.{List.zip, Prelude.{◌++◌, ◌+◌, ◌≡◌, ◌≤◌, All, IfErr, IsOk, List, OnErr, OnOk, drop, length}};
 ghost use Rattle.std.specs.Prelude.{vec_capacity, vec_len};
 ghost use Rattle.base.specs.Refusals.{plain};
@@ -14,7 +14,7 @@ use steps::calls_are_refused_by_conditions;
 ///
 /// # Errors
 ///
-/// 40, where the list of outcomes can't grow by as many as there are events: then no step was made.
+/// 40, if the list of outcomes can't grow by as many as there are events: then no step was made.
 /// A list with room for them is never refused: a retype that is refused memory is an outcome, and the
 /// run continues.
 pub fn run(state: &mut State, events: &[Event], outcomes: &mut Vec<Outcome>) -> Result<(), Refusal>

@@ -50,12 +50,12 @@ fn notify(state: &mut State, id: ObjId, badge: u64)
 
 /// Signals the notification at an address (seL4 manual, "Notifications").
 ///
-/// The first thread that waits gets the capability's badge. Where none waits, the badge joins the
+/// The first thread that waits gets the capability's badge. If none waits, the badge joins the
 /// notification's word.
 ///
 /// # Errors
 ///
-/// Those of [`find`], and [`Cause::InvalidCapability`] (2) where the right Write is missing.
+/// Those of [`find`], and [`Cause::InvalidCapability`] (2) if the right Write is missing.
 #[tactic(auto, unfolding(machine::specs::Step::Signal::signal_of))]
 pub fn signal(state: &mut State, caller: ObjId, address: u64) -> Result<Made, Cause>
     ensures { Makes state.old state.new result (signal_of state.old caller address) }

@@ -10,13 +10,13 @@ use machine::{Answer, Made, ObjectKind, RunState};
 use objects::State;
 use queues::block;
 
-/// Takes the word of the notification at an address, or waits for one (seL4 manual, "Notifications").
+/// Takes the word of the notification at an address (seL4 manual, "Notifications").
 ///
-/// The caller waits where the notification has no word.
+/// The caller waits for a word if the notification has none.
 ///
 /// # Errors
 ///
-/// Those of [`find`], and [`Cause::InvalidCapability`] (2) where the right Read is missing.
+/// Those of [`find`], and [`Cause::InvalidCapability`] (2) if the right Read is missing.
 #[tactic(auto, unfolding(machine::specs::Step::Wait::wait_of))]
 pub fn wait(state: &mut State, caller: ObjId, address: u64) -> Result<Made, Cause>
     requires { WaitsNowhere state.old caller }

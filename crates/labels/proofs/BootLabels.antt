@@ -1,4 +1,4 @@
--- The labels that the authority of a boot state joins are those of the table.
+-- Labels that the authority of a boot state joins: they are the table's.
 use Rattle.std.proofs.{Common.{ℕ, ◌<◌, ◌∙◌, ◌≡◌, None, Option, Some, length, option_map, refl, subst, sym}, lemmas.Option.none-some}
 use Rattle.std.proofs.lemmas.Option.{same_Some}
 use Rattle.base.specs.declared.{ids.ObjId.ObjId, kind.Kind.Kind}
@@ -18,7 +18,7 @@ module _ (t : Layout) (boot : Machine) (lawful : IsLawful t) (booted : IsBoot t 
     by_initial (Some initial) at h =
         subst (λ (l : ℕ). l < length t.labels) (same_Some initial.label label h) (initial_lawful t lawful id initial at).label
 
-  -- and so is a label of an object at boot
+  -- a label of an object at boot is one of the table's labels
   within : (id : ObjId) (label : ℕ) → label_of t boot id ≡ Some label → label < length t.labels
   within id label is = declared_within id label (sym (boot_label t boot booted id) ∙ is)
 

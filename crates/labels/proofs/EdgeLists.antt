@@ -1,4 +1,4 @@
--- Which edges the lists of edges between two labels have.
+-- Lists of edges between two labels: the edges that they have.
 use Rattle.std.proofs.Common.{[], ℕ, ◌++◌, ◌+◌, ◌<◌, ◌==◌, ◌||◌, ◌∙◌, ◌∷◌, ◌≡◌, Bool, List, None, Option, Some, ap, append_assoc, arith}
 use Rattle.std.proofs.Common.{cond, false, filter, flat_map, get_or, inl, inr, length, refl, slice_get, subst, suc, sym, take, true, zero}
 use Rattle.std.proofs.lemmas.{Bool.{and_parts, eqb-true, or_cases, Decides.nat_tests}, List.{append-nil, Concat.flat_map-append}}
@@ -98,7 +98,7 @@ none_added edges old from k to none = kept (allows old from k to) ∙ ap (λ all
   kept true = refl
   kept false = refl
 
--- an edge between two labels: whose, and of which kind
+-- an edge is between two labels, by its ends and its kind
 
 pub record IsBetween (a b : Option ℕ) (kind : Kind) (from : ℕ) (k : Kind) (to : ℕ) : Type 0 where
   pub source : a ≡ Some from

@@ -1,4 +1,4 @@
--- The edges of a slot of a table are the authority that the slot gives in the table's boot state.
+-- The edges of a slot of a table: they are the authority that the slot gives in the table's boot state.
 use Rattle.std.proofs.Common.{[], ℕ, ◌↔◌, ◌∙◌, ◌≡◌, None, Option, Some, ap, flat_map, inl, inr, refl, subst, sym, true}
 use Rattle.std.proofs.lemmas.Bool.{or_cases}
 use Rattle.base.specs.{declared.{ids.SlotRef.SlotRef, kind.Kind.{Kind, TheVariants.{Derive, Space}}}, Kinds.kind_number}

@@ -1,4 +1,4 @@
--- What a table declares is the authority of its boot state.
+-- The authority of a boot state is what its table declares.
 use Rattle.std.proofs.Common.{[], ℕ, ◌++◌, ◌+◌, ◌<◌, ◌||◌, ◌↔◌, ◌∙◌, ◌∷◌, ◌≡◌, List, None, Option, Some, ap, append_assoc, flat_map, get_or}
 use Rattle.std.proofs.{Common.{inl, inr, length, option_map, refl, slice_get, subst, suc, sym, take, true, zero}, lemmas.Bool.or_cases}
 use Rattle.std.proofs.lemmas.{List.{append-nil, take_more, Concat.flat_map-append}, Option.{get_or_from_slice_get, none-some, same_Some}}
@@ -18,7 +18,7 @@ use Rattle.labels.proofs.EdgeLists.{allows-append, allows_after, allows_before, 
 use Rattle.labels.proofs.SlotAuthority.{slot_authority}
 use mathlib.Core.Bool.{false≢true}
 
--- an edge is among those of several things where it is among those of one
+-- an edge is among those of several things exactly if it is among those of one
 
 pub record ComesFrom {X : Type 0} (f : X → List Edge) (xs : List X) (from : ℕ) (k : Kind) (to : ℕ) : Type 0 where
   pub at : ℕ
@@ -45,7 +45,7 @@ comes f (y ∷ ys) zero x from k to at has =
     allows_before (f y) (flat_map f ys) from k to (ap (λ z. allows (f z) from k to) (same_Some y x at) ∙ has)
 comes f (y ∷ ys) (suc i) x from k to at has = allows_after (f y) (flat_map f ys) from k to (comes f ys i x from k to at has)
 
--- a loop that adds the edges of one thing more
+-- a loop adds the edges of one more thing
 pub found_more :
     {X : Type 0} (f : X → List Edge) (before old new : List Edge) (items xs : List X) (i : ℕ) (d : X) (from : ℕ) (k : Kind) (to : ℕ)
     → items ≡ xs → i < length items → allows old from k to ≡ allows (before ++ flat_map f (take i xs)) from k to
@@ -61,7 +61,7 @@ found_more f before old new items xs i d from k to same lt so_far step =
     ∙ ap (λ edges. allows edges from k to)
     (append_assoc before (flat_map f (take i xs)) (f (get_or xs i d)) ∙ ap (λ rest. before ++ rest) (sym list))
 
--- an object as it is at boot has no link but from a thread to its context
+-- an object at boot has no link, unless it is a thread with a context
 
 record IsBoundTo (t : Layout) (id : ObjId) (k : Kind) (end : ObjId) : Type 0 where
   runs : authority.Runs ≡ k
@@ -137,7 +137,7 @@ module _ (t : Layout) (lawful : IsLawful t) (m : Machine) (boot : IsBoot t m) wh
             by_binding one.at one.element from k to one.here one.has
       ]
 
-  -- and the other way round
+  -- the authority that a slot gives is among its edges
 
   slot_has : (s : SlotRef) (from : ℕ) (k : Kind) (to : ℕ) → GivesBySlot t m s from k to → allows (slot_edges_of t s) from k to ≡ true
   slot_has s from k to gives = (slot_authority t m s from k to boot).1 gives

@@ -5,8 +5,8 @@ use Rattle.base.specs.declared.kind.Kind.TheVariants as authority
 use Rattle.machine.specs.{declared.{cap.Cap.Cap, object.ObjectKind.ObjectKind as kind}, Authority.label_of, Capabilities.gives}
 use Rattle.machine.specs.{Layout.Layout, Machine.{Machine, cap_of, parent_of}, WellFormed.kind_of}
 
--- why a slot gives an edge of authority from one label to another: its capability does, in a CNode or as a thread's root, or the
--- pair of the derivation tree whose child it is
+-- a slot gives an edge of authority from one label to another by its capability, in a CNode or as a thread's root, or by the pair of
+-- the derivation tree whose child it is
 pub data GivesBySlot (t : Layout) (m : Machine) (slot : SlotRef) : ℕ → Kind → ℕ → Type 0 where
   by_cap :
       {from to : ℕ} {k : Kind} (held : Cap) → cap_of m slot ≡ Some held → kind_of m slot.holder ≡ Some kind.CNode

@@ -8,30 +8,29 @@ use Rattle.machine.specs.declared.object.ObjectKind.TheVariants as object
 use Rattle.machine.specs.Layout.{declared_label, initial_cap, initial_parent}
 use Rattle.table.specs.Rules.{kind_at}
 
--- the kinds of authority that a capability gives in a slot of an object of this kind: its own in a CNode's, in a thread's root
--- space alone
+-- the kinds of authority that a capability gives in a slot of an object of this kind: its own in a CNode, space alone in a thread's root
 abbrev pub kinds_in : Option ObjectKind → Detail → List Kind
 kinds_in (Some object.CNode) detail = filter (gives detail) Kinds.ALL
 kinds_in (Some object.Tcb) detail = Space ∷ []
 kinds_in _ detail = []
 
--- the edge of a kind between two labels, where there are both
+-- the edge of a kind between two labels, if there are both
 abbrev pub edge_between : Option ℕ → Option ℕ → Kind → List Edge
 edge_between (Some from) (Some to) kind = record { from = from; kind = kind; to = to } ∷ []
 edge_between _ _ kind = []
 
--- what the capability in a slot gives, by rising kinds
+-- the edges that the capability in a slot gives, by rising kinds
 abbrev pub cap_edges : Layout → SlotRef → Option Cap → List Edge
 cap_edges t slot (Some held) =
     flat_map (edge_between (declared_label t slot.holder) (declared_label t held.object)) (kinds_in (kind_at t slot.holder) held.detail)
 cap_edges t slot None = []
 
--- what the pair of a slot and its parent gives
+-- the edge that the pair of a slot and its parent gives
 abbrev pub pair_edges : Layout → SlotRef → Option SlotRef → List Edge
 pair_edges t slot (Some parent) = edge_between (declared_label t parent.holder) (declared_label t slot.holder) Derive
 pair_edges t slot None = []
 
--- what a slot gives with this in it
+-- the edges that a slot gives with this in it
 abbrev pub edges_with : Layout → SlotRef → Option Cap → List Edge
 edges_with t slot held = cap_edges t slot held ++ pair_edges t slot (initial_parent t slot)
 

@@ -11,6 +11,6 @@ edges_of_filled t filled = slot_edges_of t filled.slot
 abbrev pub edges_of_binding : Layout → Binding → List Edge
 edges_of_binding t binding = edge_between (declared_label t binding.thread) (declared_label t binding.context) Runs
 
--- some of them more than once; the child of each pair of the tree is among the filled slots
+-- the edges of a table, some more than once; the child of each pair of the tree is among the filled slots
 abbrev pub table_edges : Layout → List Edge
 table_edges t = flat_map (edges_of_filled t) t.caps ++ flat_map (edges_of_binding t) t.bindings

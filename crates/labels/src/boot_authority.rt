@@ -17,7 +17,7 @@ use table::Table;
 ///
 /// # Errors
 ///
-/// 40 where memory is refused.
+/// 40 if memory is refused.
 #[tactic(auto, using(crate::proofs::TableAuthority::table_authority))]
 pub fn authority(alloc: Global, table: &Table) -> Result<Vec<Edge>, Refusal>
     ensures edges { IfOk result (λ edges. (boot : Machine) (from : ℕ) (kind : KindOf) (to : ℕ) → IsBoot table.now boot

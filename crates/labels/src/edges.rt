@@ -1,4 +1,4 @@
-//! The edges of authority that one slot gives.
+//! Edges of authority that one slot gives.
 ghost use Rattle.std.specs.Prelude.{[], ◌++◌, ◌≡◌, IfErr, IfOk, OnOk, Some, filter, flat_map, if◌then◌else◌};
 ghost use Rattle.std.specs.Prelude.{option_to_list};
 ghost use Rattle.base.specs.declared.kind.TheConstants.Kind as Kinds;
@@ -19,7 +19,7 @@ use table::Table;
 ///
 /// # Errors
 ///
-/// 40 where memory is refused.
+/// 40 if memory is refused.
 pub fn slot_edges(alloc: Global, table: &Table, slot: SlotRef) -> Result<Vec<Edge>, Refusal>
     ensures edges { IfOk result (λ edges. edges.items ≡ slot_edges_of table.now slot) }
     ensures memory { IfErr result (λ refusal. refusal ≡ out_of_memory) }
@@ -32,11 +32,11 @@ pub fn slot_edges(alloc: Global, table: &Table, slot: SlotRef) -> Result<Vec<Edg
     Ok(edges)
 }
 
-/// Returns the edges of authority that a filled slot gives at boot, as [`slot_edges`] does.
+/// Returns the edges of authority that a filled slot gives at boot, in the order of [`slot_edges`].
 ///
 /// # Errors
 ///
-/// 40 where memory is refused.
+/// 40 if memory is refused.
 pub fn filled_edges(alloc: Global, table: &Table, filled: &Filled) -> Result<Vec<Edge>, Refusal>
     ensures edges { IfOk result (λ edges. edges.items ≡ edges_with table.now filled.now.slot (Some filled.now.cap)) }
     ensures memory { IfErr result (λ refusal. refusal ≡ out_of_memory) }
@@ -47,7 +47,7 @@ pub fn filled_edges(alloc: Global, table: &Table, filled: &Filled) -> Result<Vec
     Ok(edges)
 }
 
-// Adds what the capability in a slot gives.
+// Adds the edges that the capability in a slot gives.
 fn push_given(
     edges: &mut Vec<Edge>,
     table: &Table,
@@ -64,7 +64,7 @@ fn push_given(
     }
 }
 
-// Adds what the pair of the derivation tree whose child the slot is gives.
+// Adds the edge that the pair of the derivation tree gives whose child the slot is.
 fn push_derived(edges: &mut Vec<Edge>, table: &Table, slot: SlotRef) -> Result<(), Refusal>
     ensures ok { OnOk result
         (edges.new.items ≡ edges.old.items ++ pair_edges table.now slot (initial_parent table.now slot)) }
@@ -111,7 +111,7 @@ fn push_kind(
     push_edge(edges, table, holder, kind, held.object)
 }
 
-// Adds the edge between the labels of two objects, where they have labels.
+// Adds the edge between the labels of two objects, if they have labels.
 fn push_edge(
     edges: &mut Vec<Edge>,
     table: &Table,
@@ -129,7 +129,7 @@ fn push_edge(
     Ok(())
 }
 
-// The edge between the labels of two objects, where they have labels.
+// The edge between the labels of two objects, if they have labels.
 pub(crate) fn edge_between(table: &Table, from: ObjId, kind: Kind, to: ObjId) -> Option<Edge>
     ensures { option_to_list result ≡ edge_between (declared_label table.now from) (declared_label table.now to) kind }
 {

@@ -17,8 +17,7 @@ pub fn declared_label(table: &Table, id: ObjId) -> Option<Label>
 
 /// Returns the label of a present object.
 ///
-/// An initial object's is declared, and a made one's is that of the initial untyped memory that it
-/// lies in.
+/// An initial object's label is declared, and a made one's is that of the initial untyped memory that it lies in.
 #[tactic(auto, unfolding(machine::specs::Authority::label_of))]
 pub fn label_of(table: &Table, state: &State, id: ObjId) -> Option<Label>
     ensures { result ≡ label_of table.now state.now id }

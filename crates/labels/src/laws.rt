@@ -1,4 +1,4 @@
-//! Laws about the authority that tables give.
+//! Laws on the authority that tables give.
 ghost use Rattle.std.specs.Prelude.{ℕ, ◌<◌, ◌↔◌, ◌≡◌, length, true};
 ghost use Rattle.base.specs.declared.{ids.SlotRef.SlotRef as Slot, kind.Kind.Kind as KindOf};
 ghost use Rattle.machine.specs.{Authority.HasAuthority, Boot.IsBoot, Layout.Layout, Machine.Machine};

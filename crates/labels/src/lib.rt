@@ -1,6 +1,6 @@
 //! The labels of objects, and the edges of authority that a capability table gives at boot.
 //!
-//! `verdict` and `runs` stand on it. It knows no step of the kernel.
+//! The crate knows no step of the kernel.
 #![tactic(auto)]
 
 mod boot_authority;

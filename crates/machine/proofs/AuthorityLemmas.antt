@@ -104,8 +104,6 @@ gives_some d.Context = (authority.Context, refl, refl)
 gives_some (d.Frame _) = (authority.Reset, refl, refl)
 gives_some d.Control = (authority.SchedControl, refl, refl)
 
--- machines with the same objects have the same kinds and labels
-
 same_kind :
     (m more : Machine) → ((id : ObjId) → object_of more id ≡ object_of m id) → (id : ObjId) → kind_of more id ≡ kind_of m id
 same_kind m more objects id = ap (option_map kind_of_object) (objects id)

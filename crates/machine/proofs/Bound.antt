@@ -1,4 +1,4 @@
--- What the binding of an object leaves as it is.
+-- Objects bound at boot: they keep their kind, their number of slots and their range.
 use Rattle.std.specs.Prelude.{◌≡◌, refl}
 use Rattle.base.specs.declared.ids.ObjId.{ObjId}
 use Rattle.machine.specs.{declared.object.Object.{Object, Object as o}, Boot.bound, Layout.Layout, Objects.{address_of, end_of}}

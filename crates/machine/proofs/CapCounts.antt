@@ -1,5 +1,4 @@
--- How many capabilities there are for an object, where one comes or goes and where none does, and that none are left exactly where no
--- slot holds one.
+-- The number of capabilities for an object: what each change of a machine makes of it, and that it is 0 exactly where no slot holds one.
 use Rattle.std.{specs.{Bool.Decides, FinMap.entries, Prelude.{None, Option, Some, if◌then◌else◌}}, proofs.Common.{ℕ, ◌+◌, ◌∙◌, ◌≡◌, ◌≢◌}}
 use Rattle.std.specs.FinMap as map
 use Rattle.std.proofs.{Common.{◌≤◌, Bool, List, ap, arith, cond, false, refl, subst, sym, true}, lemmas.Bool.false≢true}
@@ -23,7 +22,7 @@ one_for_its_own held = cond_here id_total id_apart held.object 1 0
 pub none_for_others : (id : ObjId) (held : Cap) → held.object ≢ id → one_for id held ≡ 0
 none_for_others id held differs = cond_elsewhere id_total id_apart held.object id 1 0 differs
 
--- where a capability comes or goes
+-- changes that add or remove a capability
 
 pub caps_to-empty : (id : ObjId) → caps_to empty_machine id ≡ 0
 unfolding caps_to empty_machine
@@ -41,7 +40,7 @@ pub caps_to-without_cap :
 unfolding caps_to without_cap cap_of
 caps_to-without_cap m slot held filled id = sum-remove slot_total slot_apart (one_for id) m.caps slot held filled
 
--- where none does
+-- changes that do neither
 
 pub caps_to-with_object : (m : Machine) (changed : ObjId) (object : Object) (id : ObjId) → caps_to (with_object m changed object) id ≡ caps_to m id
 unfolding caps_to with_object
@@ -103,7 +102,7 @@ caps_to-some m slot held filled =
     let one = one_for_its_own held in
     omega (arith, less, one)
 
--- where none are counted, no slot has one
+-- no slot holds a capability for an object of which none is counted
 pub caps_to-none :
     (m : Machine) (id : ObjId) → caps_to m id ≡ 0 → (slot : SlotRef) (held : Cap) → cap_of m slot ≡ Some held → held.object ≢ id
 caps_to-none m id none slot held filled same =
@@ -111,7 +110,7 @@ caps_to-none m id none slot held filled same =
     let here : caps_to m held.object ≡ caps_to m id = ap (caps_to m) same in
     absurd (omega (arith, some, here, none))
 
--- and where no slot has one, none are counted
+-- none is counted for an object for which no slot holds a capability
 pub none-caps_to :
     (m : Machine) (id : ObjId) → ((slot : SlotRef) (held : Cap) → cap_of m slot ≡ Some held → held.object ≢ id) → caps_to m id ≡ 0
 unfolding caps_to cap_of
@@ -136,7 +135,7 @@ module _ (m n : Machine) (set : SlotRef → Bool) (left : (slot : SlotRef) → c
           let filled : cap_of m slot ≡ Some held = sym (ap (unless slot) e) ∙ is in
           false≢true (sym e ∙ loses.all slot held filled same)
 
-  -- and where it counts none for an object that had some, the set holds every one
+  -- the set holds every capability of an object that had some and is left with none
   pub all_lost : 1 ≤ caps_to m id → caps_to n id ≡ 0 → LosesAll m set id
   all_lost some none = by_some (some_cap m (is_for id)) refl where
     by_set :
@@ -184,7 +183,7 @@ only_cap m slot held filled loses =
     let none = none_left m (without_cap m slot) (λ q. same_slot q slot) (cap_of-without_cap m slot) held.object loses in
     omega (arith, parts, its_own, none)
 
--- what is counted before and after a removal tells which objects vanish
+-- the objects that vanish are those whose count falls to 0 by the removal
 
 vanished_counted :
     (m : Machine) (chosen : SlotRef → Bool) (id : ObjId) → vanishes m chosen id ≡ true

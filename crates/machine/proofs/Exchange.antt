@@ -12,7 +12,7 @@ slot_itself slot = ap is_eq (tied_itself slot_total slot)
 same_from : (a b : SlotRef) → a ≡ b → same_slot a b ≡ true
 same_from a b e = subst (λ s. same_slot a s ≡ true) e (slot_itself a)
 
--- who changes places twice is where it was
+-- a second exchange undoes the first
 pub exchange_twice : (a b q : SlotRef) → exchange a b (exchange a b q) ≡ q
 exchange_twice a b q = by_first (same_slot q a) refl where
   back : (tie : Bool) → same_slot b a ≡ tie → q ≡ a → exchange a b b ≡ q

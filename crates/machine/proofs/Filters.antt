@@ -1,4 +1,4 @@
--- Who stays in a list that some leave, one after another.
+-- Filtered lists: a filter twice is a filter once, tests that agree on the elements keep the same, and a test that all pass keeps all.
 use Rattle.std.{specs.Prelude.{All, filter}, proofs.Common.{[], ◌&&◌, ◌∙◌, ◌∷◌, ◌≡◌, Bool, List, ap, cond, false, refl, true}}
 use Rattle.std.proofs.lemmas.List.Elements.{All-head, All-tail}
 
@@ -12,7 +12,6 @@ filter_twice {A} p q (x ∷ xs) = by_test (filter_twice p q xs) (q x) where
   by_test later true = ap (λ (ys : List A). cond (p x) (x ∷ ys) ys) later
   by_test later false = later
 
--- two tests that agree on who is in a list keep the same
 pub filter_same :
     {A : Type 0} (p q : A → Bool) (xs : List A) → All (λ x. p x ≡ q x) xs → filter p xs ≡ filter q xs
 filter_same p q [] agree = refl
@@ -20,7 +19,6 @@ filter_same {A} p q (x ∷ xs) agree =
     ap (λ b. cond b (x ∷ filter p xs) (filter p xs)) (All-head (λ y. p y ≡ q y) x xs agree)
     ∙ ap (λ (ys : List A). cond (q x) (x ∷ ys) ys) (filter_same p q xs (All-tail (λ y. p y ≡ q y) x xs agree))
 
--- where all pass, all stay
 pub filter_all : {A : Type 0} (p : A → Bool) (xs : List A) → All (λ x. p x ≡ true) xs → filter p xs ≡ xs
 filter_all p [] pass = refl
 filter_all {A} p (x ∷ xs) pass =

@@ -58,12 +58,12 @@ module _ {K : Type 0} {R : K → K → Ordering} (total : IsTotalOrder R) (apart
     by_value q false None some = refl
     by_value q false (Some x) some = absurd (false≢true (some refl))
 
-    -- where each key with a value is listed, the table answers as the function
+    -- the table answers as the function if each key with a value is listed
     pub get-tabulate :
         (keys : List K) (q : K) → (IsSome (value q) → list_any (eq_by_cmp R q) keys ≡ true) → map.get (table keys) q ≡ value q
     get-tabulate keys q listed = got_where q keys ∙ by_value q (list_any (eq_by_cmp R q) keys) (value q) listed
 
-    -- and has no more keys than the list
+    -- the table has no more keys than the list
     pub len-tabulate : (keys : List K) → map.len (table keys) ≤ length keys
     len-tabulate [] = let none : map.len (table []) ≡ 0 = map.len-empty R X in omega (arith, none)
     len-tabulate (key ∷ keys) = with_key (value key) (len-tabulate keys) where

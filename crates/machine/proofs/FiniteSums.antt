@@ -1,4 +1,4 @@
--- Sums over the values of a finite map: what comes to the map adds to them, and what goes is missing from them.
+-- Sums over the values of a finite map: a new value adds its weight, and a removed one takes its weight away.
 use Rattle.std.specs.{declared.cmp.Ordering.{Ordering, TheVariants.{Equal, Greater, Less}}, Cmp.IsTotalOrder, FinMap.FinMap}
 use Rattle.std.specs.{FinMap.{IsAntisymmetric, entries, find, Entries.{by_order, put}}, Ordering.{eq_by_cmp, is_eq}, Prelude.{None, Option}}
 use Rattle.std.specs.FinMap as map
@@ -7,7 +7,7 @@ use Rattle.std.proofs.{Common.{length, refl, suc, sym, true, zero}, Math.Nat.{ad
 use Rattle.std.proofs.lemmas.List.Sums.{sum_by-cons}
 use Rattle.machine.proofs.FiniteLemmas.{by_key, cond_here}
 
--- so much by each value
+-- the sum of the weights of a map's values
 abbrev pub sum_of : {K X : Type 0} {R : K → K → Ordering} → (X → ℕ) → FinMap R X → ℕ
 sum_of weight m = sum_by (λ entry. weight entry.1) (entries m)
 
@@ -22,7 +22,7 @@ shadowed true x y z = refl
 shadowed false x y z = refl
 
 module _ {K X : Type 0} {R : K → K → Ordering} (total : IsTotalOrder R) (apart : IsAntisymmetric R) where
-  -- to put a value in place of another is to take that out and to put this in
+  -- to replace a value is to remove the old one and to insert the new one
   set_again : (m : FinMap R X) (key : K) (value : X) → map.insert m key value ≡ map.insert (map.remove m key) key value
   set_again m key value =
       map.same_map total apart _ _
@@ -61,7 +61,6 @@ module _ {K X : Type 0} {R : K → K → Ordering} (total : IsTotalOrder R) (apa
           ∙ ap (λ n. weight pair.1 + n) (rest none) ∙ sym (add_assoc (weight pair.1) (sum_by weigh pairs) (weight value))
           ∙ ap (λ n. n + weight value) (sym (sum_by-cons weigh pair pairs))
 
-    -- what comes
     pub sum-insert :
         (m : FinMap R X) (key : K) (value : X) → map.get m key ≡ None
         → sum_of weight (map.insert m key value) ≡ sum_of weight m + weight value
@@ -72,7 +71,6 @@ module _ {K X : Type 0} {R : K → K → Ordering} (total : IsTotalOrder R) (apa
     removed : (m : FinMap R X) (key : K) → map.get (map.remove m key) key ≡ None
     removed m key = map.get-remove total m key key ∙ cond_here total apart key _ _
 
-    -- what goes
     pub sum-remove :
         (m : FinMap R X) (key : K) (old : X) → map.get m key ≡ Some old
         → sum_of weight m ≡ sum_of weight (map.remove m key) + weight old
@@ -80,7 +78,7 @@ module _ {K X : Type 0} {R : K → K → Ordering} (total : IsTotalOrder R) (apa
         ap (sum_of weight) (as_it_was m key old is ∙ set_again m key old)
         ∙ sum-insert (map.remove m key) key old (removed m key)
 
-    -- what comes in place of something that weighs the same
+    -- a value is replaced by one of the same weight
     pub sum-set :
         (m : FinMap R X) (key : K) (old value : X) → map.get m key ≡ Some old → weight value ≡ weight old
         → sum_of weight (map.insert m key value) ≡ sum_of weight m
@@ -118,6 +116,5 @@ module _ {K X : Type 0} {R : K → K → Ordering} (total : IsTotalOrder R) (apa
           let none = weightless key pair.1 here in
           omega (arith, parts, rest, none)
 
-    -- where no value weighs anything
     pub sum-nothing : (m : FinMap R X) → IsWeightless m → sum_of weight m ≡ 0
     sum-nothing m weightless = by_length (map.len m) m refl weightless

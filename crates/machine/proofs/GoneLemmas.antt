@@ -1,4 +1,4 @@
--- The slots that go are the least closed set, and those with a reason.
+-- The slots that go with chosen ones: they are the least closed set, and each of them goes for a reason.
 use Rattle.std.specs.{Bool.Decides, FinMap.{contains_key-keys, keys}, List.list_any, Prelude.{◌&&◌, ◌||◌, None, Option, Some, is_some}}
 use Rattle.std.proofs.{Common.{◌∙◌, ◌≡◌, Bool, List, ap, false, not, refl, subst, sym, true}, lemmas.Bool.false≢true}
 use Rattle.base.specs.declared.ids.{ObjId.ObjId, SlotRef.SlotRef}
@@ -93,7 +93,7 @@ within m chosen set closed (with_last {slot} holder last final there own all) =
       all = λ each also at its. within m chosen set closed (all each also at its);
     })
 
--- an object has a capability, and all that it has go
+-- an object has a capability, and all its capabilities go
 record AllGone (m : Machine) (chosen : SlotRef → Bool) (id : ObjId) : Type 0 where
   last : SlotRef
   final : Cap

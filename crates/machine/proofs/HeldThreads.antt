@@ -1,4 +1,4 @@
--- The links of a thread agree at both ends in a machine whose links agree.
+-- Links of a thread, in a machine whose links agree: the thread's links agree at both ends.
 use Rattle.std.{specs.Prelude.{Contains, Some}, proofs.Common.{◌∙◌, ◌≡◌, List, ap, refl, subst, sym}}
 use Rattle.base.specs.declared.ids.ObjId.{ObjId}
 use Rattle.machine.specs.declared.object.{Object.Object as o, Reply.Reply, ReplyState.{ReplyState, ReplyState as reply}}

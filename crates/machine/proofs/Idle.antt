@@ -1,4 +1,4 @@
--- A thread whose run state waits at nothing and names nothing is in no queue, and no reply holds it.
+-- Idle threads, whose run state waits at nothing and names nothing: they are in no queue, and no reply holds them.
 use Rattle.std.{specs.Prelude.{Contains, Some}, proofs.Common.{◌≡◌, ◌≢◌, List, refl, subst}}
 use Rattle.base.specs.declared.ids.ObjId.{ObjId}
 use Rattle.machine.specs.declared.{object.{Object.Object as o, Reply.Reply}, thread.{RunState.{RunState, RunState as state}, Tcb.Tcb}}
@@ -25,7 +25,7 @@ idle_called state.Inactive idle id called = called
 idle_called state.Ready idle id called = called
 idle_called _ idle id called = absurd idle
 
--- who is idle has nothing to leave
+-- an idle thread has nothing to leave
 pub idle_stays : (m : Machine) (thread : ObjId) (run : RunState) → IsIdle run → unblocked m thread run ≡ m
 idle_stays m thread state.Inactive idle = refl
 idle_stays m thread state.Ready idle = refl

@@ -1,4 +1,4 @@
--- Cases on whether two numbers of objects are one, and when two slots are.
+-- Cases on whether two numbers of objects are equal, and when two slots are.
 use Rattle.std.{specs.{Cmp.tied_itself, Ordering.is_eq, Prelude.if◌then◌else◌}, proofs.Common.{ℕ, ◌&&◌, ◌∙◌, ◌≡◌, ◌≢◌, ◌⊎◌, Bool, ap}}
 use Rattle.std.proofs.{Common.{arith, eqb, false, inl, inr, refl, subst, sym, true}, lemmas.Bool.{false≢true, Decides.nat_tests}}
 use Rattle.base.specs.declared.ids.{ObjId.ObjId, SlotRef.SlotRef}
@@ -29,7 +29,6 @@ at_other q id here elsewhere differs = by_tie (same_id q id) refl where
 both_parts : (a b c d : ℕ) → (eqb a b && eqb c d) ≡ true → (a ≡ b) × (c ≡ d)
 both_parts a b c d tie = (grind (arith, nat_tests), grind (arith, nat_tests))
 
--- slots are equal where their parts are
 pub slots_same : (a b : SlotRef) → (eqb a.holder.0 b.holder.0 && eqb a.index b.index) ≡ true → a ≡ b
 slots_same a b tie =
     let parts = both_parts a.holder.0 b.holder.0 a.index b.index tie in

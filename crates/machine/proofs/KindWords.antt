@@ -1,4 +1,4 @@
--- Each way between a kind of object and its word.
+-- Kinds of objects and their words: each kind's word names that kind, and a word that names a kind is the kind's.
 use Rattle.std.{specs.{Bool.Decides, List.{AllByRecursion, find}, Prelude.⊤, Str.bytes_eq}, proofs.Common.{[], ℕ, ◌∷◌, ◌≡◌, Bool, List}}
 use Rattle.std.proofs.{Common.{None, Option, Some, cond, false, refl, subst, true}, lemmas.{Option.same_Some, Slice.Eq.bytes_eq-Decides}}
 use Rattle.machine.specs.{declared.object.{MemoryKind.{MemoryKind, MemoryKind as memory}, ObjectKind.ObjectKind}, KindWords.kind_of_memory}
@@ -18,14 +18,13 @@ found_word spell P word (first ∷ xs) x all h =
     by true same later h = let is : first ≡ x = cc in subst (λ y. (word ≡ spell y) × P y) is (same.0 refl, all.0)
     by false same later h = later h
 
--- a word that names a kind is the kind's
 pub kind_takes : (word : List ℕ) (which : ObjectKind) → object_kind_of word ≡ Some which → word ≡ object_kind_word which
 unfolding object_kind_of
 kind_takes word which h =
     (found_word object_kind_word (λ (which : ObjectKind). ⊤) word object_kinds which
     (tt, (tt, (tt, (tt, (tt, (tt, (tt, (tt, (tt, tt))))))))) h).0
 
--- what can be made is of a kind that a word names
+-- each kind that can be made has a word
 
 is_word : (word : List ℕ) (this made : MemoryKind) → object_kind_of word ≡ Some (kind_of_memory this)
     → ◌≡◌ {A = Option MemoryKind} (Some this) (Some made) → word ≡ memory_kind_word made

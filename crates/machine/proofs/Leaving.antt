@@ -1,4 +1,4 @@
--- A thread whose links agree at both ends leaves its queue and its reply: no queue has it, no reply holds it, and all else is as it was.
+-- A thread leaves its queue and its reply: no queue has it then, no reply holds it, and all else is as it was.
 use Rattle.std.{specs.Prelude.{Contains, None, Option, Some, filter, if◌then◌else◌, option_map}, proofs.Common.{◌∙◌, ◌∷◌, ◌≡◌, ◌≢◌, ◌⊎◌}}
 use Rattle.std.proofs.Common.{Bool, List, ap, cond, false, inl, inr, not, refl, subst, sym, true}
 use Rattle.std.proofs.lemmas.{List.Elements.{All-contains_itself, All-weaker}, Option.{none-some, same_Some}}
@@ -18,7 +18,7 @@ Names (state.Receiving receiving) id = receiving.reply ≡ Some id
 Names (state.Called calling) id = calling.reply ≡ id
 Names _ id = ⊥
 
--- the links of a thread that is in a run state agree at both ends
+-- the links of a thread in a run state agree at both ends
 pub record HasLinks (m : Machine) (thread : ObjId) (run : RunState) : Type 0 where
   pub queued : (id : ObjId) (threads : List ObjId) → queue_of m id ≡ Some threads → Contains threads thread → WaitsAt run id
   pub held :
@@ -31,7 +31,7 @@ pub record HasLinks (m : Machine) (thread : ObjId) (run : RunState) : Type 0 whe
 abbrev pub without : ObjId → List ObjId → List ObjId
 without thread threads = filter (λ other. not (same_id other thread)) threads
 
--- a reply is free if it held a thread
+-- an object after a thread left: a reply that held the thread is free
 abbrev pub freed : ObjId → Object → Object
 freed thread (o.Reply holding) = o.Reply (record holding { state = reply_by (λ other. same_id other thread) holding.state })
 freed thread object = object
@@ -41,8 +41,6 @@ apart_ids q id differs = by_tie (same_id q id) refl where
   by_tie : (tie : Bool) → same_id q id ≡ tie → tie ≡ false
   by_tie true e = absurd (differs (one_id q id e))
   by_tie false e = refl
-
--- the rest stays the same
 
 pub rest_itself : (m : Machine) → SameRest m m
 rest_itself m = record { words = refl; caps = refl; parents = refl; next = refl; going = refl }
@@ -101,7 +99,6 @@ module _ (m : Machine) (id thread : ObjId) where
     by_queue None e = rw e (rest_itself m)
     by_queue (Some threads) e = rw e (rest-with_queue m id (without thread threads))
 
--- a list that doesn't have a thread is the same without it
 pub without_absent : (thread : ObjId) (threads : List ObjId) → ¬ (Contains threads thread) → without thread threads ≡ threads
 without_absent thread threads absent =
     filter_all (λ other. not (same_id other thread)) threads
@@ -110,7 +107,7 @@ without_absent thread threads absent =
     ap not (apart_ids other thread (λ same. absent (subst (λ (t : ObjId). Contains threads t) same there))))
     threads (All-contains_itself threads))
 
--- the first leaves a queue that has it once
+-- the first of a queue that has it once leaves
 
 pub without_itself : (first : ObjId) (others : List ObjId) → ¬ (Contains others first) → without first (first ∷ others) ≡ others
 without_itself first others once =
@@ -273,7 +270,7 @@ unblocked_rest m thread (state.Receiving receiving) links = by_reply receiving.r
 unblocked_rest m thread state.Inactive links = rest_itself m
 unblocked_rest m thread state.Ready links = rest_itself m
 
--- a thread is blocked no more, and is set
+-- a thread is blocked no more, and its content is set
 
 pub tcb_is : (m : Machine) (id : ObjId) (old new : Tcb) → IsThread m id old → with_tcb m id new ≡ with_object m id (o.Tcb new)
 unfolding with_tcb

@@ -1,4 +1,4 @@
--- What an object shows where only a watermark changes, and what a new object is like.
+-- Objects that differ in a watermark alone, and objects as they are when they are made.
 use Rattle.std.{specs.Prelude.{AllPairs, Contains, None, Option, Some, option_map}, proofs.Common.{[], ℕ, ◌<◌, ◌≡◌, ◌≢◌, ◌≤◌, ◌⊎◌, List}}
 use Rattle.std.proofs.{Common.{ap, arith, inl, inr, length, refl}, lemmas.Bool.cases_order}
 use Rattle.base.specs.declared.ids.ObjId.{ObjId}
@@ -54,14 +54,13 @@ pub lies_marked : (memory : Untyped) (mark : ℕ) (object : Object) → LiesIn m
 lies_marked memory mark (o.Control _) h = h
 lies_marked memory mark _ h = h
 
--- an object that is no control lies where its range does
+-- a new object lies in memory if its range does
 pub lies_within :
     (memory : Untyped) (object : Object) → IsUnlinked object → memory.base ≤ address_of object
     → end_of object ≤ end_of (o.Untyped memory) → LiesIn memory object
 lies_within memory (o.Control _) unlinked low high = unlinked
 lies_within memory _ unlinked low high = (low, high)
 
--- and memory that such memory lies in holds it too
 pub range_within :
     (memory inner : Untyped) → LiesIn memory (o.Untyped inner)
     → (memory.base ≤ inner.base) × (end_of (o.Untyped inner) ≤ end_of (o.Untyped memory))

@@ -1,5 +1,4 @@
--- What each look-up answers after each change: a change is seen where it is made, and nowhere else. Objects and slots are totally
--- ordered by their numbers.
+-- Look-ups after each change: only what was changed has another answer. Objects and slots are totally ordered by their numbers.
 use Rattle.std.specs.{declared.cmp.Ordering.{Ordering, TheVariants.{Equal, Greater, Less}}, Cmp.{Equal-is, IsTotalOrder, nat_cmp_total}}
 use Rattle.std.specs.{Cmp.{on_total, then_total}, FinMap.{IsAntisymmetric, nat_cmp-IsAntisymmetric, same_map}, Ordering.{is_eq, nat_cmp}}
 use Rattle.std.specs.FinMap as map
@@ -201,7 +200,6 @@ one_id a b tie = id_apart a b ((Equal-is (id_cmp a b)).0 tie)
 pub one_slot : (a b : SlotRef) → same_slot a b ≡ true → a ≡ b
 one_slot a b tie = slot_apart a b ((Equal-is (slot_cmp a b)).0 tie)
 
--- two machines that answer alike are equal
 pub same_machine :
     (m n : Machine) → ((q : ObjId) → object_of m q ≡ object_of n q) → ((q : ObjId) → queue_of m q ≡ queue_of n q)
     → ((q : ObjId) → words_of m q ≡ words_of n q)

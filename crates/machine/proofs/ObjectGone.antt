@@ -1,4 +1,4 @@
--- What each look-up answers after an object has gone: it is missed where it was, and nothing else is.
+-- Look-ups after an object has gone: the object is missed, and nothing else is.
 use Rattle.std.specs.FinMap as map
 use Rattle.std.{specs.Prelude.{None, Option}, proofs.Common.{◌∙◌, ◌≡◌, ap, cond, refl, sym}}
 use Rattle.base.specs.declared.ids.{ObjId.ObjId, SlotRef.SlotRef}
@@ -40,7 +40,7 @@ pub caps_to-without_object : (m : Machine) (gone id : ObjId) → caps_to (withou
 unfolding caps_to without_object
 caps_to-without_object m gone id = refl
 
--- one that isn't there can't go
+-- removing an absent object changes no look-up
 
 unseen : {X : Type 0} (find : ObjId → Option X) (id q : ObjId) → find id ≡ None → cond (same_id q id) None (find q) ≡ find q
 unseen find id q none = sym (by_key id_total id_apart q id _ _ _ (λ same. ap find same ∙ none) (λ apart. refl))

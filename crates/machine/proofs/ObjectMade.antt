@@ -1,4 +1,4 @@
--- What a machine is after one object was made from untyped memory, pointwise.
+-- The machine after one object was made from untyped memory, look-up by look-up.
 use Rattle.std.{specs.{FinMap.{get-insert, insert}, Prelude.{Some, if◌then◌else◌, replicate}}, proofs.Common.{[], ℕ, ◌+◌, ◌∙◌, ◌≡◌, ap}}
 use Rattle.std.proofs.Common.{refl, true}
 use Rattle.base.specs.declared.ids.{ObjId.ObjId, SlotRef.SlotRef}

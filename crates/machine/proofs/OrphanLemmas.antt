@@ -1,4 +1,4 @@
--- Where slots leave an acyclic tree one by one, in any order, each that stays comes under its nearest ancestor that stays.
+-- Slots leave an acyclic tree one by one, in any order: each that stays comes under its nearest ancestor that stays.
 use Rattle.std.specs.{FinMap.{entries, get-entries, values, Entries.find}, List.list_any, Prelude.{◌||◌, None, Option, Some, filter}}
 use Rattle.std.{specs.Prelude.option_and_then, proofs.Common.{[], ◌∙◌, ◌∷◌, ◌≡◌, Bool, List, ap, cond, false, map, refl, subst, sym}}
 use Rattle.std.proofs.{Common.true, lemmas.{Bool.false≢true, Option.{none-some, same_Some}}}
@@ -10,14 +10,14 @@ use Rattle.machine.proofs.{LookUps.one_slot, RoundLemmas.{in_filter, into_filter
 abbrev taken : List SlotRef → SlotRef → Bool
 taken nodes slot = list_any (same_slot slot) nodes
 
--- what the tree is once these have left it
+-- the tree after these slots have left it
 record IsRaised (parent : SlotRef → Option SlotRef) (nodes : List SlotRef) : Type 0 where
   out : (slot : SlotRef) → taken nodes slot ≡ true → without_nodes parent nodes slot ≡ None
   up : (slot : SlotRef) → taken nodes slot ≡ false → Nearest parent (taken nodes) (parent slot) (without_nodes parent nodes slot)
 
 module _ (parent : SlotRef → Option SlotRef) (apart : (gone : SlotRef → Bool) (slot : SlotRef) → ¬ (Nearest parent gone (parent slot) (Some slot))) where
   module _ (nodes : List SlotRef) (node : SlotRef) (raised : IsRaised parent nodes) where
-    -- one more leaves, at which no way ends
+    -- one more leaves, and no way ends at it
     widen : {from to : Option SlotRef} → Nearest parent (taken nodes) from to → ¬ (to ≡ Some node) → Nearest parent (taken (node ∷ nodes)) from to
     widen no_ancestor differs = no_ancestor
     widen (climbs {slot} is rest) differs = climbs (or_second (same_slot slot node) (taken nodes slot) is) (widen rest differs)
@@ -26,7 +26,7 @@ module _ (parent : SlotRef → Option SlotRef) (apart : (gone : SlotRef → Bool
       by_tie true same = absurd (differs (ap Some (one_slot slot node same)))
       by_tie false same = is
 
-    -- where it was the end, the way goes on
+    -- a way that ended at it goes on
     raise :
         {from to : Option SlotRef} → Nearest parent (taken nodes) from to
         → Nearest parent (taken (node ∷ nodes)) from (option_and_then (past node (without_nodes parent nodes node)) to)
@@ -87,7 +87,7 @@ pub climbed :
 climbed m gone low (survives is) e = child e
 climbed m gone low (climbs {slot} is rest) e = further e (climbed m gone slot rest refl)
 
--- ways agree where the sets agree on all parents
+-- sets that agree on all parents give the same ways
 alike :
     (parent : SlotRef → Option SlotRef) (one other : SlotRef → Bool)
     → ((low slot : SlotRef) → parent low ≡ Some slot → one slot ≡ other slot) → (low : SlotRef) {from to : Option SlotRef}
@@ -140,7 +140,7 @@ module _ (m : Machine) (acyclic : (slot : SlotRef) → ¬ (Descends m slot slot)
       ((all_raised (parent_of m) (λ set low way. acyclic low (climbed m set low way refl)) leaving).up slot
       (not_leaving slot stays)) refl
 
--- who had no parent gets none
+-- a slot without a parent gets none
 pub rootless :
     (parent : SlotRef → Option SlotRef) (nodes : List SlotRef) (slot : SlotRef) → parent slot ≡ None
     → without_nodes parent nodes slot ≡ None

@@ -1,4 +1,4 @@
--- Who is in a queue that loses its first, or that a thread joins.
+-- The threads in a queue that loses its first, or that a thread joins.
 use Rattle.std.{specs.Prelude.{AllPairs, Contains, None, Option, Some}, proofs.Common.{[], ℕ, ◌∙◌, ◌∷◌, ◌≡◌, ◌≢◌, List, ap, arith, refl}}
 use Rattle.std.proofs.{Common.{suc, sym}, lemmas.Option.same_Some}
 use Rattle.base.specs.declared.ids.ObjId.{ObjId}
@@ -16,7 +16,6 @@ pub once_first :
 once_first first others once thread there same =
     let k : ℕ = there.0 in once 0 (suc k) thread (omega arith) (omega arith) (sym same ∙ sym there.2)
 
--- who waits first
 pub queue_by_first :
     (m : Machine) (id first : ObjId) → first_waiting m id ≡ Some first
     → (others : List ObjId) × (queue_of m id ≡ Some (first ∷ others))
@@ -32,7 +31,7 @@ queue_by_first m id first e = by_queue (queue_of m id) refl where
       let same : one ≡ first = same_Some one first some in
       (others, is ∙ ap (λ (x : ObjId). Some (x ∷ others)) same)
 
--- where nobody waits, nobody leaves
+-- nobody leaves an empty queue
 pub nobody_leaves : (m : Machine) (id : ObjId) → first_waiting m id ≡ None → without_first m id ≡ m
 unfolding first_waiting without_first
 nobody_leaves m id nobody = by_queue (queue_of m id) refl where

@@ -1,4 +1,4 @@
--- What each look-up of a machine answers after a removal.
+-- Look-ups of a machine after a removal.
 use Rattle.std.specs.{FinMap.{contains_key-keys, keys, values}, Prelude.{[], None, Option, Some, filter, is_some, option_map}}
 use Rattle.std.proofs.{Common.{◌∙◌, ◌≡◌, Bool, ap, cond, false, refl, sym, true}, lemmas.Bool.false≢true}
 use Rattle.base.specs.declared.ids.{ObjId.ObjId, SlotRef.SlotRef}
@@ -7,7 +7,6 @@ use Rattle.machine.specs.{Machine.words_of, Orphans.{Nearest, without_nodes}, Re
 use Rattle.machine.{specs.{Removal.{removed, vanishes, without_slots, words_after}, WellFormed.Descends}, proofs.FiniteLemmas.get-tabulate}
 use Rattle.machine.proofs.{LookUps.{id_apart, id_total, slot_apart, slot_total}, OrphanLemmas.{nearest_stays, rootless}}
 
--- what isn't there doesn't come to be
 left_some : {A : Type 0} (b : Bool) (found : Option A) → is_some (cond b None found) ≡ true → is_some found ≡ true
 left_some true found e = absurd (false≢true e)
 left_some false found e = e

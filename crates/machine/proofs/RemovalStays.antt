@@ -1,4 +1,4 @@
--- What stays where slots are removed: objects alike, capabilities as they were, and the ways up the derivation tree.
+-- The rest after a removal: objects alike, capabilities as they were, and the ways up the derivation tree.
 use Rattle.std.{specs.Prelude.{ℕ, None, Option, Some, option_map}, proofs.Common.{◌<◌, ◌∙◌, ◌≡◌, ◌⊎◌, Bool, ap, arith, cond, false, inl}}
 use Rattle.std.proofs.{Common.{inr, refl, subst, sym, true}, lemmas.{Bool.false≢true, Option.{none-some, same_Some}}}
 use Rattle.base.specs.declared.ids.{ObjId.ObjId, SlotRef.SlotRef}
@@ -57,7 +57,7 @@ way_ends :
 way_ends parent gone (survives is) = is
 way_ends parent gone (climbs is rest) = way_ends parent gone rest
 
--- and at once where the first stays
+-- it ends at once if the first stays
 at_once :
     (parent : SlotRef → Option SlotRef) (gone : SlotRef → Bool) (slot : SlotRef) {from to : Option SlotRef}
     → Nearest parent gone from to → from ≡ Some slot → gone slot ≡ false → to ≡ Some slot
@@ -70,7 +70,6 @@ pub further_on : (m : Machine) {low mid high : SlotRef} → Descends m low mid �
 further_on m (child is) rest = further is rest
 further_on m (further is d) rest = further is (further_on m d rest)
 
--- what has slots is a holder
 slots_held : (found : Option Object) (object : Object) (index : ℕ) → found ≡ Some object → index < slot_count object → has_slots found ≡ true
 slots_held found object index e less = ap has_slots e ∙ by_kind object less where
   by_kind : (object : Object) → index < slot_count object → has_slots (Some object) ≡ true
@@ -122,7 +121,7 @@ module _ (m : Machine) (chosen : SlotRef → Bool) where
     by_vanished false v = refl
     by_vanished true v = sym (((losing_decided m gone held.object).0 v).all slot held e refl) ∙ stays
 
-  -- and so does the holder of a slot that stays
+  -- the holder of a slot that stays does too
   pub holder_stays :
       (slot : SlotRef) (object : Object) → gone_of m chosen slot ≡ false → object_of m slot.holder ≡ Some object
       → slot.index < slot_count object → vanishes m chosen slot.holder ≡ false

@@ -1,4 +1,4 @@
--- What each kind of vanished object does to the rest.
+-- Vanished objects of each kind, and what becomes of the objects that stay.
 use Rattle.std.{specs.Prelude.{All, Contains, None, Option, Some, if◌then◌else◌, option_map}, proofs.Common.{◌∙◌, ◌≡◌, Bool, List, ap}}
 use Rattle.std.proofs.{Common.{cond, false, not, refl, subst, sym, true}, lemmas.{Bool.false≢true, List.Elements.All-contains}}
 use Rattle.std.proofs.lemmas.{List.Elements.filter_passes, Option.{none-some, same_Some}}
@@ -32,7 +32,6 @@ pub calling_halted :
 calling_halted vanished (state.Called calling) id named gone = ap vanished named ∙ gone
 calling_halted vanished _ id named gone = absurd named
 
--- the threads of one number are one
 pub one_thread : (m : Machine) (thread : ObjId) (one other : Tcb) → IsThread m thread one → IsThread m thread other → one ≡ other
 one_thread m thread one other is there = tcb_of (sym is ∙ there) where
   content : Tcb → Object → Tcb
@@ -46,7 +45,6 @@ module _ (m : Machine) (chosen : SlotRef → Bool) where
   abbrev vanished : ObjId → Bool
   vanished = vanishes m chosen
 
-  -- what stays is finalised
   pub finalised_there :
       (id : ObjId) (object : Object) → object_of m id ≡ Some object → vanished id ≡ false
       → object_of (removed m chosen) id ≡ Some (finalised m vanished object)
@@ -101,7 +99,7 @@ module _ (m : Machine) (chosen : SlotRef → Bool) where
             subst (λ (t : Tcb). is_halted vanished t.state ≡ true) one (calling_halted vanished is.0.state id is.2 gone)
         by_state reply.Free at same = absurd same
 
-  -- a reply that stays is free where the thread that it holds leaves, and else as it was
+  -- a reply that stays is free if the thread that it holds leaves, else as it was
   pub reply_stays :
       (id thread : ObjId) (holding : Reply) → object_of m id ≡ Some (o.Reply holding) → IsHolding holding.state thread
       → vanished id ≡ false
@@ -157,7 +155,7 @@ module _ (m : Machine) (chosen : SlotRef → Bool) where
         by_ways false true = lost
         by_ways false false = lost
 
-  -- what has no links is as it was
+  -- an object without links is as it was
   pub unlinked_stays :
       (id : ObjId) (object : Object) → object_of m id ≡ Some object → vanished id ≡ false → has_links object ≡ false
       → object_of (removed m chosen) id ≡ Some object
@@ -169,7 +167,7 @@ module _ (m : Machine) (chosen : SlotRef → Bool) where
         by_kind (o.Context context) linked = absurd (false≢true (sym linked))
         by_kind _ linked = refl
 
-  -- nobody is in a queue who left
+  -- a thread that left is in no queue
   pub queue_left :
       (id thread : ObjId) (threads : List ObjId) → queue_of (removed m chosen) id ≡ Some threads → Contains threads thread
       → leaves m vanished thread ≡ false

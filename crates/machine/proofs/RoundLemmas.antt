@@ -1,9 +1,8 @@
--- Who leaves a list in rounds has fallen, and who stays doesn't fall.
+-- Lists that elements leave in rounds: each that leaves has fallen, and each that stays doesn't fall.
 use Rattle.std.{specs.{List.list_any, Prelude.{◌&&◌, ◌||◌, cond, filter}}, proofs.Common.{[], ℕ, ◌<◌, ◌∙◌, ◌∷◌, ◌≡◌, ◌≤◌, ◌⊎◌, Bool, List}}
 use Rattle.std.proofs.{Common.{ap, arith, false, inl, inr, length, not, refl, subst, suc, sym, true, zero}, lemmas.Bool.false≢true}
 use Rattle.machine.specs.Rounds.{rounds, staying}
 
--- both tests pass
 pub both_pass : (a b : Bool) → (a && b) ≡ true → (a ≡ true) × (b ≡ true)
 both_pass true b e = (refl, e)
 both_pass false b e = absurd (false≢true e)
@@ -37,7 +36,6 @@ any_weaker test other (x ∷ xs) more e = by_test (test x) refl (any_weaker test
   by_test false is later =
       or_second (other x) (list_any other xs) (later (sym (ap (λ b. b || list_any test xs) is) ∙ e))
 
--- a filter takes all or makes the list shorter
 filter_most : {A : Type 0} (p : A → Bool) (xs : List A) → length (filter p xs) ≤ length xs
 filter_most p [] = omega arith
 filter_most p (x ∷ xs) = by_test (p x) (filter_most p xs) where
@@ -58,7 +56,7 @@ filter_all_or_less p (x ∷ xs) = by_test (p x) (filter_all_or_less p xs) where
   by_test false rest = inr (omega (arith, filter_most p xs))
 
 module _ {A : Type 0} (same : A → A → Bool) (one : (a b : A) → same a b ≡ true → a ≡ b) where
-  -- who is in a filtered list passes
+  -- each element of a filtered list passes
   pub in_filter : (p : A → Bool) (xs : List A) (x : A) → list_any (same x) (filter p xs) ≡ true → p x ≡ true
   in_filter p [] x e = absurd (false≢true e)
   in_filter p (y ∷ ys) x e = by_test (p y) refl e (in_filter p ys x) where
@@ -74,7 +72,7 @@ module _ {A : Type 0} (same : A → A → Bool) (one : (a b : A) → same a b �
     by_test true passes there later = by_tie (same x y) refl passes there later
     by_test false fails there later = later there
 
-  -- who passes and is in the list is in the filtered one
+  -- each element that passes is in the filtered list
   pub into_filter :
       (p : A → Bool) (xs : List A) (x : A) → list_any (same x) xs ≡ true → p x ≡ true → list_any (same x) (filter p xs) ≡ true
   into_filter p [] x e passes = e
@@ -97,7 +95,7 @@ module _ {A : Type 0} (same : A → A → Bool) (one : (a b : A) → same a b �
     abbrev next : List A → List A
     next left = filter (λ x. not (falls left x)) left
 
-    -- a list of which nobody falls stays as it is
+    -- a list from which nobody falls stays as it is
     still : (n : ℕ) (left : List A) → next left ≡ left → rounds falls n left ≡ left
     unfolding rounds
     still zero left is = refl
@@ -118,7 +116,7 @@ module _ {A : Type 0} (same : A → A → Bool) (one : (a b : A) → same a b �
           by_length (inr shorter) later = later shorter
 
     module _ (all : List A) where
-      -- who stays doesn't fall
+      -- an element that stays doesn't fall
       pub stays :
           (x : A) → list_any (same x) (staying falls all) ≡ true → falls (staying falls all) x ≡ false
       stays x there =
@@ -129,7 +127,7 @@ module _ {A : Type 0} (same : A → A → Bool) (one : (a b : A) → same a b �
             not_true true e = sym e
             not_true false e = refl
 
-      -- who leaves has fallen
+      -- an element that leaves has fallen
       module _ (Fallen : A → Type 0) where
         abbrev Left : List A → Type 0
         Left left = (x : A) → list_any (same x) all ≡ true → list_any (same x) left ≡ false → Fallen x

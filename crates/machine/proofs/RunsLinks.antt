@@ -1,4 +1,4 @@
--- What a thread runs on: the context that it is bound to, or the one that it lent.
+-- The contexts that a thread runs on: the one that it is bound to, and the one that it lent.
 use Rattle.std.proofs.{Common.{◌∙◌, ◌≡◌, ◌⊎◌, None, Option, Some, ap, inl, inr, true}, lemmas.Bool.{or_cases, or_left, or_right}}
 use Rattle.base.specs.declared.{ids.ObjId.ObjId, kind.Kind.Kind as authority}
 use Rattle.machine.specs.{declared.{object.Object.Object as o, thread.Tcb.Tcb}, Authority.{context_lent, links, names_object}}

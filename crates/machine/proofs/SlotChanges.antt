@@ -1,4 +1,4 @@
--- What a machine is after an empty slot was filled, and after a capability has moved, slot by slot.
+-- The machine after an empty slot was filled, and after a capability has moved, slot by slot.
 use Rattle.std.{specs.Prelude.{None, Option, Some, if◌then◌else◌, option_map}, proofs.Common.◌≡◌}
 use Rattle.base.specs.declared.ids.{ObjId.ObjId, SlotRef.SlotRef}
 use Rattle.machine.specs.{declared.cap.Cap.Cap, Machine.{Machine, cap_of, object_of, parent_of, queue_of, same_slot, words_of}}

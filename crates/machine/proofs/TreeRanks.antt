@@ -1,4 +1,4 @@
--- Where ranks rise from parents to children, no slot descends from itself.
+-- Ranks that rise from parents to children: no slot descends from itself.
 use Rattle.std.proofs.Common.{◌<◌, arith}
 use Rattle.base.specs.declared.ids.SlotRef.{SlotRef}
 use Rattle.machine.specs.{Machine.Machine, Tree.IsRanked, WellFormed.{Descends, child, further}}

@@ -1,4 +1,4 @@
--- Which slots descend from a slot, as a test (seL4 manual, "Capability Derivation Tree").
+-- The test of which slots descend from a slot (seL4 manual, "Capability Derivation Tree").
 use Rattle.std.specs.{FinMap.keys, List.list_any, Prelude.{◌&&◌, ◌||◌, Bool, List, None, Option, Some, false, is_some, not}}
 use Rattle.base.specs.declared.ids.SlotRef.{SlotRef}
 use Rattle.machine.specs.{Machine.{Machine, parent_of, same_slot}, Rounds.staying}
@@ -14,6 +14,5 @@ has_parent_below m above others slot = by_parent (parent_of m slot) where
   by_parent None = false
   by_parent (Some parent) = same_slot parent above || is_child_beside m others parent
 
--- whether a slot descends from another
 unfoldable pub is_below : Machine → SlotRef → SlotRef → Bool
 is_below m above = is_child_beside m (staying (has_parent_below m above) (keys m.parents))

@@ -21,13 +21,13 @@ same_bit true true = true
 same_bit false false = true
 same_bit _ _ = false
 
--- what is left of a string after a beginning, if it begins so
+-- the rest of a string after a beginning, if it has that beginning
 abbrev pub after : List Bool → List Bool → Option (List Bool)
 after [] string = Some string
 after (b ∷ bs) [] = None
 after (b ∷ bs) (c ∷ cs) = if same_bit b c then after bs cs else None
 
--- the first `size` bits of a string and what is left, if it has so many
+-- the first `size` bits of a string and the rest, if it has that many
 abbrev pub split : ℕ → List Bool → Option (List Bool × List Bool)
 split zero string = Some ([], string)
 split (suc size) [] = None

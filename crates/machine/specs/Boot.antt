@@ -33,29 +33,23 @@ pub record IsBoot (t : Layout) (m : Machine) : Type 0 where
 pub record IsFresh (t : Layout) (m : Machine) : Type 0 where
   -- the watermark of untyped memory is at its base
   pub watermarks : (id : ObjId) (memory : Untyped) → object_of m id ≡ Some (o.Untyped memory) → memory.watermark ≡ memory.base
-  -- every object has a queue
   pub has_queue :
       (id : ObjId) (object : Object) → object_of m id ≡ Some object → (threads : List ObjId) × (queue_of m id ≡ Some threads)
-  -- every queue is empty
   pub empty_queues : (id : ObjId) (threads : List ObjId) → queue_of m id ≡ Some threads → threads ≡ []
-  -- a thread is ready or inactive
   pub at_rest :
       (id : ObjId) (thread : Tcb) → object_of m id ≡ Some (o.Tcb thread)
       → (thread.state ≡ run.Ready) ⊎ (thread.state ≡ run.Inactive)
-  -- and its state is the one that the table declares
+  -- the state of a thread is the one that the table declares
   pub as_declared :
       (id : ObjId) (thread : Tcb) → object_of m id ≡ Some (o.Tcb thread)
       → (initial : Initial) × (declared : Tcb) × (initial_of t id ≡ Some initial) × (initial.object ≡ o.Tcb declared)
       × (thread.state ≡ declared.state)
-  -- a thread's inbox is empty
   pub inboxes : (id : ObjId) (thread : Tcb) → object_of m id ≡ Some (o.Tcb thread) → thread.inbox ≡ inbox.Empty
   -- a notification has no word
   pub notifications :
       (id : ObjId) (notification : Notification) → object_of m id ≡ Some (o.Notification notification)
       → notification.pending ≡ None
-  -- a reply is free
   pub replies : (id : ObjId) (answer : Reply) → object_of m id ≡ Some (o.Reply answer) → answer.state ≡ reply.Free
-  -- the words of a frame are 512 zeros
   pub frames : (id : ObjId) (frame : Frame) → object_of m id ≡ Some (o.Frame frame) → words_of m id ≡ Some (replicate 512 0)
   -- a capability without a parent in the tree is original
   pub originals : (slot : SlotRef) (held : Cap) → cap_of m slot ≡ Some held → parent_of m slot ≡ None → held.original ≡ true

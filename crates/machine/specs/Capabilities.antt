@@ -1,4 +1,4 @@
--- What a capability says by itself: the kind of object that it is for, and the kinds of authority that it gives from a slot of a
+-- Capabilities by themselves: the kind of object that each is for, and the kinds of authority that it gives from a slot of a
 -- CNode ('seL4 Enforces Integrity', section 3, "Authority", with the kinds of this profile).
 use Rattle.std.specs.{Int.RustNames.bit_and, Prelude.{ℕ, ◌&&◌, ◌==◌, ◌||◌, Bool, false, true}}
 use Rattle.base.specs.declared.{kind.Kind.Kind, rights.Rights.Rights}

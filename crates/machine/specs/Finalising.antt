@@ -1,6 +1,6 @@
--- What becomes of the objects that stay where others vanish: who waits for one is aborted or halted, and links to it are cut (seL4
--- manual, "Endpoints", "Notifications", "Scheduling Contexts"; that who is reached in both ways is halted is confine's own). All is
--- read off the machine as it was, so that no order shows.
+-- Objects that stay as others vanish: threads that wait for one are aborted or halted, and links to it are cut (seL4 manual, "Endpoints",
+-- "Notifications", "Scheduling Contexts"; that a thread reached in both ways is halted is confine's own). All is read off the machine
+-- as it was, so the order doesn't matter.
 use Rattle.std.specs.Prelude.{◌||◌, ◌≡◌, Bool, List, None, Option, Some, false, filter, if◌then◌else◌, not, true}
 use Rattle.base.specs.declared.ids.ObjId.{ObjId}
 use Rattle.machine.specs.declared.{object.{Object.{Object, Object as o}, ReplyState.ReplyState}, thread.{RunState.RunState, Tcb.Tcb}}
@@ -42,7 +42,7 @@ halted tcb = record tcb { state = state.Inactive }
 abbrev pub unbound : (ObjId → Bool) → Tcb → Tcb
 unbound vanished tcb = record tcb { context = link_after vanished tcb.context }
 
--- a thread that stays; who is reached in both ways is halted
+-- a thread that stays; one that is reached in both ways is halted
 abbrev pub tcb_after : (ObjId → Bool) → Tcb → Tcb
 tcb_after vanished tcb =
     unbound vanished
@@ -63,7 +63,6 @@ IsHolding (reply.Waiting held) thread = held ≡ thread
 IsHolding (reply.Called held) thread = held ≡ thread
 IsHolding reply.Free thread = ⊥
 
--- a reply that stays
 abbrev pub reply_after : Machine → (ObjId → Bool) → ReplyState → ReplyState
 reply_after m vanished (reply.Waiting thread) = if leaves m vanished thread then reply.Free else reply.Waiting thread
 reply_after m vanished (reply.Called thread) = if leaves m vanished thread then reply.Free else reply.Called thread
@@ -76,13 +75,12 @@ has_links (o.Reply _) = true
 has_links (o.Context _) = true
 has_links _ = false
 
--- an object that stays
 abbrev pub finalised : Machine → (ObjId → Bool) → Object → Object
 finalised m vanished (o.Tcb tcb) = o.Tcb (tcb_after vanished tcb)
 finalised m vanished (o.Reply holding) = o.Reply (record holding { state = reply_after m vanished holding.state })
 finalised m vanished (o.Context context) = o.Context (record context { thread = link_after vanished context.thread })
 finalised m vanished object = object
 
--- those of a queue who stay in it, in their order
+-- the threads of a queue that stay in it, in their order
 abbrev pub staying_in : Machine → (ObjId → Bool) → List ObjId → List ObjId
 staying_in m vanished threads = filter (λ thread. not (leaves m vanished thread)) threads

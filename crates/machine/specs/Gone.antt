@@ -1,5 +1,5 @@
--- The slots whose capabilities go where those of some slots are removed: with the last capability of a CNode or a thread all its
--- slots go (seL4 manual, "Capability Spaces"; that they go at once, also where they hold each other's, is confine's own).
+-- The slots that go when some slots are removed: all slots of a CNode or a thread go with its last capability (seL4 manual, "Capability
+-- Spaces"; that they go at once, also those that hold each other's capabilities, is confine's own).
 use Rattle.std.specs.{FinMap.keys, List.list_any, Prelude.{◌&&◌, ◌||◌, ◌≡◌, Bool, List, None, Option, Some, false, filter, not, true}}
 use Rattle.base.specs.declared.ids.{ObjId.ObjId, SlotRef.SlotRef}
 use Rattle.machine.specs.{declared.{cap.Cap.Cap, object.Object.{Object, Object as o}}, Machine.{Machine, cap_of, object_of, same_id}}
@@ -32,7 +32,7 @@ pub record IsLeastSet (m : Machine) (chosen set : SlotRef → Bool) : Type 0 whe
   pub least :
       (other : SlotRef → Bool) → IsClosedSet m chosen other → (slot : SlotRef) → set slot ≡ true → other slot ≡ true
 
--- the same set by its reasons
+-- a slot goes for a reason: it is chosen, or its holder has a capability and loses all
 pub data IsGone (m : Machine) (chosen : SlotRef → Bool) : SlotRef → Type 0 where
   given : {slot : SlotRef} → chosen slot ≡ true → IsGone m chosen slot
   with_last :
@@ -70,6 +70,5 @@ holders m = filter (is_holder m) (keys m.objects)
 abbrev pub goes_beside : Machine → (SlotRef → Bool) → List ObjId → SlotRef → Bool
 goes_beside m chosen others slot = chosen slot || is_holder m slot.holder && not (list_any (same_id slot.holder) others)
 
--- whether a slot goes where the chosen slots are removed
 unfoldable pub gone_of : Machine → (SlotRef → Bool) → SlotRef → Bool
 gone_of m chosen = goes_beside m chosen (staying (λ others. loses_all m (goes_beside m chosen others)) (holders m))

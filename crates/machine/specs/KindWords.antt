@@ -24,7 +24,7 @@ object_kinds =
 unfoldable pub object_kind_of : List ℕ → Option ObjectKind
 object_kind_of word = find (λ kind. bytes_eq word (object_kind_word kind)) object_kinds
 
--- the kind of the objects that are made so
+-- a kind that can be made of memory, as a kind of object
 abbrev pub kind_of_memory : MemoryKind → ObjectKind
 kind_of_memory memory.Untyped = kind.Untyped
 kind_of_memory memory.CNode = kind.CNode
@@ -51,6 +51,6 @@ memory_kind_in (Some kind.Frame) = Some memory.Frame
 memory_kind_in (Some kind.Control) = None
 memory_kind_in None = None
 
--- the kind that can be made of memory which a word names
+-- the kind that a word names, of those that can be made of memory
 unfoldable pub memory_kind_of : List ℕ → Option MemoryKind
 memory_kind_of word = memory_kind_in (object_kind_of word)

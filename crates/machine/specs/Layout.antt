@@ -1,4 +1,4 @@
--- What a capability table says: its version, the labels, the initial objects with their names and labels, the slots that hold
+-- The content of a capability table: its version, the labels, the initial objects with their names and labels, the slots that hold
 -- capabilities, the pairs of the derivation tree, and which thread runs on which context (compare the seL4 manual,
 -- "Bootstrapping", and 'seL4 Enforces Integrity', section 3: the initial state and its labelling).
 use Rattle.std.specs.{Coded.{Coded, code_by, coded_list, coded_ℕ, coded×}, Prelude.{[], ℕ, List, Option, find, option_map, refl, slice_get}}
@@ -45,12 +45,12 @@ layout_code version initial filled pair binding =
     })
     (λ _. refl)
 
--- how many labels a table of a version may have
+-- the number of labels that a table of a version may have
 abbrev pub most_labels : Version → ℕ
 most_labels version.One = 64
 most_labels version.Two = Label.COUNT
 
--- the table of a version that says nothing
+-- the empty table of a version
 abbrev pub empty_layout : Version → Layout
 empty_layout version =
     record { version = version; labels = []; names = []; objects = []; caps = []; pairs = []; bindings = [] }

@@ -6,7 +6,7 @@ use Rattle.base.specs.declared.refusal.LookupFailure.TheVariants.{DepthMismatch,
 use Rattle.machine.specs.declared.{cap.{Cap.Cap, Detail.{Detail, Detail as d}, Guard.Guard}, object.Object.{Object, Object as o}}
 use Rattle.machine.specs.{Bits.{after, bits, number, split}, Machine.{Machine, cap_of, object_of}}
 
--- a CNode as a capability shows it: the bits that an address has to go on with, and how many select a slot
+-- a CNode as a capability shows it: the bits that an address must continue with, and the number of bits that select a slot
 pub record Level : Type 0 where
   pub node : ObjId
   pub guard : List Bool
@@ -40,7 +40,7 @@ hop level string = select level (after level.guard string) where
   select level None = Err GuardMismatch
   select level (Some rest) = slot_of level (split level.radix rest)
 
--- go on at a slot's CNode while bits are left
+-- the lookup goes on at a slot's CNode while bits are left
 abbrev pub onward :
     (Level → List Bool → Result (SlotRef × List Bool) LookupFailure) → Machine → Result (SlotRef × List Bool) LookupFailure
     → Result (SlotRef × List Bool) LookupFailure
@@ -58,7 +58,6 @@ unfoldable pub walk : ℕ → Machine → Level → List Bool → Result (SlotRe
 walk zero m level string = Err DepthMismatch
 walk (suc most) m level string = onward (λ next rest. walk most m next rest) m (hop level string)
 
--- the root slot of a thread
 abbrev pub root_of : ObjId → SlotRef
 root_of thread = record { holder = thread; index = 0 }
 

@@ -1,4 +1,4 @@
--- The kernel's state as contracts see it: its objects, who waits at each, the words of frames, the capabilities in slots, the
+-- The kernel's state as contracts see it: its objects, the queue of each, the words of frames, the capabilities in slots, the
 -- derivation tree, and the number of the next object; with the look-ups and the changes that the definitions above are made of.
 use Rattle.std.specs.{declared.cmp.Ordering.Ordering, Coded.{Coded, code_by, coded_list, coded_ℕ, coded×}, FinMap.FinMap}
 use Rattle.std.specs.FinMap as map
@@ -21,7 +21,7 @@ same_id = eq_by_cmp id_cmp
 abbrev pub same_slot : SlotRef → SlotRef → Bool
 same_slot = eq_by_cmp slot_cmp
 
--- each present object has a queue, of the threads that wait at it, the first first, and its words, if it is a frame
+-- each present object has a queue of the threads that wait at it, the first first, and the words of its memory, which frames have
 pub record Machine : Type 0 where
   pub objects : FinMap id_cmp Object
   pub queues : FinMap id_cmp (List ObjId)
@@ -30,7 +30,7 @@ pub record Machine : Type 0 where
   -- from a child to its parent
   pub parents : FinMap slot_cmp SlotRef
   pub next : ℕ
-  -- the objects that have lost their last capability in a removal that is under way, as they were found; none at other times
+  -- the objects that have lost their last capability in a removal under way, as they were found; at other times none
   pub going : List ObjId
 
 -- a machine is stored as the tuple of its parts
@@ -59,7 +59,6 @@ machine_code id slot object cap =
     })
     (λ _. refl)
 
--- no objects at all
 unfoldable pub empty_machine : Machine
 empty_machine =
     record {
@@ -72,12 +71,10 @@ empty_machine =
       going = [];
     }
 
--- the look-ups
-
 unfoldable pub object_of : Machine → ObjId → Option Object
 object_of m id = map.get m.objects id
 
--- who waits at an object, if it is present
+-- the threads that wait at an object, if it is present
 unfoldable pub queue_of : Machine → ObjId → Option (List ObjId)
 queue_of m id = map.get m.queues id
 
@@ -98,29 +95,21 @@ has_slot m slot = within (object_of m slot.holder) where
   within None = false
   within (Some object) = nat_lt slot.index (slot_count object)
 
--- the changes
-
--- an object's content
 unfoldable pub with_object : Machine → ObjId → Object → Machine
 with_object m id object = record m { objects = map.insert m.objects id object }
 
--- who waits at an object
 unfoldable pub with_queue : Machine → ObjId → List ObjId → Machine
 with_queue m id threads = record m { queues = map.insert m.queues id threads }
 
--- a slot's capability
 unfoldable pub with_cap : Machine → SlotRef → Cap → Machine
 with_cap m slot cap = record m { caps = map.insert m.caps slot cap }
 
--- a slot is empty
 unfoldable pub without_cap : Machine → SlotRef → Machine
 without_cap m slot = record m { caps = map.remove m.caps slot }
 
--- a slot's parent in the derivation tree
 unfoldable pub with_parent : Machine → SlotRef → SlotRef → Machine
 with_parent m slot parent = record m { parents = map.insert m.parents slot parent }
 
--- a slot has no parent
 unfoldable pub without_parent : Machine → SlotRef → Machine
 without_parent m slot = record m { parents = map.remove m.parents slot }
 

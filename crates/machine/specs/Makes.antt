@@ -1,5 +1,5 @@
--- How the code of a call meets the call's definition: it comes to what the definition says and leaves the machine that it says, or
--- refuses with its cause and leaves the machine as it was.
+-- Code of a call that meets the call's definition: it has the definition's result and leaves the definition's machine, or refuses with
+-- its cause and leaves the machine as it was.
 use Rattle.std.specs.Prelude.{◌≡◌, Err, IsOk, Ok, Result}
 use Rattle.base.specs.declared.refusal.Cause.{Cause}
 use Rattle.machine.specs.{declared.call.{Made.Made, Unmade.{Unmade, TheVariants.{OutOfMemory, Refused}}}, Machine.Machine}
@@ -8,7 +8,7 @@ abbrev pub Makes : Machine → Machine → Result Made Cause → Result (Made ×
 Makes old new (Ok made) defined = defined ≡ Ok (made, new)
 Makes old new (Err cause) defined = (defined ≡ Err cause) × (new ≡ old)
 
--- the same of a call that takes memory: where the definition says that it is made it may lack memory, and leaves the machine as it was
+-- a call that takes memory does so too, or lacks memory where the definition makes it, and leaves the machine as it was
 abbrev pub MakesWithMemory : Machine → Machine → Result Made Unmade → Result (Made × Machine) Cause → Type 0
 MakesWithMemory old new (Ok made) defined = defined ≡ Ok (made, new)
 MakesWithMemory old new (Err (Refused cause)) defined = (defined ≡ Err cause) × (new ≡ old)

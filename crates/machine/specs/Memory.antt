@@ -1,4 +1,4 @@
--- Untyped memory becomes objects: what is made, where, and the machine after it (seL4 manual, "Untyped Memory" and "Object
+-- Objects made from untyped memory: what is made, where, and the machine after it (seL4 manual, "Untyped Memory" and "Object
 -- Creation"; where an object lies is confine's own).
 use Rattle.std.specs.{FinMap.entries, Int.next_multiple_of, List.list_any, Prelude.{[], ℕ, ◌+◌, ◌∷◌, Bool, List, None, if◌then◌else◌, suc}}
 use Rattle.std.specs.Prelude.{true, zero}
@@ -22,7 +22,7 @@ new_object kind.Reply bits address = o.Reply (record { address = address; state 
 new_object kind.Context bits address = o.Context (record { address = address; share = None; thread = None })
 new_object kind.Frame bits address = o.Frame (record { address = address })
 
--- how many bytes it takes, wherever it lies
+-- the number of bytes that a new object takes
 abbrev pub new_size : MemoryKind → ℕ → ℕ
 new_size kind bits = size_of (new_object kind bits 0)
 
@@ -44,11 +44,11 @@ new_cap number kind = record { object = record { 0 = number }; detail = new_deta
 abbrev pub placed : ℕ → Untyped → ℕ
 placed size memory = next_multiple_of memory.watermark size
 
--- the memory after that object: the watermark is at the object's end
+-- the memory after that object is made: the watermark is at the object's end
 abbrev pub taken : ℕ → Untyped → Untyped
 taken size memory = record memory { watermark = placed size memory + size }
 
--- the memory after so many objects, one after another
+-- the memory after a number of objects, one after another
 abbrev pub all_taken : ℕ → ℕ → Untyped → Untyped
 all_taken zero size memory = memory
 all_taken (suc count) size memory = all_taken count size (taken size memory)
@@ -63,7 +63,7 @@ pub record Source : Type 0 where
 unfoldable pub has_child : Machine → SlotRef → Bool
 has_child m slot = list_any (λ pair. same_slot pair.1 slot) (entries m.parents)
 
--- where the making begins: at the watermark, or at the base where the capability has no child
+-- where the making begins: at the watermark, or at the base if the capability has no child
 abbrev pub begun : Machine → Source → Source
 begun m source =
     if has_child m source.slot then source
@@ -78,7 +78,7 @@ with_made m source kind bits slot =
     (new_object kind bits (placed (new_size kind bits) source.memory)))
     slot (new_cap m.next kind)) slot source.slot
 
--- one after another, a slot for each
+-- objects are made one after another, with a slot for each
 abbrev pub with_all_made : Machine → Source → MemoryKind → ℕ → List SlotRef → Machine
 with_all_made m source kind bits [] = m
 with_all_made m source kind bits (slot ∷ slots) =

@@ -1,5 +1,4 @@
--- What an object's content says by itself: its kind, its sizes and its range of addresses (seL4 manual, "Kernel Objects";
--- the sizes are confine's own).
+-- Objects by their content alone: their kinds, sizes and ranges of addresses (seL4 manual, "Kernel Objects"; the sizes are confine's own).
 use Rattle.std.specs.Prelude.{ℕ, ◌+◌, ◌^◌, None, Option, Some}
 use Rattle.machine.specs.declared.object.{Object.{Object, Object as o}, ObjectKind.{ObjectKind, ObjectKind as kind}}
 
@@ -14,18 +13,16 @@ kind_of_object (o.Context _) = kind.Context
 kind_of_object (o.Frame _) = kind.Frame
 kind_of_object (o.Control _) = kind.Control
 
--- how many slots an object has: a CNode as many as its radix selects, a TCB its root slot
+-- the number of slots: a CNode has as many as its radix selects, a TCB its root slot
 abbrev pub slot_count : Object → ℕ
 slot_count (o.CNode node) = 2 ^ node.radix
 slot_count (o.Tcb _) = 1
 slot_count _ = 0
 
--- how many threads an object is
 abbrev pub thread_count : Object → ℕ
 thread_count (o.Tcb _) = 1
 thread_count _ = 0
 
--- how many words of memory an object has
 abbrev pub word_count : Object → ℕ
 word_count (o.Frame _) = 512
 word_count _ = 0
@@ -54,7 +51,6 @@ address_of (o.Context context) = context.address
 address_of (o.Frame frame) = frame.address
 address_of (o.Control _) = 0
 
--- how many bytes an object takes
 abbrev pub size_of : Object → ℕ
 size_of object = bytes (size_bits object) where
   bytes : Option ℕ → ℕ

@@ -1,6 +1,6 @@
--- Changes by which threads, queues and replies are linked, and are so no more: a thread blocks at an object or calls through a reply,
--- leaves its queue and its reply and is then ready, halted or aborted; and a thread and its scheduling context are unbound (seL4
--- manual, "Threads and Execution", "Endpoints", "Notifications" and "Scheduling Contexts").
+-- Changes that link threads, queues and replies, or end these links: a thread blocks at an object or calls through a reply, leaves its
+-- queue and its reply, and is ready, halted or aborted; and a thread and its context are unbound (seL4 manual, "Threads and Execution",
+-- "Endpoints", "Notifications" and "Scheduling Contexts").
 use Rattle.std.specs.Prelude.{◌≡◌, Bool, Contains, List, None, Option, Some, if◌then◌else◌}
 use Rattle.base.specs.declared.ids.ObjId.{ObjId}
 use Rattle.machine.specs.declared.{object.{Object.{Object, Object as o}, ReplyState.ReplyState}, thread.{Calling.Calling, Message.Message}}
@@ -11,14 +11,13 @@ use Rattle.machine.specs.declared.thread.RunState.TheVariants as state
 use Rattle.machine.specs.{Changes.without_waiting, Finalising.{aborted, halted}, Machine.{Machine, object_of, queue_of}}
 use Rattle.machine.specs.WellFormed.{IsThread, WaitsAt}
 
--- whom a reply holds
 unfoldable pub with_holding : Machine → ObjId → ReplyState → Machine
 with_holding m id holds = by_content (object_of m id) where
   by_content : Option Object → Machine
   by_content (Some (o.Reply holding)) = with_reply m id (record holding { state = holds })
   by_content _ = m
 
--- the reply that a receiver named, if it named one, holds so
+-- the reply that a receiver named, if any, gets a state
 abbrev pub with_named : Machine → Option ObjId → ReplyState → Machine
 with_named m None holds = m
 with_named m (Some id) holds = with_holding m id holds
@@ -42,29 +41,29 @@ with_released m thread change = by_content (object_of m thread) where
   by_content (Some (o.Tcb tcb)) = with_tcb (unblocked m thread tcb.state) thread (change tcb)
   by_content _ = m
 
--- so that it can't run
+-- it is released, and can't run
 abbrev pub with_halted : Machine → ObjId → Machine
 with_halted m thread = with_released m thread halted
 
--- so that it can run, and learns that what it waited for went away
+-- it is released, can run, and learns that what it waited for went away
 abbrev pub with_aborted : Machine → ObjId → Machine
 with_aborted m thread = with_released m thread aborted
 
--- so that it can run
+-- it can run
 abbrev pub ready : Tcb → Tcb
 ready tcb = record tcb { state = state.Ready }
 
 abbrev pub with_ready : Machine → ObjId → Machine
 with_ready m thread = with_released m thread ready
 
--- so that it can run, and has a message
+-- it can run, and has a message
 abbrev pub given : Message → Tcb → Tcb
 given message tcb = record tcb { state = state.Ready; inbox = inbox.Message message }
 
 abbrev pub with_given : Machine → ObjId → Message → Machine
 with_given m thread message = with_released m thread (given message)
 
--- so that it can't run, and has nothing to fetch
+-- it can't run, and has nothing to fetch
 abbrev pub suspended : Tcb → Tcb
 suspended tcb = record tcb { state = state.Inactive; inbox = inbox.Empty }
 
@@ -116,7 +115,7 @@ with_unbound m thread = by_content (object_of m thread) where
   by_content (Some (o.Tcb tcb)) = cut tcb tcb.context
   by_content _ = m
 
--- a reply is free where the thread that it held left
+-- a reply is free if the thread that it held left
 abbrev pub reply_by : (ObjId → Bool) → ReplyState → ReplyState
 reply_by left (reply.Waiting thread) = if left thread then reply.Free else reply.Waiting thread
 reply_by left (reply.Called thread) = if left thread then reply.Free else reply.Called thread
@@ -130,7 +129,7 @@ pub record SameRest (old now : Machine) : Type 0 where
   pub next : now.next ≡ old.next
   pub going : now.going ≡ old.going
 
--- a thread is in the queue where its run state says that it waits
+-- a thread is in the queue at which its run state waits
 abbrev pub IsInItsQueue : Machine → ObjId → Type 0
 IsInItsQueue m thread =
     (tcb : Tcb) (id : ObjId) → IsThread m thread tcb → WaitsAt tcb.state id

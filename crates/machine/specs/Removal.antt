@@ -1,11 +1,11 @@
--- Removal of capabilities: those that go with them, the objects that lose their last, what becomes of the rest, and the derivation
--- tree (seL4 manual, "Deletion, Revocation, and Recycling").
+-- Removal of capabilities: those that go with them, the objects that lose their last capability, the objects that stay, and the
+-- derivation tree (seL4 manual, "Deletion, Revocation, and Recycling").
 use Rattle.std.specs.{FinMap.{keys, values}, Prelude.{[], ℕ, Bool, List, None, Option, filter, if◌then◌else◌, option_map}}
 use Rattle.base.specs.declared.ids.{ObjId.ObjId, SlotRef.SlotRef}
 use Rattle.machine.specs.{declared.{cap.Cap.Cap, object.Object.Object}, Finalising.{finalised, staying_in}, Finite.tabulate, Gone.gone_of}
 use Rattle.machine.specs.{Gone.loses_all, Machine.{Machine, cap_of, object_of, parent_of, queue_of, words_of}, Orphans.without_nodes}
 
--- what each look-up answers where some slots go and some objects vanish
+-- each look-up after some slots go and some objects vanish
 
 abbrev pub object_after : Machine → (ObjId → Bool) → ObjId → Option Object
 object_after m vanished id = if vanished id then None else option_map (finalised m vanished) (object_of m id)
@@ -35,10 +35,8 @@ without_slots m gone vanished =
       going = [];
     }
 
--- whether an object loses its last capability where the chosen slots are removed
 abbrev pub vanishes : Machine → (SlotRef → Bool) → ObjId → Bool
 vanishes m chosen = loses_all m (gone_of m chosen)
 
--- the machine after the chosen slots are removed
 unfoldable pub removed : Machine → (SlotRef → Bool) → Machine
 removed m chosen = without_slots m (gone_of m chosen) (vanishes m chosen)

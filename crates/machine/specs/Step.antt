@@ -34,7 +34,7 @@ pub mod Space
 pub mod Configure
 pub mod Bind
 
--- the core, budget and period of a context, if it is one and configured
+-- the core, budget and period of an object, if it is a configured context
 abbrev pub share_in : Option Object → Option Share
 share_in (Some (o.Context context)) = context.share
 share_in _ = None
@@ -59,14 +59,14 @@ abbrev pub thread_in : Option Object → Result Tcb Cause
 thread_in (Some (o.Tcb thread)) = Ok thread
 thread_in _ = Err cause.NoSuchThread
 
--- who may make a call: a thread that is there, is ready, and runs on a context that is configured for the event's core
+-- a thread may make a call if it is there, is ready, and runs on a context that is configured for the event's core
 unfoldable pub admitted : Machine → ℕ → ObjId → Result Share Cause
 admitted m core caller = do
   thread ← thread_in (object_of m caller)
   share ← running_share m thread
   if share.core == core then Ok share else Err cause.WrongCore
 
--- what a call comes to and the machine after it, once its thread may make it
+-- the result of a call and the machine after it, once its thread may make it
 abbrev pub call_of : Machine → ObjId → Call → Result (Made × Machine) Cause
 call_of m caller (call.Signal address) = signal_of m caller address
 call_of m caller (call.Poll address) = poll_of m caller address
@@ -92,7 +92,7 @@ call_of m caller (call.Configure control context budget period) = configure_of m
 call_of m caller (call.Bind context thread) = bind_of m caller context thread
 call_of m caller (call.Unbind context) = unbind_of m caller context
 
--- what an event comes to: its thread is admitted, and then makes its call
+-- the result of an event: its thread is admitted, and then makes its call
 unfoldable pub made_by : Machine → Event → Result (Made × Machine) Cause
 made_by m event = do
   _ ← admitted m event.core event.thread
@@ -103,11 +103,11 @@ abbrev pub settled : Machine → Result (Made × Machine) Cause → Outcome × M
 settled m (Ok made) = (outcome_of made.0, made.1)
 settled m (Err cause) = (Refused (refusal_of cause), m)
 
--- how an event ends where there is memory, and the machine after it
+-- how an event ends if there is memory, and the machine after it
 unfoldable pub step_of : Machine → Event → Outcome × Machine
 step_of m event = settled m (made_by m event)
 
--- the calls that have the thread that makes them wait, or empty its inbox
+-- the calls by which the caller may wait, or that empty its inbox
 abbrev pub ChangesCaller : Call → Type 0
 ChangesCaller (call.Wait _) = Unit {0}
 ChangesCaller (call.Send _ _ _) = Unit {0}
@@ -121,7 +121,7 @@ abbrev pub takes_memory : Call → Bool
 takes_memory (call.Retype _ _ _ _ _ _) = Bool.true
 takes_memory _ = Bool.false
 
--- the event could be made, but takes memory that isn't there
+-- the event could be made, but there isn't the memory that it takes
 pub record LacksMemory (m : Machine) (event : Event) (outcome : Outcome) (next : Machine) : Type 0 where
   pub takes : takes_memory event.call ≡ Bool.true
   pub made : Made × Machine
@@ -134,7 +134,7 @@ pub data Step (m : Machine) (event : Event) (outcome : Outcome) (next : Machine)
   ends : step_of m event ≡ (outcome, next) → Step m event outcome next
   lacks : LacksMemory m event outcome next → Step m event outcome next
 
--- what a call may be refused: by a condition of its own or, where it takes memory, for want of it
+-- the refusals that a call may get: for a condition of its own or, if it takes memory, for want of memory
 abbrev pub MayBeRefused : Call → Refusal → Type 0
 MayBeRefused call refusal = IsOfCondition refusal ⊎ ((takes_memory call ≡ Bool.true) × (refusal ≡ out_of_memory))
 

@@ -1,16 +1,16 @@
 -- Changes of the derivation tree: copies come under their source, and a capability moves with its place (seL4 manual, "Capability
--- Derivation Tree"; who is whose parent is confine's own).
+-- Derivation Tree"; the choice of parents is confine's own).
 use Rattle.std.specs.{FinMap.{entries, from_entries}, Prelude.{ℕ, ◌<◌, ◌==◌, ◌≡◌, ◌≢◌, None, Option, Some, if◌then◌else◌, map, not}}
 use Rattle.base.specs.declared.ids.SlotRef.{SlotRef}
 use Rattle.machine.specs.{declared.cap.{Cap.Cap, Detail.Detail}, Capabilities.badge_of, Machine.{Machine, parent_of, same_slot, with_cap}}
 use Rattle.machine.specs.Machine.{with_parent, without_cap}
 
--- a copy that says this: it is original where its badge differs from the source's
+-- a copy with this detail: it is original if its badge differs from the source's
 abbrev pub copied : Cap → Detail → Cap
 copied source detail =
     record { object = source.object; detail = detail; original = not (badge_of detail == badge_of source.detail) }
 
--- the parent of a copy: its source, if that is original, else the source's parent
+-- the parent of a copy: its source if that is original, else the source's parent
 abbrev pub parent_of_copy : Machine → SlotRef → Cap → Option SlotRef
 parent_of_copy m slot source = if source.original then Some slot else parent_of m slot
 
@@ -24,16 +24,16 @@ unfoldable pub with_copy : Machine → SlotRef → SlotRef → Cap → Detail �
 with_copy m target slot source detail =
     under (with_cap m target (copied source detail)) target (parent_of_copy m slot source)
 
--- of two slots each for the other
+-- swaps two slots, and leaves all others
 abbrev pub exchange : SlotRef → SlotRef → SlotRef → SlotRef
 exchange a b slot = if same_slot slot a then b else if same_slot slot b then a else slot
 
--- the tree in which two slots have changed places: where one of them was in no pair, it has the place of the other
+-- the tree in which two slots have changed places; one that was in no pair gets the other's place too
 unfoldable pub with_exchanged : Machine → SlotRef → SlotRef → Machine
 with_exchanged m a b =
     record m { parents = from_entries (map (λ pair. (exchange a b pair.0, exchange a b pair.1)) (entries m.parents)) }
 
--- a capability is in an empty slot and no more in its own, and has its place in the tree, with its children
+-- a capability moves to an empty slot, with its place in the tree and its children
 unfoldable pub with_moved : Machine → SlotRef → SlotRef → Cap → Machine
 with_moved m target slot held = without_cap (with_exchanged (with_cap m target held) slot target) slot
 

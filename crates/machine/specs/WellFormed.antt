@@ -1,5 +1,5 @@
--- Well-formed machines: what slots, the parts of objects, the links between objects, and numbers and ranges keep, for all nine kinds
--- (seL4 manual, "Capability Spaces", "Capability Derivation Tree", "Untyped Memory" and "Scheduling Contexts").
+-- Well-formed machines: invariants of slots, of the parts of objects, of the links between objects, and of numbers and ranges, for all
+-- nine kinds (seL4 manual, "Capability Spaces", "Capability Derivation Tree", "Untyped Memory" and "Scheduling Contexts").
 use Rattle.std.specs.Prelude.{[], ℕ, ◌<◌, ◌≡◌, ◌≢◌, ◌≤◌, ◌⊎◌, AllPairs, Contains, List, Option, Some, length, option_map}
 use Rattle.base.specs.declared.{ids.{ObjId.ObjId, SlotRef.SlotRef}, limits.TheConstants.ADDRESS_END}
 use Rattle.machine.specs.declared.{cap.Cap.Cap, object.{Context.Context, Object.{Object, Object as o}, ObjectKind.ObjectKind}}
@@ -19,7 +19,7 @@ pub data Descends (m : Machine) : SlotRef → SlotRef → Type 0 where
   child : {slot parent : SlotRef} → parent_of m slot ≡ Some parent → Descends m slot parent
   further : {slot parent above : SlotRef} → parent_of m slot ≡ Some parent → Descends m parent above → Descends m slot above
 
--- an object lies in the range of untyped memory; a control takes no memory, so it lies nowhere
+-- an object lies in the range of untyped memory; a control takes no memory, so it lies in none
 abbrev pub LiesIn : Untyped → Object → Type 0
 LiesIn memory (o.Control _) = ⊥
 LiesIn memory object = (memory.base ≤ address_of object) × (end_of object ≤ end_of (o.Untyped memory))
@@ -68,54 +68,50 @@ abbrev pub IsSending : RunState → Type 0
 IsSending (state.Sending _) = Unit {0}
 IsSending _ = ⊥
 
--- whether a run state waits for a message and names a reply
 abbrev pub IsReceivingWith : RunState → ObjId → Type 0
 IsReceivingWith (state.Receiving receiving) id = receiving.reply ≡ Some id
 IsReceivingWith _ id = ⊥
 
--- whether a run state waits for the answer through a reply
 abbrev pub IsCallingThrough : RunState → ObjId → Type 0
 IsCallingThrough (state.Called calling) id = calling.reply ≡ id
 IsCallingThrough _ id = ⊥
 
--- the thread of that number, if it is one
+-- the number is that of this thread
 abbrev pub IsThread : Machine → ObjId → Tcb → Type 0
 IsThread m id thread = object_of m id ≡ Some (o.Tcb thread)
 
--- who may make a call, on whichever core: a thread that is ready
+-- a caller, on any core: a thread that is ready
 pub record IsCaller (m : Machine) (caller : ObjId) : Type 0 where
   pub thread : Tcb
   pub there : IsThread m caller thread
   pub ready : thread.state ≡ state.Ready
 
--- a run state that waits at nothing and names nothing
 abbrev pub IsIdle : RunState → Type 0
 IsIdle state.Inactive = Unit {0}
 IsIdle state.Ready = Unit {0}
 IsIdle _ = ⊥
 
--- a reply that holds nobody
 abbrev pub IsFree : Machine → ObjId → Type 0
 IsFree m id = (address : ℕ) × (object_of m id ≡ Some (o.Reply (record { address = address; state = reply.Free })))
 
--- who waits at an object sends exactly where a run state does
+-- the threads that wait at an object send exactly if the run state sends
 abbrev pub IsAlike : Machine → ObjId → RunState → Type 0
 IsAlike m id run =
     (threads : List ObjId) (other : ObjId) (tcb : Tcb) → queue_of m id ≡ Some threads → Contains threads other
     → IsThread m other tcb → (IsSending tcb.state → IsSending run) × (IsSending run → IsSending tcb.state)
 
--- queues and run states, replies and threads, contexts and threads: each link is agreed at both ends
+-- each link is agreed at both ends: between queues and run states, replies and threads, contexts and threads
 pub record LinksAgree (m : Machine) : Type 0 where
-  -- who is in a queue is a thread that waits there, and that kind of object is waited at so
+  -- a thread in a queue waits there, in the way that fits the object's kind
   pub queued :
       (id : ObjId) (threads : List ObjId) (thread : ObjId) → queue_of m id ≡ Some threads → Contains threads thread
       → (tcb : Tcb) × (at : ObjectKind) × IsThread m thread tcb × WaitsAt tcb.state id × (kind_of m id ≡ Some at)
       × WaitsAtKind tcb.state at
-  -- who waits is in the queue
+  -- a thread that waits is in the queue
   pub waiting :
       (thread id : ObjId) (tcb : Tcb) → IsThread m thread tcb → WaitsAt tcb.state id
       → (threads : List ObjId) × (queue_of m id ≡ Some threads) × Contains threads thread
-  -- once
+  -- nobody is in a queue twice
   pub once : (id : ObjId) (threads : List ObjId) → queue_of m id ≡ Some threads → AllPairs (λ a b. a ≢ b) threads
   -- the queue of an endpoint has senders alone or receivers alone
   pub one_way :
@@ -176,18 +172,17 @@ pub record NumbersFit (m : Machine) : Type 0 where
   pub one_cap :
       (a b : SlotRef) (first second : Cap) → cap_of m a ≡ Some first → cap_of m b ≡ Some second → first.object ≡ second.object
       → kind_of_detail first.detail ≡ kind.Untyped → a ≡ b
-  -- its watermark lies from its base to its end
+  -- the watermark of untyped memory lies from its base to its end
   pub watermark :
       (id : ObjId) (memory : Untyped) → object_of m id ≡ Some (o.Untyped memory)
       → (memory.base ≤ memory.watermark) × (memory.watermark ≤ end_of (o.Untyped memory))
-  -- where the ranges of two objects meet, the lower number is that of untyped memory which has a capability; the other is
-  -- inside, below the mark
+  -- objects whose ranges meet: the lower number is that of untyped memory that has a capability; the other is inside, below the mark
   pub inside :
       (low high : ObjId) (first second : Object) → low.0 < high.0 → object_of m low ≡ Some first → object_of m high ≡ Some second
       → Meets first second
       → (memory : Untyped) × (slot : SlotRef) × (held : Cap) × (first ≡ o.Untyped memory) × (cap_of m slot ≡ Some held)
       × (held.object ≡ low) × LiesIn memory second × (end_of second ≤ memory.watermark)
-  -- and has capabilities, all of which descend from the untyped's
+  -- an object inside it has capabilities, all of which descend from the untyped's
   pub made_from :
       (low high : ObjId) (first second : Object) (slot above : SlotRef) (held over : Cap) → low.0 < high.0
       → object_of m low ≡ Some first → object_of m high ≡ Some second → Meets first second

@@ -1,4 +1,4 @@
-//! Laws about the authority that capabilities give.
+//! Laws on the authority that capabilities give.
 ghost use Rattle.std.specs.Prelude.{ℕ, ◌≡◌, false, true};
 ghost use Rattle.base.specs.{declared.kind.Kind.Kind, Kinds.is_structural};
 ghost use Rattle.machine.specs.{declared.cap.{Badged.Badged, Detail.Detail, Guard.Guard}, Authority.HasAuthority};

@@ -1,4 +1,4 @@
-//! Kernel calls, their events and their outcomes.
+//! Kernel calls, the events that make them, and their outcomes.
 ghost use Rattle.std.specs.Prelude.{◌≡◌};
 ghost use Rattle.machine.specs.{declared.call.Unmade.TheVariants.Refused, Outcomes.{outcome_of, unmade_refusal}};
 ghost use Rattle.machine.specs.Step.{takes_memory};
@@ -39,7 +39,7 @@ pub enum Call {
         /// The address of the capability that it sends along.
         capability: Option<u64>,
     },
-    /// Sends it so, and waits for the answer (seL4 manual, seL4_Call).
+    /// Sends a message, and waits for the answer (seL4 manual, seL4_Call).
     Call {
         address: u64,
         words: [u64; 4],
@@ -68,7 +68,7 @@ pub enum Call {
         from: SlotAddress,
         rights: Rights,
     },
-    /// Copies it so, and gives the copy a badge or a guard (seL4 manual, seL4_CNode_Mint).
+    /// Copies a capability, and gives the copy a badge or a guard (seL4 manual, seL4_CNode_Mint).
     Mint {
         to: SlotAddress,
         from: SlotAddress,
@@ -95,7 +95,7 @@ pub enum Call {
     Retype {
         untyped: u64,
         kind: MemoryKind,
-        /// The size of untyped memory, the radix of a CNode; other kinds have no use for it.
+        /// The size of untyped memory, or the radix of a CNode; other kinds ignore it.
         bits: u64,
         /// The address of the CNode.
         to: u64,
@@ -206,7 +206,7 @@ pub enum Made {
 pub enum Unmade {
     /// A condition of the call fails, however much memory there is.
     Refused(Cause),
-    /// It could be made, and an allocation failed.
+    /// The call could be made, but an allocation failed.
     OutOfMemory,
 }
 

@@ -92,10 +92,9 @@ impl Detail {
         }
     }
 
-    /// Returns the kinds of authority that such a capability may give from a slot of a CNode.
+    /// Returns the kinds of authority that such a capability may give from a slot of a CNode, in the order of their numbers.
     ///
-    /// The kinds come in the order of their numbers. The capability's rights say which of them it
-    /// gives.
+    /// The capability's rights say which of them it gives.
     pub fn possible_kinds(&self) -> &'static [Kind]
         ensures { filter (gives self.now) result.now ≡ filter (gives self.now) ALL }
     {

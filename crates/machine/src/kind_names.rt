@@ -54,7 +54,7 @@ impl MemoryKind {
         }
     }
 
-    /// Objects of that kind, if they can be made: controls can't.
+    /// Returns objects of that kind, if they can be made: controls can't.
     fn of(kind: ObjectKind) -> Option<MemoryKind>
         ensures { result ≡ memory_kind_in (Some kind) }
     {

@@ -6,9 +6,7 @@ ghost use Rattle.machine.specs.Layout.{most_labels};
 use crate::{Cap, Object};
 use base::{Label, ObjId, SlotRef};
 
-/// The version of a capability table, which its text begins with.
-///
-/// The second has more labels.
+/// The version of a capability table, which its text begins with. The second has more labels.
 #[derive(Clone, Copy, PartialEq, Eq, Debug)]
 pub enum Version {
     One,

@@ -2,8 +2,7 @@
 //!
 //! `specs/` has the definitions that every layer above cites: what contracts see of a state,
 //! guarded lookup, the step of each call, runs, well-formedness, and what a capability table says.
-//!
-//! The crates of the kernel and of verdicts stand on it, and the texts. It knows no policy.
+//! The crate knows no policy.
 #![tactic(auto)]
 
 mod authority_laws;

@@ -1,4 +1,4 @@
-//! The radix of a CNode.
+//! The radix of a CNode, which says how many slots it has.
 ghost use Rattle.std.specs.Prelude.{ℕ, ◌<◌, ◌^◌, ◌↔◌, ◌≡◌, ◌≤◌, IfSome, IsSome};
 ghost use Rattle.base.specs.declared.limits.TheConstants.{MAX_RADIX};
 

@@ -1,11 +1,11 @@
-//! A slot as a call names it.
+//! Slots as calls name them, and the pair of slots between which a capability is copied or moved.
 ghost use Rattle.std.specs.{Fmt.decimal, List.join_with_byte, Prelude.{[], ◌∷◌, Some}};
 
 use crate::Cap;
 use base::SlotRef;
 use std::fmt;
 
-/// A slot as a call names it (seL4 manual, "Capability Address Lookup").
+/// The address of a slot (seL4 manual, "Capability Address Lookup").
 ///
 /// It is the address of a CNode's capability, and below it an index, of which `depth` bits are
 /// looked up.

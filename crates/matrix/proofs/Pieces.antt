@@ -1,4 +1,4 @@
--- Texts that grow by one piece, and rows by one.
+-- Texts and rows with one piece more.
 use Rattle.std.{specs.{List.{flat_map, range_with_len}, Prelude.All}, proofs.Common.{[], ℕ, ◌++◌, ◌+◌, ◌<◌, ◌∙◌, ◌∷◌, ◌≡◌, List, ap, arith, get_or}}
 use Rattle.std.proofs.Common.{length, map, subst, sym, take}
 use Rattle.std.proofs.lemmas.List.{flat_map_more, map-append, map-id, take_more, Elements.All-push, FromFn.map-range_with_len_more}
@@ -12,7 +12,6 @@ piece_more f xs i d before text longer within so_far grown =
     ∙ flat_map_more f before (take i xs) (get_or xs i d)
     ∙ ap (λ front. before ++ flat_map f front) (sym (take_more xs i d within))
 
--- numbers from 0 grow by one
 pub range_more : (n : ℕ) → range_with_len 0 (n + 1) ≡ range_with_len 0 n ++ n ∷ []
 range_more n =
     sym (map-id (range_with_len 0 (n + 1)))
@@ -28,14 +27,13 @@ number_more f n before text longer so_far grown =
     ∙ flat_map_more f before (range_with_len 0 n) n
     ∙ ap (λ front. before ++ flat_map f front) (sym (range_more n))
 
--- numbers from 1 grow by one
 from_one_more : (i : ℕ) → range_with_len 1 (i + 1) ≡ range_with_len 1 i ++ (i + 1) ∷ []
 from_one_more i =
     sym (map-id (range_with_len 1 (i + 1)))
     ∙ map-range_with_len_more (λ (k : ℕ). k) 1 i (i + 1) (omega arith)
     ∙ ap (λ front. front ++ (i + 1) ∷ []) (map-id (range_with_len 1 i))
 
--- one row more, and what its number or its label is
+-- one row more, and the list of the rows' numbers or labels
 
 pub labels_more : {R : Type 0} (label_of : R → ℕ) (rows longer : List R) (row : R) (labels : List ℕ) (i label : ℕ) → i < length labels
     → map label_of rows ≡ take i labels → longer ≡ rows ++ row ∷ [] → label_of row ≡ label → label ≡ get_or labels i label

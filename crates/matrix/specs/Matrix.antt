@@ -5,13 +5,13 @@ use Rattle.machine.specs.Layout.{Layout}
 use Rattle.captext.specs.PolicyText.{label_name}
 use Rattle.matrix.specs.{declared.page.Page.Page, Padding.{given, pad_left, pad_right}}
 
--- the number and the label of a row, and what its cell in the column of another row says
+-- the number and the label of a row, and the text of its cell in the column of another row
 pub record Cells (R : Type 0) : Type 0 where
   pub number : R → ℕ
   pub label : R → ℕ
   pub cell : R → R → List ℕ
 
--- of the rows of some kind
+-- the parts of a line, for rows of some kind
 
 module _ {R : Type 0} (cells : Cells R) where
   -- the cell of a row in the column of another, six wide
@@ -26,11 +26,11 @@ module _ {R : Type 0} (cells : Cells R) where
   abbrev pub longest_name : Layout → List R → ℕ
   longest_name t rows = fold (λ longest row. max longest (length (label_name t (cells.label row)))) 0 rows
 
-  -- how wide numbers and names are
+  -- the widths of numbers and names
   abbrev pub page_of : Layout → List R → Page
   page_of t rows = record { numbers = length (decimal (length rows)); names = longest_name t rows }
 
--- how many columns a line of 140 has room for
+-- the number of columns for which a line of 140 has room
 abbrev pub columns : Page → ℕ
 columns page = max (((139 - page.numbers) - page.names) / 6) 1
 
@@ -38,11 +38,11 @@ columns page = max (((139 - page.numbers) - page.names) / 6) 1
 abbrev pub shown_from : {R : Type 0} → Page → List R → ℕ → List R
 shown_from page rows first = take (columns page) (drop first rows)
 
--- what a line begins with
+-- the beginning of a line
 abbrev pub start_text : Page → List ℕ → List ℕ → List ℕ
 start_text page number name = pad_left page.numbers number ++ (codes " " ++ pad_right page.names name)
 
--- of the rows of some kind, again
+-- the lines and blocks, for rows of some kind
 
 module _ {R : Type 0} (cells : Cells R) where
   -- the head of a block: the numbers of its columns
@@ -58,14 +58,12 @@ module _ {R : Type 0} (cells : Cells R) where
   abbrev pub block_text : Layout → Page → List R → List R → List ℕ
   block_text t page rows shown = codes "\n" ++ (head_text page shown ++ flat_map (line_text t page shown) rows)
 
-  -- the block whose first column is this row: one begins with every so many rows
+  -- the block whose first column is this row, if a block begins there
   abbrev pub block_from : Layout → Page → List R → ℕ → List ℕ
   block_from t page rows first = given (first % columns page == 0) (block_text t page rows (shown_from page rows first))
 
-  -- the blocks
   abbrev pub blocks_text : Layout → Page → List R → List ℕ
   blocks_text t page rows = flat_map (block_from t page rows) (range_with_len 0 (length rows))
 
-  -- the matrix
   abbrev pub matrix_text : Layout → List R → List ℕ
   matrix_text t rows = blocks_text t (page_of cells t rows) rows

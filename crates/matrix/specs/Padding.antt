@@ -1,4 +1,4 @@
--- Texts that are filled up with spaces to a width, and texts that are there or not (confine's own).
+-- Texts that are padded with spaces to a width, and texts that are there or not (confine's own).
 use Rattle.std.specs.Prelude.{[], ℕ, ◌++◌, ◌-◌, Bool, List, false, length, replicate, true}
 
 -- the spaces that a text lacks to a width
@@ -9,11 +9,11 @@ gap width text = replicate (width - length text) 32
 abbrev pub pad_left : ℕ → List ℕ → List ℕ
 pad_left width text = gap width text ++ text
 
--- after the text there are spaces up to the width
+-- the text has spaces after it up to the width
 abbrev pub pad_right : ℕ → List ℕ → List ℕ
 pad_right width text = text ++ gap width text
 
--- a text where something holds, and none where it doesn't
+-- a text if a test passes, else none
 abbrev pub given : Bool → List ℕ → List ℕ
 given true text = text
 given false text = []

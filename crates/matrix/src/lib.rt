@@ -1,6 +1,6 @@
 //! A matrix of programs as text: blocks of columns, each with a head, and a line for each row.
 //!
-//! What a cell says is told by the rows ([`MatrixRow`]).
+//! The rows say what a cell says ([`MatrixRow`]).
 #![tactic(auto)]
 
 mod padding;

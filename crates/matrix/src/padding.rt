@@ -1,4 +1,4 @@
-//! Texts that are filled up with spaces to a width.
+//! Texts that are padded with spaces to a width.
 ghost use Rattle.std.specs.{Fmt.decimal, Prelude.{◌++◌, ◌≡◌, IfOk, OnOk, replicate, string_bytes}};
 ghost use Rattle.matrix.specs.Padding.{pad_left, pad_right};
 

@@ -1,4 +1,4 @@
-//! How wide the parts of a line of a matrix are, and which columns it has.
+//! The widths of the parts of a line of a matrix, and the columns of a block.
 ghost use Rattle.std.specs.{List.fold, Prelude.{ℕ, ◌≡◌, ◌<◌, IfOk, length}};
 ghost use Rattle.matrix.specs.Matrix.{columns, longest_name, page_of, shown_from};
 
@@ -15,7 +15,7 @@ pub(crate) struct Page {
     pub names: usize,
 }
 
-/// Returns how wide the parts of lines are for these rows.
+/// Returns the widths of the numbers and of the names of these rows.
 pub(crate) fn page_of<R: MatrixRow>(
     alloc: Global,
     table: &Table,
@@ -38,7 +38,7 @@ fn longest_name<R: MatrixRow>(table: &Table, rows: &[R]) -> usize
     longest
 }
 
-/// Returns how many columns a block has: as many as a line of 140 has room for, and at least one.
+/// Returns the number of columns of a block: as many as a line of 140 has room for, and at least one.
 pub(crate) fn columns(page: Page) -> usize
     ensures columns { result ≡ columns page }
     ensures some { 0 < result }

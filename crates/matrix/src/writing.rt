@@ -13,7 +13,7 @@ use table::Table;
 ///
 /// # Errors
 ///
-/// An error where memory is refused.
+/// An error if memory is refused.
 pub fn write_matrix<R: MatrixRow>(
     alloc: Global,
     text: &mut String,
@@ -117,7 +117,7 @@ fn write_number<R: MatrixRow>(alloc: Global, text: &mut String, row: &R) -> Resu
     push_at_right(text, &number, 6)
 }
 
-// Writes what a line begins with.
+// Writes the beginning of a line.
 fn write_start(text: &mut String, page: Page, number: &str, name: &str) -> Result<(), AllocError>
     ensures { OnOk result (string_bytes text.new ≡ string_bytes text.old ++ start_text page number.now name.now) }
 {

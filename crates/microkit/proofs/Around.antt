@@ -1,4 +1,4 @@
--- What stands nearest around an element is what the path says.
+-- The place of an element: the path says which domain and which virtual machine stand nearest around it.
 use Rattle.std.specs.{Prelude.{⊤, codes}, Str.bytes_eq}
 use Rattle.std.proofs.Common.{[], ℕ, ◌++◌, ◌+◌, ◌-◌, ◌<◌, ◌∙◌, ◌∷◌, ◌≡◌, ◌≤◌, Bool, List, None, Option, Some, ap, arith, cond, false, length}
 use Rattle.std.proofs.{Common.{get_or, nat_lt, refl, subst, suc, sym, take, true, zero}, lemmas.{Bool.Decides.nat_tests, Grind.common_steps, List.{length-take-le, take-append-le, take_all}}}
@@ -21,7 +21,7 @@ domain_at level before = nearest (codes "protection_domain") level before
 abbrev pub machine_at : ℕ → List Node → Option ℕ
 machine_at level before = nearest (codes "virtual_machine") level before
 
--- which domain and which virtual machine are the nearest to what stands in this place
+-- the domain and the virtual machine nearest to what stands in this place
 unfoldable pub IsAround : Kind → Option ℕ → Option ℕ → Place → Type 0
 IsAround kind.Document domain machine place = (domain ≡ None) × (machine ≡ None)
 IsAround kind.System domain machine place = (domain ≡ None) × (machine ≡ None)
@@ -38,12 +38,12 @@ abbrev pub IsLong : List Node → List Place → Type 0
 IsLong [] path = ⊤
 IsLong (node ∷ before) path = length path ≡ node.level
 
--- the path after these elements tells what is around the next one
+-- the path after these elements says what is around the next one
 pub record IsPath (before : List Node) (path : List Place) : Type 0 where
   pub long : IsLong before path
   pub around : (level : ℕ) → IsReady before level → Surrounds level before (innermost (take (level - 1) path))
 
--- the domains and virtual machines are as many as those elements
+-- there are as many domains and virtual machines as those elements have
 pub record AreCounted (before : List Node) (domains : List Domain) (machines : List Machine) : Type 0 where
   pub domain_count : length domains ≡ count_before (codes "protection_domain") before
   pub machine_count : length machines ≡ count_before (codes "virtual_machine") before
@@ -81,7 +81,7 @@ ready_long : (before : List Node) (path : List Place) (level : ℕ) → IsReady 
 ready_long [] path level ready long = omega (arith, ready)
 ready_long (node ∷ before) path level ready long = omega (arith, ready.1, long)
 
--- and what is not deeper may follow too
+-- an element that is less deep may follow too
 pub ready_less : (before : List Node) (level less : ℕ) → IsReady before level → 1 ≤ less → less ≤ level → IsReady before less
 ready_less [] level less ready from to = omega (arith, ready, from, to)
 ready_less (node ∷ before) level less ready from to = (from, omega (arith, ready.1, to))
@@ -92,7 +92,7 @@ below a b less = grind (arith, nat_tests)
 above : (a b : ℕ) → b ≤ a → nat_lt a b ≡ false
 above a b less = grind (arith, nat_tests)
 
--- what is nearest within an element more, and beside it
+-- what is nearest within one more element, and beside it
 nearest_within : (name : List ℕ) (node : Node) (before : List Node) (level : ℕ) → node.level < level
     → nearest name level (node ∷ before) ≡ cond (is_named name node) (Some (count_before name before)) (nearest name node.level before)
 unfolding nearest
@@ -114,7 +114,7 @@ pub around_of : (outer : Place) (k : Kind) (domain machine : Option ℕ) → out
     → IsAround k domain machine outer
 around_of outer k domain machine is around = subst (λ j. IsAround j domain machine outer) is around
 
--- the nearest, where this name is no such one, and where it is
+-- the nearest element of a name, if the next has another name, and if it has this name
 abbrev other_name : (known name : List ℕ) (x y : Option ℕ) → Type 0
 other_name known name x y = cond (bytes_eq name known) x y ≡ y
 
@@ -180,7 +180,7 @@ around_beside level before node place beside around =
     subst (λ x. IsAround place.kind x (machine_at level (node ∷ before)) place) (sym domain)
     (subst (λ x. IsAround place.kind (domain_at level before) x place) (sym machine) around)
 
--- the path with an element more
+-- the path with one more element
 pub path_more : (k : Kind) (before : List Node) (node : Node) (d : Description) (path : List Place) → IsReady before node.level
     → IsPath before path → AreCounted before d.domains d.machines → IsWithin (innermost (take (node.level - 1) path)).kind k node.name
     → IsPath (node ∷ before)

@@ -1,4 +1,4 @@
--- How the digits of a number are read one after another.
+-- The digits of a number, read one after another.
 use Rattle.std.specs.{Char.{digit_value, is_digit}, List.list_all, Prelude.{is_some, nat_lt, not, unwrap_or}, Str.Parse.digits_value_after}
 use Rattle.std.proofs.Common.{[], ℕ, ◌&&◌, ◌*◌, ◌+◌, ◌<◌, ◌==◌, ◌^◌, ◌||◌, ◌∙◌, ◌∷◌, ◌≡◌, ◌≢◌, ◌≤◌, Bool, List, None, Option, Some, add-one}
 use Rattle.std.proofs.{Common.{ap, arith, cond, drop, drop-cons, false, get_or, length, lt-ltb, refl, sym, true}, Math.Nat.mul-le-mul_left}
@@ -12,7 +12,7 @@ digits_from base number digits =
     cond ((is_some number || is_some_digit digits) && list_all (λ b. is_digit b base) digits)
     (below_limit (digits_value_after base (unwrap_or number 0) digits)) None
 
--- so many bytes were read, and spelled a number or none
+-- this many bytes were read, and spelled a number or none
 pub record ReadsOn (base : ℕ) (number : Option ℕ) (text : List ℕ) (i : ℕ) : Type 0 where
   pub same : digits_from base number (bare (drop i text)) ≡ digits_of base (bare text)
   pub fits : unwrap_or number 0 < 2 ^ 64
@@ -39,14 +39,13 @@ dropped base number text i below reads same =
 kept : (b : ℕ) → b ≢ 95 → not (b == 95) ≡ true
 kept b other = grind arith
 
--- another byte is kept
 bare_from : (text : List ℕ) (i : ℕ) → i < length text → get_or text i 0 ≢ 95
     → bare (drop i text) ≡ get_or text i 0 ∷ bare (drop (i + 1) text)
 bare_from text i below other =
     ap bare (from text i below)
     ∙ ap (λ t. cond t (get_or text i 0 ∷ bare (drop (i + 1) text)) (bare (drop (i + 1) text))) (kept _ other)
 
--- a digit behind none or some
+-- the first digit, or a further one
 first_digit : (base b : ℕ) (number : Option ℕ) (bs : List ℕ) → is_digit b base ≡ true
     → digits_from base number (b ∷ bs) ≡ digits_from base (Some (unwrap_or number 0 * base + digit_value b)) bs
 unfolding digits_from
@@ -55,7 +54,7 @@ first_digit base b None bs passes =
 first_digit base b (Some n) bs passes =
     ap (λ t. cond (t && list_all (λ d. is_digit d base) bs) (below_limit (digits_value_after base (n * base + digit_value b) bs)) None) passes
 
--- a digit more
+-- one more digit
 pub digit_more : (base : ℕ) (number : Option ℕ) (next : ℕ) (text : List ℕ) (i digit : ℕ) → i < length text
     → ReadsOn base number text i → get_or text i 0 ≢ 95 → is_digit (get_or text i 0) base ≡ true
     → digit ≡ digit_value (get_or text i 0) → below_limit (unwrap_or number 0 * base + digit) ≡ Some next
@@ -106,7 +105,7 @@ too_large : (base n : ℕ) (digits : List ℕ) → 1 ≤ base → below_limit n 
 unfolding digits_from
 too_large base n digits low high = none_either _ _ (large n _ high (grows base n digits low))
 
--- a number that is too large already
+-- a number that is already too large
 pub over : (base : ℕ) (number : Option ℕ) (text : List ℕ) (i digit : ℕ) → 1 ≤ base → i < length text
     → ReadsOn base number text i → get_or text i 0 ≢ 95 → is_digit (get_or text i 0) base ≡ true
     → digit ≡ digit_value (get_or text i 0) → below_limit (unwrap_or number 0 * base + digit) ≡ None

@@ -1,4 +1,4 @@
--- No two labels have one name, since each is called as none before it.
+-- Names of labels: no two labels have the same, since each gets one that none before it has.
 use Rattle.std.{specs.{List.{AllByRecursion, AllPairs, IsDistinct}, Prelude.unwrap_or, Str.bytes_eq}, proofs.Common.{[], ℕ, ◌++◌, ◌+◌}}
 use Rattle.std.proofs.Common.{◌||◌, ◌∙◌, ◌∷◌, ◌≡◌, ◌≢◌, Bool, Err, List, None, Ok, Option, Result, Some, ap, cond, false, refl, subst, suc}
 use Rattle.std.proofs.{Common.{sym, true, zero}, lemmas.{Map.Made.AllPairs-from_IsDistinct, Option.none-some, Slice.Eq.bytes_eq-Decides}}
@@ -13,7 +13,7 @@ either : (a b : Bool) → (a || b) ≡ false → (a ≡ false) × (b ≡ false)
 either true b e = absurd cc
 either false b e = (refl, e)
 
--- a name that is found is none of those before
+-- a name that is found free is none of those before
 fresh : (names : List (List ℕ)) (name ending found : List ℕ) (k tries : ℕ)
     → free_from names name ending k tries ≡ Some found → is_known names found ≡ false
 unfolding free_from
@@ -33,7 +33,7 @@ unfolding or_limit
 limited line None name e = absurd cc
 limited line (Some found) name e = cc
 
--- so is the name of a label
+-- the name of a label is none of those before
 label_fresh : (d : Description) (names : List (List ℕ)) (subject : Subject) (name : List ℕ)
     → label_at d names subject ≡ Ok name → is_known names name ≡ false
 unfolding label_at
@@ -43,7 +43,7 @@ all_more : {X : Type 0} (P : X → Type 0) (xs : List X) (y : X) → AllByRecurs
 all_more P [] y all here = (here, tt)
 all_more P (x ∷ xs) y all here = (all.0, all_more P xs y all.1 here)
 
--- one name more, which is none of those before
+-- one more name, which is none of those before
 distinct_more : (names : List (List ℕ)) (name : List ℕ) → IsDistinct bytes_eq names → is_known names name ≡ false
     → IsDistinct bytes_eq (names ++ name ∷ [])
 unfolding IsDistinct
@@ -79,7 +79,6 @@ distinct_from d names (subject ∷ subjects) all distinct e =
     by_next later (Ok next) is e = later next (named_distinct d names next subject distinct is) e
     by_next later (Err fault) is e = absurd cc
 
--- no two of the names are one
 pub names_distinct : (d : Description) (names : List (List ℕ)) → names_of d ≡ Ok names → AllPairs (λ one other. one ≢ other) names
 unfolding names_of IsDistinct
 names_distinct d names e =

@@ -1,4 +1,4 @@
--- Channels and their ends are those of the elements, in their order.
+-- Channels and their ends: they are those of the elements, in their order.
 use Rattle.std.specs.{List.{position}, Option.{option_map, option_to_list}, Prelude.{codes, map}, Str.bytes_eq}
 use Rattle.std.proofs.Common.{[], ℕ, ◌++◌, ◌∙◌, ◌∷◌, ◌≡◌, List, None, Ok, Option, Some, ap, cond, false, refl, subst, sym}
 use Rattle.std.proofs.lemmas.{Grind.flat_map-append, List.{append_assoc, append-nil, map-append}}
@@ -11,7 +11,7 @@ use Rattle.microkit.specs.Outline.{Ended, end_says, ended, ended_in, ends_of}
 use Rattle.microkit.specs.declared.kinds.Kind.TheVariants as kind
 use Rattle.microkit.proofs.{Sound.{found_number, given, joins, parts, same_ok, unflawed}, Within.{IsWithin}}
 
--- what the channel that is begun has so far
+-- the ends so far of the channel that is begun
 abbrev first_ended : Option End → List Ended
 first_ended None = []
 first_ended (Some end) = ended end ∷ []
@@ -43,7 +43,7 @@ unfolding whole_at of_element
 none_begun None y e = refl
 none_begun (Some begun) y e = absurd cc
 
--- one element more
+-- one more element
 pub record IsEnded (node : Node) (draft next : Draft) : Type 0 where
   pub ends : ends_so_far next ≡ ends_so_far draft ++ end_says draft.description.domains node
   pub lines : lines_so_far next ≡ lines_so_far draft ++ line_says node

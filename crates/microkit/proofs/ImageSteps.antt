@@ -1,4 +1,4 @@
--- How domains without a program image are found, one element after another.
+-- The search for domains without a program image, element by element.
 use Rattle.std.proofs.Common.{ℕ, ◌&&◌, ◌+◌, ◌<◌, ◌∙◌, ◌≡◌, ◌≤◌, ◌||◌, Err, List, Ok, ap, arith, cond, drop, false, get_or, length, nat_lt, true}
 use Rattle.std.proofs.lemmas.{Bool.{Decides.nat_tests}, List.{drop_all}}
 use Rattle.microkit.specs.{Flaws.{fault_here, spot_of}, Images.{has_image, images_at, is_image, lacks_image}}
@@ -23,7 +23,7 @@ one_has elements i element below is has =
     cond t (Err (fault_here (spot_of i (node_of element)) flaw.NoImage)) (images_at (i + 1) (nodes_of (drop (i + 1) elements))))
     has
 
--- or lacks it
+-- an element lacks it
 pub one_lacks : (elements : List Element) (i : ℕ) (element : Element) → i < length elements → element ≡ get_or elements i element
     → lacks_image (node_of element) (nodes_of (drop (i + 1) elements)) ≡ true
     → images_at i (nodes_of (drop i elements)) ≡ Err (fault_here (spot_of i (node_of element)) flaw.NoImage)
@@ -35,7 +35,7 @@ one_lacks elements i element below is lacks =
     cond t (Err (fault_here (spot_of i (node_of element)) flaw.NoImage)) (images_at (i + 1) (nodes_of (drop (i + 1) elements))))
     lacks
 
--- and how one is found within an element
+-- the search for one within an element
 
 pub no_image : (level : ℕ) (elements : List Element) (i : ℕ) → length elements ≤ i → has_image level (nodes_of (drop i elements)) ≡ false
 unfolding has_image

@@ -1,4 +1,4 @@
--- Each label has a name as a table's labels have it, of at most 24 letters.
+-- Names of labels: each is one that a table's label may have, of at most 24 letters.
 use Rattle.std.specs.{Char.{is_ascii_digit, is_ascii_lowercase, is_ascii_uppercase}, Fmt.decimal, List.{AllByRecursion, list_all}}
 use Rattle.std.{specs.Prelude.codes, proofs.Common.{[], ℕ, ◌&&◌, ◌++◌, ◌+◌, ◌-◌, ◌<◌, ◌==◌, ◌^◌, ◌||◌, ◌∙◌, ◌∷◌, ◌≡◌, ◌≤◌, Bool, Err, List}}
 use Rattle.std.proofs.Common.{Ok, Result, Some, ap, arith, cond, drop, false, length, map, nat_le, nat_lt, refl, subst, suc, sym, take}
@@ -114,7 +114,7 @@ digit_bytes (b ∷ bs) digits =
     digit_byte : (d : ℕ) → is_ascii_digit d ≡ true → is_name_byte d ≡ true
     digit_byte d digit = grind (arith, nat_tests)
 
--- what ends a name
+-- the end of a name
 pub record IsTail (most : ℕ) (tail : List ℕ) : Type 0 where
   pub bytes : are_bytes tail ≡ true
   pub short : length tail ≤ most
@@ -159,7 +159,7 @@ candidate_is name ending k plain tail few =
     let short = short_is (24 - length (tail_of ending k)) name (omega (arith, end.short)) plain in
     whole _ _ 9 (omega arith) end.short short.plain end.bytes short.short
 
--- what is found is one of the names that are tried
+-- the name that is found is one of the names that are tried
 found_is : (names : List (List ℕ)) (name ending found : List ℕ) (k tries : ℕ) → IsPlain name → IsTail 5 ending → k + tries ≤ 1000
     → free_from names name ending k tries ≡ Some found → IsLabelName found
 unfolding free_from
@@ -221,7 +221,7 @@ names_are_from d names (s ∷ subjects) all each e =
     by_next later (Ok next) is e = later next (named_are d names next s each is) e
     by_next later (Err fault) is e = absurd cc
 
--- each of the names is one
+-- each of the names is such a name
 pub names_are : (d : Description) (names : List (List ℕ)) → names_of d ≡ Ok names → AllByRecursion IsLabelName names
 unfolding names_of
 names_are d names e = names_are_from d [] (subjects_of d) names tt e

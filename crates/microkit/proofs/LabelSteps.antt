@@ -1,4 +1,4 @@
--- How names are tried, and labels named, one after another.
+-- Names of labels, step by step: each name is tried, and each label named, one after another.
 use Rattle.std.proofs.Common.{ℕ, ◌+◌, ◌-◌, ◌<◌, ◌∙◌, ◌∷◌, ◌≡◌, ◌≤◌, Err, List, None, Ok, Some, add-one, ap, arith, drop, drop-cons, false}
 use Rattle.std.proofs.{Common.{get_or, length, refl, suc, sym, true}, lemmas.List.drop_all}
 use Rattle.words.specs.{declared.faults.Fault.Fault, Reading.bind}
@@ -14,7 +14,7 @@ try_more names name ending found k last below is known =
     let same : is_known names (candidate name ending k) ≡ true = ap (λ n. is_known names n) (sym is) ∙ known in
     rw one (rw same refl)
 
--- or free
+-- a name is free
 pub try_found : (names : List (List ℕ)) (name ending found : List ℕ) (k last : ℕ) → k < last → found ≡ candidate name ending k
     → is_known names found ≡ false → free_from names name ending k (last - k) ≡ Some found
 unfolding free_from
@@ -49,7 +49,7 @@ one_named d names next subjects i none below named =
     ap (λ left. names_from d names left) (subjects_from subjects i none below)
     ∙ ap (λ step. bind step (λ n. names_from d n (drop (i + 1) subjects))) named
 
--- or has none
+-- a subject has none
 pub one_refused : (d : Description) (names : List (List ℕ)) (subjects : List Subject) (i : ℕ) (none : Subject) (fault : Fault)
     → i < length subjects → named_at d names (get_or subjects i none) ≡ Err fault
     → names_from d names (drop i subjects) ≡ Err fault

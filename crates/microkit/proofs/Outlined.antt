@@ -1,4 +1,4 @@
--- A description says what its elements say, pass after pass.
+-- Descriptions say what their elements say, pass after pass.
 use Rattle.std.specs.{List.{filter, flat_map}, Prelude.{⊤, codes, map}, Str.bytes_eq}
 use Rattle.std.proofs.Common.{[], ℕ, ◌++◌, ◌+◌, ◌-◌, ◌∙◌, ◌∷◌, ◌≡◌, ◌≤◌, Bool, List, None, Ok, Option, Some, ap, arith, cond, false, length, refl, subst, sym, take, true}
 use Rattle.std.proofs.lemmas.List.{append_assoc, append-nil}
@@ -15,12 +15,12 @@ use Rattle.microkit.specs.declared.reading.Phase.TheVariants as phase
 use Rattle.microkit.proofs.Around.{AreCounted, IsAround, IsPath, IsReady, Surrounds, path_more, ready_less}
 use Rattle.microkit.proofs.{Saying.{IsStep, add_nothing, channels_in, said_step}, EndsSaid.{IsEnded, begun_ends, begun_lines, ended_step, ends_so_far, line_says, lines_of, lines_so_far, none_begun}, Sound.{given, parts, same_ok, unfaulted, unflawed}, Within.{IsWithin, within}}
 
--- elements may follow these, one after the other
+-- elements may follow these, one after another
 AreReady : List Node → List Node → Type 0
 AreReady before [] = ⊤
 AreReady before (node ∷ nodes) = IsReady before node.level × AreReady (node ∷ before) nodes
 
--- content is such, and what follows it
+-- elements of a content are ready, and so is what follows it
 content_ready : (level : ℕ) (place end : Text) (nodes rest before : List Node) → IsContent level place nodes end → 1 ≤ level
     → IsReady before level → ((after : List Node) → IsReady after level → AreReady after rest) → AreReady before (nodes ++ rest)
 unfolding AreReady
@@ -114,7 +114,7 @@ domain_element spot before node draft next ready path counted e =
       left = step.left;
     }
 
--- and all of them
+-- all elements of the pass over domains
 record IsSaid (before nodes : List Node) (draft final : Draft) : Type 0 where
   said : said_by final.description ≡ joined (said_by draft.description) (all_say draft.description.regions before nodes)
   regions : final.description.regions ≡ draft.description.regions
@@ -141,7 +141,7 @@ domains_pass number before (node ∷ nodes) draft final ready path counted e =
       left = rest.left ∙ taken.left;
     }
 
--- the pass over forms leaves all alone but the path
+-- the pass over forms leaves all but the path
 record IsLeft (draft next : Draft) : Type 0 where
   description : next.description ≡ draft.description
   begun : next.begun ≡ draft.begun
@@ -160,7 +160,7 @@ forms_pass number (node ∷ nodes) draft final e =
     let rest = forms_pass (number + 1) nodes one.x final one.then in
     record { description = rest.description ∙ entering.description; begun = rest.begun ∙ entering.begun }
 
--- the pass over channels leaves all alone but these
+-- the pass over channels leaves all but channels
 record IsKeptBy (a b : Description) : Type 0 where
   said : said_by b ≡ said_by a
   regions : b.regions ≡ a.regions
@@ -291,7 +291,7 @@ region_part outer kind.Variable node draft next is e = other_part _ node draft n
 region_part outer kind.Machine node draft next is e = other_part _ node draft next is.1 refl e
 region_part outer kind.Processor node draft next is e = other_part _ node draft next is.1 refl e
 
--- one element more of a list of regions
+-- a list of regions with one more element
 filtered : (node : Node) (nodes : List Node) → cond (bytes_eq node.name (codes "memory_region")) (region_in node ∷ []) []
     ++ map region_in (filter (is_named (codes "memory_region")) nodes)
     ≡ map region_in (filter (is_named (codes "memory_region")) (node ∷ nodes))
@@ -374,7 +374,7 @@ outlined nodes d ready e =
           ∙ ap (λ ds. flat_map (end_says ds) nodes) domains;
     })
 
--- so does each text
+-- each text is outlined
 pub texts_are_outlined : (text : List ℕ) (nodes : List Node) (d : Description) → IsDocument text nodes → document_of text ≡ Ok nodes
     → description_of_text text ≡ Ok d → IsOutlinedBy nodes d
 unfolding description_of_text

@@ -1,4 +1,4 @@
--- How the value of an attribute is found, one attribute after another.
+-- The value of an attribute, searched one attribute after another.
 use Rattle.std.{specs.Str.bytes_eq, proofs.Common.{ℕ, ◌+◌, ◌<◌, ◌∙◌, ◌∷◌, ◌≡◌, ◌≤◌, List, None, Some, add-one, ap, cond, drop, drop-cons}}
 use Rattle.std.proofs.{Common.{false, get_or, length, sym, true}, lemmas.List.drop_all}
 use Rattle.xml.specs.{declared.element.Attribute.Attribute, View.pairs_of}
@@ -19,7 +19,7 @@ first_value found name i attribute below is same =
     ap (λ from. value_among (pairs_of from) name) (attributes_from found i attribute below is)
     ∙ ap (λ t. cond t (Some attribute.value.items) (value_among (pairs_of (drop (i + 1) found)) name)) same
 
--- or another one
+-- an attribute has another name
 pub more_values : (found : List Attribute) (name : List ℕ) (i : ℕ) (attribute : Attribute) → i < length found
     → attribute ≡ get_or found i attribute → bytes_eq attribute.name.now name ≡ false
     → value_among (pairs_of (drop i found)) name ≡ value_among (pairs_of (drop (i + 1) found)) name

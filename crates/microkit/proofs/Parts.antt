@@ -1,4 +1,4 @@
--- The name of an object tells its label and its part.
+-- Names of objects: each determines its label and its part.
 use Rattle.std.proofs.Common.{[], ℕ, ◌++◌, ◌&&◌, ◌<◌, ◌==◌, ◌^◌, ◌∙◌, ◌∷◌, ◌≡◌, Bool, List, None, Option, Some, ap, arith, cond, drop, false, get_or, refl, sym, true}
 use Rattle.std.specs.{Char.{is_ascii_digit}, Fmt.{decimal}, List.{list_all}, Option.{option_map}, Prelude.{not, unwrap_or}}
 use Rattle.std.proofs.lemmas.{Bool.{and_parts, Decides.nat_tests}, Option.{none-some}}
@@ -6,7 +6,7 @@ use Rattle.words.{specs.Number.{dec_of}, proofs.Spellings.{decimal_iff}}
 use Rattle.microkit.specs.{Names.{object_name, part_number, part_word}, declared.names.Part.{Part}}
 use Rattle.microkit.specs.declared.names.Part.TheVariants as part
 
--- the part that a word tells, by its first letter
+-- the part that a word stands for, by its first letter
 part_of : List ℕ → Option Part
 part_of [] = None
 part_of (b ∷ bs) =
@@ -80,7 +80,6 @@ last_gap (x ∷ a) (y ∷ b) t u left right e =
     let rest = last_gap a b t u left right (ap (λ w. drop 1 w) e) in
     (ap (λ n. n ∷ a) (ap (λ w. get_or w 0 0) e) ∙ ap (λ w. y ∷ w) rest.0, rest.1)
 
--- an object's name tells its label and its part
 pub names_tell : (one other : List ℕ) (p q : Part) → part_number p < 2 ^ 64 → part_number q < 2 ^ 64
     → object_name one p ≡ object_name other q → (one ≡ other) × (p ≡ q)
 names_tell one other p q small little e =

@@ -1,4 +1,4 @@
--- What is taken from an element is what the element says.
+-- Elements and drafts: what is taken from an element is what the element says.
 use Rattle.std.specs.{List.{filter}, Option.{option_map, option_to_list}, Prelude.codes, Str.bytes_eq}
 use Rattle.std.proofs.Common.{[], ℕ, ◌++◌, ◌∙◌, ◌∷◌, ◌≡◌, List, None, Ok, Option, Some, ap, arith, cond, false, length, refl, subst, suc, sym}
 use Rattle.std.proofs.lemmas.{List.append-nil}
@@ -15,7 +15,7 @@ use Rattle.microkit.specs.declared.kinds.Kind.TheVariants as kind
 use Rattle.microkit.proofs.{Around.{AreCounted, IsAround, Surrounds, around_of, in_domain, longer}, Sound.{found_number, given, parts, same_ok}}
 use Rattle.microkit.proofs.Within.{IsWithin}
 
--- with some things more
+-- what was said, with something more
 module _ (s : Said) where
   add : (more : Said) → Said
   add more = joined s more
@@ -128,11 +128,11 @@ module _ (before : List Node) (node : Node) (draft : Draft) where
   abbrev so_far : Said
   so_far = said_by draft.description
 
-  -- an element of this name says this
+  -- an element of this name says what its name says
   says : (name : List ℕ) → node.name ≡ name → says_named node.name regions before node ≡ says_named name regions before node
   says name is = ap (λ n. says_named n regions before node) is
 
-  -- so many of a name stand before what follows it
+  -- this many elements of a name stand before what follows
   counts : (known name : List ℕ) → node.name ≡ name
       → count_before known (node ∷ before)
       ≡ length (cond (bytes_eq name known) (node ∷ filter (is_named known) before) (filter (is_named known) before))

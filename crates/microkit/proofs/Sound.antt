@@ -1,4 +1,4 @@
--- What a description names is there, since each element is read so.
+-- Sound descriptions: what a description names is there, since each element is read so.
 use Rattle.std.{specs.{List.{AllByRecursion, position}, Prelude.⊤}, proofs.Common.{[], ℕ, ◌++◌, ◌+◌, ◌<◌, ◌∷◌, ◌≡◌, ◌≤◌, Bool, Err, List}}
 use Rattle.std.proofs.{Common.{None, Ok, Option, Result, Some, ap, arith, cond, false, length, refl, subst, true}, lemmas.Bool.leb-false}
 use Rattle.std.proofs.lemmas.{Bool.ltb-true, Grind.common_steps, Option.cond_some}
@@ -18,7 +18,7 @@ use Rattle.microkit.specs.{Reading.{part_at, region_part_at}, Regions.{region_at
 use Rattle.microkit.specs.declared.kinds.Kind.TheVariants as kind
 use Rattle.microkit.specs.declared.reading.Phase.TheVariants as phase
 
--- what came before, where both gave a value
+-- both results gave a value, the second by the first's
 pub record Then {E X Y : Type 0} (r : Result X E) (next : X → Result Y E) (y : Y) : Type 0 where
   pub x : X
   pub is : r ≡ Ok x
@@ -35,7 +35,7 @@ given x = Ok x
 pub same_ok : {E X : Type 0} (x y : X) → given {E = E} x ≡ Ok y → x ≡ y
 same_ok x y e = cc
 
--- what an element has no flaw for
+-- an element without a flaw has the result
 pub unflawed : {X : Type 0} (spot : Spot) (r : Result X Flaw) (y : X) → of_element spot r ≡ Ok y → r ≡ Ok y
 unfolding of_element
 unflawed spot (Ok x) y e = ap (λ z. Ok z) (same_ok {E = ElementFault} x y e)
@@ -349,7 +349,6 @@ unfolding of_text
 unfaulted (Ok x) y e = ap (λ z. Ok z) (same_ok {E = Fault} x y e)
 unfaulted (Err fault) y e = absurd cc
 
--- each description that is read is sound
 pub texts_are_sound : (text : List ℕ) (d : Description) → description_of_text text ≡ Ok d → IsSound d
 unfolding description_of_text
 texts_are_sound text d e = let one = parts _ _ _ e in description_sound one.x d (unfaulted _ d one.then)

@@ -1,4 +1,4 @@
--- How the elements are taken one after another.
+-- The elements of a text, taken one after another.
 use Rattle.std.proofs.Common.{ℕ, ◌+◌, ◌<◌, ◌∙◌, ◌∷◌, ◌≡◌, ◌≤◌, Err, List, Ok, add-one, ap, drop, drop-cons, get_or, length, sym}
 use Rattle.std.proofs.lemmas.List.{drop_all}
 use Rattle.words.specs.Reading.{bind}
@@ -28,7 +28,7 @@ one_taken phase elements i element draft next below is taken =
     ap (λ left. elements_at phase i (nodes_of left) draft) (elements_from elements i element below is)
     ∙ ap (λ step. bind step (λ d. elements_at phase (i + 1) (nodes_of (drop (i + 1) elements)) d)) taken
 
--- or refused
+-- one is refused
 pub one_refused : (phase : Phase) (elements : List Element) (i : ℕ) (element : Element) (draft : Draft) (fault : ElementFault)
     → i < length elements → element ≡ get_or elements i element
     → element_at phase (spot_of i (node_of element)) (node_of element) draft ≡ Err fault

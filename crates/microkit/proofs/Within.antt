@@ -1,4 +1,4 @@
--- Which name an element has, and what it stands in, by its kind.
+-- The name of an element, and the kind of what it stands in, by its own kind.
 use Rattle.std.specs.{List.AllByRecursion, Prelude.{⊤, codes}, Str.bytes_eq}
 use Rattle.std.proofs.Common.{[], ℕ, ◌∷◌, ◌≡◌, Bool, List, Some, cond, false, refl, subst, sym, true}
 use Rattle.std.proofs.lemmas.Slice.Eq.{bytes_eq-Decides}

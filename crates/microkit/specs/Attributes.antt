@@ -1,4 +1,4 @@
--- What an element says by an attribute (Microkit user manual, "System Description File").
+-- Values of an element's attributes (Microkit user manual, "System Description File").
 use Rattle.std.specs.{Prelude.{[], ℕ, ◌∷◌, Bool, List, None, Option, Some, if◌then◌else◌, option_and_then, unwrap_or}, Str.bytes_eq}
 use Rattle.xml.specs.{Document.Node, Tag.Pair}
 use Rattle.microkit.specs.Values.{flag_of, number_of}
@@ -11,7 +11,7 @@ value_among (pair ∷ pairs) name = if bytes_eq pair.name name then Some pair.va
 abbrev pub value_in : Node → List ℕ → Option (List ℕ)
 value_in node name = value_among node.attributes name
 
--- a text, which is empty where the attribute is missing
+-- a text, which is empty if the attribute is missing
 abbrev pub text_in : Node → List ℕ → List ℕ
 text_in node name = unwrap_or (value_in node name) []
 

@@ -1,4 +1,4 @@
--- How channels are read (Microkit user manual, "channel").
+-- Channels of a description, and how they are read (Microkit user manual, "channel").
 use Rattle.std.specs.{List.{list_any, position}, Option.option_map_or, Prelude.{[], ℕ, ◌&&◌, ◌++◌, ◌==◌, ◌||◌, ◌∷◌, Bool, Err, List}}
 use Rattle.std.specs.Prelude.{None, Ok, Option, Result, Some, codes, false, if◌then◌else◌, is_some, nat_lt, not, slice_get, true, unwrap_or}
 use Rattle.std.specs.Str.{bytes_eq}
@@ -16,7 +16,7 @@ unfoldable pub domain_number : List Domain → List ℕ → Result ℕ Flaw
 domain_number domains name =
     known_number flaw.NoDomain (position (λ (domain : Domain). bytes_eq domain.name name) domains)
 
--- the two ways to say who may call whom don't go together: by the domain that is called, and by the end that may call
+-- a description may not mix the two ways to say who may call whom: by the domain that is called, and by the end that may call
 unfoldable pub is_mixed : Node → List Domain → Bool
 is_mixed node domains =
     is_some (flag_in node (codes "pp")) && list_any (λ (domain : Domain). is_some domain.serves) domains
@@ -37,18 +37,16 @@ end_fits ids domains domain node = do
   _ ← free_at ids (id_in domain node)
   if is_mixed node domains then Err flaw.Mixed else Ok tt
 
--- the domain of an end, which must be known, and which the end may follow
+-- the domain of an end: it must be known, and the end may follow
 unfoldable pub end_domain : List Taken → List Domain → Node → Result ℕ Flaw
 end_domain ids domains node = do
   domain ← domain_number domains (text_in node (codes "pd"))
   _ ← end_fits ids domains domain node
   Ok domain
 
--- whether the domain of this number says that those of lower priority may call it
 unfoldable pub serves : List Domain → ℕ → Bool
 serves domains number = option_map_or (λ (domain : Domain). unwrap_or domain.serves false) (slice_get domains number) false
 
--- the priority of the domain of this number
 unfoldable pub priority_of : List Domain → ℕ → ℕ
 priority_of domains number = option_map_or (λ (domain : Domain). domain.schedule.priority) (slice_get domains number) 0
 
@@ -56,18 +54,18 @@ priority_of domains number = option_map_or (λ (domain : Domain). domain.schedul
 unfoldable pub is_below : List Domain → End → End → Bool
 is_below domains end other = nat_lt (priority_of domains end.id.domain) (priority_of domains other.id.domain)
 
--- an end, which may call also where the domain of the other end says that those of lower priority may call it, and its own is one of these
+-- an end may call if it says so, or if the other end's domain says that those of lower priority may call it, and its own is one of these
 unfoldable pub calling : List Domain → End → End → End
 calling domains end other =
     record end { may_call = end.may_call || (serves domains other.id.domain && is_below domains end other) }
 
--- an end may call nobody, or a domain of a higher priority
+-- an end calls nobody, or a domain of a higher priority
 unfoldable pub calls_upwards : List Domain → End → End → Result (Unit {0}) Flaw
 calls_upwards domains end other =
     if not end.may_call || is_below domains end other then Ok tt else
     if end.id.domain == other.id.domain then Err flaw.CallsItself else Err flaw.CallsDown
 
--- two ends go together: not both may call, and each only upwards
+-- two ends go together: at most one may call, and each only upwards
 unfoldable pub go_together : List Domain → Channel → Result (Unit {0}) Flaw
 go_together domains channel =
     if channel.first.may_call && channel.second.may_call then Err flaw.BothCall else
@@ -83,7 +81,7 @@ joined_at domains line first second = do
   _ ← go_together domains (channel_of domains line first second)
   Ok (channel_of domains line first second)
 
--- an end more of the channel that is begun here: the first one, or the second one, by which the channel is whole
+-- one more end of the channel that is begun here: the first, or the second, by which the channel is whole
 unfoldable pub end_joined : End → Spot → Option End → Draft → Result Draft ElementFault
 end_joined end spot None draft =
     Ok (record draft {
@@ -98,7 +96,7 @@ end_joined end spot (Some first) draft = do
     ids = draft.ids ++ taken_at end.line end.id ∷ [];
   })
 
--- the same, where a channel must be begun
+-- one more end, for which a channel must be begun
 unfoldable pub end_begun : Spot → End → Option Begun → Draft → Result Draft ElementFault
 end_begun spot end None draft = of_element spot (Err flaw.ThirdEnd)
 end_begun spot end (Some begun) draft = end_joined end begun.spot begun.first draft

@@ -3,7 +3,6 @@ use Rattle.std.specs.Prelude.{ℕ, Bool, List, Option}
 use Rattle.microkit.specs.declared.description.{Channel.{Channel}, Id.{Id}, Interrupt.{Interrupt}, Map.{Map}, Page.{Page}, Port.{Port}}
 use Rattle.microkit.specs.declared.description.{Processor.{Processor}, Schedule.{Schedule}, Variable.{Variable}}
 
--- a memory region
 pub record Region : Type 0 where
   pub name : List ℕ
   pub size : ℕ
@@ -11,7 +10,6 @@ pub record Region : Type 0 where
   pub address : Option ℕ
   pub line : ℕ
 
--- a protection domain
 pub record Domain : Type 0 where
   pub name : List ℕ
   pub parent : Option Id
@@ -22,14 +20,12 @@ pub record Domain : Type 0 where
   pub serves : Option Bool
   pub line : ℕ
 
--- a virtual machine
 pub record Machine : Type 0 where
   pub name : List ℕ
   pub domain : ℕ
   pub schedule : Schedule
   pub line : ℕ
 
--- a description of a system
 pub record Description : Type 0 where
   pub regions : List Region
   pub domains : List Domain

@@ -1,4 +1,4 @@
--- How protection domains and what stands in them are read (Microkit user manual, "protection_domain" and the elements within it).
+-- Protection domains and what stands in them, and how they are read (Microkit user manual, "protection_domain" and the elements within it).
 use Rattle.std.specs.{List.find, Option.{option_map, option_map_or, option_to_list}, Prelude.{[], ℕ, ◌++◌, ◌==◌, ◌∷◌, Bool, Err, List}}
 use Rattle.std.specs.{Prelude.{None, Ok, Option, Result, Some, codes, false, if◌then◌else◌, length, nat_le, nat_lt, true}, Str.bytes_eq}
 use Rattle.words.specs.Reading.{◌>>=◌}
@@ -44,7 +44,7 @@ abbrev pub domain_line : List Domain → List ℕ → Option ℕ
 domain_line domains name =
     option_map (λ (domain : Domain). domain.line) (find (λ (domain : Domain). bytes_eq domain.name name) domains)
 
--- the id of a child, if it is one, must be free
+-- the id of a child must be free
 unfoldable pub parent_free_at : List Taken → Option Id → Result (Unit {0}) Flaw
 parent_free_at children None = Ok tt
 parent_free_at children (Some id) = free_at children id
@@ -65,7 +65,7 @@ domain_fits domains children domain = do
 abbrev pub taken_at : ℕ → Id → Taken
 taken_at line id = record { id = id; line = line }
 
--- with a domain more
+-- a draft with one more domain
 unfoldable pub with_domain : Domain → Draft → Draft
 with_domain domain draft =
     record draft {
@@ -101,12 +101,12 @@ machine_fits machines machine = do
   _ ← unless_found flaw.SecondMachine (guest_line machines machine.domain)
   budget_fits machine.schedule
 
--- with a virtual machine more
+-- a draft with one more virtual machine
 abbrev pub with_machine : Machine → Draft → Draft
 with_machine machine draft =
     record draft { description = record draft.description { machines = draft.description.machines ++ machine ∷ [] } }
 
--- with a virtual processor more, whose id must be free
+-- a draft with one more virtual processor, whose id must be free
 unfoldable pub processor_fits : Processor → Draft → Result Draft Flaw
 processor_fits processor draft = do
   _ ← free_at draft.children processor.id
@@ -196,7 +196,7 @@ port_at domain node draft =
       };
     }
 
--- what stands in a domain, and the domain itself, by the kind of the element
+-- the domain itself, and what stands in it, by the kind of the element
 unfoldable pub domain_part_of : Kind → Place → Node → Draft → Result Draft Flaw
 domain_part_of kind.Domain place node draft = domain_at None node draft
 domain_part_of kind.Child place node draft = domain_at (Some (id_in place.domain node)) node draft

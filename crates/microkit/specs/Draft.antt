@@ -1,4 +1,4 @@
--- A description of which a part was read, and the place where an element stands (confine's own).
+-- Drafts: the part of a description that was read so far, and the place where an element stands (confine's own).
 use Rattle.std.specs.{List.{find}, Option.{option_map}, Prelude.{[], ℕ, ◌&&◌, ◌++◌, ◌-◌, ◌==◌, ◌∷◌, Err, List, None}}
 use Rattle.std.specs.Prelude.{Ok, Option, Result, Some, length, slice_get, take, unwrap_or}
 use Rattle.words.specs.Reading.{◌>>=◌}
@@ -18,7 +18,6 @@ pub record Draft : Type 0 where
   pub ids : List Taken
   pub children : List Taken
 
--- nothing was read so far
 unfoldable pub no_draft : Draft
 no_draft =
     record {
@@ -43,15 +42,15 @@ no_draft =
 abbrev pub outermost : Place
 outermost = record { kind = kind.Document; domain = 0; machine = 0 }
 
--- the elements that one of this level stands in
+-- the elements in which an element of this level stands
 abbrev pub outer_path : ℕ → Draft → List Place
 outer_path level draft = take (level - 1) draft.path
 
--- the innermost of them
+-- the innermost element of a path
 abbrev pub innermost : List Place → Place
 innermost path = unwrap_or (slice_get path (length path - 1)) outermost
 
--- what stands within an element stands in the domain, and in the virtual machine, that the element begins, if it begins one
+-- what stands within an element is in the domain, and in the virtual machine, that the element begins, if it begins one
 unfoldable pub inside : Description → Place → Place
 inside description place = by_kind place.kind
   where
@@ -78,7 +77,7 @@ place_at node draft = do
   let place : Place = record outer { kind = kind }
   Ok (place, entered node.level place draft)
 
--- a number, where something of this name is known
+-- the number of what has this name, which must be known
 abbrev pub known_number : Flaw → Option ℕ → Result ℕ Flaw
 known_number flaw None = Err flaw
 known_number flaw (Some number) = Ok number

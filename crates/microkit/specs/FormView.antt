@@ -1,4 +1,4 @@
--- What a rule says, without where its name lies in memory (confine's own).
+-- Rules as values, without where their names lie in memory (confine's own).
 use Rattle.microkit.specs.{Forms.Rule}
 use Rattle.microkit.specs.declared.rules.Rule as written
 

@@ -1,4 +1,4 @@
--- Which attributes an element has, and of which form their values are (Microkit user manual, "System Description File").
+-- Forms of elements: the attributes that each kind has, and the forms of their values (Microkit user manual, "System Description File").
 use Rattle.std.specs.{List.{list_all, list_any, position}, Prelude.{[], ℕ, ◌&&◌, ◌==◌, ◌||◌, ◌∷◌, Bool, Err, List, None, Ok, Option}}
 use Rattle.std.specs.{Prelude.{Result, Some, codes, false, if◌then◌else◌, is_some, nat_lt, not, true}, Str.bytes_eq}
 use Rattle.xml.specs.{Document.Node, Tag.{Pair, is_given}}
@@ -28,12 +28,12 @@ is_right b = (b == 114 || b == 119) || b == 120
 abbrev pub has_byte : ℕ → List ℕ → Bool
 has_byte b text = list_any (λ c. c == b) text
 
--- rights: some letters, and none to write without one to read
+-- rights: some letters, with one to read if there is one to write
 unfoldable pub is_rights : List ℕ → Bool
 is_rights [] = false
 is_rights (b ∷ bs) = list_all is_right (b ∷ bs) && (not (has_byte 119 (b ∷ bs)) || has_byte 114 (b ∷ bs))
 
--- a name has a letter at least
+-- a name has at least one letter
 unfoldable pub is_name : List ℕ → Bool
 is_name [] = false
 is_name (b ∷ bs) = true
@@ -54,7 +54,7 @@ required name form = record { name = name; form = form; need = Required }
 abbrev pub optional : List ℕ → Form → Rule
 optional name form = record { name = name; form = form; need = Optional }
 
--- what is said of a domain
+-- the attributes of a domain
 abbrev pub domain_rules : List Rule
 domain_rules =
     required (codes "name") form.Name
@@ -69,7 +69,7 @@ domain_rules =
     ∷ optional (codes "pp") form.Flag
     ∷ []
 
--- what may be mapped, by a domain or by a virtual machine
+-- the attributes of a map, by a domain or by a virtual machine
 abbrev pub map_rules : List Rule
 map_rules =
     required (codes "mr") form.Text
@@ -81,8 +81,8 @@ map_rules =
     ∷ optional (codes "setvar_prefill_size") form.Text
     ∷ []
 
--- the attributes of each kind. A child has besides those of a domain the id by which its parent knows it. Before version 1.4 a virtual
--- machine has one processor, of the id that it may have itself.
+-- the attributes of each kind. A child has those of a domain and the id by which its parent knows it. Before version 1.4 a virtual
+-- machine has one processor, whose id the machine's own attribute gives.
 unfoldable pub rules_of : Kind → List Rule
 rules_of kind.Region =
     required (codes "name") form.Name
@@ -135,7 +135,7 @@ rules_of _ = []
 abbrev pub follows : Pair → Rule → Bool
 follows pair rule = bytes_eq rule.name pair.name && has_form rule.form pair.value
 
--- a rule is met, if it requires its attribute
+-- a rule is met: it requires no attribute, or the attribute is given
 abbrev pub is_met : List Pair → Rule → Bool
 is_met pairs rule = need_is_met rule.need
   where

@@ -1,4 +1,4 @@
--- That each domain has a program image (Microkit user manual, "protection_domain").
+-- Program images of domains: each domain must have one (Microkit user manual, "protection_domain").
 use Rattle.std.specs.{Prelude.{[], ℕ, ◌&&◌, ◌+◌, ◌==◌, ◌||◌, ◌∷◌, Bool, Err, List, Ok, Result, codes, false, if◌then◌else◌, nat_lt, not}}
 use Rattle.std.specs.Str.{bytes_eq}
 use Rattle.xml.specs.Document.{Node}
@@ -15,11 +15,11 @@ unfoldable pub has_image : ℕ → List Node → Bool
 has_image level [] = false
 has_image level (node ∷ nodes) = nat_lt level node.level && (is_image (level + 1) node || has_image level nodes)
 
--- an element is a domain without one
+-- an element is a domain without a program image
 abbrev pub lacks_image : Node → List Node → Bool
 lacks_image node nodes = bytes_eq node.name (codes "protection_domain") && not (has_image node.level nodes)
 
--- the fault of the first domain without one, where the first element has this number
+-- the fault of the first domain without a program image, if the first element has this number
 unfoldable pub images_at : ℕ → List Node → Result (Unit {0}) ElementFault
 images_at number [] = Ok tt
 images_at number (node ∷ nodes) =

@@ -1,4 +1,4 @@
--- Which element may stand within which (Microkit user manual, "System Description File").
+-- Kinds of elements, by where they stand (Microkit user manual, "System Description File").
 use Rattle.std.specs.{Prelude.{[], ℕ, ◌∷◌, List, None, Option, Some, codes, if◌then◌else◌}, Str.bytes_eq}
 use Rattle.microkit.specs.declared.kinds.Kind.{Kind}
 use Rattle.microkit.specs.declared.kinds.Kind.TheVariants as kind
@@ -37,7 +37,7 @@ kind_in_machine name = named_in ((codes "vcpu", kind.Processor) ∷ (codes "map"
 unfoldable pub kind_in_channel : List ℕ → Option Kind
 kind_in_channel name = named_in ((codes "end", kind.End) ∷ []) name
 
--- which kind an element of this name is within one of this kind
+-- the kind of an element of this name within one of this kind
 unfoldable pub kind_within : Kind → List ℕ → Option Kind
 kind_within kind.Document name = kind_in_document name
 kind_within kind.System name = kind_in_system name

@@ -1,4 +1,4 @@
--- What a list of names is, without where it lies in memory (confine's own).
+-- Lists of names as values, without where they lie in memory (confine's own).
 use Rattle.std.specs.{Global.Vec, Prelude.{ℕ, List, map}}
 
 abbrev pub bytes_of : List (Vec ℕ) → List (List ℕ)

@@ -1,4 +1,4 @@
--- The labels of the table that a description becomes, and how they are called (confine's own).
+-- Labels of the table that a description becomes, and their names (confine's own).
 use Rattle.std.specs.{List.{list_any, range_with_len}, Option.option_map_or, Prelude.{[], ℕ, ◌&&◌, ◌++◌, ◌==◌, ◌||◌, ◌∷◌, Bool, Err, List}}
 use Rattle.std.specs.Prelude.{None, Ok, Option, Result, Some, codes, filter, if◌then◌else◌, length, map, slice_get, take}
 use Rattle.words.specs.{declared.faults.{Fault.Fault, Wrong.TheVariants.Limit}, Fault.fault_at, Reading.◌>>=◌}
@@ -18,7 +18,7 @@ may_call channels domain =
 abbrev pub is_mapped : List Map → ℕ → Bool
 is_mapped maps region = list_any (λ (map : Map). map.region == region) maps
 
--- what has a label: each domain, each virtual machine, the time of each domain that may call another, each region that somebody maps
+-- the parts that have a label: each domain, each virtual machine, the time of each domain that may call another, each region somebody maps
 unfoldable pub subjects_of : Description → List Subject
 subjects_of d =
     map (λ n. subject.Domain n) (range_with_len 0 (length d.domains))
@@ -42,7 +42,7 @@ name_of d (subject.Machine n) = machine_name d n
 name_of d (subject.Time n) = domain_name d n
 name_of d (subject.Region n) = region_name d n
 
--- how the name of a label ends: `_time` for a time, and `_mr` for a region that is called as a domain's label
+-- the end of a label's name: `_time` for a time, and `_mr` for a region with the name of a domain's label
 unfoldable pub ending_of : List (List ℕ) → List ℕ → Subject → List ℕ
 ending_of domains name (subject.Time n) = codes "_time"
 ending_of domains name (subject.Region n) = if is_known domains (candidate name [] 1) then codes "_mr" else []
@@ -53,14 +53,13 @@ unfoldable pub or_limit : ℕ → Option (List ℕ) → Result (List ℕ) Fault
 or_limit line (Some name) = Ok name
 or_limit line None = Err (fault_at line Limit)
 
--- the line of a subject
 unfoldable pub line_of : Description → Subject → ℕ
 line_of d (subject.Domain n) = option_map_or (λ (domain : Domain). domain.line) (slice_get d.domains n) 0
 line_of d (subject.Machine n) = option_map_or (λ (machine : Machine). machine.line) (slice_get d.machines n) 0
 line_of d (subject.Time n) = option_map_or (λ (domain : Domain). domain.line) (slice_get d.domains n) 0
 line_of d (subject.Region n) = option_map_or (λ (region : Region). region.line) (slice_get d.regions n) 0
 
--- the name of the next label: the subject's name with its ending, as the first try that no label before has
+-- the name of the next label: the subject's name with its ending, in the first try that no label before has
 unfoldable pub label_at : Description → List (List ℕ) → Subject → Result (List ℕ) Fault
 label_at d names subject =
     let name = plain_name (name_of d subject) in
@@ -73,7 +72,7 @@ named_at d names subject = do
   name ← label_at d names subject
   Ok (names ++ name ∷ [])
 
--- the names of labels, one after another
+-- the names of labels, after those before
 unfoldable pub names_from : Description → List (List ℕ) → List Subject → Result (List (List ℕ)) Fault
 names_from d names [] = Ok names
 names_from d names (subject ∷ subjects) = named_at d names subject >>= λ next. names_from d next subjects

@@ -1,4 +1,4 @@
--- How labels and objects of a table are called after the names of a description (confine's own).
+-- Names of the table's labels and objects, by the names in a description (confine's own).
 use Rattle.std.specs.{Char.{is_ascii_digit, is_ascii_lowercase, is_ascii_uppercase}, Fmt.decimal, List.list_any, Prelude.{[], ℕ, ◌++◌, ◌+◌}}
 use Rattle.std.specs.Prelude.{◌-◌, ◌==◌, ◌||◌, ◌∷◌, ◌≡◌, ◌≤◌, Bool, List, None, Option, Some, codes, drop, if◌then◌else◌, length, map}
 use Rattle.std.specs.{Prelude.{nat_le, nat_lt, suc, take, true, zero}, Str.bytes_eq}
@@ -17,11 +17,11 @@ unfoldable pub with_letter : List ℕ → List ℕ
 with_letter [] = 120 ∷ []
 with_letter (b ∷ bs) = if is_ascii_lowercase b then b ∷ bs else 120 ∷ b ∷ bs
 
--- the name that a text is written as
+-- a text as a name
 unfoldable pub plain_name : List ℕ → List ℕ
 plain_name text = with_letter (map letter_of text)
 
--- how many letters stay behind the gap of a name that is shortened to this length
+-- the number of letters that stay behind the gap of a name that is shortened to this length
 abbrev pub kept_last : ℕ → ℕ
 kept_last room = if nat_lt room 16 then room - 3 else 13
 
@@ -31,7 +31,7 @@ shortened room name =
     if nat_le (length name) room then name else
     take (room - (kept_last room + 2)) name ++ (codes "__" ++ drop (length name - kept_last room) name)
 
--- what ends a name at the k-th try: the ending, and `_k` from the second try on
+-- the end of a name in the k-th try: the ending, and `_k` from the second try on
 unfoldable pub tail_of : List ℕ → ℕ → List ℕ
 tail_of ending k = if k == 1 then ending else ending ++ (codes "_" ++ decimal k)
 
@@ -44,7 +44,7 @@ candidate name ending k =
 abbrev pub is_known : List (List ℕ) → List ℕ → Bool
 is_known names name = list_any (λ (one : List ℕ). bytes_eq one name) names
 
--- the first name that is free, of so many tries from the k-th one on
+-- the first free name, in this many tries from the k-th one on
 unfoldable pub free_from : List (List ℕ) → List ℕ → List ℕ → ℕ → ℕ → Option (List ℕ)
 free_from names name ending k zero = None
 free_from names name ending k (suc tries) =
@@ -69,10 +69,10 @@ part_number (part.Processor n) = n
 part_number (part.Time n) = n
 part_number _ = 0
 
--- an object is called by its label and its part
+-- the name of an object: its label and its part
 abbrev pub object_name : List ℕ → Part → List ℕ
 object_name label part = label ++ (codes "_" ++ part_word part)
 
--- a name of a label: a name of a table, of at most so many letters
+-- a name of a label: a name of a table, with few enough letters
 abbrev pub IsLabelName : List ℕ → Type 0
 IsLabelName name = (is_name name ≡ true) × (length name ≤ MAX_LABEL_LENGTH)

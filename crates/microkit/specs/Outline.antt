@@ -1,5 +1,5 @@
--- What a description says, element by element (Microkit user manual, "System Description File"): each element after its name and what
--- stands nearest around it.
+-- The outline of a description: what each element says, by its name and by what stands nearest around it (Microkit user manual,
+-- "System Description File").
 use Rattle.std.specs.{List.{filter, flat_map, position}, Option.{option_map, option_to_list}, Prelude.{[], ℕ, ◌++◌, ◌≡◌, ◌∷◌, Bool, List, None, Option}}
 use Rattle.std.specs.{Prelude.{Some, codes, if◌then◌else◌, length, map, nat_lt, true}, Str.bytes_eq}
 use Rattle.xml.specs.Document.{Node}
@@ -12,11 +12,11 @@ use Rattle.microkit.specs.declared.description.User.TheVariants as user
 abbrev pub is_named : List ℕ → Node → Bool
 is_named name node = bytes_eq node.name name
 
--- elements of a name are numbered in the order of the text: so many of it stand before the next one
+-- the number of elements of a name before the next one: they are numbered in the order of the text
 abbrev pub count_before : List ℕ → List Node → ℕ
 count_before name before = length (filter (is_named name) before)
 
--- the number of the nearest element of this name that one of this level stands in, where these stand before it, the latest first
+-- the number of the nearest element of this name in which an element of this level stands, after these elements, the latest first
 unfoldable pub nearest : List ℕ → ℕ → List Node → Option ℕ
 nearest name level [] = None
 nearest name level (node ∷ before) =
@@ -31,7 +31,7 @@ domain_of before node = nearest (codes "protection_domain") node.level before
 abbrev pub machine_of : List Node → Node → Option ℕ
 machine_of before node = nearest (codes "virtual_machine") node.level before
 
--- what a virtual machine maps is its own, and else its domain's
+-- the user of a map: the virtual machine that it stands in, else the domain
 unfoldable pub user_of : Option ℕ → Option ℕ → Option User
 user_of (Some machine) domain = Some (user.Machine machine)
 user_of None (Some domain) = Some (user.Domain domain)
@@ -41,7 +41,7 @@ user_of None None = None
 abbrev pub region_of : List Region → List ℕ → Node → Option ℕ
 region_of regions attribute node = position (λ (region : Region). bytes_eq region.name (text_in node attribute)) regions
 
--- what two things together make, where both are there
+-- what two things make together, if both are there
 unfoldable pub made_of : {X Y Z : Type 0} → (X → Y → Z) → Option X → Option Y → List Z
 made_of make (Some x) (Some y) = make x y ∷ []
 made_of make _ _ = []
@@ -60,12 +60,12 @@ abbrev pub nothing : Said
 nothing =
     record { domains = []; machines = []; processors = []; maps = []; interrupts = []; ports = []; variables = [] }
 
--- what a domain says: it is another one's child, if it stands in one
+-- what a domain says: it is the child of the domain in which it stands, if it stands in one
 abbrev pub by_domain : List Node → Node → Said
 by_domain before node =
     record nothing { domains = domain_in (option_map (λ domain. id_in domain node) (domain_of before node)) node ∷ [] }
 
--- a virtual machine has a virtual processor by its own tag, if that has an id
+-- the virtual processor that a virtual machine has by its own tag, if that has an id
 abbrev pub own_processor : ℕ → Node → ℕ → ℕ → Processor
 own_processor machine node domain number =
     record { machine = machine; id = record { domain = domain; number = number }; core = 0; line = node.line }
@@ -134,7 +134,7 @@ says_named name regions before node =
     if bytes_eq name (codes "ioport") then by_port before node else
     if bytes_eq name (codes "setvar") then by_variable regions before node else nothing
 
--- what some elements say and then others
+-- what some elements say, and then others
 abbrev pub joined : Said → Said → Said
 joined one other =
     record {
@@ -147,7 +147,7 @@ joined one other =
       variables = one.variables ++ other.variables;
     }
 
--- what elements say one after the other, after these before them
+-- what elements say one after another, after these elements
 unfoldable pub all_say : List Region → List Node → List Node → Said
 all_say regions before [] = nothing
 all_say regions before (node ∷ nodes) =
@@ -166,7 +166,7 @@ said_by d =
       variables = d.variables;
     }
 
--- what an end says, but for who may call: that depends on the other end and on both domains
+-- what an end says, except who may call: that depends on the other end and on both domains
 pub record Ended : Type 0 where
   pub id : Id
   pub may_notify : Bool

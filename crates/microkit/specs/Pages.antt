@@ -2,7 +2,6 @@
 use Rattle.std.specs.Prelude.{ℕ}
 use Rattle.microkit.specs.declared.description.Page.{Page, TheVariants.{Large, Small}}
 
--- the number of bytes of a page
 abbrev pub page_bytes : Page → ℕ
 page_bytes Small = 4096
 page_bytes Large = 2097152

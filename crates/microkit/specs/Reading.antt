@@ -1,10 +1,9 @@
--- How a description is read off the elements of its text (Microkit user manual, "System Description File").
+-- Reading a description off the elements of its text (Microkit user manual, "System Description File").
 --
--- The text must be a document of XML. Then its elements are gone over four times, each time in document order. First, each must
--- stand where it may and have its form (50), with its id and priority within their limits (54). Then each domain must have a program
--- image (50). Then come the regions, then the domains and what stands in them, then the channels. The first fault ends the reading. For one element, the faults are looked
--- for in the order 50, 51, 52, 55, 54. A channel that lacks an end is found at the next channel, or at the end; its fault has
--- the line of the channel, and so has the fault of two ends that don't go together.
+-- The text must be a document of XML. Then its elements are gone over four times, each time in document order: for places and forms
+-- (50), ids and priorities (54) and the program images of domains (50); for regions; for domains and what stands in them; for channels.
+-- The first fault ends the reading. For one element, the faults are looked for in the order 50, 51, 52, 55, 54. A channel that lacks an
+-- end is found at the next channel, or at the end; its fault has the channel's line, as has the fault of two ends that don't go together.
 use Rattle.std.specs.Prelude.{[], ℕ, ◌+◌, ◌∷◌, List, Ok, Result}
 use Rattle.words.specs.{Reading.{◌>>=◌}, declared.faults.Fault.{Fault}}
 use Rattle.microkit.specs.{Channels.{channel_part_at, whole_at}, Description.{Description}, Domains.{domain_part_at}}
@@ -15,25 +14,24 @@ use Rattle.microkit.specs.declared.kinds.Kind.TheVariants as kind
 use Rattle.microkit.specs.declared.reading.Phase.TheVariants as phase
 use Rattle.xml.specs.Document.{Node, document_of}
 
--- an element that is a region, or another one, which is passed over
+-- a region; another element is passed over
 unfoldable pub region_part_at : Kind → Node → Draft → Result Draft Flaw
 region_part_at kind.Region node draft = region_at node draft
 region_part_at _ node draft = Ok draft
 
--- what is taken from the element here, of this place
+-- what is taken from the element here, which stands in this place
 unfoldable pub part_at : Phase → Spot → Place → Node → Draft → Result Draft ElementFault
 part_at phase.Forms spot place node draft = of_element spot (form_at place.kind node) >>= λ _. Ok draft
 part_at phase.Regions spot place node draft = of_element spot (region_part_at place.kind node draft)
 part_at phase.Domains spot place node draft = of_element spot (domain_part_at place node draft)
 part_at phase.Channels spot place node draft = channel_part_at place.kind spot node draft
 
--- what is taken from the element here
 unfoldable pub element_at : Phase → Spot → Node → Draft → Result Draft ElementFault
 element_at phase spot node draft = do
   placed ← of_element spot (place_at node draft)
   part_at phase spot placed.0 node placed.1
 
--- what is taken from all elements, one after another, of which the first has this number
+-- what is taken from all elements, one after another; the first has this number
 unfoldable pub elements_at : Phase → ℕ → List Node → Draft → Result Draft ElementFault
 elements_at phase number [] draft = Ok draft
 elements_at phase number (node ∷ nodes) draft =

@@ -1,4 +1,4 @@
--- How memory regions are read (Microkit user manual, "memory_region").
+-- Memory regions of a description, and how they are read (Microkit user manual, "memory_region").
 use Rattle.std.specs.{List.{find, position}, Option.option_map, Prelude.{[], ℕ, ◌%◌, ◌&&◌, ◌++◌, ◌+◌, ◌==◌, ◌^◌, ◌∷◌, Bool, Err, List}}
 use Rattle.std.specs.{Prelude.{None, Ok, Option, Result, Some, codes, false, if◌then◌else◌, nat_lt, not}, Str.bytes_eq}
 use Rattle.words.specs.Reading.{◌>>=◌}
@@ -44,7 +44,7 @@ pages_fit region =
 abbrev pub ranges_meet : ℕ → ℕ → ℕ → ℕ → Bool
 ranges_meet base size other count = nat_lt base (other + count) && nat_lt other (base + size)
 
--- two regions overlap, where both have a physical address
+-- two regions overlap: both have a physical address, and their ranges meet
 unfoldable pub regions_meet : Region → Region → Bool
 regions_meet region other = addresses_meet region.address other.address
   where
@@ -63,7 +63,7 @@ region_fits regions region = do
   _ ← pages_fit region
   unless_found flaw.Overlap (overlap_line regions region)
 
--- with a region more
+-- a draft with one more region
 abbrev pub with_region : Region → Draft → Draft
 with_region region draft =
     record draft { description = record draft.description { regions = draft.description.regions ++ region ∷ [] } }

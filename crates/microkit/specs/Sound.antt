@@ -1,4 +1,4 @@
--- What holds of each description that is read: what it names is there (confine's own).
+-- Sound descriptions: what a description names is there, in each that is read (confine's own).
 use Rattle.std.specs.{List.AllByRecursion, Prelude.{◌<◌, ◌≤◌, length}}
 use Rattle.microkit.specs.{declared.{description.{Channel.Channel, Map.Map}, domains.TheConstants.MAX_DOMAINS}, Description.Description}
 

@@ -1,9 +1,9 @@
--- What the values of attributes mean: numbers and flags (Microkit user manual, "System Description File").
+-- Values of attributes: numbers and flags (Microkit user manual, "System Description File").
 use Rattle.std.specs.{Char.is_digit, List.list_all, Prelude.{[], ℕ, ◌∷◌, ◌&&◌, ◌==◌, Bool, List, None, Option, Some, codes, drop, false}}
 use Rattle.std.specs.{Prelude.{filter, if◌then◌else◌, not, take, true}, Str.{bytes_eq, Parse.digits_value}}
 use Rattle.words.specs.Number.{below_limit}
 
--- the digits between which `_` may stand
+-- a text without `_`, which may stand between digits
 abbrev pub bare : List ℕ → List ℕ
 bare text = filter (λ b. not (b == 95)) text
 
@@ -24,7 +24,6 @@ unfoldable pub number_of : List ℕ → Option ℕ
 number_of value =
     if bytes_eq (take 2 value) (codes "0x") then digits_of 16 (bare (drop 2 value)) else digits_of 10 (bare value)
 
--- a flag
 unfoldable pub flag_of : List ℕ → Option Bool
 flag_of value =
     if bytes_eq value (codes "true") then Some true else

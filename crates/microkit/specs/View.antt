@@ -1,4 +1,4 @@
--- What a description says, without where it lies in memory (confine's own).
+-- Descriptions as values, without where they lie in memory (confine's own).
 use Rattle.std.specs.Prelude.{List, map}
 use Rattle.microkit.specs.Description.{Description, Domain, Machine, Region}
 use Rattle.microkit.specs.declared.description.Description as all

@@ -1,4 +1,4 @@
-//! What an element says by its attributes.
+//! The values of an element's attributes: texts, numbers and flags.
 ghost use Rattle.std.specs.{Option.option_copied, Prelude.{◌≡◌, IfOk}};
 ghost use Rattle.microkit.specs.Attributes.{flag_in, flag_or, number_in, number_or, text_in, value_in};
 ghost use Rattle.xml.specs.View.{node_of};

@@ -1,4 +1,4 @@
-//! How channels are read.
+//! Channels of a description, and how they are read.
 ghost use Rattle.std.specs.{List.{list_any, position}, Prelude.{◌≡◌, is_some}, Str.bytes_eq};
 ghost use Rattle.xml.specs.View.{node_of};
 ghost use Rattle.microkit.specs.Channels.{calling, calls_upwards, channel_at, channel_part_at, domain_number, end_at};
@@ -18,7 +18,7 @@ impl Draft {
     ///
     /// # Errors
     ///
-    /// [`ReadError::Element`] where a domain isn't known, an id is given twice, or a channel hasn't two
+    /// [`ReadError::Element`] if a domain isn't known, an id is given twice, or a channel hasn't two
     /// ends or these don't go together. These last faults are faults of the channel.
     #[tactic(auto, unfolding(crate::specs::Channels::channel_part_at))]
     pub(crate) fn add_channel_part(
@@ -90,7 +90,7 @@ impl Draft {
 ///
 /// # Errors
 ///
-/// [`Flaw::FewEnds`] where one does.
+/// [`Flaw::FewEnds`] if one does.
 #[tactic(auto, unfolding(crate::specs::Channels::whole_at, crate::specs::Flaws::of_element))]
 pub(crate) fn check_whole(begun: Option<Begun>) -> Result<(), ElementFault>
     ensures { result ≡ whole_at begun }
@@ -104,7 +104,7 @@ pub(crate) fn check_whole(begun: Option<Begun>) -> Result<(), ElementFault>
     }
 }
 
-// The domain of an end that may follow.
+// The domain of an end that may follow the others.
 #[tactic(auto, unfolding(crate::specs::Channels::end_domain, words::specs::Reading::bind))]
 fn end_domain(ids: &[Taken], domains: &[Domain], element: &Element<'_>) -> Result<usize, Flaw>
     ensures { result ≡ end_domain ids.now (domains_of domains.now) (node_of element.now) }
@@ -155,7 +155,7 @@ fn any_serves(domains: &[Domain]) -> bool
     one_serves(domains)
 }
 
-// The same, of the domains as they lie in memory.
+// `any_serves`, stated of the domains as stored.
 fn one_serves(domains: &[Domain]) -> bool
     ensures { result ≡ list_any (λ domain. is_some (domain_of domain).serves) domains.now }
 {
@@ -209,7 +209,7 @@ fn check_call(domains: &[Domain], end: End, other: End) -> Result<(), Flaw>
     }
 }
 
-// Whether the domain of an end has a lower priority than that of the other end.
+// Whether the domain of an end has a lower priority than the other end's domain.
 #[tactic(auto, unfolding(crate::specs::Channels::is_below))]
 fn is_below(domains: &[Domain], end: End, other: End) -> bool
     ensures { result ≡ is_below (domains_of domains.now) end other }
@@ -237,11 +237,11 @@ fn priority_of(domains: &[Domain], number: usize) -> u64
     }
 }
 
-/// The number of the domain of this name.
+/// Returns the number of the domain with this name.
 ///
 /// # Errors
 ///
-/// [`Flaw::NoDomain`] where no domain has it.
+/// [`Flaw::NoDomain`] if no domain has it.
 #[tactic(auto, unfolding(crate::specs::Channels::domain_number))]
 fn domain_number(domains: &[Domain], name: &[u8]) -> Result<usize, Flaw>
     ensures { result ≡ domain_number (domains_of domains.now) name.now }
@@ -255,7 +255,7 @@ fn position_of(domains: &[Domain], name: &[u8]) -> Option<usize>
     place_of(domains, name)
 }
 
-// The same, of the domains as they lie in memory.
+// `position_of`, stated of the domains as stored.
 fn place_of(domains: &[Domain], name: &[u8]) -> Option<usize>
     ensures { result ≡ position (λ domain. bytes_eq (domain_of domain).name name.now) domains.now }
 {

@@ -1,4 +1,4 @@
-//! What a system description says: regions, domains, virtual machines and channels, each with its line.
+//! Descriptions of systems: regions, domains, virtual machines and channels, each with its line.
 ghost use Rattle.std.specs.Prelude.{◌<◌, ◌≡◌};
 ghost use Rattle.microkit.specs.Pages.{page_bytes};
 
@@ -26,7 +26,7 @@ pub struct Region {
     /// The number of bytes, all of them in whole pages.
     pub size: u64,
     pub page: Page,
-    /// The physical address, where the description fixes it.
+    /// The physical address, if the description fixes it.
     pub address: Option<u64>,
     pub line: u64,
 }
@@ -82,7 +82,7 @@ pub struct Domain {
     pub passive: bool,
     /// Whether it may make secure monitor calls.
     pub smc: bool,
-    /// Whether domains of lower priority may call it, where the description has the form of version 1.2.
+    /// Whether domains of lower priority may call it, if the description has the form of version 1.2.
     pub serves: Option<bool>,
     pub line: u64,
 }

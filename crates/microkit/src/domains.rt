@@ -1,4 +1,4 @@
-//! How protection domains and what stands in them are read.
+//! Protection domains and what stands in them, and how they are read.
 ghost use Rattle.std.specs.{List.find, Option.option_map, Prelude.{[], ◌++◌, ◌==◌, ◌∷◌, ◌≡◌, IfOk, Ok, OnOk}, Str.bytes_eq};
 ghost use Rattle.xml.specs.View.{node_of};
 ghost use Rattle.microkit.specs.Domains.{budget_fits, domain_at, domain_fits, domain_in, domain_line, domain_part_at, guest_line};
@@ -27,8 +27,8 @@ impl Draft {
     /// Adds what an element says of a domain.
     ///
     /// # Errors
-    ///
-    /// [`Refusal::Flawed`] where a region isn't known, a name, an id or an interrupt is given twice, a
+    /// [`Refusal::Flawed`] if a region isn't known, a name, an id or an interrupt is given twice, a
+    /// budget is longer than its period, or there are too many domains.
     /// budget is longer than its period, or there are too many domains.
     #[tactic(auto, unfolding(crate::specs::Domains::domain_part_at, crate::specs::Domains::domain_part_of))]
     pub(crate) fn add_domain_part(
@@ -198,7 +198,6 @@ impl Draft {
     }
 }
 
-/// The id of an element, in this domain.
 pub(crate) fn id_in(domain: usize, element: &Element<'_>) -> Id
     ensures { result ≡ id_in domain (node_of element.now) }
 {
@@ -309,7 +308,7 @@ fn domain_line(domains: &[Domain], name: &[u8]) -> Option<u64>
     line_of_domain(domains, name)
 }
 
-// The same, of the domains as they lie in memory.
+// `domain_line`, stated of the domains as stored.
 fn line_of_domain(domains: &[Domain], name: &[u8]) -> Option<u64>
     ensures { result ≡ option_map
         (λ domain. (domain_of domain).line)
@@ -340,7 +339,7 @@ fn machine_line(machines: &[Machine], name: &[u8]) -> Option<u64>
     line_of_machine(machines, name)
 }
 
-// The same, of the virtual machines as they lie in memory.
+// `machine_line`, stated of the virtual machines as stored.
 fn line_of_machine(machines: &[Machine], name: &[u8]) -> Option<u64>
     ensures { result ≡ option_map
         (λ machine. (machine_of machine).line)
@@ -358,7 +357,7 @@ fn guest_line(machines: &[Machine], domain: usize) -> Option<u64>
     line_of_guest(machines, domain)
 }
 
-// The same, of the virtual machines as they lie in memory.
+// `guest_line`, stated of the virtual machines as stored.
 fn line_of_guest(machines: &[Machine], domain: usize) -> Option<u64>
     ensures { result ≡ option_map
         (λ machine. (machine_of machine).line)

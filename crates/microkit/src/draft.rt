@@ -1,4 +1,4 @@
-//! A description of which a part was read.
+//! Drafts: the part of a description that was read so far, and the place where an element stands.
 ghost use Rattle.std.specs.{Option.option_copied, Prelude.{[], ◌++◌, ◌∷◌, ◌≡◌, IfOk, OnOk}};
 ghost use Rattle.xml.specs.View.{node_of};
 ghost use Rattle.microkit.specs.Draft.{entered, free_at, innermost, inside, line_of_id, no_draft, outer_path, place_at};
@@ -12,7 +12,7 @@ use std::marker::Model;
 use xml::Element;
 
 /// The place of an element: its kind, and the numbers of the domain and of the virtual machine that
-/// it stands in, 0 where it stands in none.
+/// it stands in, 0 if it stands in none.
 #[derive(Clone, Copy)]
 pub(crate) struct Place {
     pub kind: Kind,
@@ -41,7 +41,7 @@ pub(crate) struct Taken {
     pub line: u64,
 }
 
-/// A description of which a part was read.
+/// The part of a description that was read so far.
 #[derive(Drop)]
 pub(crate) struct Draft {
     pub description: Description,
@@ -69,7 +69,6 @@ impl Model for Draft {
 }
 
 impl Draft {
-    /// The draft of which nothing was read.
     #[tactic(auto, unfolding(crate::specs::Draft::no_draft))]
     pub(crate) fn new(alloc: Global) -> Draft
         ensures { result ≡ no_draft }
@@ -97,7 +96,7 @@ impl Draft {
     ///
     /// # Errors
     ///
-    /// [`Flaw::Element`] where such an element may not stand there.
+    /// [`Flaw::Element`] if such an element may not stand there.
     #[tactic(auto, unfolding(crate::specs::Draft::place_at, crate::specs::Draft::known_kind, words::specs::Reading::bind))]
     pub(crate) fn enter(&mut self, element: &Element<'_>) -> Result<Place, Refusal>
         ensures { Takes (λ place. (place, self.new)) result (place_at (node_of element.now) self.old) }
@@ -141,7 +140,7 @@ impl Draft {
 ///
 /// # Errors
 ///
-/// [`Flaw::Id`] where it is.
+/// [`Flaw::Id`] if it is.
 #[tactic(auto, unfolding(crate::specs::Draft::free_at))]
 pub(crate) fn check_free(ids: &[Taken], id: Id) -> Result<(), Flaw>
     ensures { result ≡ free_at ids.now id }

@@ -1,4 +1,4 @@
-//! What is wrong with an element of a description.
+//! Flaws of elements of a description, and the reasons why reading stops.
 ghost use Rattle.std.specs.Prelude.{◌≡◌};
 ghost use Rattle.words.specs.Fault.{no_memory};
 ghost use Rattle.microkit.specs.Flaws.{fault_here, text_fault, wrong_of};
@@ -11,10 +11,10 @@ use words::{Fault, Wrong};
 
 /// What is wrong with an element of a description.
 ///
-/// Where another element has the same, or overlaps it, the flaw has that element's line.
+/// If another element has the same, or overlaps it, the flaw has that element's line.
 #[derive(Clone, Copy)]
 pub enum Flaw {
-    /// No such element may stand in one of this kind.
+    /// Such an element may not stand in one of this kind.
     Element(Kind),
     /// The attribute of this number is unknown for an element of this kind, or its value hasn't its form.
     Attribute(Kind, usize),
@@ -65,7 +65,7 @@ pub enum Flaw {
 }
 
 impl Flaw {
-    /// Returns what is wrong with the text.
+    /// Returns the kind of fault that the flaw is.
     pub fn wrong(self) -> Wrong
         ensures { result ≡ wrong_of self }
     {
@@ -81,7 +81,7 @@ impl Flaw {
     }
 }
 
-/// Which element of a document it is.
+/// The number and the line of an element of a document.
 #[derive(Clone, Copy)]
 pub struct Spot {
     /// The number of the element, in the order of the text, from 0.
@@ -89,7 +89,6 @@ pub struct Spot {
     pub line: u64,
 }
 
-/// A fault of an element.
 #[derive(Clone, Copy)]
 pub struct ElementFault {
     pub flaw: Flaw,
@@ -170,7 +169,7 @@ impl<T: Drop> From<AllocFailed<T>> for Refusal {
 }
 
 impl Spot {
-    /// Why reading stops at this element, which has a flaw.
+    /// The reason why reading stops at this element, which has a flaw.
     pub(crate) fn fault(self, flaw: Flaw) -> ReadError
         ensures { result ≡ stops.Element (fault_here self flaw) }
     {

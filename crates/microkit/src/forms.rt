@@ -1,4 +1,4 @@
-//! Whether an element has its form: its attributes, and the forms of their values.
+//! Forms of elements: their attributes, and the forms of their values.
 ghost use Rattle.std.specs.{List.{list_all, list_any, position}, Prelude.{◌&&◌, ◌≡◌, codes, map, not}, Str.bytes_eq};
 ghost use Rattle.xml.specs.{Tag.is_given, View.{node_of, pair_of, pairs_of}};
 ghost use Rattle.microkit.specs.{FormView.rule_of, Forms.{first_stray, first_unmet, follows, form_at, has_byte, has_form, is_met}};
@@ -56,7 +56,7 @@ fn first_stray(rules: &[Rule], attributes: &[Attribute<'_>]) -> Option<usize>
     stray_place(rules, attributes)
 }
 
-// The same, of the rules and attributes as they lie in memory.
+// `first_stray`, stated of the rules and attributes as stored.
 fn stray_place(rules: &[Rule], attributes: &[Attribute<'_>]) -> Option<usize>
     ensures { result ≡ position
         (λ attribute. not (list_any (λ rule. follows (pair_of attribute) (rule_of rule)) rules.now))
@@ -85,7 +85,7 @@ fn first_unmet(rules: &[Rule], attributes: &[Attribute<'_>]) -> Option<usize>
     unmet_place(rules, attributes)
 }
 
-// The same, of the rules as they lie in memory.
+// `first_unmet`, stated of the rules as stored.
 fn unmet_place(rules: &[Rule], attributes: &[Attribute<'_>]) -> Option<usize>
     ensures { result ≡ position (λ rule. not (is_met (pairs_of attributes.now) (rule_of rule))) rules.now }
 {
@@ -107,7 +107,7 @@ fn is_given(attributes: &[Attribute<'_>], name: &[u8]) -> bool
     has_name(attributes, name)
 }
 
-// The same, of the attributes as they lie in memory.
+// `is_given`, stated of the attributes as stored.
 fn has_name(attributes: &[Attribute<'_>], name: &[u8]) -> bool
     ensures { result ≡ list_any (λ attribute. bytes_eq attribute.name.now name.now) attributes.now }
 {

@@ -1,4 +1,4 @@
-//! Whether each domain has a program image.
+//! Program images: the check that each domain has one.
 ghost use Rattle.std.specs.Prelude.{◌+◌, ◌<◌, ◌≡◌};
 ghost use Rattle.xml.specs.View.{node_of, nodes_of};
 ghost use Rattle.microkit.specs.Images.{has_image, images_at, is_image, lacks_image};
@@ -10,7 +10,7 @@ use xml::Element;
 ///
 /// # Errors
 ///
-/// [`Flaw::NoImage`] of the first domain that has none.
+/// [`Flaw::NoImage`] for the first domain that has none.
 #[tactic(auto, using(crate::proofs::ImageSteps::all_have, crate::proofs::ImageSteps::one_has, crate::proofs::ImageSteps::one_lacks))]
 pub(crate) fn check_images(elements: &[Element<'_>]) -> Result<(), ElementFault>
     ensures { result ≡ images_at 0 (nodes_of elements.now) }
@@ -29,7 +29,7 @@ pub(crate) fn check_images(elements: &[Element<'_>]) -> Result<(), ElementFault>
     Ok(())
 }
 
-// Whether an element is a domain without a program image, where these elements follow it.
+// Whether an element is a domain without a program image, if these elements follow it.
 fn lacks_image(element: &Element<'_>, following: &[Element<'_>]) -> bool
     ensures { result ≡ lacks_image (node_of element.now) (nodes_of following.now) }
 {

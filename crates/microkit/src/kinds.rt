@@ -1,4 +1,4 @@
-//! The elements of a description, by where they stand.
+//! The kinds of elements of a description, by where they stand.
 ghost use Rattle.std.specs.Prelude.{◌≡◌};
 ghost use Rattle.microkit.specs.Kinds.{kind_in_channel, kind_in_document, kind_in_domain, kind_in_machine};
 ghost use Rattle.microkit.specs.Kinds.{kind_in_system, kind_within};
@@ -23,7 +23,7 @@ pub enum Kind {
     End,
 }
 
-/// Returns which kind an element of this name is within one of this kind, if it may stand there.
+/// Returns the kind of an element of this name within one of this kind, if it may stand there.
 #[tactic(auto, unfolding(crate::specs::Kinds::kind_within))]
 pub fn kind_within(outer: Kind, name: &[u8]) -> Option<Kind>
     ensures { result ≡ kind_within outer name.now }

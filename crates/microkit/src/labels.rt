@@ -1,4 +1,4 @@
-//! The labels of the table that a description becomes, and how they are called.
+//! Labels of the table that a description becomes, and their names.
 ghost use Rattle.std.specs.{List.{AllByRecursion, AllPairs, list_any, range_with_len}, Option.option_map, Prelude.[]};
 ghost use Rattle.std.specs.{Prelude.{ℕ, ◌≡◌, ◌≢◌, IfOk, filter, length, map, take}, Str.bytes_eq};
 ghost use Rattle.words.specs.Reading.{Gives, Reads};
@@ -30,7 +30,7 @@ pub enum Subject {
 ///
 /// # Errors
 ///
-/// [`AllocError`] where memory is refused.
+/// [`AllocError`] if memory is refused.
 #[tactic(auto, unfolding(crate::specs::Labels::subjects_of))]
 pub fn subjects_of(alloc: Global, description: &Description) -> Result<Vec<Subject>, AllocError>
     ensures { IfOk result (λ subjects. subjects.items ≡ subjects_of (description_of description.now)) }
@@ -96,12 +96,11 @@ fn is_mapped(maps: &[Map], region: usize) -> bool
 ///
 /// # Errors
 ///
-/// 54 with the line of a subject where too many labels have its name, and 40 where memory is refused.
+/// 54 with the line of a subject if too many labels have its name, and 40 if memory is refused.
 #[tactic(auto, using(crate::proofs::Distinct::names_distinct, crate::proofs::LabelNames::names_are))]
 pub fn label_names(alloc: Global, description: &Description) -> Result<Vec<Vec<u8>>, Fault>
-    // How each label is called.
     ensures exact { Reads (λ names. bytes_of names.items) result (names_of (description_of description.now)) }
-    // Each is a name of a table, and leaves room for the part of an object. No two are one.
+    // Each is a name of a table, and leaves room for the part of an object. No two are the same.
     ensures names { IfOk result (λ names. AllByRecursion IsLabelName (bytes_of names.items)) }
     ensures distinct { IfOk result (λ names. AllPairs (λ one other. one ≢ other) (bytes_of names.items)) }
 {
@@ -187,7 +186,7 @@ fn first_names(names: &[Vec<u8>], count: usize) -> &[Vec<u8>]
     }
 }
 
-// How the name of a label ends.
+// The end of a label's name.
 #[tactic(auto, unfolding(crate::specs::Labels::ending_of))]
 fn ending_of(
     alloc: Global,
@@ -211,7 +210,7 @@ fn ending_of(
     }
 }
 
-// The first name that is free.
+// The first free name.
 #[tactic(auto, using(crate::proofs::LabelSteps::try_more, crate::proofs::LabelSteps::try_found, crate::proofs::LabelSteps::tries_over))]
 fn free_name(
     alloc: Global,
@@ -237,7 +236,7 @@ fn is_known(names: &[Vec<u8>], name: &[u8]) -> bool
     has_name(names, name)
 }
 
-// The same, of the names as they lie in memory.
+// `is_known`, stated of the names as stored.
 fn has_name(names: &[Vec<u8>], name: &[u8]) -> bool
     ensures { result ≡ list_any (λ one. bytes_eq one.items name.now) names.now }
 {

@@ -1,4 +1,4 @@
-//! Laws about descriptions.
+//! Laws on descriptions.
 ghost use Rattle.std.specs.Prelude.{ℕ, ◌≡◌, List, Ok};
 ghost use Rattle.xml.specs.Document.{Node, document_of};
 ghost use Rattle.microkit.specs.{Description.Description, Outline.IsOutlinedBy, Reading.description_of_text};

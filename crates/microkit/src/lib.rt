@@ -1,7 +1,6 @@
 //! System descriptions of Microkit as data, and how their texts are read.
 //!
-//! `importing`, `separation` and `remarks` stand on it, and the commands on descriptions. It knows
-//! nothing of a kernel or a policy.
+//! The crate knows nothing of a kernel or a policy.
 #![tactic(auto)]
 
 mod attributes;

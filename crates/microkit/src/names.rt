@@ -1,4 +1,4 @@
-//! How labels and objects are called after the names of a description.
+//! Names of labels and objects, by the names in a description.
 ghost use Rattle.std.specs.{List.list_any, Option.option_map, Prelude.{ℕ, ◌<◌, ◌^◌, ◌∷◌, ◌≡◌, ◌≤◌, IfOk, List, map}};
 ghost use Rattle.std.specs.{Prelude.string_bytes, Str.bytes_eq};
 ghost use Rattle.microkit.specs.{declared.names.Part.Part, Names.{candidate, free_from, is_known, kept_last}};
@@ -10,10 +10,10 @@ use std::alloc::{AllocError, Global};
 /// The number of letters that the name of a label may have.
 pub const MAX_LABEL_LENGTH: usize = 24;
 
-/// The number of names that are tried for a label.
+/// The largest number of names that are tried for a label.
 pub const MAX_TRIES: u64 = 512;
 
-/// The part that an object is in its label.
+/// The part of a label that an object is.
 #[derive(Clone, Copy, Debug)]
 pub enum Part {
     Space,
@@ -28,7 +28,7 @@ pub enum Part {
     Time(u64),
 }
 
-/// A law: no two objects have one name.
+/// A law: no two objects have the same name.
 ///
 /// The name of an object determines its label and its part.
 pub fn objects_have_names_of_their_own()
@@ -36,8 +36,8 @@ pub fn objects_have_names_of_their_own()
         → object_name one part ≡ object_name other that → (one ≡ other) × (part ≡ that) }
 {}
 
-/// The name that a text is written as: lower case, each other character `_`, and `x` before what
-/// isn't a letter.
+/// The name that a text is written as: in lower case, with `_` for each other character, and `x` in front of
+/// what isn't a letter.
 #[tactic(auto, unfolding(crate::specs::Names::plain_name))]
 pub(crate) fn plain_name(alloc: Global, text: &[u8]) -> Result<Vec<u8>, AllocError>
     ensures { IfOk result (λ name. name.items ≡ plain_name text.now) }
@@ -99,7 +99,7 @@ fn shortened(alloc: Global, room: usize, name: &[u8]) -> Result<Vec<u8>, AllocEr
     Ok(short)
 }
 
-// How many letters stay behind the gap of a name that is shortened to this length.
+// The number of letters that stay behind the gap of a name that is shortened to this length.
 fn kept_last(room: usize) -> usize
     ensures exact { result ≡ kept_last room }
     ensures fits { result ≤ room }
@@ -112,7 +112,7 @@ fn kept_last(room: usize) -> usize
     }
 }
 
-// What ends a name at the k-th try.
+// The end of a name in the k-th try.
 #[tactic(auto, unfolding(crate::specs::Names::tail_of))]
 fn tail_of(alloc: Global, ending: &str, k: u64) -> Result<String, AllocError>
     ensures { IfOk result (λ tail. string_bytes tail ≡ tail_of ending.now k) }
@@ -123,7 +123,6 @@ fn tail_of(alloc: Global, ending: &str, k: u64) -> Result<String, AllocError>
     format!(in alloc; "{ending}_{k}")
 }
 
-// The name at the k-th try.
 #[tactic(auto, unfolding(crate::specs::Names::candidate))]
 pub(crate) fn candidate(
     alloc: Global,

@@ -1,4 +1,4 @@
-//! What the values of attributes mean: numbers and flags.
+//! Values of attributes: numbers and flags.
 ghost use Rattle.std.specs.Char.{digit_value, is_digit};
 ghost use Rattle.std.specs.Prelude.{ℕ, ◌*◌, ◌+◌, ◌<◌, ◌≡◌, ◌≤◌, MatchOption, false, true};
 ghost use Rattle.words.specs.Number.{below_limit};
@@ -15,7 +15,7 @@ pub fn number_of(value: &[u8]) -> Option<u64>
     }
 }
 
-// The number that these digits spell, among which `_` may stand.
+// The number that these digits spell, with or without `_` among them.
 #[tactic(auto, using(crate::proofs::Digits::digit_more, crate::proofs::Digits::dropped, crate::proofs::Digits::stray, crate::proofs::Digits::over, crate::proofs::Digits::spelled, crate::proofs::Digits::begins))]
 fn digits_of(base: u32, text: &[u8]) -> Option<u64>
     requires low { 2 ≤ base }
@@ -32,7 +32,7 @@ fn digits_of(base: u32, text: &[u8]) -> Option<u64>
     number
 }
 
-// The number with a digit more, where 64 bits hold it.
+// The number with one more digit, if 64 bits hold it.
 fn with_digit(base: u32, number: u64, digit: u32) -> Option<u64>
     ensures { result ≡ below_limit (number * base + digit) }
 {
@@ -51,7 +51,6 @@ fn digit_of(base: u32, byte: u8) -> Option<u32>
     (byte as char).to_digit(base)
 }
 
-/// What a flag says.
 #[tactic(auto, unfolding(crate::specs::Values::flag_of))]
 pub(crate) fn flag_of(value: &[u8]) -> Option<bool>
     ensures { result ≡ flag_of value.now }

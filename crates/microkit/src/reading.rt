@@ -1,4 +1,4 @@
-//! How a text is read as a description.
+//! Reading a text as a description, or the elements of a document.
 ghost use Rattle.std.specs.Prelude.{◌≡◌, IfOk, Ok};
 ghost use Rattle.words.specs.Reading.{Reads};
 ghost use Rattle.xml.specs.View.{node_of, nodes_of};
@@ -16,7 +16,7 @@ use std::alloc::Global;
 use words::Fault;
 use xml::{Element, read_document};
 
-// The part of a description that is taken from the elements as they are read.
+// The part of a description that is taken from the elements in one pass.
 #[derive(Clone, Copy)]
 enum Phase {
     Forms,
@@ -32,11 +32,11 @@ enum Phase {
 ///
 /// # Errors
 ///
-/// The fault and its line: 50 where the text isn't XML or an element hasn't its form, 51 where a name
-/// is unknown, 52 where a name, an id or an interrupt is given twice, 54 where a limit is passed, 55
-/// where something doesn't go together. Where memory is refused, 40 at line 0.
+/// The fault and its line: 50 if the text isn't XML or an element hasn't its form, 51 if a name
+/// is unknown, 52 if a name, an id or an interrupt is given twice, 54 if a limit is passed, 55
+/// if something doesn't go together. If memory is refused, 40 at line 0.
 pub fn read_description(alloc: Global, text: &[u8]) -> Result<Description, Fault>
-    // Which description is read, or which fault is the first.
+    // The description, or the first fault.
     ensures exact { Reads (λ description. description_of description) result (description_of_text text.now) }
     // What it names is there.
     ensures sound { IfOk result (λ description. IsSound (description_of description)) }
@@ -81,7 +81,7 @@ impl Draft {
         self.take_all(alloc, Phase::Channels, elements)
     }
 
-    // Takes what must be taken from all elements.
+    // Takes from all elements what this phase takes.
     #[tactic(auto, using(crate::proofs::Steps::none_left, crate::proofs::Steps::one_taken, crate::proofs::Steps::one_refused))]
     fn take_all(
         &mut self,

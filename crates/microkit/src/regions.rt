@@ -1,4 +1,4 @@
-//! How memory regions are read.
+//! Memory regions of a description, and how they are read.
 ghost use Rattle.std.specs.{List.{find, position}, Option.option_map, Prelude.{◌+◌, ◌^◌, ◌≡◌, IfOk, nat_lt}, Str.bytes_eq};
 ghost use Rattle.xml.specs.View.{node_of};
 ghost use Rattle.microkit.specs.Regions.{address_fits, overlap_line, page_in, pages_fit, region_at, region_fits, region_in};
@@ -16,7 +16,7 @@ impl Draft {
     ///
     /// # Errors
     ///
-    /// [`Refusal::Flawed`] where a region has this name, or it hasn't whole pages or overlaps
+    /// [`Refusal::Flawed`] if a region has this name, or it hasn't whole pages or overlaps
     /// another one.
     #[tactic(auto, unfolding(crate::specs::Regions::region_at, words::specs::Reading::bind))]
     pub(crate) fn add_region(&mut self, alloc: Global, element: &Element<'_>) -> Result<(), Refusal>
@@ -62,7 +62,7 @@ fn region_line(regions: &[Region], name: &[u8]) -> Option<u64>
     line_of_name(regions, name)
 }
 
-// The same, of the regions as they lie in memory.
+// `region_line`, stated of the regions as stored.
 fn line_of_name(regions: &[Region], name: &[u8]) -> Option<u64>
     ensures { result ≡ option_map
         (λ region. (region_of region).line)
@@ -112,7 +112,6 @@ fn check_address(region: &Region) -> Result<(), Flaw>
     }
 }
 
-// Whether a range of memory ends below 2^64.
 fn ends_below_limit(base: u64, size: u64) -> bool
     ensures { result ≡ nat_lt (base + size) (2 ^ 64) }
 {
@@ -125,7 +124,7 @@ fn overlap_line(regions: &[Region], region: &Region) -> Option<u64>
     line_of_overlap(regions, region)
 }
 
-// The same, of the regions as they lie in memory.
+// `overlap_line`, stated of the regions as stored.
 fn line_of_overlap(regions: &[Region], region: &Region) -> Option<u64>
     ensures { result ≡ option_map
         (λ other. (region_of other).line)
@@ -147,18 +146,17 @@ fn meets(region: &Region, other: &Region) -> bool
     }
 }
 
-// Whether an address is below the end of a range.
 fn is_below_end(address: u64, base: u64, size: u64) -> bool
     ensures { result ≡ nat_lt address (base + size) }
 {
     address < base || address - base < size
 }
 
-/// The number of the region of this name.
+/// Returns the number of the region with this name.
 ///
 /// # Errors
 ///
-/// [`Flaw::NoRegion`] where no region has it.
+/// [`Flaw::NoRegion`] if no region has it.
 #[tactic(auto, unfolding(crate::specs::Regions::region_number))]
 pub(crate) fn region_number(regions: &[Region], name: &[u8]) -> Result<usize, Flaw>
     ensures { result ≡ region_number (regions_of regions.now) name.now }

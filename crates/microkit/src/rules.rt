@@ -1,5 +1,4 @@
-//! Which attributes the elements of a description have, and of which form their values are (Microkit user manual,
-//! "System Description File").
+//! Rules for the attributes of elements, and the forms of their values (Microkit user manual, "System Description File").
 ghost use Rattle.std.specs.Prelude.{◌≡◌, map};
 ghost use Rattle.microkit.specs.{FormView.rule_of, Forms.rules_of};
 
@@ -77,7 +76,7 @@ const DOMAIN: [Rule; 10] = [
     Rule("pp", Form::Flag, Need::Optional),
 ];
 
-// A domain within another one has besides the id by which its parent knows it.
+// A domain within another one has these and the id by which its parent knows it.
 const CHILD: [Rule; 12] = [
     Rule("id", Form::Number, Need::Required),
     Rule("setvar_id", Form::Text, Need::Optional),
@@ -128,7 +127,7 @@ const VARIABLE: [Rule; 2] = [
     Rule("region_paddr", Form::Text, Need::Required),
 ];
 
-// Before version 1.4 a virtual machine has one processor, of this id.
+// Before version 1.4 a virtual machine has one processor, with this id.
 const MACHINE: [Rule; 5] = [
     Rule("name", Form::Name, Need::Required),
     Rule("priority", Form::Number, Need::Optional),

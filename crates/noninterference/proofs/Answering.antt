@@ -1,5 +1,4 @@
--- A reply ends alike in two machines that are alike to its label: the reply object holds the same thread in both, and that thread is the
--- same.
+-- A reply ends alike in two machines that are alike to its label: the reply object holds the same thread in both.
 use Rattle.std.{specs.Prelude.{None, Ok, Option, Some, if◌then◌else◌}, proofs.Common.{ℕ, ◌∙◌, ◌≡◌, Bool, List, ap}}
 use Rattle.std.proofs.{Common.{false, option_map, refl, subst, sym, true}, lemmas.{Option.{none-some, same_Some}}}
 use Rattle.base.specs.declared.{ids.{ObjId.ObjId, SlotRef.SlotRef}, kind.Kind.Kind as authority}

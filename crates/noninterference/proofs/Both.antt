@@ -1,4 +1,4 @@
--- Two machines that runs of a fixed system reach: their threads find the same at each address, and their objects are of the same kinds and
+-- Two machines that runs of a fixed system reach: threads find the same at each address in both, and objects have the same kinds and
 -- labels.
 use Rattle.std.{specs.Prelude.{Ok, Some}, proofs.Common.{ℕ, ◌∙◌, ◌≡◌, ap, inl, inr, refl, sym, true}}
 use Rattle.base.specs.declared.ids.ObjId.{ObjId}
@@ -68,14 +68,14 @@ module _
     stays_too = stays_from t lawful fixed formed one.boot one.booted n other
 
 module _ (t : Layout) (allowed : EdgeTest) (acts : ActorTest) (a : ℕ) (m n : Machine) (both : AreBoth t allowed acts a m n) where
-  -- an address leads to the same in both, or is refused alike
+  -- an address leads to the same in both, or is refused for the same cause
   pub same_find :
       (wanted : ObjectKind) (caller : ObjId) (address : ℕ) → find wanted n caller address ≡ find wanted m caller address
   unfolding find
   same_find wanted caller address =
       ap (λ r. ◌>>=◌ r (λ found. ◌>>=◌ (of_kind wanted found.1.detail) (λ _. Ok found))) (both.finds caller address)
 
-  -- what is the label's own is the same in both, and so is what it sees
+  -- the label's own objects, and those that it sees, are the same in both
 
   pub own_same : (id : ObjId) → label_of t m id ≡ Some a → IsSame m n id
   own_same id mine = both.alike.seen id a mine (inl refl)

@@ -1,4 +1,4 @@
--- Each call ends alike in two machines that are alike to its label.
+-- Calls end alike in two machines that are alike to the caller's label: the cases of all kinds of calls.
 use Rattle.std.proofs.Common.{ℕ, ◌≡◌, Some}
 use Rattle.base.specs.declared.ids.ObjId.{ObjId}
 use Rattle.machine.specs.{declared.call.Call.{Call, Call as call}, Authority.label_of, Layout.Layout, Machine.Machine, Step.call_of}

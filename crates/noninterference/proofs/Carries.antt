@@ -1,5 +1,5 @@
--- Changes of two machines that leave each object the same in both that was the same before. What an object is like after such a change
--- depends only on what it was like before.
+-- Changes of two machines that keep each object the same in both that was the same before: an object after such a change depends only on
+-- that object before.
 use Rattle.std.specs.{FinMap.get-insert, Prelude.{[], List, Option, Some, cond, option_map, slice_set}}
 use Rattle.std.proofs.Common.{ℕ, ◌++◌, ◌∙◌, ◌∷◌, ◌≡◌, ◌≢◌, Bool, ap, false, refl, subst, sym, true}
 use Rattle.std.proofs.lemmas.Option.{same_Some}
@@ -17,7 +17,7 @@ use Rattle.integrity.{specs.Shrinks.IsSame, proofs.Shrinking.{same_context, same
 same_notification : (a b : Notification) → o.Notification a ≡ o.Notification b → a ≡ b
 same_notification a b e = cc
 
--- what is the same in two machines is the same in those that they become
+-- what is the same in two machines is the same in the two that follow them
 abbrev pub Carries : Machine → Machine → Machine → Machine → Type 0
 Carries m n next after = (q : ObjId) → IsSame m n q → IsSame next after q
 
@@ -25,7 +25,7 @@ pub carries_along :
     (m n mid half next after : Machine) → Carries m n mid half → Carries mid half next after → Carries m n next after
 carries_along m n mid half next after one two q same = two q (one q same)
 
--- one place of two maps gets contents that are the same if what was there is
+-- one place of two maps gets contents that are the same if the old contents were
 module _ {X : Type 0} (id q : ObjId) (old was new now : Option X) where
   placed_alike : (old ≡ was) → (q ≡ id → new ≡ now) → cond (same_id q id) new old ≡ cond (same_id q id) now was
   placed_alike rest here = by_tie (same_id q id) refl where
@@ -74,7 +74,7 @@ module _ (m n : Machine) (id : ObjId) where
     slots = same.slots;
   }
 
-  -- changes of an object of a kind, where it is in both
+  -- changes of an object of a kind, if both machines have it
 
   pub tcb_carries :
       (old was new now : Tcb) → IsThread m id old → IsThread n id was → (IsSame m n id → now ≡ new)
@@ -197,7 +197,7 @@ same_around m n next after id one two same = record {
   slots = λ index. two.slots index ∙ same.slots index ∙ sym (one.slots index);
 }
 
--- nothing changes beside an object, and beside a queue
+-- an object changes, and nothing beside it; and a queue
 
 pub object_beside : (m : Machine) (id : ObjId) (object : Object) (q : ObjId) → q ≢ id → IsSame m (with_object m id object) q
 unfolding with_object queue_of words_of cap_of
@@ -217,7 +217,7 @@ queue_beside m id threads q apart = record {
   slots = λ index. refl;
 }
 
--- what becomes of each object is told by its number and its content, and nothing else changes
+-- each object becomes what its number and its content determine, and nothing else changes
 pub record Turns (m : Machine) (becomes : ObjId → Object → Object) (next : Machine) : Type 0 where
   pub objects : (q : ObjId) → object_of next q ≡ option_map (becomes q) (object_of m q)
   pub queues : (q : ObjId) → queue_of next q ≡ queue_of m q

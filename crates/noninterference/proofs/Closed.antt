@@ -1,5 +1,5 @@
--- A set of labels to which nothing flows from without but through filters. A thread that waits at an object on which a label of the set
--- depends is of the set, or of a filter, or the object is a filter's.
+-- A set of labels to which nothing flows from without but through filters: a thread that waits at an object on which a label of the set
+-- depends is of the set or of a filter, or the object is a filter's.
 use Rattle.std.proofs.Common.{ℕ, ◌∙◌, ◌≡◌, ◌⊎◌, Bool, Some, ap, false, inl, inr, refl, subst, sym, true}
 use Rattle.std.proofs.lemmas.{Bool.false≢true, Option.same_Some}
 use Rattle.base.specs.declared.{ids.ObjId.ObjId, kind.Kind.{Kind, Kind as authority}}
@@ -14,7 +14,7 @@ use Rattle.flows.specs.{Flowing.{DependsOn, FilterTest, FlowsBy}, Seeing.{WayToS
 use Rattle.noninterference.specs.{Alike.{IsAlikeAt, IsAlikeTo, WaitAlike}, Sets.{AreAlikeTo, FiltersShowAlike, IsClosedBeside, SetTest}}
 use Rattle.noninterference.proofs.Both.{limits}
 
--- by what a run state waits at an object: the label has that authority over it, may change it, and sees it
+-- the authority by which a run state waits at an object: a label that has it may change the object, and sees it
 record IsWaitKind (run : RunState) (id : ObjId) : Type 0 where
   kind : Kind
   changing : is_changing kind ≡ true
@@ -68,25 +68,25 @@ module _
     edge : allowed b by_kind.kind e ≡ true
     edge = thread_edge t allowed m (some_event thread) b m one thread id tcb by_kind.kind b e there (by_kind.linked tcb refl) labelled target
 
-    -- its label flows to each that depends on that object
+    -- its label flows to each label that depends on that object
     waiter_flows : (y : ℕ) → DependsOn (limits allowed acts) y e → FlowsBy (limits allowed acts) b e y
     waiter_flows y depends =
         record { affects = inl (record { actor = acting; way = modifies by_kind.kind by_kind.changing edge }); depends = depends }
 
-    -- and sees the object
+    -- its label sees the object
     waiter_sees : DependsOn (limits allowed acts) b e
     waiter_sees = inr (record { actor = acting; way = by_kind.sees allowed acts b e edge })
 
   -- the machines are alike to each label of the set that acts
 
   module _ (a : ℕ) (within : inside a ≡ true) (actor : acts a ≡ true) where
-    -- where a thread waits in both to whom the label may send
+    -- a thread waits in both at an object to which the label may send
     module _ (id thread : ObjId) (before after : Tcb) (l : ℕ) (labelled : label_of t m id ≡ Some l) (may : allowed a authority.Send l ≡ true)
         (there : IsThread m thread before) (here : IsThread n thread after) (at : WaitsAt before.state id) (again : WaitsAt after.state id) where
       waiter : (b : ℕ) × (label_of t m thread ≡ Some b)
       waiter = one.of_table.labelled thread (o.Tcb before) there
 
-      -- it is the same if it is of the set
+      -- it waits alike if it is of the set
       ours_waits : inside waiter.0 ≡ true → WaitAlike before after
       ours_waits ours =
           let same = alike thread waiter.0 waiter.0 waiter.1 ours (inl refl) in
@@ -96,7 +96,7 @@ module _
             λ so. subst (λ (x : Tcb). IsSending x.state) is so,
           )
 
-      -- or what filters show of it is
+      -- it waits alike if it or the object is a filter's
       shown : (filters l ≡ true) ⊎ (filters waiter.0 ≡ true) → WaitAlike before after
       shown filtered = shows.ways id thread before after l waiter.0 a labelled waiter.1 filtered within may there here at again
 
@@ -124,7 +124,7 @@ module _
           waits_alike id thread before after l labelled may there here at again;
     }
 
-  -- each object on which one depends is alike in both, unless it is a filter's
+  -- an object on which a label of the set depends is alike in both, unless it is a filter's
   pub alike_at :
       (id : ObjId) (l y : ℕ) → label_of t m id ≡ Some l → filters l ≡ false → inside y ≡ true → DependsOn (limits allowed acts) y l
       → IsAlikeAt m n id

@@ -1,4 +1,4 @@
--- How a call ends in two machines: refused for the same cause, or made alike.
+-- Ends of a call in two machines: it is refused for the same cause in both, or made alike.
 use Rattle.std.{specs.Prelude.{Err, Ok, Result}, proofs.Common.{◌∙◌, ◌≡◌, ap, refl, subst, sym}}
 use Rattle.base.specs.declared.refusal.Cause.{Cause}
 use Rattle.base.specs.Refusals.{refusal_of}
@@ -16,7 +16,7 @@ EndsAlike m n (Ok one) (Ok other) = AreMadeAlike m n one other
 EndsAlike m n (Err one) (Err other) = other ≡ one
 EndsAlike m n _ _ = ⊥
 
--- a condition that is the same in both, and what follows where it holds
+-- a condition that is the same in both, and what follows if it holds
 pub follows_alike :
     {A : Type 0} (m n : Machine) (r s : Result A Cause) (then_do do_too : A → Result (Made × Machine) Cause) → s ≡ r
     → ((x : A) → r ≡ Ok x → EndsAlike m n (then_do x) (do_too x)) → EndsAlike m n (◌>>=◌ r then_do) (◌>>=◌ s do_too)
@@ -38,7 +38,6 @@ follows_same {A} r s then_do do_too same rest = ap (λ (x : Result A Cause). ◌
   by_result (Ok y) rest = rest y refl
   by_result (Err cause) rest = refl
 
--- the outcome of an event, and the machine after it
 pub settled_alike :
     (m n : Machine) (r s : Result (Made × Machine) Cause) → EndsAlike m n r s
     → ((settled n s).0 ≡ (settled m r).0) × KeepsAlike m n (settled m r).1 (settled n s).1

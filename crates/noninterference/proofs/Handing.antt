@@ -1,5 +1,5 @@
--- Changes of replies, of threads that call, and of contexts that go over: each leaves each object the same in two machines that was the
--- same before.
+-- Changes of replies, of threads that call, and of contexts that are handed over: each leaves an object the same in two machines if it
+-- was the same before.
 use Rattle.std.{specs.Prelude.{None, Option, Some, cond, if◌then◌else◌, option_map}, proofs.Common.{ℕ, ◌∙◌, ◌≡◌, ◌≢◌, Bool, ap, false, refl, subst}}
 use Rattle.std.proofs.{Common.{sym, true}, lemmas.Option.same_Some}
 use Rattle.base.specs.declared.ids.ObjId.{ObjId}
@@ -18,11 +18,11 @@ use Rattle.fixed.proofs.Staying.{unbound_stays}
 use Rattle.noninterference.proofs.Carries.{Carries, Turns, carries_along, object_carries, released_carries, tcb_carries, turns_carry}
 use Rattle.noninterference.proofs.Unbinding.{unbinding_carries}
 
--- nothing changes in either
+-- nothing changes in either machine
 pub carries_itself : (m n : Machine) → Carries m n m n
 carries_itself m n q same = same
 
--- a reply that holds so
+-- a reply gets this state
 abbrev held : ObjId → ReplyState → ObjId → Object → Object
 held id holds q (o.Reply answers) = o.Reply (record answers { state = if same_id q id then holds else answers.state })
 held id holds q object = object
@@ -78,7 +78,7 @@ pub named_carries :
 named_carries m n None holds = carries_itself m n
 named_carries m n (Some id) holds = holding_carries m n id holds
 
--- a thread comes to wait for an answer
+-- a thread waits for an answer
 module _ (m n : Machine) (thread : ObjId) (old was : Tcb) (there : IsThread m thread old) (here : IsThread n thread was) where
   same_tcbs : IsSame m n thread → was ≡ old
   same_tcbs same = same_tcb was old (same_Some (o.Tcb was) (o.Tcb old) (sym here ∙ same.content ∙ there))
@@ -107,7 +107,7 @@ module _ (m n : Machine) (thread : ObjId) (old was : Tcb) (there : IsThread m th
       (called_carries (with_halted m thread) (with_halted n thread) thread (halted old) (halted was)
       (leaver_now m thread old halted links there) (leaver_now n thread was halted others here) calling)
 
-  -- its call was delivered, or its message was
+  -- a thread whose call was delivered waits for the answer, or can't run
   linked_carries : (through : Option ObjId) → Carries m n (linked m thread through) (linked n thread through)
   linked_carries None = halted_carries
   linked_carries (Some id) = halts_calls (record { reply = id; lent = None })
@@ -122,7 +122,7 @@ module _ (m n : Machine) (thread : ObjId) (old was : Tcb) (there : IsThread m th
     by_call true = linked_carries (answer_through sending named)
     by_call false = released_carries m n thread old was ready links others there here
 
--- the thread that a reply holds is halted, where the reply is the same in both
+-- the thread that a reply holds is halted, if the reply is the same in both
 module _ (m n : Machine) (links : LinksAgree m) (others : LinksAgree n) where
   holder_carries : (id : ObjId) → IsSame m n id → Carries m n (with_holder_halted m id) (with_holder_halted n id)
   unfolding with_holder_halted
@@ -152,7 +152,7 @@ module _ (m n : Machine) (links : LinksAgree m) (others : LinksAgree n) where
   ended_carries None same = carries_itself m n
   ended_carries (Some id) same = holder_carries id (same id refl)
 
--- a thread comes to run on a context
+-- a thread gets a context to run on
 bound_carries :
     (m n : Machine) (id thread : ObjId) (context its : Context) (old was : Tcb) → object_of m id ≡ Some (o.Context context)
     → object_of n id ≡ Some (o.Context its) → IsThread m thread old → IsThread n thread was

@@ -1,4 +1,4 @@
--- In each machine that a run reaches, threads sleep whose labels may not act, and who is held by a reply since it called is served.
+-- Machines that a run reaches: threads whose labels may not act sleep, and each caller that a reply holds is served.
 use Rattle.machine.specs.{Boot.IsBoot, Layout.Layout, Machine.Machine, WellFormed.IsWellFormed}
 use Rattle.table.specs.Rules.{IsLawful}
 use Rattle.policy.specs.Domain.{EdgeTest}

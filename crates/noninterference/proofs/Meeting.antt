@@ -1,4 +1,4 @@
--- Who waits first at an endpoint, in two machines in which the endpoint has the same queue; and that no capability arrives in a fixed system.
+-- Threads that wait first at an endpoint with the same queue in two machines; and that no capability arrives in a fixed system.
 use Rattle.std.{specs.Prelude.{Err, None, Ok, Option, Result, Some, option_map}, proofs.Common.{[], ◌∙◌, ◌∷◌, ◌≡◌, ◌⊎◌, List, ap, false, inl}}
 use Rattle.std.proofs.{Common.{inr, refl, subst, sym}, lemmas.Option.{same_Some}}
 use Rattle.base.specs.declared.{ids.ObjId.ObjId, refusal.Cause.Cause}
@@ -14,7 +14,7 @@ use Rattle.steps.proofs.{Arrival.arrives, Beside.holder_leaves, Releases.{releas
 use Rattle.integrity.proofs.Shrinking.{same_tcb}
 use Rattle.fixed.proofs.Finds.{IsFixedAt, leads_nowhere}
 
--- the first who waits at an endpoint
+-- the thread that waits first at an endpoint
 pub record IsFirstAt (m : Machine) (id first : ObjId) : Type 0 where
   pub tcb : Tcb
   pub there : IsThread m first tcb
@@ -63,7 +63,7 @@ meet m n id links others is too same = by_queue (queue_of m id) refl where
   by_queue (Some []) e = nobody (empty_first m id e) (empty_first n id (same ∙ e))
   by_queue (Some (first ∷ rest)) e = somebody first (first_is m id first rest links is e) (first_is n id first rest others too (same ∙ e))
 
--- who waits at an endpoint sends or receives
+-- a thread that waits at an endpoint sends or receives
 abbrev pub IsWay : RunState → Type 0
 IsWay run = ((sending : Sending) × (run ≡ state.Sending sending)) ⊎ ((receiving : Receiving) × (run ≡ state.Receiving receiving))
 
@@ -85,7 +85,7 @@ no_arrival m fixed sender sending receiver slot = by_result (arrival_of m sender
       absurd (leads_nowhere m fixed receiver arrival.to ends.target arrival.leads_to)
   by_result (Err cause) e = (cause, e)
 
--- so a message is delivered without one
+-- a message is delivered without a capability
 pub delivered_plain :
     (m : Machine) → IsFixedAt m → (sender : ObjId) (sending : Sending) (receiver : ObjId) (receiving : Receiving)
     → delivered m sender sending receiver receiving ≡ with_given m receiver (message_of sending false)
@@ -93,7 +93,7 @@ unfolding delivered
 delivered_plain m fixed sender sending receiver receiving =
     let none = no_arrival m fixed sender sending receiver receiving.slot in rw (none.1) refl
 
--- and received
+-- a message is received without a capability
 pub taken_plain :
     (m : Machine) → IsFixedAt m → (caller : ObjId) (receiving : Receiving) (sender : ObjId) (sending : Sending)
     → received_or_waits m caller receiving (Some (sender, sending))

@@ -1,4 +1,4 @@
--- Two runs of a fixed system that differ only in events of threads outside a set of labels: to the labels of the set they stay alike, if
+-- Two runs of a fixed system that differ only in events of threads outside a set of labels: they stay alike to the labels of the set if
 -- nothing flows to these but through filters, and what filters show is alike.
 use Rattle.std.proofs.Common.{[], ℕ, ◌∙◌, ◌∷◌, ◌≡◌, ◌⊎◌, Bool, List, None, Option, Some, ap, false, inl, inr, refl, subst, sym, true}
 use Rattle.std.proofs.lemmas.{Bool.false≢true, Option.{none-some, same_Some}}
@@ -20,7 +20,6 @@ use Rattle.noninterference.specs.Sets.{IsPosition, RunsBeside, SetTest}
 use Rattle.noninterference.proofs.{Both.limits, Carries.same_around, Closed.{alike_at, alike_to}, Kept.{kept_of, sound_of}, Looking.looks_alike}
 use Rattle.noninterference.proofs.Reaching.{boot_reached, labels_alike, reached_next}
 
--- an object is the same as it is
 same_itself : (m : Machine) (id : ObjId) → IsSame m m id
 same_itself m id = record { content = refl; queue = refl; words = refl; slots = λ index. refl }
 
@@ -41,7 +40,7 @@ module _
   label_before m next event outcome reached step id =
       labels_alike t lawful fixed formed next m (reached_next t m next event outcome reached step) reached id
 
-  -- the same event of a thread of the set
+  -- both machines have the same event of a thread of the set
   pub same_step :
       (m n next after : Machine) (event : Event) (outcome other : Outcome) (a : ℕ) → IsReached t m → IsReached t n
       → label_of t m event.thread ≡ Some a → inside a ≡ true → Alike m n → Shows m n → Shows next after → Step m event outcome next
@@ -72,7 +71,7 @@ module _
   abbrev IsElse : Machine → ObjId → Type 0
   IsElse m thread = (a : ℕ) → label_of t m thread ≡ Some a → (inside a ≡ false) × (filters a ≡ false)
 
-  -- its event leaves that on which the set depends, but for objects of filters
+  -- its event leaves what the set depends on, except objects of filters
   other_step :
       (m next : Machine) (event : Event) (outcome : Outcome) → IsReached t m → IsElse m event.thread → Step m event outcome next
       → (id : ObjId) (l y : ℕ) → label_of t m id ≡ Some l → filters l ≡ false → inside y ≡ true → DependsOn (limits allowed acts) y l
@@ -144,7 +143,7 @@ module _
       by_label (Some a) mine = by_tests a mine (inside a) (filters a) refl refl
       by_label None none = inr (inr (λ b at. absurd (none-some b (sym none ∙ at))))
 
-    -- at one position
+    -- one event in each run
     module _
         (m n next after : Machine) (event again : Event) (outcome other : Outcome) (one : IsReached t m) (two : IsReached t n)
         (alike : Alike m n) (shows : Shows m n) (step : Step m event outcome next) (more : Step n again other after)
@@ -273,7 +272,6 @@ plain_runs t boot allowed acts inside m n last end (event ∷ events) (more ∷ 
   plain_runs t boot allowed acts inside ran.0 also.0 last end events others outcomes ends differ.1 ran.2 also.2,
 )
 
--- a set that is closed off by filters is closed beside them
 pub closed_off_beside :
     (allowed : EdgeTest) (acts : ActorTest) (filters : FilterTest) (from to : ℕ) (off : IsClosedOff (limits allowed acts) filters from to)
     → IsClosedBeside (limits allowed acts) filters off.inside
@@ -284,7 +282,7 @@ closed_off_beside allowed acts filters from to off x y within flows = by_tests (
   by_tests false true is so = inr so
   by_tests false false is so = absurd (off.closed x y is (inr so) within flows)
 
--- and nothing flows to it at all from without, where there are no filters
+-- nothing flows to it from without if there are no filters
 pub closed_off_set :
     (allowed : EdgeTest) (acts : ActorTest) (filters : FilterTest) (from to : ℕ) (off : IsClosedOff (limits allowed acts) filters from to)
     → ((label : ℕ) → filters label ≡ false) → IsClosedSet (limits allowed acts) off.inside
@@ -297,7 +295,7 @@ closed_off_set allowed acts filters from to off none x y within flows =
     by_set (inl ours) = ours
     by_set (inr filtered) = absurd (false≢true (sym (none x) ∙ filtered))
 
--- so events of others make no difference to a closed set
+-- events of others make no difference to a closed set
 pub no_difference :
     (t : Layout) (allowed : EdgeTest) (acts : ActorTest) (inside : SetTest) (boot m n : Machine) (events others : List Event)
     (outcomes ends : List Outcome)

@@ -1,4 +1,4 @@
--- What stays in each machine that a run of a fixed system reaches: what threads find, and the kinds and the labels of objects.
+-- Machines that a run of a fixed system reaches: what threads find, and the kinds and the labels of objects, stay as at boot.
 use Rattle.std.{specs.Prelude.{List, None, Option, Some, option_map}, proofs.Common.{[], ◌++◌, ◌∙◌, ◌∷◌, ◌≡◌, ap, refl, subst, sym}}
 use Rattle.std.proofs.lemmas.Option.{none-some, same_Some}
 use Rattle.base.specs.declared.ids.ObjId.{ObjId}
@@ -10,7 +10,7 @@ use Rattle.integrity.{specs.Safe.IsReached, proofs.ObjectLabels.label_stays}
 use Rattle.fixed.specs.Fixed.{IsFixed, IsStill, StaysFixed}
 use Rattle.fixed.proofs.{Finds.IsFixedAt, RunsStay.{boot_fixed, run_stays}, Staying.fixed_stays}
 
--- an event more
+-- one more event
 run_more :
     (first : Machine) (events : List Event) (outcomes : List Outcome) (m next : Machine) (event : Event) (outcome : Outcome)
     → Run first events outcomes m → Step m event outcome next → Run first (events ++ event ∷ []) (outcomes ++ outcome ∷ []) next
@@ -34,7 +34,7 @@ reached_next t m next event outcome reached step = record {
 pub boot_reached : (t : Layout) (boot : Machine) → IsBoot t boot → IsReached t boot
 boot_reached t boot booted = record { boot = boot; booted = booted; events = []; outcomes = []; run = refl }
 
--- whether an object is still is told by its kind
+-- whether an object is still depends on its kind
 
 abbrev IsOfStillKind : ObjectKind → Type 0
 IsOfStillKind kind.Tcb = ⊥
@@ -57,7 +57,7 @@ kind_still (o.Reply _) still = still
 kind_still (o.Context _) still = still
 kind_still _ still = still
 
--- so one that is still is as it was at boot, and the same in both
+-- an object that is still is as it was at boot, and the same in both
 pub still_alike :
     (boot m n : Machine) → StaysFixed boot m → StaysFixed boot n → (id : ObjId) (object : Object) → object_of m id ≡ Some object
     → IsStill object → object_of n id ≡ Some object

@@ -33,7 +33,7 @@ use Rattle.noninterference.proofs.Handing.{ended_carries, named_carries, sent_ca
 use Rattle.noninterference.proofs.Meeting.{IsFirstAt, IsWay, Meets, Meets.{nobody, somebody}, meet, sender_before, taken_plain, way_of}
 use Rattle.noninterference.proofs.Rows.{carried, caller_too, found_same, found_there, to_found}
 
--- a machine stays fixed where a reply holds nobody any more
+-- a machine stays fixed when a reply lets go of its thread
 ended_stays : (m : Machine) (named : Option ObjId) → StaysFixed m (with_reply_ended m named)
 ended_stays m None = stays_itself m
 ended_stays m (Some id) = holder_halted_stays m id
@@ -122,7 +122,7 @@ module _
         (named_carries (with_blocked mid caller at (state.Receiving receiving)) (with_blocked half caller at (state.Receiving receiving)) named
         (reply.Waiting caller)))
 
-    -- who sends there is the same in both
+    -- a thread that sends there is the same in both
 
     sender_of : (x : Machine) (sender : ObjId) (tcb : Tcb) (s : Sending) → IsThread x sender tcb → tcb.state ≡ state.Sending s → WaitsAt tcb.state at → IsSender x at sender s
     sender_of x sender tcb s there so stands = record {
@@ -146,7 +146,7 @@ module _
         (sender_of n sender one.tcb s
         (sender_before n named both.other.well_formed.links sender one.tcb one.there (subst IsSending (sym so) tt)) so one.waits)
 
-    -- so both take its message
+    -- both take the same message
     takes_alike :
         (sender : ObjId) (one : IsFirstAt mid at sender) (other : IsFirstAt half at sender) → IsSame m n sender → (s : Sending)
         → one.tcb.state ≡ state.Sending s → AreMadeAlike m n (received mid caller receiving) (received half caller receiving)

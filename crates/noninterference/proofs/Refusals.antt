@@ -15,7 +15,6 @@ use Rattle.fixed.{specs.Fixed.NeedsNodeOrThread, proofs.Finds.{finds_no_taker, f
 use Rattle.machine.specs.Layout.{Layout}
 use Rattle.noninterference.proofs.{Both.{AreBoth, same_find}, Ends.{EndsAlike, follows_same}}
 
--- refused for the same cause
 abbrev AreRefused : {A : Type 0} → Result A Cause → Result A Cause → Type 0
 AreRefused {A} r s = (s ≡ r) × ((x : A) → r ≢ Ok x)
 

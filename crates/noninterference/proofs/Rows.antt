@@ -27,7 +27,7 @@ control_of_kind :
 control_of_kind (Some (o.Control control)) e = (control, refl)
 control_of_kind _ e = cc
 
--- what is the same stays so
+-- an object that is the same in both stays so
 pub carried : (m n next after : Machine) → Carries m n next after → KeepsAlike m n next after
 carried m n next after carries id alike = carries id alike.same
 
@@ -42,7 +42,7 @@ module _
       reached t allowed m (some_event caller) a m both.one both.rise caller address found.1.object (as_kind wanted found.1.detail) mine
       (finds wanted m caller address found e)
 
-  -- so it sees an object by a kind of use that makes it see
+  -- it sees an object by each kind of use by which labels see
   pub found_same :
       (k : Kind) (wanted : ObjectKind) (address : ℕ) (found : SlotRef × Cap) → find wanted m caller address ≡ Ok found
       → gives (as_kind wanted found.1.detail) k ≡ true → is_structural k ≡ false
@@ -51,7 +51,7 @@ module _
       let to = to_found wanted address found e in
       seen_same t allowed acts a m n both found.1.object to.label to.labelled (way to.label (to.edge k given plain))
 
-  -- what it finds is there in both, of the kind that it wants
+  -- what it finds is there in both, of the kind that the call takes
 
   pub found_there :
       (wanted : ObjectKind) (address : ℕ) (found : SlotRef × Cap) → find wanted m caller address ≡ Ok found

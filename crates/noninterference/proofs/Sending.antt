@@ -1,4 +1,4 @@
--- Sends and calls end alike in two machines that are alike to their label. The same thread waits first at the endpoint in both, and it
+-- Sends and calls end alike in two machines that are alike to their label: the same thread waits first at the endpoint in both, and it
 -- receives in both or in neither.
 use Rattle.std.{specs.Prelude.{None, Ok, Option, Some, if◌then◌else◌}, proofs.Common.{ℕ, ◌∙◌, ◌≡◌, ◌≢◌, Bool, List, ap}}
 use Rattle.std.proofs.{Common.{false, inl, inr, option_map, refl, subst, sym, true}, lemmas.{Bool.and_from, Option.{none-some, same_Some}}}
@@ -65,7 +65,7 @@ module _
     met : Meets m n id
     met = meet m n id both.one.well_formed.links both.other.well_formed.links end_there end_too end_same.queue
 
-    -- the first waits in the same way in both
+    -- the thread that waits first waits in the same way in both
     same_way : (first : ObjId) (one : IsFirstAt m id first) (other : IsFirstAt n id first) → IsSending one.tcb.state → IsSending other.tcb.state
     same_way first one other =
         let to = to_found t allowed acts a m n both caller mine kind.Endpoint address found e in
@@ -189,7 +189,7 @@ module _
       halts =
           halted_carries one_after other_after caller is.thread is.thread one_caller other_caller one_formed.links other_formed.links
 
-      -- through a reply that the receiver named, which is the same in both
+      -- it waits through a reply that the receiver named, which is the same in both
       module _ (q : ObjId) (named : receiving.reply ≡ Some q) (named_too : again.reply ≡ Some q) (same : IsSame m n receiver) where
         abbrev lent : Option Lent
         lent = loan_made one_after caller receiver
@@ -241,7 +241,7 @@ module _
             (record { reply = q; lent = lent }))
             lends_alike)
 
-      -- where the call may be answered, the receiver is the same in both
+      -- the receiver is the same in both if the call may be answered
       answers_alike : sending.can_reply ≡ true → IsSame m n receiver × (again ≡ receiving)
       answers_alike leave =
           let to = to_found t allowed acts a m n both caller mine kind.Endpoint address found e in

@@ -1,4 +1,4 @@
--- A signal in two machines: who is woken is woken in both, if it and the notification where it waits are the same in both.
+-- A signal in two machines: a thread is woken in both if it and the notification at which it waits are the same in both.
 use Rattle.std.{specs.{Int.RustNames.bit_or, Prelude.{None, Option, Some, option_and_then, slice_get, unwrap_or}}, proofs.Common.{ℕ, ◌∙◌}}
 use Rattle.std.proofs.{Common.{◌∷◌, ◌≡◌, ◌≢◌, List, ap, inl, inr, refl, subst, sym}, lemmas.Option.{none-some, same_Some}}
 use Rattle.base.specs.declared.ids.ObjId.{ObjId}
@@ -12,20 +12,20 @@ use Rattle.integrity.{specs.Shrinks.IsSame, proofs.Shrinking.same_same}
 use Rattle.noninterference.specs.Alike.{KeepsAlike}
 use Rattle.noninterference.proofs.Carries.{Carries, carries_along, object_beside, pending_carries, queue_beside, queue_carries, same_around, tcb_carries}
 
--- the first leaves its queue
+-- the thread that waits first leaves its queue
 first_gone :
     (m : Machine) (id first : ObjId) (others : List ObjId) → queue_of m id ≡ Some (first ∷ others)
     → without_first m id ≡ with_queue m id others
 unfolding without_first
 first_gone m id first others waited = rw waited refl
 
--- and is woken
+-- the thread is woken
 woken_is :
     (m : Machine) (thread : ObjId) (tcb : Tcb) (word : ℕ) → IsThread m thread tcb → woken m thread word ≡ with_tcb m thread (roused word tcb)
 unfolding woken
 woken_is m thread tcb word there = rw there refl
 
--- the first who waits at a notification
+-- the thread that waits first at a notification
 record IsFirst (m : Machine) (id first : ObjId) : Type 0 where
   others : List ObjId
   queue : queue_of m id ≡ Some (first ∷ others)
@@ -40,7 +40,7 @@ first_is m id first formed e =
     record { others = w.0; queue = w.1; tcb = thread.0; there = thread.2; waits = thread.3 }
 
 module _ (m : Machine) (id : ObjId) (badge : ℕ) where
-  -- where somebody waits
+  -- some thread waits there
 
   module _ (first : ObjId) (is : IsFirst m id first) where
     abbrev shorter : Machine
@@ -63,7 +63,7 @@ module _ (m : Machine) (id : ObjId) (badge : ℕ) where
   unfolding signalled
   signalled_alone e = rw e refl
 
-  -- nothing changes but the notification and the first who waits there
+  -- only the notification and the thread that waits first there change
   signal_beside :
       (formed : IsWellFormed m) (notification : Notification) → object_of m id ≡ Some (o.Notification notification)
       → (q : ObjId) → q ≢ id → first_waiting m id ≢ Some q → IsSame m (signalled m id badge) q
@@ -94,7 +94,7 @@ module _
   unfolding first_waiting
   same_first same = ap (option_and_then (λ (threads : List ObjId). slice_get threads 0)) same.queue
 
-  -- where the first ones differ, the signal changes no object that is alike
+  -- a signal changes no object that is alike if different threads wait first
   differing : first_waiting n id ≢ first_waiting m id → KeepsAlike m n (signalled m id badge) (signalled n id badge)
   differing differ q alike =
       same_around m n _ _ q (signal_beside m id badge formed old there q not_it not_first)

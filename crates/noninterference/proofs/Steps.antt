@@ -1,5 +1,5 @@
--- Admission: two machines that are alike to a label both admit a thread of the label, or both refuse it for the same cause. So its step ends
--- alike if its call does.
+-- Admission: two machines that are alike to a label both admit a thread of the label, or both refuse it for the same cause; so its step
+-- ends alike if its call does.
 use Rattle.std.{specs.Prelude.{None, Ok, Option, Some}, proofs.Common.{ℕ, ◌∙◌, ◌≡◌, ap, false, inl, inr, refl, subst, sym, true}}
 use Rattle.std.proofs.lemmas.Bool.{false≢true}
 use Rattle.base.specs.declared.{ids.ObjId.ObjId, kind.Kind.Kind as authority}
@@ -66,7 +66,7 @@ sleeping_alike : (m n : Machine) (thread : Tcb) → IsAsleep thread → running_
 sleeping_alike m n thread (inl inactive) = rw inactive refl
 sleeping_alike m n thread (inr ready) = rw (ready.0, ready.1) refl
 
--- so a thread is refused alike whose label doesn't act, if it is the same in both
+-- a thread whose label doesn't act is refused alike, if it is the same in both
 module _
     (t : Layout) (allowed : EdgeTest) (acts : ActorTest) (a : ℕ) (m n : Machine) (one : IsSound t allowed m) (kept : IsKept t allowed m)
     (actors : HoldsOfActors t allowed acts) (caller : ObjId) (mine : label_of t m caller ≡ Some a) (idle : acts a ≡ false)
@@ -99,7 +99,7 @@ module _
   unfolding made_by
   idle_alike core which = follows_alike m n _ _ _ _ (idle_admitted core) (λ share e. absurd (not_admitted core share e))
 
--- no event of a fixed system wants memory that isn't there
+-- no event of a fixed system lacks memory
 never_lacks :
     (m : Machine) (event : Event) (outcome : Outcome) (next : Machine) → IsWellFormed m → IsFixedAt m → LacksMemory m event outcome next → ⊥
 never_lacks m event outcome next formed fixed lacking =

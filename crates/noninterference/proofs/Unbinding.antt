@@ -1,4 +1,4 @@
--- A context loses its thread: what becomes of each object.
+-- A context that loses its thread: what becomes of each object.
 use Rattle.std.{specs.Prelude.{None, Option, Some, if◌then◌else◌, option_map}, proofs.Common.{◌∙◌, ◌≡◌, ◌≢◌, Bool, ap, false, inl}}
 use Rattle.std.proofs.{Common.{inr, refl, subst, sym, true}, lemmas.Option.{none-some, same_Some}}
 use Rattle.base.specs.declared.ids.ObjId.{ObjId}
@@ -11,7 +11,7 @@ use Rattle.steps.proofs.{ContextsFormed.unbound_is}
 use Rattle.integrity.proofs.Shrinking.{same_context}
 use Rattle.noninterference.proofs.Carries.{Carries, Turns, turns_carry}
 
--- an object without its link to a context, at whichever end
+-- an object without its link to a context, at either end
 abbrev cut : ObjId → ObjId → Object → Object
 cut id q (o.Tcb tcb) = o.Tcb (record tcb { context = if names_object tcb.context id then None else tcb.context })
 cut id q (o.Context context) = o.Context (record context { thread = if same_id q id then None else context.thread })
@@ -41,7 +41,7 @@ uncut id q (Some (o.Context context)) threads contexts = by_test (same_id q id) 
 uncut id q (Some _) threads contexts = refl
 
 module _ (m : Machine) (links : LinksAgree m) (id : ObjId) (context : Context) (its : object_of m id ≡ Some (o.Context context)) where
-  -- who runs on the context is the one that it names
+  -- a thread that runs on the context is the one that the context names
   runs_it : (q : ObjId) (tcb : Tcb) → IsThread m q tcb → tcb.context ≡ Some id → context.thread ≡ Some q
   runs_it q tcb there on =
       let w = links.thread_context q id tcb there on in
@@ -109,7 +109,7 @@ module _ (m : Machine) (links : LinksAgree m) (id : ObjId) (context : Context) (
     by_link (Some thread) on =
         let w = links.context_thread id thread context its on in bound_cut thread on w.0 w.1 w.2
 
--- so each object that was the same in two machines is the same after it
+-- each object that was the same in two machines is the same after it
 pub unbinding_carries :
     (m n : Machine) (id : ObjId) (old was : Context) → LinksAgree m → LinksAgree n → object_of m id ≡ Some (o.Context old)
     → object_of n id ≡ Some (o.Context was) → Carries m n (without_thread m old.thread) (without_thread n was.thread)

@@ -25,7 +25,7 @@ module _ (t : Layout) (allowed : EdgeTest) (acts : ActorTest) (a : ℕ) (m n : M
       both.actors label (blocked_acts t allowed x thread tcb kept.others there blocked label labelled)
       (has_threads t x sound.of_table thread tcb there label labelled)
 
-  -- who waits to send where the label receives is the same in both
+  -- a thread that waits to send where the label receives is the same in both
 
   pub sender_same :
       (id sender : ObjId) (sending : Sending) (e : ℕ) → label_of t m id ≡ Some e → allowed a authority.Receive e ≡ true
@@ -46,7 +46,7 @@ module _ (t : Layout) (allowed : EdgeTest) (acts : ActorTest) (a : ℕ) (m n : M
       (sender_sends t allowed n (some_event sender) a n both.other id sender sending is l.0 e l.1 (both.labels id ∙ labelled))
       (blocked_acting n both.other both.kept_too sender is.tcb is.there (subst IsBlocked (sym is.state) tt) l.0 l.1))
 
-  -- who waits to receive where the label calls is the same in both
+  -- a thread that waits to receive where the label calls is the same in both
   pub receiver_same :
       (id receiver : ObjId) (receiving : Receiving) (e : ℕ) → label_of t m id ≡ Some e → allowed a authority.Call e ≡ true
       → IsReceiver m id receiver receiving → IsSame m n receiver

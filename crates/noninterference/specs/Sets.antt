@@ -13,11 +13,11 @@ use Rattle.noninterference.specs.Alike.{WaitAlike}
 abbrev pub SetTest : Type 0
 SetTest = ℕ → Bool
 
--- nothing flows to a label of the set but from labels of the set
+-- only labels of the set flow to labels of the set
 abbrev pub IsClosedSet : Limits → SetTest → Type 0
 IsClosedSet limits inside = (x y : ℕ) → inside y ≡ true → FlowsTo limits x y → inside x ≡ true
 
--- .. but from these and from filters, leaving aside flows by objects of filters
+-- only labels of the set and filters flow to it, apart from flows by objects of filters
 abbrev pub IsClosedBeside : Limits → FilterTest → SetTest → Type 0
 IsClosedBeside limits filters inside =
     (x y : ℕ) → inside y ≡ true → FlowsBeside limits filters x y → (inside x ≡ true) ⊎ (filters x ≡ true)
@@ -32,7 +32,7 @@ pub record FiltersShowAlike (t : Layout) (limits : Limits) (filters : FilterTest
   -- each object of a filter on which a label of the set depends is the same in both
   pub objects :
       (id : ObjId) (l y : ℕ) → label_of t m id ≡ Some l → filters l ≡ true → inside y ≡ true → DependsOn limits y l → IsSame m n id
-  -- who waits at an endpoint to which a label of the set sends waits there in the same way in both, if it or the endpoint is a filter's
+  -- a thread that waits, in both, at an endpoint to which a label of the set sends waits there alike, if it or the endpoint is a filter's
   pub ways :
       (id thread : ObjId) (one other : Tcb) (l b y : ℕ) → label_of t m id ≡ Some l → label_of t m thread ≡ Some b
       → (filters l ≡ true) ⊎ (filters b ≡ true) → inside y ≡ true → limits.test y Send l ≡ true → IsThread m thread one
@@ -46,17 +46,17 @@ IsOfSet t boot inside thread = (a : ℕ) × (label_of t boot thread ≡ Some a) 
 abbrev pub IsOfFilter : Layout → Machine → FilterTest → SetTest → ObjId → Type 0
 IsOfFilter t boot filters inside thread = (a : ℕ) × (label_of t boot thread ≡ Some a) × (inside a ≡ false) × (filters a ≡ true)
 
--- two events that are the same, or both of threads that aren't of these
+-- two events are the same, or both of threads that aren't of these
 abbrev pub AreBeside : (ObjId → Type 0) → Event → Event → Type 0
 AreBeside IsOurs event other = (other ≡ event) ⊎ ((¬ IsOurs event.thread) × (¬ IsOurs other.thread))
 
--- two scripts that differ, position by position, only in events of threads that aren't of these
+-- two scripts differ, position by position, only in events of threads that aren't of these
 abbrev pub DifferBeside : (ObjId → Type 0) → List Event → List Event → Type 0
 DifferBeside IsOurs [] [] = Unit {0}
 DifferBeside IsOurs (event ∷ events) (other ∷ others) = AreBeside IsOurs event other × DifferBeside IsOurs events others
 DifferBeside IsOurs _ _ = ⊥
 
--- position by position, an event of one of these threads has the same outcome in both
+-- an event of one of these threads has the same outcome in both, position by position
 abbrev pub EndAlike : (ObjId → Type 0) → List Event → List Outcome → List Outcome → Type 0
 EndAlike IsOurs [] outcomes ends = Unit {0}
 EndAlike IsOurs (event ∷ events) (outcome ∷ outcomes) (other ∷ ends) =
@@ -70,11 +70,11 @@ pub record IsPosition
   pub beside : AreBeside (IsOfSet t boot inside) event other
   -- after each event
   pub shows : FiltersShowAlike t limits filters inside next after
-  -- after an event of a filter's thread, all on which the set depends is alike
+  -- all on which the set depends is alike after an event of a filter's thread
   pub filtered :
       IsOfFilter t boot filters inside event.thread ⊎ IsOfFilter t boot filters inside other.thread → AreAlikeTo t limits inside next after
 
--- two runs that are so at each position: from the machines m and n, with a list of events and one of outcomes each, to two machines
+-- two runs are so at each position: from the machines m and n, with a list of events and one of outcomes each, to two machines
 abbrev pub RunsBeside :
     Layout → Machine → Limits → FilterTest → SetTest → Machine → Machine → List Event → List Outcome → List Event → List Outcome
     → Machine → Machine → Type 0

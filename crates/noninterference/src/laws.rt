@@ -16,11 +16,11 @@ use table::boot_states_are_well_formed;
 /// A law: in a fixed system a call ends alike in two machines that are alike to its thread's label.
 ///
 /// The machines are of two runs from the boot state of the lawful table. Each object that the label
-/// sees is the same in both machines, and who waits at an endpoint to which it sends waits there in
-/// the same way. Then the same event by a thread of the label has the same outcome in both. An object
-/// that is the same in both before is the same in both after. For a thread that waits, that at which
-/// it waits must be the same too. The policy is the reach of the table, or any other that is sharply
-/// closed and has all authority of the boot state.
+/// sees is the same in both machines, and a thread that waits at an endpoint to which it sends waits
+/// there in the same way. Then the same event by a thread of the label has the same outcome in both. An
+/// object that is the same in both before is the same in both after; for a thread that waits, the object
+/// at which it waits must be the same too. The policy is the reach of the table, or any other that is
+/// sharply closed and has all authority of the boot state.
 pub fn steps_look_alike()
     ensures { (t : Layout) (allowed : EdgeTest) (acts : ActorTest) (a : ℕ) (m n next after : Machine) (event : Event)
         (outcome other : Outcome)
@@ -77,12 +77,12 @@ pub fn others_make_no_difference()
     boot_states_are_well_formed();
 }
 
-/// A law: where flows to a set of labels go through filters, others make a difference to it only by what filters do.
+/// A law: if flows to a set of labels go through filters, others make a difference to it only by what filters do.
 ///
 /// Two runs from the boot state of the lawful table differ, position by position, only in events of
 /// threads whose labels aren't in the set. What filters show to the set is alike in both at each
-/// position, and after an event of a filter's thread all on which the set depends. Then each event of
-/// a thread of the set has the same outcome in both, and in the end all on which the set depends is
+/// position, and so is all on which the set depends after an event of a filter's thread. Then each event
+/// of a thread of the set has the same outcome in both, and in the end all on which the set depends is
 /// the same. The clause `reach` says it of the set of the labels from which chains of flows lead to a
 /// label without passing a filter, by the reach of the table, if none leads from another label.
 pub fn others_act_through_filters()

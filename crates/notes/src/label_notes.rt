@@ -1,4 +1,4 @@
-//! The sentences on what each label of a table may do to the others.
+//! Sentences on what each label of a table may do to the others.
 use base::{Label, Labels};
 use captext::label_name;
 use explain::LabelNames;
@@ -8,12 +8,11 @@ use std::alloc::{AllocError, Global};
 use table::Table;
 
 /// Returns lines on the labels of a table that have a thread: whose objects each of them may change by the reach of
-/// the table, and whose it may make smaller, as far as these have a thread too. `table_file` is what the table's file
-/// is called.
+/// the table, and whose it may make smaller, among those with a thread. `table_file` is the name of the table's file.
 ///
 /// # Errors
 ///
-/// [`AllocError`] where memory is refused.
+/// [`AllocError`] if memory is refused.
 pub fn explain_changes(
     alloc: Global,
     table_file: &str,
@@ -39,7 +38,7 @@ fn programs_of(table: &Table) -> Labels {
     programs
 }
 
-/// How many labels are in a set.
+/// The number of labels in a set.
 fn count(labels: Labels) -> usize {
     let mut count = 0usize;
     for _ in labels.iter() {
@@ -63,7 +62,7 @@ fn push_programs(
     push_apart(lines, reach.table(), programs, apart)
 }
 
-/// Adds the line of a label that reaches others of these; gives whether it does.
+/// Adds the line of a label that reaches others of these. Returns whether it reaches any.
 fn push_changes(
     lines: &mut String,
     reach: &Reach<'_>,
@@ -100,7 +99,7 @@ fn push_changes(
     Ok(true)
 }
 
-/// Adds which labels that have a thread reach none of the others, if there are such.
+/// Adds which labels with a thread reach none of the others, if there are any.
 fn push_apart(
     lines: &mut String,
     table: &Table,
@@ -122,7 +121,7 @@ fn push_apart(
     writeln!(lines, "{only}{names}{what}")
 }
 
-/// Adds that so many labels have no thread, if there are such.
+/// Adds the number of labels without a thread, if there are any.
 fn push_others(lines: &mut String, table_file: &str, others: usize) -> Result<(), AllocError> {
     let (have, them) = match others {
         0 => return Ok(()),

@@ -1,6 +1,6 @@
 //! Words on an accepted system: what each label may do, and what in its table may not be meant.
 //!
-//! `serving` stands on it. It knows no claim, no run, no device and no command.
+//! The crate knows no claim, no run, no device and no command.
 #![tactic(auto)]
 
 mod label_notes;

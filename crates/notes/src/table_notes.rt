@@ -1,4 +1,4 @@
-//! Notes on an accepted table: what is no fault, and may not be meant.
+//! Notes on an accepted table: what is no fault, but may not be meant.
 use base::{Kind, Label, Labels, ObjId, Rights, SlotRef};
 use bitflags::Flags;
 use captext::{SlotName, label_name, object_name};
@@ -9,10 +9,10 @@ use std::alloc::{AllocError, Global};
 use std::fmt;
 use table::Table;
 
-/// How many notes of a kind are told, and how many roots with fewer than 64 bits are looked at.
+/// The largest number of notes of a kind, and of roots with fewer than 64 bits that are looked at.
 const MOST: usize = 16;
 
-/// What is noted of a table.
+/// A note on a table.
 #[derive(Clone, Copy)]
 struct Note {
     /// The line in the table's text.
@@ -20,14 +20,14 @@ struct Note {
     matter: Matter,
 }
 
-/// What a note of a table says, in words.
+/// The text of a note on a table.
 #[derive(Clone, Copy)]
 struct Told<'a> {
     table: &'a Table,
     matter: Matter,
 }
 
-/// What a note says.
+/// The matter of a note.
 #[derive(Clone, Copy)]
 enum Matter {
     /// No object has this label.
@@ -42,7 +42,7 @@ enum Matter {
     Unanswering(SlotRef),
     /// The capabilities of these slots signal or send with one badge.
     Alike(SlotRef, SlotRef),
-    /// The lookups from this root end after so many bits of an address.
+    /// The lookups from this root end after this many bits of an address.
     Short(SlotRef, u64),
 }
 
@@ -50,7 +50,7 @@ enum Matter {
 ///
 /// # Errors
 ///
-/// [`AllocError`] where memory is refused.
+/// [`AllocError`] if memory is refused.
 pub fn explain_notes(
     alloc: Global,
     sheet: Sheet<'_>,
@@ -75,7 +75,7 @@ fn notes_of(alloc: Global, sheet: Sheet<'_>, matters: &[Matter]) -> Result<Vec<N
     Ok(notes)
 }
 
-/// The line of what a note says something of.
+/// The line of the matter of a note.
 fn line_of(sheet: Sheet<'_>, matter: Matter) -> Option<usize> {
     match matter {
         Matter::Unused(label) => sheet.line_of_label(label),
@@ -136,7 +136,7 @@ impl fmt::Display for Told<'_> {
     }
 }
 
-/// That calls arrive through a slot, and aren't answered.
+/// Says that calls arrive through a slot, and aren't answered.
 fn tell_unanswering<W: fmt::Write>(
     f: &mut fmt::Formatter<W>,
     table: &Table,
@@ -151,7 +151,7 @@ fn tell_unanswering<W: fmt::Write>(
     )
 }
 
-/// That two slots have one badge.
+/// Says that two slots have one badge.
 fn tell_alike<W: fmt::Write>(
     f: &mut fmt::Formatter<W>,
     table: &Table,
@@ -166,7 +166,7 @@ fn tell_alike<W: fmt::Write>(
     )
 }
 
-/// That lookups from a root end after so many bits.
+/// Says that lookups from a root end after this many bits.
 fn tell_short<W: fmt::Write>(
     f: &mut fmt::Formatter<W>,
     table: &Table,
@@ -182,7 +182,6 @@ fn tell_short<W: fmt::Write>(
     )
 }
 
-/// Adds what there is to note.
 fn add_notes(alloc: Global, notes: &mut Vec<Matter>, reach: &Reach<'_>) -> Result<(), AllocError> {
     let table = reach.table();
     add_labels(notes, table)?;
@@ -247,7 +246,7 @@ fn add_objects(alloc: Global, notes: &mut Vec<Matter>, table: &Table) -> Result<
     add_unnamed(notes, table, &named)
 }
 
-/// The same, where these objects have capabilities.
+/// Adds the endpoints, notifications, frames and untyped memories that aren't in `named`, the objects with capabilities.
 fn add_unnamed(notes: &mut Vec<Matter>, table: &Table, named: &[ObjId]) -> Result<(), AllocError> {
     let mut told = 0;
     for (id, initial) in table.objects().iter().enumerate() {
@@ -260,7 +259,7 @@ fn add_unnamed(notes: &mut Vec<Matter>, table: &Table, named: &[ObjId]) -> Resul
     Ok(())
 }
 
-/// Whether objects of a kind are of use by a capability alone.
+/// Whether an object of this kind is of use by a capability alone.
 fn is_for_use(kind: ObjectKind) -> bool {
     match kind {
         ObjectKind::Untyped | ObjectKind::Endpoint | ObjectKind::Notification | ObjectKind::Frame =>
@@ -312,14 +311,14 @@ fn add_thread(
     Ok(())
 }
 
-/// Adds the capabilities by which calls arrive where their holder has no capability for a reply object.
+/// Adds the capabilities by which calls arrive if their holder has no capability for a reply object.
 fn add_receivers(alloc: Global, notes: &mut Vec<Matter>, table: &Table) -> Result<(), AllocError> {
     let called = list_of(alloc, table, Listed::Called)?;
     let answering = list_of(alloc, table, Listed::Answering)?;
     add_unanswering(notes, table, &called, &answering)
 }
 
-/// The same, where these endpoints are called, and these objects have capabilities for reply objects.
+/// Adds the capabilities that receive at one of `called`, and whose holder isn't in `answering`.
 fn add_unanswering(
     notes: &mut Vec<Matter>,
     table: &Table,
@@ -374,7 +373,7 @@ fn add_badges(alloc: Global, notes: &mut Vec<Matter>, table: &Table) -> Result<(
     add_alike(notes, table, &senders)
 }
 
-/// The same, where these signal or send, by object and badge.
+/// Adds each of `senders`, which are ordered by object and badge, with the badge of another holder's before it.
 fn add_alike(notes: &mut Vec<Matter>, table: &Table, senders: &[Sender]) -> Result<(), AllocError> {
     let mut told = 0;
     let mut last: Option<Sender> = None;
@@ -421,9 +420,9 @@ fn badge_of_sender(filled: &Filled) -> Option<u64> {
     }
 }
 
-/// Adds the roots whose lookups end before the last bit of an address: where several addresses find
-/// each slot, and address 1 may be no slot 1. A CNode that has capabilities for CNodes may be meant
-/// to, and isn't told.
+/// Adds the roots whose lookups end before the last bit of an address, so that several addresses find
+/// each slot, and address 1 may be no slot 1. A CNode with capabilities for CNodes may be meant to be
+/// such a root, and isn't noted.
 fn add_roots(notes: &mut Vec<Matter>, table: &Table) -> Result<(), AllocError> {
     let mut short = 0;
     for filled in table.caps() {
@@ -440,7 +439,7 @@ fn add_roots(notes: &mut Vec<Matter>, table: &Table) -> Result<(), AllocError> {
     Ok(())
 }
 
-/// How many bits of an address the guard and the radix of a root are, if a slot is a root.
+/// The number of bits of an address that the guard and the radix of a root take, if a slot is a root.
 fn bits_read(table: &Table, filled: &Filled) -> Option<u64> {
     let Detail::CNode(guard) = filled.cap.detail else {
         return None;

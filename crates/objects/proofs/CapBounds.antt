@@ -1,4 +1,4 @@
--- There are no more capabilities for an object than slots, and each is for an object that is there.
+-- Capabilities are no more than slots, and each is for an object that is there.
 use Rattle.std.{specs.{FinMap.FinMap, List.flat_map, Prelude.{IsSome, None, Option, Some}}, proofs.Common.{[], ℕ, ◌*◌, ◌-◌, ◌<◌, ◌^◌, ◌∙◌}}
 use Rattle.std.specs.FinMap as finite
 use Rattle.std.proofs.Common.{◌∷◌, ◌≡◌, ◌≤◌, Bool, List, ap, arith, cond, false, inl, inr, length, refl, subst, suc, sym, true, zero}
@@ -11,7 +11,7 @@ use Rattle.objects.specs.{declared.{entry.Entry.Entry, state.State.TheInside.Ins
 use Rattle.objects.{specs.State.{IsConsistent, IsSound, machine_of, slots_of}, proofs.{CountLemmas.few_slots, EntryLemmas.some-none}}
 use Rattle.objects.proofs.{QueueLemmas.cases_id, StateLemmas.{object_at, tells-machine_of}}
 
--- a map has no more keys than there are numbers below a bound of them
+-- a map whose keys are below a bound has no more keys than the bound
 few_keys :
     {X : Type 0} (numbers : ℕ) (m : FinMap id_cmp X) → ((id : ObjId) → IsSome (finite.get m id) → id.0 < numbers)
     → finite.len m ≤ numbers
@@ -52,7 +52,7 @@ few_keys {X} (suc numbers) m below =
     by_listed true was now is few = omega (arith, is, few)
     by_listed false was now is few = omega (arith, is, few)
 
--- so many objects have no more slots than CNodes can have
+-- a number of objects has no more slots than as many CNodes can have
 all_slots :
     (entry : ObjId → Option Entry) → ((id : ObjId) (e : Entry) → entry id ≡ Some e → length e.slots ≤ 2 ^ 12) → (ids : List ObjId)
     → length (flat_map (λ id. slots_of id (entry id)) ids) ≤ length ids * 2 ^ 12
@@ -90,7 +90,7 @@ caps_bounded s consistent id =
         let fits = few_slots e.object its.1 in
         omega (arith, its.0, fits)
 
--- an object that counts some is there
+-- an object for which some capability is counted is there
 counted_there : (o : Option Entry) → 1 ≤ caps_in o → IsSome o
 counted_there None some = absurd (omega (arith, some))
 counted_there (Some e) some = refl

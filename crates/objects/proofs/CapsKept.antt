@@ -1,4 +1,4 @@
--- Changes of entries that leave how many capabilities each counts for its object, and the change of one such count.
+-- The number of capabilities that each entry counts: changes of entries that leave it as it is, and the change of one such number.
 use Rattle.std.{specs.{Option.option_or, Prelude.{IsSome, None, Option, Some, option_map}}, proofs.Common.{ℕ, ◌∙◌, ◌≡◌, Bool, ap, cond}}
 use Rattle.std.proofs.{Common.{false, refl, subst, sym, true}, lemmas.Bool.false≢true}
 use Rattle.base.specs.declared.ids.{ObjId.ObjId, SlotRef.SlotRef}
@@ -8,7 +8,6 @@ use Rattle.objects.specs.Entries.{Entries, caps_in, change_slot_in, entry_of, se
 use Rattle.objects.specs.{Family.{attached, detached, head_of, leaving, leaving_from, links_at, with_links, with_slot}, Links.end_after}
 use Rattle.objects.{specs.Links.{pushed, quitted, relinked, standing_of, with_standing}, proofs.EntryLemmas.entry_of-with_entry}
 
--- each entry counts what it counted
 abbrev pub CapsKept : Entries → Entries → Type 0
 CapsKept old new = (q : ObjId) → caps_in (entry_of new q) ≡ caps_in (entry_of old q)
 
@@ -101,7 +100,7 @@ caps-quitted entries id thread (Some ends) q =
     }) q
     ∙ caps-with_standing entries standing.previous (λ s. record s { next = standing.next }) q
 
--- the count of one object, which is there, is set
+-- the number for one present object is set
 pub caps-set :
     (entries : Entries) (id : ObjId) (caps : ℕ) → IsSome (entry_of entries id) → (q : ObjId)
     → caps_in (entry_of (with_entry entries id (set_caps_in caps)) q) ≡ cond (same_id q id) caps (caps_in (entry_of entries q))

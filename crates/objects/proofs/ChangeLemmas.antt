@@ -1,4 +1,4 @@
--- What a machine becomes when one entry is changed or added, or threads are linked otherwise.
+-- Machines after one entry is changed or added, or threads are linked otherwise.
 use Rattle.std.{specs.Prelude.{None, Option, Some, option_and_then, option_map, slice_get, slice_set}, proofs.Common.{[], ℕ, ◌+◌, ◌∙◌, ◌≡◌}}
 use Rattle.std.proofs.Common.{◌≢◌, Bool, List, ap, cond, false, length, refl, replicate, subst, sym, true}
 use Rattle.std.specs.FinMap as finite
@@ -14,7 +14,7 @@ use Rattle.objects.specs.{Links.{AreQueued, ends_of, queue_in, standing_of}, Que
 use Rattle.objects.proofs.{EditLemmas.{slice_get_edited_other, slice_get_edited_same}, EntryLemmas.read_empty, StateLemmas.Tells}
 use Rattle.objects.proofs.StateLemmas.{object_at, words_at}
 
--- one object's entry has changed so
+-- only one object's entry has changed, by this change
 abbrev pub IsChanged : (ObjId → Option Entry) → (ObjId → Option Entry) → ObjId → (Entry → Entry) → Type 0
 IsChanged old new id change = (q : ObjId) → new q ≡ cond (same_id q id) (option_map change (old q)) (old q)
 
@@ -100,7 +100,7 @@ rest e = (e.object, e.slots, e.words)
 abbrev pub bulk : Entry → Object × ℕ × Ends × Standing × List ℕ
 bulk e = (e.object, length e.slots, e.ends, e.standing, e.words)
 
--- what is read of a part that is as it was
+-- a part that is as it was is read as it was
 
 pub part_read :
     {A B : Type 0} (part : Entry → A) (read : A → B) (o o' : Option Entry) → option_map part o' ≡ option_map part o
@@ -118,7 +118,7 @@ part_found part read o o' same = twice o' ∙ ap (option_and_then read) same ∙
   twice None = refl
   twice (Some e) = refl
 
--- entries of which all but the links is as it was have the slots that they had
+-- entries have the slots that they had if all but their links is as it was
 pub slots_kept :
     (old new : ObjId → Option Entry) → ((q : ObjId) → option_map rest (new q) ≡ option_map rest (old q)) → (q : SlotRef)
     → slot_at new q ≡ slot_at old q
@@ -163,7 +163,7 @@ words_of-with_words :
 unfolding words_of with_words
 words_of-with_words m id words q = finite.get-insert id_total m.words id words q
 
--- where an empty slot reads as an absent one, a new object changes nothing that is read of slots
+-- a new object changes nothing that is read of slots, if an empty slot reads as an absent one
 pub added_read :
     {A : Type 0} (old new : ObjId → Option Entry) (object : Object) (id : ObjId) → old id ≡ None
     → ((q : ObjId) → new q ≡ cond (same_id q id) (Some (new_entry object)) (old q)) → (read : Option Slot → A)
@@ -247,7 +247,7 @@ module _ (numbers : ℕ) (m : Machine) (old new : ObjId → Option Entry) (tells
             ∙ ap parent_in (sym (reading_kept old new id change changed (λ e. slice_get e.slots q.index) (λ e. refl) q.holder));
       }
 
-  -- a change of how many capabilities are counted
+  -- a change of the number of capabilities that are counted
   pub tells-caps : (id : ObjId) (caps : ℕ) → IsChanged old new id (set_caps_in caps) → Tells numbers m new
   tells-caps id caps changed =
       let change : Entry → Entry = set_caps_in caps in
@@ -265,7 +265,7 @@ module _ (numbers : ℕ) (m : Machine) (old new : ObjId → Option Entry) (tells
             ∙ ap parent_in (sym (reading_kept old new id change changed (λ e. slice_get e.slots q.index) (λ e. refl) q.holder));
       }
 
-  -- a change of links alone, by which one queue is another
+  -- a change of links alone, which makes one queue another
   pub tells-queue :
       (id : ObjId) (queue : List ObjId) → ((q : ObjId) → option_map rest (new q) ≡ option_map rest (old q))
       → queue_in numbers new (new id) ≡ Some queue

@@ -1,4 +1,4 @@
--- What is true of each state stays true under each change, and what contracts see of the state after it.
+-- Changes of a state keep it consistent, and change the machine that contracts see as the machine's own changes do.
 use Rattle.std.specs.FinMap as finite
 use Rattle.std.specs.{List.{AllByRecursion, fold}, Prelude.{Contains, IfSome, IsSome, IsTrue, None, Option, Some, filter, is_some, not}}
 use Rattle.std.{specs.Prelude.{option_and_then, option_map, slice_get, slice_set}, proofs.Common.{[], ℕ, ◌++◌, ◌+◌, ◌<◌, ◌^◌, ◌∙◌, ◌∷◌}}
@@ -21,7 +21,7 @@ use Rattle.objects.proofs.{LinkLemmas.{quitted_requeues, stands_nowhere}, QueueL
 use Rattle.objects.proofs.{QueueLemmas.{walk_none, walk_once}, Quitting.on_walk_waits, StateLemmas.{Tells, going-machine_of}}
 use Rattle.objects.proofs.StateLemmas.{next-machine_of, object_at, present_kept, same_from_tells, tells-machine_of, words_at}
 
--- the derivation tree, where slots are as they were
+-- a state stays consistent if slots are as they were
 same_slots :
     (old new : ObjId → Option Entry) → ((q : SlotRef) → slot_at new q ≡ slot_at old q) → AreKin old → AreKin new
 same_slots old new same = same_kin old new (λ q. ap links_of (same q))
@@ -93,7 +93,7 @@ IsConsistent-requeued s consistent entries id requeues =
         same_Some (rest e) (rest entry) (ap (option_map rest) (sym was) ∙ sym (requeues.same q) ∙ ap (option_map rest) is) in
         subst (λ r. (length r.1 ≡ slot_count r.0) × HasRadix r.0) same (consistent.sized q e was)
 
--- how many capabilities an entry counts is no part of the machine
+-- the number of capabilities that an entry counts is no part of the machine
 pub caps_give : (s : Inside) (id : ObjId) (caps : ℕ) → machine_of (with_changed s id (set_caps_in caps)) ≡ machine_of s
 caps_give s id caps =
     let s' : Inside = with_changed s id (set_caps_in caps) in
@@ -102,7 +102,7 @@ caps_give s id caps =
     (entry_of-with_entry s.store id (set_caps_in caps)))
     (next-machine_of s' ∙ sym (next-machine_of s)) (going-machine_of s' ∙ sym (going-machine_of s))
 
--- a slot that the machine has is one of an entry
+-- a slot that the machine has is a slot of an entry
 pub found_slot :
     (s : Inside) → IsConsistent s → (slot : SlotRef) → IsTrue (has_slot (machine_of s) slot)
     → (e : Entry) × (entry_of s.store slot.holder ≡ Some e) × (slot.index < length e.slots)
@@ -120,7 +120,7 @@ found_slot s consistent slot has = by_entry (entry_of s.store slot.holder) refl 
       let sized : length e.slots ≡ slot_count e.object = (consistent.sized slot.holder e is).0 in
       (e, is, omega arith)
 
--- who waits first
+-- the thread that waits first
 
 pub first_waiting-machine_of :
     (s : Inside) → IsConsistent s → (id : ObjId)
@@ -167,7 +167,7 @@ empty_gives s none next going =
     (tells-same 0 empty_machine (λ _. None) (entry_of s.store) tells-empty (none_of s none)))
     (next-machine_of s ∙ next ∙ sym next-empty) (going-machine_of s ∙ going ∙ sym going-empty)
 
--- where there are no entries, nobody waits
+-- nobody waits in a state without entries
 no_queues : AreQueued (λ _. None) 0
 no_queues =
     record {
@@ -403,7 +403,7 @@ HasRadix-machine_of s consistent id object present = by_entry (entry_of s.store 
 
 -- an object's content is set
 
--- an object that the machine has has an entry
+-- each object that the machine has has an entry
 found_entry :
     (s : Inside) (id : ObjId) → IsSome (object_of (machine_of s) id) → (e : Entry) × (entry_of s.store id ≡ Some e)
 found_entry s id some = by_entry (entry_of s.store id) refl where
@@ -532,7 +532,7 @@ module _ (s : Inside) (consistent : IsConsistent s) (id : ObjId) where
   unfolding with_waiting
   waiting_some m thread threads e = rw e
 
-  -- a thread that is there, and that waits nowhere
+  -- a thread that is there, and waits nowhere
 
   module _ (thread : ObjId) (present : IsSome (object_of (machine_of s) thread)) (free : WaitsNowhere (machine_of s) thread) where
     thread_there : IsSome (entry thread)
@@ -576,7 +576,7 @@ module _ (s : Inside) (consistent : IsConsistent s) (id : ObjId) where
           ∙ sym
           (waiting_some (machine_of s) thread _ ((tells-machine_of s).queues id ∙ ap (queue_in s.next entry) is))
 
-  -- who waits first waits once
+  -- the thread that waits first waits once
   pub first_once :
       (thread : ObjId) (others : List ObjId) → queue_of (machine_of s) id ≡ Some (thread ∷ others) → ¬ (Contains others thread)
   first_once thread others waited = by_entry (entry id) (sym ((tells-machine_of s).queues id) ∙ waited) where

@@ -1,4 +1,4 @@
--- How the counts of a machine change where it does: a new object adds to them, and other changes leave them as they are.
+-- The counts of a machine: a new object adds to them, and changes that make or remove no object leave them as they are.
 use Rattle.std.{specs.{FinMap.entries, Prelude.{None, Option, Some, sum, sum_by}}, proofs.Common.{[], ℕ, ◌+◌, ◌^◌, ◌∙◌, ◌∷◌, ◌≡◌, ◌≤◌}}
 use Rattle.std.specs.FinMap as finite
 use Rattle.std.proofs.{Common.{List, ap, arith, length, map, refl, sym}, Math.Pow.pow_mono, lemmas.List.Sums.sum_by-cons}

@@ -1,4 +1,4 @@
--- A state's counts, and those of its entries, stay exact under each change.
+-- The counts of a state, and those of its entries: they stay exact under each change.
 use Rattle.std.specs.FinMap as finite
 use Rattle.std.specs.{Global.Vec, List.{AllByRecursion, fold}, Prelude.{IfSome, IsSome, IsTrue, None, Option, Some, vec_capacity}}
 use Rattle.std.proofs.Common.{[], ℕ, ◌+◌, ◌-◌, ◌^◌, ◌∙◌, ◌∷◌, ◌≡◌, ◌≢◌, ◌≤◌, List, ap, arith, length, refl, subst, sym}
@@ -23,7 +23,7 @@ use Rattle.objects.proofs.{PairLemmas.{paired-with_object, paired-with_word, pai
 use Rattle.objects.proofs.{StateLemmas.{next-machine_of, object_at, present_kept, tells-machine_of}, TreeState.IsConsistent-cap_set}
 use Rattle.objects.proofs.TreeState.{put_cap_gives, take_cap_gives}
 
--- a change after which the machine has as much as before
+-- a change that leaves the machine's counts as they are
 
 counted_after :
     (s t : Inside) → IsCounted s → t.counts ≡ s.counts → t.next ≡ s.next → (m : Machine) → machine_of t ≡ m
@@ -34,7 +34,7 @@ counted_after s t counted counts next m gives same =
       few = subst (λ n. AreOfNumbers t.counts n) (sym next) (subst (λ c. AreOfNumbers c s.next) (sym counts) counted.few);
     }
 
--- and each object its capabilities
+-- a change that leaves these counts and those of capabilities
 pub sound_after :
     (s t : Inside) → IsSound s → IsConsistent t → t.counts ≡ s.counts → t.next ≡ s.next → t.going ≡ s.going → CapsKept s.store t.store
     → (m : Machine) → machine_of t ≡ m → counts_in m ≡ counts_in (machine_of s) → ((id : ObjId) → caps_to m id ≡ caps_to (machine_of s) id)
@@ -48,7 +48,7 @@ sound_after s t sound consistent counts next going kept m gives same caps paired
       paired = subst AreFilledOrGoing (sym gives) paired;
     }
 
--- a capability comes or goes
+-- a capability is put into a slot or taken out
 
 module _ (s : Inside) (slot : SlotRef) (held : Cap) (filling : Option Cap) (caps : ℕ) where
   abbrev set : Slot → Slot
@@ -211,7 +211,7 @@ sound_all_added s sound objects room radices roomy =
     counted_more counts [] = omega arith
     counted_more counts (object ∷ objects) = let more = counted_more (one_more counts object) objects in omega (arith, more)
 
--- an object is another, with as many slots and threads
+-- an object is replaced by one with as many slots and threads
 pub sound_replace :
     (s : Inside) → IsSound s → (id : ObjId) (object : Object) → HasRadix object → IsSome (object_of (machine_of s) id)
     → IfSome (object_of (machine_of s) id) (λ old. slot_count object ≡ slot_count old)
@@ -254,7 +254,7 @@ sound_word s sound id index word =
     (counts-with_word (machine_of s) id index word) (caps_to-with_word (machine_of s) id index word)
     (paired-with_word (machine_of s) id index word sound.paired)
 
--- those that are going are others
+-- the list of objects that are going changes
 
 module _ (s : Inside) (going : Vec ObjId) where
   abbrev pub with_found : Inside
@@ -268,7 +268,7 @@ module _ (s : Inside) (going : Vec ObjId) where
   unfolding machine_of objects_in slots_in threads_in
   found_counts = refl
 
-  -- there is room for no fewer
+  -- the room is no less than before
   pub sound_going :
       IsSound s → vec_capacity s.going ≤ vec_capacity going → (m : Machine) → machine_of with_found ≡ m → AreFilledOrGoing m → IsSound with_found
   sound_going sound grown m gives paired =

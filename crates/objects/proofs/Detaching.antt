@@ -1,4 +1,4 @@
--- Links of a forest stay so where a slot leaves its parent.
+-- A slot that leaves its parent: links of a forest stay so.
 use Rattle.std.{specs.Prelude.{None, Some}, proofs.Common.{◌<◌, ◌∙◌, ◌≡◌, ◌≢◌, ◌⊎◌, arith, inl, inr, sym}}
 use Rattle.objects.{specs.Forest.{IsForest, Leaves, Links}, proofs.Forests.{cases_link, cases_none, parent_shared}}
 
@@ -13,7 +13,7 @@ module _ {K : Type 0} (decide : (x y : K) → (x ≡ y) ⊎ (x ≢ y)) (old new 
   old_parent : (b q : K) → new.parent b ≡ Some q → old.parent b ≡ Some q
   old_parent b q is = sym (leaves.parent_other b (with_parent b q is)) ∙ is
 
-  -- who stands behind another: the next behind the one before, and the rest as before
+  -- the next slot is behind the one before, and the rest as before
   behind_now :
       (a b : K) → new.previous b ≡ Some a
       → ((old.next c ≡ Some b) × (old.previous c ≡ Some a)) ⊎ ((old.next c ≢ Some b) × (old.previous b ≡ Some a))
@@ -35,7 +35,7 @@ module _ {K : Type 0} (decide : (x y : K) → (x ≡ y) ⊎ (x ≢ y)) (old new 
   next_under : (b : K) → old.next c ≡ Some b → old.parent b ≡ Some p
   next_under b next = parent_shared old forest c b (forest.onward c b next) ∙ under
 
-  -- a first child is none that is behind the one that leaves
+  -- a first child isn't behind the one that leaves
   first_not_next : (q b : K) → old.first q ≡ Some b → old.next c ≢ Some b
   first_not_next q b first next =
       let behind = forest.onward c b next in let none = (forest.headed q b first).1 in cc

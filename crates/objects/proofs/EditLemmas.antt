@@ -1,4 +1,4 @@
--- What a list edited at one place has at each place, and how an edit is a write.
+-- A list edited at one place: its elements at each place, and an edit as a write.
 use Rattle.std.{specs.Prelude.{option_map, slice_get, slice_index_or}, proofs.Common.{[], ℕ, ◌<◌, ◌∷◌, ◌≡◌, ◌≢◌, List, ap, arith, length}}
 use Rattle.std.proofs.Common.{refl, set, suc, sym, zero}
 use Rattle.objects.specs.Edits.{edited}
@@ -27,7 +27,6 @@ module _ {X : Type 0} (change : X → X) where
   slice_get_edited_other (x ∷ xs) (suc place) zero apart = refl
   slice_get_edited_other (x ∷ xs) (suc place) (suc at) apart = slice_get_edited_other xs place at (λ same. apart (ap suc same))
 
--- an edit is a write of what is there, changed
 pub edited_within :
     {X : Type 0} (change : X → X) (x : X) (xs : List X) (place : ℕ) → place < length xs → x ≡ slice_index_or xs place x
     → edited change xs place ≡ set xs place (change x)

@@ -1,4 +1,4 @@
--- A slot that is emptied: what it held, and that the state stays sound where one capability less is counted for that object.
+-- A slot that is emptied: what it held; and the state stays sound if one capability less is counted for that object.
 use Rattle.std.{specs.Prelude.{None, Option, Some, option_map}, proofs.Common.{ℕ, ◌-◌, ◌∙◌, ◌≡◌, ◌≤◌, ap, arith, refl, subst, sym}}
 use Rattle.std.proofs.lemmas.Option.{same_Some}
 use Rattle.base.specs.declared.ids.{ObjId.ObjId, SlotRef.SlotRef}
@@ -9,7 +9,6 @@ use Rattle.objects.specs.{Family.{cap_in, with_slot}, Pairs.MayEmpty, State.{IsS
 use Rattle.objects.proofs.{CapsKept.caps-with_slot, ConsistentLemmas.caps_give, CountedStates.{sound_after, sound_take}}
 use Rattle.objects.proofs.{StateLemmas.tells-machine_of, TreeState.{IsConsistent-cap_set, take_cap_gives}}
 
--- the object of a capability, if there is one
 abbrev pub object_in : Option Cap → Option ObjId
 object_in held = option_map (λ cap. cap.object) held
 

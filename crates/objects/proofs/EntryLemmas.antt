@@ -1,4 +1,4 @@
--- What the entries are after a change: each object has the entry that it had, but for the one that was changed or added.
+-- Entries after a change: each object has the entry that it had, except the one whose entry was changed or added.
 use Rattle.std.specs.FinMap as map
 use Rattle.std.{specs.Prelude.{IsSome, None, Option, Some, is_some, option_map, slice_get}, proofs.Common.{ℕ, ◌∙◌, ◌≡◌, ◌≢◌, ap, cond}}
 use Rattle.std.proofs.{Common.{refl, replicate, subst, suc, sym, zero}, lemmas.Bool.false≢true}
@@ -31,7 +31,7 @@ entry_of-with_entry entries id change q =
     elsewhere (Some entry) differs =
         map.get-insert id_total entries id (change entry) q ∙ cond_elsewhere id_total id_apart q id _ _ differs
 
--- where an empty slot reads as an absent one, so does each slot of a new object
+-- each slot of a new object reads as an absent one, if an empty slot does
 pub read_empty :
     {A : Type 0} (read : Option Slot → A) (slot : Slot) → read (Some slot) ≡ read None → (count at : ℕ)
     → read (slice_get (replicate count slot) at) ≡ read None

@@ -1,4 +1,4 @@
--- The links of slots stay those of a forest, where a slot comes under a parent, and where it leaves its own.
+-- The links of slots stay those of a forest as a slot comes under a parent, and as it leaves its own.
 use Rattle.std.{specs.Prelude.{IsSome, None, Option, Some}, proofs.Common.{ℕ, ◌<◌, ◌∙◌, ◌≡◌, ◌≢◌, ap, arith, inl, inr, refl, subst, sym}}
 use Rattle.base.specs.declared.ids.{ObjId.ObjId, SlotRef.SlotRef}
 use Rattle.machine.specs.declared.cap.Cap.{Cap}
@@ -7,11 +7,11 @@ use Rattle.objects.specs.{Family.{attached, by_links, cap_in, head_of, leaving, 
 use Rattle.objects.proofs.{Detaching.left_forest, Forests.{empty_forest, first_of, joined_forest}, SlotLemmas.{SetsLinks, SlotsAlone}}
 use Rattle.objects.proofs.SlotLemmas.{alone_twice, cases_slot, link_kept, linked_there, sets_links}
 
--- where links are as they were
+-- unchanged links
 pub same_kin : (old new : ObjId → Option Entry) → ((q : SlotRef) → links_at new q ≡ links_at old q) → AreKin old → AreKin new
 same_kin old new linked = subst (λ l. IsForest (by_links l)) (λ i q. sym (linked q) i)
 
--- where no slot has links
+-- no slot with links
 pub no_kin :
     (entry : ObjId → Option Entry)
     → ((q : SlotRef) → links_at entry q ≡ record { parent = None; first = None; next = None; previous = None }) → AreKin entry

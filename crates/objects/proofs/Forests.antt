@@ -1,4 +1,4 @@
--- Links of a forest: what follows of them, and that they stay so where a root comes under a parent.
+-- Links of a forest: what follows of them, and that they stay so as a root comes under a parent.
 use Rattle.std.{specs.Prelude.{None, Option, Some}, proofs.Common.{ℕ, ◌<◌, ◌∙◌, ◌≡◌, ◌≢◌, ◌⊎◌, arith, inl, inr, refl, suc, sym, zero}}
 use Rattle.objects.specs.Forest.{IsForest, Joins, Links}
 
@@ -73,7 +73,7 @@ module _ {K : Type 0} (decide : (x y : K) → (x ≡ y) ⊎ (x ≢ y)) (old new 
   old_parent : (b q : K) → b ≢ c → new.parent b ≡ Some q → old.parent b ≡ Some q
   old_parent b q apart is = sym (joins.parent_other b apart) ∙ is
 
-  -- who stands behind another: the old first child behind the new, and the rest as before
+  -- the old first child is behind the new, and the rest as before
   behind_now :
       (a b : K) → new.previous b ≡ Some a
       → ((a ≡ c) × (old.first p ≡ Some b)) ⊎ ((a ≢ c) × (old.first p ≢ Some b) × (old.previous b ≡ Some a))

@@ -1,4 +1,4 @@
--- What the entries tell of their links after a thread has come to wait or has left.
+-- The links in entries after a thread has come to wait or has left.
 use Rattle.std.specs.{Option.option_or, Prelude.{Contains, IsSome, None, Option, Some, filter, is_some, not, option_map}}
 use Rattle.std.proofs.{Common.{[], ℕ, ◌++◌, ◌<◌, ◌∙◌, ◌∷◌, ◌≡◌, ◌≢◌, List, ap, arith, inl, inr, refl, subst, sym}, lemmas.Bool.false≢true}
 use Rattle.base.specs.declared.ids.ObjId.{ObjId}
@@ -37,7 +37,7 @@ module _ (entries : Entries) where
   abbrev after : ObjId → (Entry → Entry) → ObjId → Option Entry
   after id change = entry_of (with_entry entries id change)
 
-  -- what is read of each entry, where the change of one keeps it
+  -- each entry reads as it did, if the change of one keeps what is read
   kept :
       {A : Type 0} (id : ObjId) (change : Entry → Entry) (e : Entry) → entry id ≡ Some e → (read : Option Entry → A)
       → read (Some (change e)) ≡ read (Some e) → (q : ObjId) → read (after id change q) ≡ read (entry q)
@@ -92,7 +92,7 @@ module _ (entries : Entries) where
           same = kept thread set e is (option_map rest) refl;
         }
 
--- who waits at an object that is there
+-- the queue of a present object
 pub queue_there :
     (numbers : ℕ) (entry : ObjId → Option Entry) (o : Option Entry) → IsSome o
     → queue_in numbers entry o ≡ Some (walk (λ thread. standing_of (entry thread)) numbers (ends_of o).first)
@@ -115,14 +115,14 @@ same_queue numbers old new same q walks = by_entries (old q) (new q) refl refl (
   by_entries (Some e) (Some e') was is same =
       queue_there numbers new (new q) (ap is_some is) ∙ ap Some walks ∙ sym (queue_there numbers old (old q) (ap is_some was))
 
--- who stands somewhere has an entry
+-- a thread that stands somewhere has an entry
 standing_there : (entry : ObjId → Option Entry) (a q : ObjId) → (standing_of (entry a)).at ≡ Some q → IsSome (entry a)
 standing_there entry a q at = by_entry (entry a) refl where
   by_entry : (o : Option Entry) → entry a ≡ o → IsSome (entry a)
   by_entry None is = let none : None ≡ Some q = ap (λ o. (standing_of o).at) (sym is) ∙ at in cc
   by_entry (Some e) is = ap is_some is
 
--- who is in no queue stands nowhere
+-- a thread in no queue stands nowhere
 pub stands_nowhere :
     (entry : ObjId → Option Entry) (numbers : ℕ) → AreQueued entry numbers → (t : ObjId)
     → ((q : ObjId) (threads : List ObjId) → queue_in numbers entry (entry q) ≡ Some threads → ¬ (Contains threads t))

@@ -1,5 +1,4 @@
--- What the places of numbers are after the table of the first numbers, or the hash map of the others, has changed; and each number in use
--- is listed.
+-- The places of numbers after a change of the table of the first numbers, or of the hash map of the others; each number in use is listed.
 use Rattle.std.specs.{Cmp.unsigned_tied, List.list_any, Map.lookup, Prelude.{◌||◌, IsSome, None, Option, Some, is_some, nat_eq, option_map}}
 use Rattle.std.specs.HashMap as hash
 use Rattle.std.{specs.Prelude.slice_get, proofs.Common.{[], ℕ, ◌++◌, ◌+◌, ◌∙◌, ◌∷◌, ◌≡◌, ◌≢◌, Bool, List, ap, arith, cond, eq-eqb, false, length}}
@@ -10,21 +9,21 @@ use Rattle.machine.specs.Machine.{same_id}
 use Rattle.objects.specs.{declared.numbers.Places.Places, Edits.edited, Places.{from_either, numbers_from, numbers_in, places_in}}
 use Rattle.objects.proofs.EditLemmas.{slice_get_edited_other, slice_get_edited_same}
 
--- a number that the table is for has there what was set
+-- a number that the table is for has the place that was set
 pub set_early :
     (early : List (Option ℕ)) (late : Option ℕ) (number : ℕ) (was place : Option ℕ) → slice_get early number ≡ Some was
     → from_either (slice_get (edited (λ _. place) early number) number) late ≡ place
 set_early early late number was place is =
     ap (λ o. from_either o late) (slice_get_edited_same (λ _. place) early number ∙ ap (option_map (λ _. place)) is)
 
--- and each other what it had
+-- each other number has the place that it had
 pub other_early :
     (early : List (Option ℕ)) (late : Option ℕ) (number : ℕ) (place : Option ℕ) (other : ℕ) → other ≢ number
     → from_either (slice_get (edited (λ _. place) early number) other) late ≡ from_either (slice_get early other) late
 other_early early late number place other differs =
     ap (λ o. from_either o late) (slice_get_edited_other (λ _. place) early number other differs)
 
--- a new table has no place, and where nothing was hashed either, no number has one
+-- no number has a place in a new table, if nothing was hashed either
 pub nothing_early :
     (count number : ℕ) (late : Option ℕ) → late ≡ None → from_either (slice_get (replicate count None) number) late ≡ None
 nothing_early zero number late none = none
@@ -35,7 +34,7 @@ pub unplaced : (places : Places) → places.early ≡ [] → places.late.entries
 unplaced places early late a =
     ap (λ xs. from_either (slice_get xs a) (lookup (nat_eq a) places.late.entries)) early ∙ ap (λ es. lookup (nat_eq a) es) late
 
--- where nothing is hashed, a table that comes to have more numbers tells the same of each
+-- a table that is widened while nothing is hashed gives each number the place that it had
 widened_early :
     (early : List (Option ℕ)) (count number : ℕ) (late : Option ℕ) → late ≡ None
     → from_either (slice_get (early ++ replicate count None) number) late ≡ from_either (slice_get early number) late
@@ -51,7 +50,7 @@ widened places count number none =
     widened_early places.early count number _
     (ap (λ es. lookup (nat_eq number) es) (nil_from_length places.late.entries none))
 
--- a number in use is listed: among the first
+-- a number in use is listed: it is among the first
 
 same_number : (q : ObjId) (number : ℕ) → nat_eq q.0 number ≡ same_id q (record { 0 = number })
 same_number q number = sym (unsigned_tied q.0 number)
@@ -70,7 +69,7 @@ early_listed q (place ∷ early) from (suc at) some is =
     or_later true is = refl
     or_later false is = is
 
--- or hashed
+-- or it is hashed
 
 abbrev numbered : ObjId → List (ℕ × ℕ) → Bool
 numbered q es = list_any (same_id q) (map (λ number. record { 0 = number }) (map (λ e. e.0) es))

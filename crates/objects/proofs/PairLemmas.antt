@@ -11,7 +11,7 @@ use Rattle.machine.{specs.{Machine.{without_parent, words_of}, Tree.IsAlone}, pr
 use Rattle.machine.proofs.LookUps.{parent_of-with_parent, slot_total}
 use Rattle.objects.specs.Pairs.{AreFilled, AreFilledOrGoing, IsFilledOrGoing, MayEmpty}
 
--- a change that makes no pair, and after which each slot is filled or going that was so
+-- a change that makes no pair keeps this if each filled or going slot stays so
 kept :
     (m n : Machine) → ((slot parent : SlotRef) → parent_of n slot ≡ Some parent → parent_of m slot ≡ Some parent)
     → ((slot : SlotRef) → IsFilledOrGoing m slot → IsFilledOrGoing n slot) → AreFilledOrGoing m → AreFilledOrGoing n
@@ -21,7 +21,7 @@ kept m n was so paired =
       above = λ slot parent at. so parent (paired.above slot parent (was slot parent at));
     }
 
--- where neither slots nor pairs nor what is going have changed
+-- changes of neither slots, nor pairs, nor what is going
 
 pub paired-with_object : (m : Machine) (id : ObjId) (object : Object) → AreFilledOrGoing m → AreFilledOrGoing (with_object m id object)
 unfolding cap_of parent_of with_object
@@ -64,7 +64,6 @@ paired-with_word m id index word paired = by_words (words_of m id) refl where
   by_words None is = rw is paired
   by_words (Some words) is = rw is (paired-with_words m id _ paired)
 
--- where there are no pairs
 pub paired-empty : AreFilledOrGoing empty_machine
 paired-empty =
     record {
@@ -72,7 +71,7 @@ paired-empty =
       above = λ slot parent at. (let none = parent_of-empty slot in cc);
     }
 
--- a capability comes or goes
+-- a capability is put into a slot or taken out
 
 pairs-with_cap : (m : Machine) (slot : SlotRef) (held : Cap) (q : SlotRef) → parent_of (with_cap m slot held) q ≡ parent_of m q
 unfolding parent_of with_cap
@@ -138,7 +137,7 @@ module _ (m : Machine) (slot : SlotRef) (may : MayEmpty m slot) where
             still parent (λ free same. free.leaf q (was ∙ ap Some same)) (paired.above q parent was);
       }
 
--- a pair comes or goes
+-- a pair is made or removed
 
 pub place-with_parent : (m : Machine) (slot parent q : SlotRef) → IsFilledOrGoing m q → IsFilledOrGoing (with_parent m slot parent) q
 unfolding cap_of with_parent
@@ -179,7 +178,7 @@ paired-without_parent m slot =
     by_tie true o p at = (let impossible : None ≡ Some p = at in cc)
     by_tie false o p at = at
 
--- one more is going, or none any more
+-- one more object is going, or none any more
 
 pairs-with_going : (m : Machine) (id : ObjId) (q : SlotRef) → parent_of (with_going m id) q ≡ parent_of m q
 unfolding parent_of with_going

@@ -1,8 +1,8 @@
--- How many of a list pass each of two tests, of which one lets fewer through.
+-- Counts of the elements of a list that pass each of two tests, one of which lets fewer through.
 use Rattle.std.{specs.{List.{count_by, list_any}, Prelude.◌||◌}, proofs.Common.{[], ℕ, ◌<◌, ◌∙◌, ◌∷◌, ◌≡◌, ◌≤◌, Bool, List, ap, arith}}
 use Rattle.std.proofs.{Common.{cond, false, refl, sym, true}, lemmas.List.Sums.sum_by-cons}
 
--- a test that implies another counts no more
+-- a test that implies another counts no more for one element
 one_no_more : (few many : Bool) → (few ≡ true → many ≡ true) → cond {A = ℕ} few 1 0 ≤ cond {A = ℕ} many 1 0
 one_no_more true true passes = omega arith
 one_no_more true false passes = let both : false ≡ true = passes refl in cc
@@ -10,7 +10,7 @@ one_no_more false true passes = omega arith
 one_no_more false false passes = omega arith
 
 module _ {A : Type 0} (few many : A → Bool) (passes : (x : A) → few x ≡ true → many x ≡ true) where
-  -- nor over a list
+  -- it counts no more over a list
   no_more : (xs : List A) → count_by few xs ≤ count_by many xs
   no_more [] = omega arith
   no_more (x ∷ xs) =
@@ -19,7 +19,7 @@ module _ {A : Type 0} (few many : A → Bool) (passes : (x : A) → few x ≡ tr
       let a = sum_by-cons (λ y. cond {A = ℕ} (few y) 1 0) x xs in
       let b = sum_by-cons (λ y. cond {A = ℕ} (many y) 1 0) x xs in omega arith
 
-  -- where one of the list passes the second test alone, fewer pass the first
+  -- fewer pass the first test if some element passes the second alone
   pub fewer_pass :
       (xs : List A) (hit : A → Bool) → ((x : A) → hit x ≡ true → (few x ≡ false) × (many x ≡ true)) → list_any hit xs ≡ true
       → count_by few xs < count_by many xs

@@ -1,5 +1,5 @@
--- What is placed after a change: each object has the entry that it had, but for the one that was changed or added; and the entries by
--- number are these.
+-- Entries at places after a change: each object has the entry that it had, except the one whose entry was changed or added; and the
+-- entries by number are these.
 use Rattle.std.specs.FinMap as finite
 use Rattle.std.{specs.{List.list_any, Prelude.{IsSome, None, Option, Some, is_some, option_and_then, option_map}}, proofs.Common.{[], ℕ}}
 use Rattle.std.proofs.{Common.{◌∙◌, ◌≡◌, ◌≢◌, ◌⊎◌, ap, cond, inl, inr, map, refl, subst, sym, true}, lemmas.Bool.cases_eq}
@@ -44,7 +44,7 @@ module _ (entries : Slab Entry) (change : Entry → Entry) where
   changed_elsewhere (Some place) (Some other) apart =
       at_other place other (slab.get entries place) refl (λ is. apart place refl (ap Some is))
 
-  -- no entry comes or goes
+  -- no entry is added or removed
   pub is_some-changed :
       (o : Option ℕ) (place : ℕ) → is_some (slab.get (changed entries change o) place) ≡ is_some (slab.get entries place)
   is_some-changed None place = refl
@@ -122,11 +122,9 @@ by_number s q =
     (map (λ number. record { 0 = number }) (numbers_in s.places)) q
     (listed s.places s.entries q)
 
--- entries in which each object has the same are one
+-- entries are equal if each object has the same
 same_entries : (m n : Entries) → ((q : ObjId) → entry_of m q ≡ entry_of n q) → m ≡ n
 same_entries = finite.same_map id_total id_apart
-
--- no entries
 
 pub IsPlaced-empty : (s : Inside) → s.places.early ≡ [] → s.places.late.entries ≡ [] → IsPlaced s
 IsPlaced-empty s early late =
@@ -143,7 +141,7 @@ empty_by_number s early late =
     by_number s q ∙ ap (option_and_then (slab.get s.entries)) (unplaced s.places early late q.0)
     ∙ sym (finite.get-empty id_cmp q))
 
--- one entry is another
+-- one entry changes
 
 pub IsPlaced-changed :
     (s : Inside) → IsPlaced s → (id : ObjId) (change : Entry → Entry)

@@ -1,4 +1,4 @@
--- Links of queues stay links of queues where a thread joins a queue or leaves it, and what the queues then are.
+-- Links of queues stay so as a thread joins a queue, and the queues are then as they were, with the thread at the end of one.
 use Rattle.std.{specs.{Option.option_or, Prelude.{Contains, List, None, Option, Some, slice_get}}, proofs.Common.{[], ℕ, ◌++◌, ◌+◌, ◌<◌}}
 use Rattle.std.proofs.{Common.{◌∙◌, ◌∷◌, ◌≡◌, ◌≢◌, ◌≤◌, ◌⊎◌, ap, arith, inl, inr, refl, subst, suc, sym, zero}, lemmas.Bool.cases_eq}
 use Rattle.std.proofs.lemmas.Bool.{cases_lt}
@@ -19,7 +19,7 @@ cases_some None a = inr (λ same. cc)
 cases_some (Some b) a =
     elim (cases_id b a) [ inl same ↦ inl (ap Some same) | inr differs ↦ inr (λ same. differs cc) ]
 
--- the thread t comes to the end of the queue q
+-- the thread t joins the end of the queue q
 pub record Joins (ends ends' : ObjId → Ends) (standing standing' : ObjId → Standing) (q t : ObjId) : Type 0 where
   pub ends_here : ends' q ≡ record { first = option_or (ends q).first (Some t); last = Some t }
   pub ends_other : (p : ObjId) → p ≢ q → ends' p ≡ ends p
@@ -50,7 +50,7 @@ module _ (ends : ObjId → Ends) (standing : ObjId → Standing) (numbers : ℕ)
       (ap (walk other most) (alike a (stands a refl))
       ∙ walk_same other q alike most (standing a).next (λ b is. queues.beside a b is ∙ stands a refl))
 
-  -- a walk as long as there are numbers has come to the end
+  -- a walk of as many steps as there are numbers has come to the end
   pub walk_ends :
       (q : ObjId) (most : ℕ) (from : Option ObjId) → ((a : ObjId) → from ≡ Some a → (standing a).at ≡ Some q)
       → ((a : ObjId) → from ≡ Some a → numbers ≤ most + queues.rank a)
@@ -67,7 +67,7 @@ module _ (ends : ObjId → Ends) (standing : ObjId → Standing) (numbers : ℕ)
       let later : queues.rank a < queues.rank b = queues.later a b is in
       let more : numbers ≤ suc most + queues.rank a = long a refl in omega arith))
 
-  -- who is on a walk is on it once
+  -- each thread is on a walk once
 
   walk_beyond :
       (t : ObjId) (most : ℕ) (from : Option ObjId) → ((a : ObjId) → from ≡ Some a → queues.rank t < queues.rank a)
@@ -145,7 +145,6 @@ module _ (ends : ObjId → Ends) (standing : ObjId → Standing) (numbers : ℕ)
         on_walk q numbers (ends q).first b a (first_stands q) (λ c e. omega arith)
         (earlier b (omega arith) (sym (queues.beside b a next) ∙ at)) next
 
-  -- who is first
   pub walk_first : (q : ObjId) (o : Option ObjId) → (ends q).first ≡ o → slice_get (walk standing numbers o) 0 ≡ o
   walk_first q None is = ap (λ xs. slice_get xs 0) (walk_none standing numbers)
   walk_first q (Some a) is = by_numbers numbers (low a q (first_stands q a is)) where
@@ -187,7 +186,7 @@ module _ (ends : ObjId → Ends) (standing : ObjId → Standing) (numbers : ℕ)
         subst (λ k. walk standing (suc k) (ends q).first ≡ walk standing numbers (ends q).first) (sym (omega arith))
         (walk_ends q numbers (ends q).first (first_stands q) (λ a is. omega arith))
 
--- a thread that waits nowhere comes to the end of a queue
+-- a thread that waits nowhere joins the end of a queue
 
 module _ (ends ends' : ObjId → Ends) (standing standing' : ObjId → Standing) (numbers : ℕ)
     (queues : AreQueues ends standing numbers) (q t : ObjId) (joins : Joins ends ends' standing standing' q t)
@@ -204,7 +203,7 @@ module _ (ends ends' : ObjId → Ends) (standing standing' : ObjId → Standing)
   previous_here : (standing' t).previous ≡ (ends q).last
   previous_here = ap (λ s. s.previous) joins.joined
 
-  -- the others wait where they did, behind whom they did
+  -- the others wait at the same objects, behind the same threads
   as_before : (a : ObjId) → a ≢ t → ((standing' a).at ≡ (standing a).at) × ((standing' a).previous ≡ (standing a).previous)
   as_before a apart =
       elim (cases_some (ends q).last a) [
@@ -430,7 +429,7 @@ module _ (ends ends' : ObjId → Ends) (standing standing' : ObjId → Standing)
         nowhere = joined_nowhere;
       }
 
-  -- what the queues then are
+  -- the queues afterwards
 
   alone : (most : ℕ) → 0 < most → walk standing' most (Some t) ≡ t ∷ []
   alone zero some = absurd (omega arith)

@@ -1,4 +1,4 @@
--- Links of queues stay links of queues where any thread of one leaves it, and the others stay in order.
+-- Links of queues stay so as any thread of a queue leaves it, and the others stay in order.
 use Rattle.std.{specs.Prelude.{Contains, None, Option, Some, filter, not}, proofs.Common.{ℕ, ◌+◌, ◌<◌, ◌∙◌, ◌∷◌, ◌≡◌, ◌≢◌, ◌≤◌, ◌⊎◌, Bool}}
 use Rattle.std.proofs.Common.{List, ap, arith, cond, false, inl, inr, refl, subst, suc, sym, true, zero}
 use Rattle.slab.proofs.SlabLemmas.{Contains-cons_cases}
@@ -95,7 +95,7 @@ module _ (ends ends' : ObjId → Ends) (standing standing' : ObjId → Standing)
   stays a p is =
       let apart : a ≢ t = λ same. (let none = gone_at in cc) in (apart, sym (at_other a apart) ∙ is)
 
-  -- who stands behind whom: one neighbour behind the other, and the rest as before
+  -- one neighbour is behind the other, and the rest as before
   behind_now :
       (a b : ObjId) → (standing' a).next ≡ Some b
       → (((standing t).previous ≡ Some a) × ((standing t).next ≡ Some b))
@@ -167,7 +167,7 @@ module _ (ends ends' : ObjId → Ends) (standing standing' : ObjId → Standing)
   last_kept : (a : ObjId) → (standing t).next ≡ Some a → (ends' q).last ≡ (ends q).last
   last_kept a some = last_here ∙ ap (λ o. end_after o (standing t).previous (ends q).last) some
 
-  -- who was first or last elsewhere, or stays so
+  -- a thread that was first or last elsewhere stays so
   old_first :
       (p a : ObjId) → a ≢ t → (ends p).first ≡ Some a → ((standing' a).at ≡ Some p) × ((standing' a).previous ≡ None)
   old_first p a apart is =
@@ -358,7 +358,7 @@ module _ (ends ends' : ObjId → Ends) (standing standing' : ObjId → Standing)
   unfolding quit_queues
   quit_rank a = refl
 
-  -- what the queues then are
+  -- the queues afterwards
 
   abbrev others : List ObjId → List ObjId
   others threads = filter (λ a. not (same_id a t)) threads

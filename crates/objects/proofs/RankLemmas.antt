@@ -1,8 +1,8 @@
--- The order of numbers after one of those below a bound has been put last among them.
+-- Ranks after one of the numbers below a bound has been put last among them.
 use Rattle.std.{specs.Prelude.{◌&&◌, ◌==◌, nat_lt}, proofs.Common.{ℕ, ◌-◌, ◌<◌, ◌≡◌, ◌≢◌, ◌≤◌, arith, cond}}
 use Rattle.std.proofs.lemmas.Bool.Decides.{nat_tests}
 
--- where x comes to stand when r, which is below n, is put last
+-- the rank of x when r, which is below n, is put last
 abbrev pub moved : ℕ → ℕ → ℕ → ℕ
 moved r n x = cond (x == r) (n - 1) (cond (nat_lt r x && nat_lt x n) (x - 1) x)
 

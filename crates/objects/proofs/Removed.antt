@@ -1,4 +1,4 @@
--- What is true of each state stays true where an object is removed that nothing holds to, and what contracts see of the state after it.
+-- Removal of an object that nothing holds to: the state stays sound, and what contracts see of it is without the object.
 use Rattle.std.specs.FinMap as finite
 use Rattle.std.{specs.Prelude.{IsSome, None, Option, Some, option_and_then, option_map, slice_get}, proofs.Common.{◌∙◌, ◌≡◌, ◌≢◌, ◌≤◌}}
 use Rattle.std.proofs.Common.{Bool, ap, arith, cond, false, inl, inr, refl, subst, sym, true}
@@ -72,7 +72,7 @@ module _ (s : Inside) (sound : IsSound s) (id : ObjId) (unheld : caps_to (machin
         | inr apart ↦ subst IsSome (gone_other q apart) some
       ]
 
-  -- what reads of the object as it does of an absent one
+  -- a part that reads of the object as of an absent one reads as before
   read_same : {A : Type 0} (read : Option Entry → A) → read (old id) ≡ read None → (q : ObjId) → read (new q) ≡ read (old q)
   read_same read absent q =
       elim (cases_id q id) [
@@ -141,7 +141,7 @@ module _ (s : Inside) (sound : IsSound s) (id : ObjId) (unheld : caps_to (machin
         let leader = consistent.kin.rooted q no_parent in
         λ i. record { parent = no_parent i; first = no_child i; next = no_follower i; previous = leader i }
 
-  -- what reads of each of its slots as it does of an absent one
+  -- a part that reads of each of its slots as of an absent one reads as before
   slots_same :
       {A : Type 0} (read : Option Slot → A) → ((q : SlotRef) → q.holder ≡ id → read (slot_at old q) ≡ read None) → (q : SlotRef)
       → read (slot_at new q) ≡ read (slot_at old q)
@@ -249,7 +249,7 @@ counts_it s sound id object is =
     sound.counted.exact ∙ counts-without_object (machine_of s) id object is in
     rw all (omega arith, omega arith, omega arith)
 
--- an object that isn't there can't be removed
+-- removing an absent object changes nothing
 pub nothing_removed : (s : Inside) (id : ObjId) → object_of (machine_of s) id ≡ None → without_object (machine_of s) id ≡ machine_of s
 nothing_removed s id none = by_entry (entry_of s.store id) refl where
   by_entry : (o : Option Entry) → entry_of s.store id ≡ o → without_object (machine_of s) id ≡ machine_of s

@@ -1,4 +1,4 @@
--- What the entries tell of their slots after the capability or the links of one slot have changed.
+-- The slots in entries after the capability or the links of one slot have changed.
 use Rattle.std.{specs.Prelude.{IsSome, None, Option, Some, option_map, slice_get}, proofs.Common.{[], ℕ, ◌<◌, ◌∙◌, ◌∷◌, ◌≡◌, ◌≢◌, ◌⊎◌}}
 use Rattle.std.proofs.{Common.{List, ap, arith, inl, inr, length, refl, subst, suc, sym, zero}, lemmas.Bool.{cases_eq, false≢true}}
 use Rattle.base.specs.declared.ids.{ObjId.ObjId, SlotRef.SlotRef}
@@ -24,12 +24,12 @@ pub linked_there :
 linked_there None link x none is = cc
 linked_there (Some slot) link x none is = refl
 
--- and so is one with a capability
+-- a slot with a capability is there
 pub filled_there : (o : Option Slot) → IsSome (cap_in o) → IsSome o
 filled_there None some = absurd (false≢true some)
 filled_there (Some slot) some = refl
 
--- and one whose index is below the number of slots
+-- a slot whose index is below the number of slots is there
 pub within_there : (slots : List Slot) (index : ℕ) → index < length slots → IsSome (slice_get slots index)
 within_there [] index within = absurd (omega arith)
 within_there (slot ∷ slots) zero within = refl
@@ -50,7 +50,7 @@ pub alone_twice :
 alone_twice one two three first second =
     record { same = λ q. second.same q ∙ first.same q }
 
--- one slot is another
+-- one slot has changed
 pub record ChangesSlot (old new : Entries) (at : SlotRef) (change : Slot → Slot) : Type 0 where
   pub here : slot_at (entry_of new) at ≡ option_map change (slot_at (entry_of old) at)
   pub other : (q : SlotRef) → q ≢ at → slot_at (entry_of new) q ≡ slot_at (entry_of old) q
@@ -71,7 +71,7 @@ changes_slot entries at change =
       };
     }
 
--- the links of one slot, if one is named, are others
+-- the links of one slot, if one is named, have changed
 pub record SetsLinks (old new : Entries) (at : Option SlotRef) (change : TreeLinks → TreeLinks) : Type 0 where
   pub here : (q : SlotRef) → at ≡ Some q → links_at (entry_of new) q ≡ change (links_at (entry_of old) q)
   pub other : (q : SlotRef) → at ≢ Some q → links_at (entry_of new) q ≡ links_at (entry_of old) q

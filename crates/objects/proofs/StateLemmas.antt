@@ -1,5 +1,4 @@
--- How a state's entries and the machine that contracts see go together: what the machine answers, and what each change makes of
--- it.
+-- A state's entries and the machine that contracts see: what the machine answers, and what each change makes of it.
 use Rattle.std.specs.FinMap as finite
 use Rattle.std.specs.{List.{flat_map, list_any, range_with_len}, Prelude.{◌||◌, IsSome, None, Option, Some, is_some, option_and_then}}
 use Rattle.std.{specs.Prelude.{option_map, slice_get}, proofs.Common.{[], ℕ, ◌+◌, ◌<◌, ◌∙◌, ◌∷◌, ◌≡◌, ◌≤◌, Bool, List, ap, arith, inl, inr}}
@@ -19,7 +18,7 @@ object_at entry = option_map (λ e. e.object) entry
 abbrev pub words_at : Option Entry → Option (List ℕ)
 words_at entry = option_map (λ e. e.words) entry
 
--- the machine answers what the entries say, where there are so many numbers
+-- the machine answers what the entries say, for this number of numbers
 pub record Tells (numbers : ℕ) (m : Machine) (entry : ObjId → Option Entry) : Type 0 where
   pub objects : (q : ObjId) → object_of m q ≡ object_at (entry q)
   pub queues : (q : ObjId) → queue_of m q ≡ queue_in numbers entry (entry q)
@@ -27,7 +26,7 @@ pub record Tells (numbers : ℕ) (m : Machine) (entry : ObjId → Option Entry) 
   pub caps : (q : SlotRef) → cap_of m q ≡ cap_in (slot_at entry q)
   pub parents : (q : SlotRef) → parent_of m q ≡ parent_in (slot_at entry q)
 
--- machines of which the same entries tell are one
+-- machines are equal if the same entries tell both
 pub same_from_tells :
     (numbers : ℕ) (m n : Machine) (entry : ObjId → Option Entry) → Tells numbers m entry → Tells numbers n entry
     → m.next ≡ n.next → m.going ≡ n.going → m ≡ n
@@ -106,7 +105,7 @@ is_some-option_map : {A B : Type 0} (f : A → B) (o : Option A) → is_some (op
 is_some-option_map f None = refl
 is_some-option_map f (Some x) = refl
 
--- where a part of an entry is as it was, the entry is there still
+-- an entry is still there if a part of it is as it was
 pub present_kept :
     {A : Type 0} (part : Entry → A) (old new : Option Entry) → option_map part new ≡ option_map part old → IsSome old → IsSome new
 present_kept part old new same some = sym (is_some-option_map part new) ∙ ap is_some same ∙ is_some-option_map part old ∙ some

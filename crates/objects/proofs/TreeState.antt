@@ -1,5 +1,4 @@
--- What is true of each state stays true where a slot is filled or emptied, comes under a parent or leaves its own, and what contracts see
--- of the state after it.
+-- Changes of slots and of the derivation tree keep a state consistent: a slot is filled or emptied, comes under a parent or leaves its own.
 use Rattle.std.specs.FinMap as map
 use Rattle.std.specs.Prelude.{IfNone, IfSome, IsSome, IsTrue, None, Option, Some, option_and_then, option_map, slice_get}
 use Rattle.std.proofs.{Common.{◌<◌, ◌∙◌, ◌≡◌, ◌≢◌, ap, arith, cond, inl, inr, length, refl, subst, sym}, lemmas.Bool.{false≢true, lt-ltb}}
@@ -62,7 +61,6 @@ slots_give s entries next alone objects caps parents =
     (next-machine_of s' ∙ sym (objects.number ∙ next-machine_of s))
     (going-machine_of s' ∙ sym (objects.going ∙ going-machine_of s))
 
--- the parent by links
 parent_linked : (o : Option Slot) → parent_in o ≡ (links_of o).parent
 parent_linked None = refl
 parent_linked (Some slot) = refl
@@ -100,7 +98,7 @@ module _ (s : Inside) (consistent : IsConsistent s) where
   filled_slots slot held filled =
       there_slot slot (filled_there (slot_at entry slot) (subst IsSome (cap_is slot) (rw filled refl)))
 
-  -- a capability comes or goes
+  -- a capability is put into a slot or taken out
 
   module _ (at : SlotRef) (filling : Option Cap) where
     abbrev set : Slot → Slot

@@ -1,4 +1,4 @@
--- The way up from a slot of the derivation tree: each step makes it shorter.
+-- The way up from a slot of the derivation tree: each step shortens it.
 use Rattle.std.specs.{FinMap.{contains_key-keys, keys}, List.{count_by, list_any}, Option.is_some, Prelude.{None, Option, Some, nat_lt}}
 use Rattle.std.proofs.Common.{ℕ, ◌+◌, ◌<◌, ◌∙◌, ◌≡◌, ◌≤◌, ap, arith, false, length, refl, suc, sym, true, zero}
 use Rattle.std.proofs.lemmas.{Bool.Decides.nat_tests, List.Sums.count_by-le-length}
@@ -6,17 +6,16 @@ use Rattle.base.specs.declared.ids.SlotRef.{SlotRef}
 use Rattle.machine.{specs.{Machine.{Machine, parent_of, same_slot}, Tree.IsRanked}, proofs.LookUps.one_slot}
 use Rattle.objects.proofs.Passing.{fewer_pass}
 
--- a step up, if there is a parent, and what comes after it
+-- one step up, if there is a parent, and the steps after it
 abbrev steps : (SlotRef → ℕ) → Option SlotRef → ℕ
 steps after None = 0
 steps after (Some parent) = suc (after parent)
 
--- how many steps up there are, at most so many
+-- the number of steps up, at most this number
 steps_within : Machine → ℕ → SlotRef → ℕ
 steps_within m zero slot = 0
 steps_within m (suc n) slot = steps (steps_within m n) (parent_of m slot)
 
--- how many steps up there are
 pub steps_up : Machine → SlotRef → ℕ
 steps_up m slot = steps_within m (length (keys m.parents)) slot
 
@@ -26,7 +25,7 @@ pub among_keys :
 unfolding parent_of
 among_keys m slot parent is = sym (contains_key-keys m.parents slot) ∙ ap is_some is
 
--- one more step at most is one step up and the rest
+-- at most one more step is one step up and the rest
 step_within :
     (m : Machine) (n : ℕ) (slot : SlotRef) → steps_within m (suc n) slot ≡ steps (steps_within m n) (parent_of m slot)
 unfolding steps_within
@@ -43,11 +42,11 @@ as_high : (a b : ℕ) → a ≡ b → nat_lt a (b + 1) ≡ true
 as_high a b same = grind (arith, nat_tests)
 
 module _ (m : Machine) (ranked : IsRanked m) where
-  -- how many children have no higher rank than a slot
+  -- the number of children whose rank is no higher than a slot's
   down_to : SlotRef → ℕ
   down_to slot = count_by (λ q. nat_lt (ranked.0 q) (ranked.0 slot + 1)) (keys m.parents)
 
-  -- of its parent it is fewer
+  -- the parent has fewer
   fewer_above : (slot parent : SlotRef) → parent_of m slot ≡ Some parent → down_to parent < down_to slot
   unfolding down_to
   fewer_above slot parent is =
@@ -59,7 +58,7 @@ module _ (m : Machine) (ranked : IsRanked m) where
       (no_higher (ranked.0 q) (ranked.0 parent) (omega arith), as_high (ranked.0 q) (ranked.0 slot) (omega arith)))
       (among_keys m slot parent is)
 
-  -- so no way has more steps
+  -- no way has more steps
   settled : (n : ℕ) (slot : SlotRef) → down_to slot ≤ n → steps_within m n slot ≡ steps_within m (suc n) slot
   unfolding steps_within
   settled zero slot low = by_parent (parent_of m slot) refl where
@@ -75,12 +74,11 @@ module _ (m : Machine) (ranked : IsRanked m) where
     by_parent (Some parent) is again =
         let fewer : down_to parent < down_to slot = fewer_above slot parent is in ap suc (again parent (omega arith))
 
-  -- and there are no more than pairs
+  -- there are no more than pairs
   down_to-bounded : (slot : SlotRef) → down_to slot ≤ length (keys m.parents)
   unfolding down_to
   down_to-bounded slot = count_by-le-length (λ q. nat_lt (ranked.0 q) (ranked.0 slot + 1)) (keys m.parents)
 
-  -- a step up makes the way shorter
   pub way_shortens : (slot parent : SlotRef) → parent_of m slot ≡ Some parent → steps_up m parent < steps_up m slot
   unfolding steps_up
   way_shortens slot parent is =

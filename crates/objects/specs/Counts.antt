@@ -1,4 +1,4 @@
--- How much a state counts: objects, slots and threads.
+-- Counts of objects, slots and threads in a state.
 use Rattle.std.specs.Prelude.{ℕ, ◌*◌, ◌+◌, ◌-◌, ◌^◌, ◌≤◌}
 use Rattle.base.specs.declared.limits.TheConstants.{MAX_RADIX}
 use Rattle.machine.specs.{declared.object.Object.Object, Counts.{objects_in, slots_in, threads_in}, Machine.Machine, Objects.slot_count}
@@ -23,11 +23,10 @@ one_less counts object =
       threads = counts.threads - thread_count object;
     }
 
--- how much a machine has
 abbrev pub counts_in : Machine → Counts
 counts_in m = record { objects = objects_in m; slots = slots_in m; threads = threads_in m }
 
--- no more than objects with these numbers can have
+-- the counts are no more than objects with these numbers can have
 pub record AreOfNumbers (counts : Counts) (numbers : ℕ) : Type 0 where
   pub objects : counts.objects ≤ numbers
   pub slots : counts.slots ≤ numbers * 2 ^ MAX_RADIX

@@ -1,4 +1,4 @@
--- What a list is after a change at one place.
+-- Lists after a change at one place.
 use Rattle.std.{specs.Prelude.{[], ℕ, ◌∷◌, List}, proofs.Common.{suc, zero}}
 
 -- the list with its element at this place changed, and the list itself if it has none there

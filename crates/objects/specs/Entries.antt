@@ -1,4 +1,4 @@
--- The entry of each object, what it says, and what the entries are after a change to one.
+-- Entries of objects, what they say, and the entries after a change to one.
 use Rattle.std.specs.{FinMap.FinMap, Prelude.{[], ℕ, ◌+◌, ◌∷◌, List, None, Option, Some, option_and_then, option_map, replicate, slice_get}}
 use Rattle.std.specs.FinMap as map
 use Rattle.std.specs.Prelude.{slice_set}
@@ -10,7 +10,6 @@ use Rattle.objects.specs.{declared.{entry.Entry.Entry, links.{Ends.Ends, Standin
 abbrev pub Entries : Type 0
 Entries = FinMap id_cmp Entry
 
--- an object's entry
 abbrev pub entry_of : Entries → ObjId → Option Entry
 entry_of entries id = map.get entries id
 
@@ -54,16 +53,15 @@ new_entry object =
       caps = 0;
     }
 
--- the entries with more, under one number after another
+-- the entries with more, under successive numbers
 abbrev pub with_more : Entries → ℕ → List Entry → Entries
 with_more entries number [] = entries
 with_more entries number (entry ∷ more) = with_more (map.insert entries (record { 0 = number }) entry) (number + 1) more
 
--- how many capabilities an entry says that there are for its object; for one that is absent there is none
+-- the number of capabilities for an object by its entry; 0 if the entry is absent
 abbrev pub caps_in : Option Entry → ℕ
 caps_in None = 0
 caps_in (Some entry) = entry.caps
 
--- a slot, if it is there
 abbrev pub slot_at : (ObjId → Option Entry) → SlotRef → Option Slot
 slot_at entry at = option_and_then (λ e. slice_get e.slots at.index) (entry at.holder)

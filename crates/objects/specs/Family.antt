@@ -1,16 +1,14 @@
--- The derivation tree in the slots of entries: when the links that slots have are those of a forest, and what the entries are after a
--- slot has come under a parent or has left its own (confine's own).
+-- The derivation tree in the slots of entries: when the slots' links are those of a forest, and the entries after a slot has come under a
+-- parent or has left its own (confine's own).
 use Rattle.std.specs.Prelude.{None, Option, Some, option_and_then}
 use Rattle.base.specs.declared.ids.{ObjId.ObjId, SlotRef.SlotRef}
 use Rattle.machine.specs.declared.cap.Cap.{Cap}
 use Rattle.objects.specs.declared.{entry.Entry.Entry, links.TreeLinks.TreeLinks, slots.Slot.Slot}
 use Rattle.objects.specs.{Entries.{Entries, change_slot_in, entry_of, slot_at, with_entry}, Forest.{IsForest, Links}}
 
--- what a slot holds, if it is there
 abbrev pub cap_in : Option Slot → Option Cap
 cap_in slot = option_and_then (λ s. s.cap) slot
 
--- the parent of a slot, if it is there
 abbrev pub parent_in : Option Slot → Option SlotRef
 parent_in slot = option_and_then (λ s. s.links.parent) slot
 
@@ -56,7 +54,7 @@ abbrev pub attached : Entries → SlotRef → SlotRef → Entries
 attached entries slot parent =
     before_head entries slot parent (links_at (entry_of entries) parent).first
 
--- whose first child a slot with these links is
+-- the slot whose first child has these links
 abbrev pub head_of : TreeLinks → Option SlotRef → Option SlotRef
 head_of links None = links.parent
 head_of links (Some previous) = None
@@ -72,7 +70,7 @@ leaving entries slot links =
     links.next (λ l. record l { previous = links.previous }))
     (Some slot) (λ l. record l { parent = None; next = None; previous = None })
 
--- a root has none to leave
+-- a root has no parent to leave
 abbrev pub leaving_from : Entries → SlotRef → TreeLinks → Option SlotRef → Entries
 leaving_from entries slot links None = entries
 leaving_from entries slot links (Some parent) = leaving entries slot links

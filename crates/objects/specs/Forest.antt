@@ -1,5 +1,5 @@
 -- The derivation tree by links: each slot has its parent, its first child, and the siblings after and before it; when such links are
--- those of a forest, and what they are after a root has come under a parent, and after a slot has left its parent (confine's own).
+-- those of a forest, and the links after a root has come under a parent, and after a slot has left its parent (confine's own).
 use Rattle.std.specs.Prelude.{ℕ, ◌<◌, ◌≡◌, ◌≢◌, None, Option, Some}
 
 -- the four links of each slot
@@ -34,11 +34,11 @@ pub record Joins {K : Type 0} (old new : Links K) (c p : K) : Type 0 where
   pub previous_here : (q : K) → old.first p ≡ Some q → new.previous q ≡ Some c
   pub previous_other : (q : K) → old.first p ≢ Some q → new.previous q ≡ old.previous q
 
--- the slot `c` leaves its parent `p`; its siblings close ranks
+-- the slot `c` leaves its parent `p`, and its siblings become neighbours
 pub record Leaves {K : Type 0} (old new : Links K) (c p : K) : Type 0 where
   pub parent_here : new.parent c ≡ None
   pub parent_other : (q : K) → q ≢ c → new.parent q ≡ old.parent q
-  -- a first child leaves that place to the next
+  -- the next sibling is then the first child, if the slot was
   pub first_here : old.previous c ≡ None → new.first p ≡ old.next c
   pub first_same : old.previous c ≢ None → new.first p ≡ old.first p
   pub first_other : (q : K) → q ≢ p → new.first q ≡ old.first q

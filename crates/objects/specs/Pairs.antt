@@ -1,5 +1,5 @@
--- Which slots the pairs of the derivation tree join (seL4 manual, "Capability Derivation Tree"; that a slot keeps its place after it was
--- emptied, as long as its holder is going, is confine's own).
+-- The slots that pairs of the derivation tree join (seL4 manual, "Capability Derivation Tree"; that an emptied slot keeps its place as
+-- long as its holder is going is confine's own).
 use Rattle.std.specs.Prelude.{◌≡◌, ◌⊎◌, Contains, IsSome, Some}
 use Rattle.base.specs.declared.ids.SlotRef.{SlotRef}
 use Rattle.machine.specs.{Machine.{Machine, cap_of, parent_of}, Tree.IsAlone}
@@ -8,7 +8,7 @@ use Rattle.machine.specs.{Machine.{Machine, cap_of, parent_of}, Tree.IsAlone}
 abbrev pub IsFilledOrGoing : Machine → SlotRef → Type 0
 IsFilledOrGoing m slot = IsSome (cap_of m slot) ⊎ Contains m.going slot.holder
 
--- so it is with both slots of each pair
+-- both slots of each pair are filled, or their holders are going
 pub record AreFilledOrGoing (m : Machine) : Type 0 where
   pub below : (slot parent : SlotRef) → parent_of m slot ≡ Some parent → IsFilledOrGoing m slot
   pub above : (slot parent : SlotRef) → parent_of m slot ≡ Some parent → IsFilledOrGoing m parent

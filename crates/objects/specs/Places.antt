@@ -1,4 +1,4 @@
--- Where the entry of an object is kept: a place for each number in use, and the entries at the places.
+-- Places of entries: a place for each number in use, and the entries at the places.
 use Rattle.std.specs.HashMap as hash
 use Rattle.std.specs.Prelude.{[], ℕ, ◌++◌, ◌∷◌, ◌≡◌, ◌≢◌, ◌≤◌, IsSome, List, None, Option, Some, map, nat_eq, option_and_then, slice_get}
 use Rattle.std.proofs.Common.{suc}
@@ -8,7 +8,7 @@ use Rattle.base.specs.declared.ids.ObjId.{ObjId}
 use Rattle.machine.specs.Finite.{tabulate}
 use Rattle.objects.specs.{declared.{entry.Entry.Entry, numbers.Places.Places, store.Store.TheInside.Inside}, Entries.Entries}
 
--- what a table has of a number, and what a hash map has where the table is not for that number
+-- the table's answer for a number, or the hash map's if the table is not for that number
 abbrev pub from_either : Option (Option ℕ) → Option ℕ → Option ℕ
 from_either None late = late
 from_either (Some place) late = place
@@ -17,7 +17,7 @@ from_either (Some place) late = place
 abbrev pub places_in : Places → ℕ → Option ℕ
 places_in places number = from_either (slice_get places.early number) (hash.get nat_eq places.late number)
 
--- so many numbers from one on, as many as a list is long
+-- successive numbers, as many as a list is long
 abbrev pub numbers_from : {X : Type 0} → ℕ → List X → List ℕ
 numbers_from number [] = []
 numbers_from number (x ∷ xs) = number ∷ numbers_from (suc number) xs
@@ -41,7 +41,7 @@ pub record IsPlaced (s : Inside) : Type 0 where
       (a b place : ℕ) → places_in s.places a ≡ Some place → places_in s.places b ≡ Some place → a ≡ b
   pub held : (a place : ℕ) → places_in s.places a ≡ Some place → IsSome (slab.get s.entries place)
 
--- the entries with that at a place changed, if it has one
+-- the entries with the one at a place changed, if it has one
 abbrev pub changed_at : Slab Entry → (Entry → Entry) → ℕ → Option Entry → Slab Entry
 changed_at entries change place None = entries
 changed_at entries change place (Some entry) = slab.with_value entries place (change entry)
@@ -50,7 +50,7 @@ abbrev pub changed : Slab Entry → (Entry → Entry) → Option ℕ → Slab En
 changed entries change None = entries
 changed entries change (Some place) = changed_at entries change place (slab.get entries place)
 
--- the entries after a change to that at an object's place, if it has one
+-- the entries with the one at an object's place changed, if it has one
 abbrev pub with_placed : (ℕ → Option ℕ) → Slab Entry → ObjId → (Entry → Entry) → Slab Entry
 with_placed places entries id change = changed entries change (places id.0)
 
@@ -73,6 +73,6 @@ pub record SameEntries (places places' : ℕ → Option ℕ) (entries entries' :
   pub placed : (number : ℕ) → places' number ≡ places number
   pub kept : (place : ℕ) → slab.get entries' place ≡ slab.get entries place
 
--- so many more entries can be added without memory
+-- this many entries can be added without memory
 abbrev pub HasRoom : Places → Slab Entry → ℕ → Type 0
 HasRoom places entries count = (count ≤ hash.spare places.late) × slab.HasRoomFor entries count

@@ -1,10 +1,10 @@
--- Queues of threads as links: the ends of each queue, and where each thread stands; what the queue is, and what is true of the links
+-- Queues of threads as links: the ends of each queue, and the place of each thread; the queue as a list, and what is true of the links
 -- (confine's own).
 use Rattle.std.{specs.Prelude.{[], ℕ, ◌<◌, ◌∷◌, ◌≡◌, ◌≤◌, List, None, Option, Some}, proofs.Common.{suc, zero}}
 use Rattle.base.specs.declared.ids.ObjId.{ObjId}
 use Rattle.objects.specs.declared.links.{Ends.Ends, Standing.Standing}
 
--- from this thread on each next one, but no more than so many
+-- the threads from this one on, at most this many
 abbrev pub walk : (ObjId → Standing) → ℕ → Option ObjId → List ObjId
 walk standing zero from = []
 walk standing (suc most) None = []

@@ -1,4 +1,4 @@
--- How many bits of an address a CNode takes to select one of its slots (seL4 manual, "Capability Address Lookup"; the limits are
+-- The number of bits of an address that a CNode takes to select a slot (seL4 manual, "Capability Address Lookup"; the limits are
 -- confine's own).
 use Rattle.std.specs.Prelude.{◌<◌, ◌≤◌}
 use Rattle.base.specs.declared.limits.TheConstants.{MAX_RADIX}

@@ -1,4 +1,4 @@
--- What contracts see of a `State`, and what is true of each.
+-- The machine that contracts see of a `State`, and what is true of each state.
 use Rattle.std.specs.FinMap as finite
 use Rattle.std.specs.{List.{flat_map, range_with_len}, Prelude.{[], ℕ, ◌<◌, ◌≡◌, ◌≤◌, IsSome, List, None, Option, Some, length, map}}
 use Rattle.std.specs.Prelude.{option_map, vec_capacity}
@@ -8,7 +8,6 @@ use Rattle.objects.specs.{declared.{entry.Entry.Entry, state.State.TheInside.Ins
 use Rattle.objects.specs.{Entries.{entry_of, slot_at}, Family.{AreKin, cap_in, parent_in}, Links.{AreQueued, queue_in}}
 use Rattle.objects.specs.{Pairs.AreFilledOrGoing, Radices.HasRadix}
 
--- the slots of an object
 abbrev pub slots_of : ObjId → Option Entry → List SlotRef
 slots_of id None = []
 slots_of id (Some entry) = map (λ index. record { holder = id; index = index }) (range_with_len 0 (length entry.slots))
@@ -27,7 +26,6 @@ machine_from entry ids next going =
       going = going;
     }
 
--- the state as a machine
 unfoldable pub machine_of : Inside → Machine
 machine_of s = machine_from (entry_of s.store) (finite.keys s.store) s.next s.going.items
 
@@ -44,16 +42,16 @@ pub record IsConsistent (s : Inside) : Type 0 where
   pub queued : AreQueued (entry_of s.store) s.next
   pub kin : AreKin (entry_of s.store)
 
--- the counts are those of the objects that there are
+-- the counts are those of the present objects
 pub record IsCounted (s : Inside) : Type 0 where
   pub exact : s.counts ≡ counts_in (machine_of s)
   pub few : AreOfNumbers s.counts s.next
 
--- each entry says how many slots hold a capability for its object, and none holds one for an object that is absent
+-- each entry has the number of slots that hold a capability for its object, and none holds one for an absent object
 abbrev pub IsTallied : Inside → Type 0
 IsTallied s = (id : ObjId) → caps_in (entry_of s.store id) ≡ caps_to (machine_of s) id
 
--- there is room for all objects where those that are going are kept
+-- the list of objects that are going has room for all objects
 abbrev pub IsRoomy : Inside → Type 0
 IsRoomy s = s.counts.objects ≤ vec_capacity s.going
 

@@ -1,4 +1,4 @@
--- That a thread stands in no queue, or in one (seL4 manual, "Notifications" and "Endpoints").
+-- Threads that stand in no queue, and threads that stand in one (seL4 manual, "Notifications" and "Endpoints").
 use Rattle.std.specs.Prelude.{◌≡◌, Contains, List, Some}
 use Rattle.base.specs.declared.ids.ObjId.{ObjId}
 use Rattle.machine.specs.Machine.{Machine, queue_of}

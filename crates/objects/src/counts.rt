@@ -1,4 +1,4 @@
-//! The numbers of objects, slots and threads.
+//! Counts of objects, slots and threads.
 ghost use Rattle.std.specs.{List.fold, Prelude.{◌*◌, ◌+◌, ◌<◌, ◌^◌, ◌≡◌, ◌≤◌, length}};
 ghost use Rattle.base.specs.declared.limits.TheConstants.{MAX_RADIX};
 ghost use Rattle.machine.specs.Objects.{slot_count, thread_count};

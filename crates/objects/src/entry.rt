@@ -1,4 +1,4 @@
-//! An object with all that belongs to it.
+//! The entry of an object: all that belongs to it.
 ghost use Rattle.std.specs.{List.AllByRecursion, Prelude.{◌≡◌, IfOk, OnOk, Some, map, option_copied}};
 ghost use Rattle.objects.specs.{Entries.new_entry, Radices.HasRadix, Roots.root_in};
 
@@ -13,12 +13,12 @@ use std::alloc::{AllocError, Global};
 pub struct Entry {
     pub object: Object,
     pub slots: Slots,
-    /// Who waits at it.
+    /// The threads that wait at it.
     pub ends: Ends,
     /// Where it waits, if it is a thread that does.
     pub standing: Standing,
     pub words: Words,
-    /// How many slots hold a capability for it.
+    /// The number of slots that hold a capability for it.
     pub caps: u64,
 }
 
@@ -34,7 +34,6 @@ impl Entry {
     }
 }
 
-// The entry of a new object.
 fn new_entry(alloc: Global, object: Object) -> Result<Entry, AllocError>
     ensures { IfOk result (λ entry. entry ≡ new_entry object) }
 {
@@ -52,7 +51,7 @@ fn new_entry(alloc: Global, object: Object) -> Result<Entry, AllocError>
 ///
 /// # Errors
 ///
-/// [`AllocError`] where memory is refused.
+/// [`AllocError`] if memory is refused.
 pub fn new_entries(alloc: Global, objects: &[Object]) -> Result<Vec<Entry>, AllocError>
     ensures made { IfOk result (λ made. made.items ≡ map new_entry objects.now) }
     ensures radices { OnOk result (AllByRecursion HasRadix objects.now) }

@@ -1,9 +1,7 @@
-//! The kernel's state: objects, their slots and the capabilities in these, the derivation tree, and who waits where.
+//! The kernel's state: objects, their slots and the capabilities in these, the derivation tree, and the queues of threads.
 //!
 //! A contract sees a `State` as a `Machine`, and each method as one of a machine's look-ups or
-//! changes.
-//!
-//! The crates of calls stand on it, and those of verdicts that look at states. It knows no policy.
+//! changes. The crate knows no policy.
 #![tactic(auto)]
 
 mod counts;

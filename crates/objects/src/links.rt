@@ -1,7 +1,7 @@
 //! The links of queues and of the derivation tree.
 use base::{ObjId, SlotRef};
 
-/// The ends of the queue of the threads that wait at an object; none where nobody waits.
+/// The ends of the queue of the threads that wait at an object; none if nobody waits.
 #[derive(Clone, Copy)]
 pub struct Ends {
     pub first: Option<ObjId>,
@@ -9,16 +9,16 @@ pub struct Ends {
 }
 
 impl Ends {
-    /// The ends of a queue where nobody waits.
+    /// The ends of an empty queue.
     pub const NOBODY: Ends = Ends {
         first: None,
         last: None,
     };
 }
 
-/// The place of a thread in a queue: at which object it waits, and behind and before whom.
+/// The place of a thread in a queue: the object at which it waits, and the threads before and after it.
 ///
-/// All three are `None` where the thread waits nowhere.
+/// All three are `None` if the thread waits nowhere.
 #[derive(Clone, Copy)]
 pub struct Standing {
     pub at: Option<ObjId>,
@@ -38,7 +38,7 @@ impl Standing {
 /// The place of a slot in the derivation tree.
 ///
 /// It is the slot's parent, the first of its children, and the children of its parent after and
-/// before it. All four are `None` where the slot is empty, or has neither parent nor children.
+/// before it. All four are `None` if the slot is empty, or has neither parent nor children.
 #[derive(Clone, Copy)]
 pub struct TreeLinks {
     pub parent: Option<SlotRef>,

@@ -1,4 +1,4 @@
-//! From the number of an object to the place of its entry.
+//! Places of entries by the numbers of their objects.
 ghost use Rattle.std.specs.Prelude.{[], ℕ, ◌++◌, ◌+◌, ◌-◌, ◌<◌, ◌≡◌, ◌≢◌, ◌≤◌, None, OnErr, OnOk, Some, length, nat_eq};
 ghost use Rattle.std.specs.Prelude.{replicate, slice_get};
 ghost use Rattle.std.specs.HashMap as hash;
@@ -9,7 +9,7 @@ use std::alloc::{AllocError, Global};
 use std::collections::HashMap;
 use std::marker::Model;
 
-/// How many numbers have a table at most: 16 bytes each.
+/// The most numbers that have a table: 16 bytes each.
 const WIDEST: u64 = 1 << 20;
 
 /// A table of the places of the numbers from 0 on; a number that isn't in use has none.
@@ -45,13 +45,11 @@ impl Table {
         self.items.len()
     }
 
-    /// Widens the table to `count` numbers, if it is for fewer.
-    ///
-    /// New numbers aren't in use.
+    /// Widens the table to `count` numbers, none of the new ones in use, if it is for fewer.
     ///
     /// # Errors
     ///
-    /// [`AllocError`] where memory is refused. Then nothing has changed.
+    /// [`AllocError`] if memory is refused. Then nothing has changed.
     pub fn widen(&mut self, count: usize) -> Result<(), AllocError>
         requires { length self.old ≤ count }
         ensures widened { OnOk result (self.new ≡ self.old ++ replicate (count - length self.old) None) }
@@ -79,8 +77,8 @@ impl Table {
 
 /// The places of the numbers in use.
 ///
-/// The first numbers have a table, so that the objects of a table of capabilities are found at
-/// once, and many that are made later; those after them are hashed.
+/// The first numbers have a table, so that an initial object is found at once, and so are many that
+/// are made later; the numbers after them are hashed.
 #[derive(Drop)]
 pub struct Places {
     pub early: Table,
@@ -111,7 +109,7 @@ pub fn place_of(places: &Places, number: u64) -> Option<usize>
 
 /// Returns the place of a number that the table isn't for, if it is in use.
 ///
-/// The function stands apart, so that the one that finds an early number stays small.
+/// The function is separate, so that the one that finds an early number stays small.
 #[inline(never)]
 pub fn late_place_of(late: &HashMap<u64, usize>, number: u64) -> Option<usize>
     ensures { result ≡ hash.get nat_eq late.now number }
@@ -121,12 +119,12 @@ pub fn late_place_of(late: &HashMap<u64, usize>, number: u64) -> Option<usize>
 
 /// Makes the table wide enough for the number, and at least twice as wide as it was.
 ///
-/// Does nothing where the number is too high for it, or where a number is hashed already. No place
-/// has changed, even on an error.
+/// Does nothing if the number is too high for it, or if a number is hashed already. No place has
+/// changed, even on an error.
 ///
 /// # Errors
 ///
-/// [`AllocError`] where memory is refused.
+/// [`AllocError`] if memory is refused.
 #[tactic(auto, using(crate::proofs::NumberLemmas::widened))]
 pub fn widen(places: &mut Places, number: u64) -> Result<(), AllocError>
     ensures { (other : ℕ) → places_in places.new other ≡ places_in places.old other }
@@ -138,7 +136,7 @@ pub fn widen(places: &mut Places, number: u64) -> Result<(), AllocError>
     places.early.widen(width_for(len, number as usize))
 }
 
-// The number of numbers that a table of `len` numbers must have room for, so that it has room for the number too.
+// The size of a table of `len` numbers that is widened to have room for the number.
 fn width_for(len: usize, number: usize) -> usize
     requires { number < WIDEST }
     ensures { (len ≤ result) × (number < result) }
@@ -154,7 +152,7 @@ fn width_for(len: usize, number: usize) -> usize
 ///
 /// # Errors
 ///
-/// [`AllocError`] where memory is refused.
+/// [`AllocError`] if memory is refused.
 pub fn make_room(places: &mut Places, count: usize) -> Result<(), AllocError>
     ensures same { (number : ℕ) → places_in places.new number ≡ places_in places.old number }
     ensures room { OnOk result (count ≤ hash.spare places.new.late) }

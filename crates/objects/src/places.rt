@@ -1,4 +1,4 @@
-//! Where the entry of an object is kept: from numbers to places, and the entries at these.
+//! Entries at their places: the entry of a number, and changes to it.
 ghost use Rattle.std.specs.Prelude.{ℕ, ◌+◌, ◌-◌, ◌<◌, ◌^◌, ◌≡◌, ◌≤◌, None, OnOk, option_copied, option_map};
 ghost use Rattle.objects.specs.Entries.{caps_in, change_slot_in, replace_in, set_caps_in, set_ends_in, set_standing_in};
 ghost use Rattle.objects.specs.{Entries.{set_word_in, slot_at}, Family.cap_in, Places.{AddsEntry, HasRoom}};
@@ -191,7 +191,7 @@ pub fn empty_slot(places: &Places, entries: &mut Slab<Entry>, at: SlotRef) -> Op
 ///
 /// # Errors
 ///
-/// [`AllocError`] where memory is refused.
+/// [`AllocError`] if memory is refused.
 pub fn reserve(
     places: &mut Places,
     entries: &mut Slab<Entry>,

@@ -1,4 +1,4 @@
-//! The slots of an object.
+//! The slots of an object, and the changes to one of them.
 ghost use Rattle.std.specs.Prelude.{◌≡◌, IfOk, None, option_copied, option_map, replicate, slice_get};
 ghost use Rattle.objects.specs.{Edits.edited, Entries.empty_slot, Family.cap_in};
 
@@ -23,7 +23,6 @@ impl Slot {
     };
 }
 
-/// The slots of an object.
 #[derive(Drop)]
 pub struct Slots {
     items: Vec<Slot>,
@@ -43,7 +42,7 @@ impl Slots {
     ///
     /// # Errors
     ///
-    /// [`AllocError`] where memory is refused.
+    /// [`AllocError`] if memory is refused.
     pub fn empty(alloc: Global, count: u64) -> Result<Slots, AllocError>
         ensures { IfOk result (λ slots. slots ≡ replicate count empty_slot) }
     {
@@ -110,7 +109,7 @@ impl Slots {
         }
     }
 
-    // For which object the capability in the slot at the index is, if there is one.
+    // The object that the capability in the slot at the index is for, if there is one.
     fn object_at(&self, index: u64) -> Option<ObjId>
         ensures { result ≡ option_map (λ cap. cap.object) (cap_in (slice_get self.now index)) }
     {

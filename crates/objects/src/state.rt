@@ -151,7 +151,7 @@ impl State {
         self.store.object(id)
     }
 
-    /// Returns the capability in the slot; none where the slot is empty or isn't there.
+    /// Returns the capability in the slot; none if the slot is empty or isn't there.
     pub fn cap(&self, slot: SlotRef) -> Option<Cap>
         ensures { result ≡ cap_of self.now slot }
     {
@@ -167,7 +167,7 @@ impl State {
         self.store.held(slot)
     }
 
-    /// Returns the capability in a thread's root slot; none where that slot is empty or the object is no thread.
+    /// Returns the capability in a thread's root slot; none if that slot is empty or the object is no thread.
     pub fn root(&self, thread: ObjId) -> Option<&Cap>
         ensures { option_copied result ≡ root_cap self.now thread }
     {
@@ -176,7 +176,7 @@ impl State {
 
     /// Returns the slot that this slot's capability was derived from (seL4 manual, "Capability Derivation Tree").
     ///
-    /// It is `None` where the capability wasn't derived.
+    /// It is `None` if the capability wasn't derived.
     pub fn parent(&self, slot: SlotRef) -> Option<SlotRef>
         ensures { result ≡ parent_of self.now slot }
     {
@@ -193,7 +193,7 @@ impl State {
         }
     }
 
-    /// Returns the object's word at the index; none where the object isn't there or has fewer words.
+    /// Returns the object's word at the index; none if the object isn't there or has fewer words.
     pub fn word(&self, id: ObjId, index: u64) -> Option<u64>
         ensures { result ≡ option_and_then (λ words. slice_get words index) (words_of self.now id) }
     {
@@ -213,7 +213,7 @@ impl State {
     ///
     /// # Errors
     ///
-    /// [`AllocError`] where memory is refused. Then nothing has changed.
+    /// [`AllocError`] if memory is refused. Then nothing has changed.
     pub fn add_object(&mut self, object: Object) -> Result<ObjId, AllocError>
         requires { self.old.next < OBJECT_NUMBERS }
         ensures made { OnOk result (self.new ≡ with_new self.old object) }
@@ -229,7 +229,7 @@ impl State {
     ///
     /// # Errors
     ///
-    /// [`AllocError`] where memory is refused. Then nothing has changed.
+    /// [`AllocError`] if memory is refused. Then nothing has changed.
     pub fn add_objects(&mut self, objects: &[Object]) -> Result<(), AllocError>
         requires { self.old.next + length objects.now ≤ OBJECT_NUMBERS }
         ensures ok { OnOk result (self.new ≡ fold with_new self.old objects.now) }
@@ -246,7 +246,7 @@ impl State {
     /// Removes the object, for which there is no capability.
     ///
     /// The object's slots are empty and in no pair of the derivation tree, nobody waits at it, and
-    /// it waits nowhere. Its number isn't used again. Does nothing where there is no such object.
+    /// it waits nowhere. Its number isn't used again. Does nothing if there is no such object.
     pub fn remove_object(&mut self, id: ObjId)
         requires unheld { caps_to self.old id ≡ 0 }
         requires hollow { (slot : Slot) → slot.holder ≡ id → cap_of self.old slot ≡ None }
@@ -382,7 +382,7 @@ impl State {
 
     /// Sets the watermark of the untyped memory.
     ///
-    /// Does nothing where there is none of that number.
+    /// Does nothing if there is none of that number.
     #[tactic(auto, unfolding(machine::specs::Changes::with_watermark))]
     pub fn set_watermark(&mut self, id: ObjId, watermark: u64)
         ensures { self.new ≡ with_watermark self.old id watermark }
@@ -398,7 +398,7 @@ impl State {
 
     /// Sets the word of the notification.
     ///
-    /// Does nothing where there is none of that number.
+    /// Does nothing if there is none of that number.
     #[tactic(auto, unfolding(machine::specs::Changes::with_pending))]
     pub fn set_pending(&mut self, id: ObjId, pending: Option<u64>)
         ensures { self.new ≡ with_pending self.old id pending }
@@ -414,7 +414,7 @@ impl State {
 
     /// Sets the thread.
     ///
-    /// Does nothing where there is none of that number.
+    /// Does nothing if there is none of that number.
     #[tactic(auto, unfolding(machine::specs::Changes::with_tcb))]
     pub fn set_tcb(&mut self, id: ObjId, thread: Tcb)
         ensures { self.new ≡ with_tcb self.old id thread }
@@ -426,7 +426,7 @@ impl State {
 
     /// Sets the reply.
     ///
-    /// Does nothing where there is none of that number.
+    /// Does nothing if there is none of that number.
     #[tactic(auto, unfolding(machine::specs::Changes::with_reply))]
     pub fn set_reply(&mut self, id: ObjId, reply: Reply)
         ensures { self.new ≡ with_reply self.old id reply }
@@ -438,7 +438,7 @@ impl State {
 
     /// Sets the scheduling context.
     ///
-    /// Does nothing where there is none of that number.
+    /// Does nothing if there is none of that number.
     #[tactic(auto, unfolding(machine::specs::Changes::with_context))]
     pub fn set_context(&mut self, id: ObjId, context: Context)
         ensures { self.new ≡ with_context self.old id context }
@@ -450,7 +450,7 @@ impl State {
 
     /// Sets the object's word at the index.
     ///
-    /// Does nothing where the object isn't there or has fewer words.
+    /// Does nothing if the object isn't there or has fewer words.
     pub fn set_word(&mut self, id: ObjId, index: u64, word: u64)
         ensures { self.new ≡ with_word self.old id index word }
     {
@@ -459,7 +459,7 @@ impl State {
 
     /// Puts the thread behind those that wait at the object.
     ///
-    /// Does nothing where there is no such object.
+    /// Does nothing if there is no such object.
     pub fn push_waiting(&mut self, id: ObjId, thread: ObjId)
         requires present { IsSome (object_of self.old thread) }
         requires free { WaitsNowhere self.old thread }
@@ -491,7 +491,6 @@ impl State {
     }
 }
 
-// The object at an index, if there are as many.
 fn at_index(objects: &[ObjId], index: u64) -> Option<ObjId>
     ensures { result ≡ slice_get objects.now index }
 {

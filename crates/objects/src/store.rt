@@ -133,7 +133,6 @@ impl Store {
         }
     }
 
-    // The ends of the queue at the object.
     fn ends(&self, id: ObjId) -> Option<Ends>
         ensures { result ≡ option_map (λ entry. entry.ends) (entry_of self.now id) }
     {
@@ -164,7 +163,6 @@ impl Store {
         self.entry(id)?.ends.first
     }
 
-    // Where the thread stands.
     fn standing(&self, thread: ObjId) -> Standing
         ensures { result ≡ standing_of (entry_of self.now thread) }
     {
@@ -199,7 +197,7 @@ impl Store {
         places::set_previous(&self.places, &mut self.entries, at, previous);
     }
 
-    // Says which the slot's first child is, if a slot is named.
+    // Sets the first child of a slot, if one is named.
     fn set_first(&mut self, at: Option<SlotRef>, first: Option<SlotRef>)
         ensures { self.new ≡ with_links self.old at (λ l. record l { first = first }) }
     {
@@ -208,7 +206,7 @@ impl Store {
         }
     }
 
-    // Says which sibling follows the slot, if one is named.
+    // Sets the sibling that follows a slot, if one is named.
     fn set_follower(&mut self, at: Option<SlotRef>, next: Option<SlotRef>)
         ensures { self.new ≡ with_links self.old at (λ l. record l { next = next }) }
     {
@@ -217,7 +215,7 @@ impl Store {
         }
     }
 
-    // Says which sibling the slot follows, if one is named.
+    // Sets the sibling that a slot follows, if one is named.
     fn set_leader(&mut self, at: Option<SlotRef>, previous: Option<SlotRef>)
         ensures { self.new ≡ with_links self.old at (λ l. record l { previous = previous }) }
     {
@@ -226,7 +224,7 @@ impl Store {
         }
     }
 
-    // Says whose child the slot is, and between which siblings it stands.
+    // Sets the parent of a slot and the sibling that follows it; it then follows none.
     fn set_standing_under(&mut self, at: SlotRef, parent: Option<SlotRef>, next: Option<SlotRef>)
         ensures { self.new
             ≡ with_links self.old (Some at) (λ l. record l { parent = parent; next = next; previous = None }) }
@@ -314,7 +312,7 @@ impl Store {
         places::set_standing(&self.places, &mut self.entries, thread, standing);
     }
 
-    // Says who stands behind the thread, if one is named.
+    // Sets the thread behind a thread, if one is named.
     fn set_next(&mut self, thread: Option<ObjId>, next: Option<ObjId>)
         ensures { self.new ≡ with_standing self.old thread (λ s. record s { next = next }) }
     {
@@ -327,7 +325,7 @@ impl Store {
         }
     }
 
-    // Says who stands before the thread, if one is named.
+    // Sets the thread before a thread, if one is named.
     fn set_previous(&mut self, thread: Option<ObjId>, previous: Option<ObjId>)
         ensures { self.new ≡ with_standing self.old thread (λ s. record s { previous = previous }) }
     {
@@ -394,7 +392,7 @@ impl Store {
     ///
     /// # Errors
     ///
-    /// [`AllocError`] where memory is refused. Then nothing has changed.
+    /// [`AllocError`] if memory is refused. Then nothing has changed.
     pub fn add_all(&mut self, first: u64, objects: &[Object]) -> Result<(), AllocError>
         requires { first + length objects.now ≤ OBJECT_NUMBERS }
         ensures ok { OnOk result (self.new ≡ with_more self.old first (map new_entry objects.now)) }
@@ -412,7 +410,7 @@ impl Store {
     }
 }
 
-// Whose first child a slot with these links is.
+// The slot whose first child has these links.
 fn heads(links: TreeLinks) -> Option<SlotRef>
     ensures { result ≡ head_of links links.previous }
 {
@@ -422,8 +420,8 @@ fn heads(links: TreeLinks) -> Option<SlotRef>
     }
 }
 
-// An end of a queue that a thread has left, by its neighbour towards that end, the other one, and
-// what the end was.
+// The end of a queue that a thread has left, by its neighbour towards that end, its other neighbour,
+// and the old end.
 fn remaining_end(
     neighbour: Option<ObjId>,
     other: Option<ObjId>,

@@ -4,7 +4,6 @@ ghost use Rattle.std.specs.Prelude.{◌≡◌, IfOk, replicate, slice_get, slice
 use std::alloc::{AllocError, Global};
 use std::marker::Model;
 
-/// The words of an object's memory.
 #[derive(Drop)]
 pub struct Words {
     items: Vec<u64>,
@@ -23,7 +22,7 @@ impl Words {
     ///
     /// # Errors
     ///
-    /// [`AllocError`] where memory is refused.
+    /// [`AllocError`] if memory is refused.
     pub fn zeros(alloc: Global, count: u64) -> Result<Words, AllocError>
         ensures { IfOk result (λ words. words ≡ replicate count 0) }
     {

@@ -1,4 +1,4 @@
--- The first place of a rule within the labels that are told for each kind, and within the labels of one kind.
+-- First places of a rule, by the labels for each kind, and by the labels of one kind.
 use Rattle.std.{specs.{Option.option_map, Ordering.is_lt, Prelude.◌↔◌}, proofs.Common.{[], ℕ, ◌<◌, ◌∙◌, ◌∷◌, ◌≡◌, Bool, IfNone, IfSome}}
 use Rattle.std.proofs.Common.{List, None, Option, Some, ap, arith, false, inl, inr, subst, sym, true}
 use Rattle.base.specs.{declared.{kind.Kind.Kind, labels.Labels.Labels}, Kinds.kind_number, Labels.is_in}
@@ -7,7 +7,7 @@ use Rattle.policy.{specs.Search.{FindsBroken, FindsCell, IsLeastIn, IsNobody}, p
 use Rattle.policy.proofs.Places.{least_made, none_made}
 use mathlib.Core.Bool.{false≢true}
 
--- what places add where they name a kind and a label, or a label after a kind that is always the same
+-- what places add for a kind and a label, or for a label after a fixed kind
 
 abbrev pub of_cell : Kind × ℕ → List ℕ
 of_cell cell = kind_number cell.0 ∷ cell.1 ∷ []
@@ -25,7 +25,7 @@ pub not_both : {b : Bool} → b ≡ true → b ≡ false → ⊥
 not_both t f = false≢true (sym f ∙ t)
 
 module _ (test : EdgeTest) (beginning : List ℕ) where
-  -- a set of labels is those at which the rule is broken
+  -- the set has the labels at which the rule is broken
   abbrev pub AreTold : (ℕ → Broken) → Labels → Type 0
   AreTold make labels = (label : ℕ) → (is_in labels label ≡ true) ↔ IsBrokenAt test (make label)
 

@@ -1,4 +1,4 @@
--- What a label may change, and what it may make smaller, as unions of sets of labels.
+-- The labels that a label may change, and those that it may make smaller, as unions of sets of labels.
 use Rattle.std.{specs.List.list_any, proofs.Common.{ℕ, ◌||◌, ◌≡◌, ◌⊎◌, Bool, inl, inr, not, refl, true}}
 use Rattle.base.specs.declared.kind.Kind.{Kind, TheVariants.{Await, Call, Context, Control, Grant, Holds, Notify, Receive, Reply, Reset, Runs, Send}}
 use Rattle.policy.specs.{declared.{change.TheConstants.CHANGING, narrow_take.TheConstants.{REMOVED, WAITING}}, Domain.EdgeTest}
@@ -23,11 +23,11 @@ module _ (test : EdgeTest) (acts : ActorTest) (a : ℕ) where
   abbrev pub OneOf : (Kind → Bool) → ℕ → ℕ → Type 0
   OneOf passes from to = (kind : Kind) × (passes kind ≡ true) × (test from kind to ≡ true)
 
-  -- a label that acts and waits where a has to do with it
+  -- a label that acts and waits at an end to which a has an edge
   abbrev pub Meets : Kind → Kind → ℕ → Type 0
   Meets kind other l = (end : ℕ) × (test a kind end ≡ true) × (test l other end ≡ true) × (acts l ≡ true)
 
-  -- one that receives a's calls
+  -- a label that receives a's calls
   abbrev pub IsCallee : ℕ → Type 0
   IsCallee l = (end : ℕ) × ((test a Send end ≡ true) × (test a Call end ≡ true)) × (test l Receive end ≡ true) × (acts l ≡ true)
 
@@ -63,11 +63,11 @@ module _ (test : EdgeTest) (acts : ActorTest) (a : ℕ) where
         inl (inr (receiver, (endpoint, granted, received, waits), controlled))
     change_from (replies answer) = inr answer
 
-    -- what vanishes where a controls a label
+    -- a label from which something vanishes as a controls a label
     abbrev pub IsDeleted : ℕ → Type 0
     IsDeleted end = (controlled : ℕ) × (test a Control controlled ≡ true) × (test controlled Reset end ≡ true)
 
-    -- one that receives there
+    -- a label that receives there
     abbrev pub LosesEnd : ℕ → Type 0
     LosesEnd receiver = (end : ℕ) × IsDeleted end × (test receiver Receive end ≡ true) × (acts receiver ≡ true)
 

@@ -1,4 +1,4 @@
--- Each way to change as the walks along a chain of turns.
+-- Ways to change as walks: each way is the walks along a chain of turns.
 use Rattle.std.{specs.declared.alloc.Global.Global, proofs.Common.{[], ℕ, ◌||◌, ◌↔◌, ◌∙◌, ◌∷◌, ◌≡◌, ◌⊎◌, List, None, Option, Some, Vec, ap}}
 use Rattle.std.proofs.Common.{inl, inr, not, refl, subst, sym, true}
 use Rattle.base.specs.declared.{edge.Edge.Edge, kind.Kind.{Kind, TheVariants.{Await, Call, Context, Control, Grant, Holds, Notify}}}
@@ -18,7 +18,7 @@ changing_from kind is = of_kind (is_of CHANGING kind) _ is (each_kind (λ k. not
 changing_to : (kind : Kind) → is_changing kind ≡ true → is_of CHANGING kind ≡ true
 changing_to kind is = of_kind (is_changing kind) _ is (each_kind (λ k. not (is_changing k) || is_of CHANGING k) refl kind)
 
--- whom a turn lets through: everybody, or those of whom something holds
+-- the labels that a turn lets through: all, or those with a property
 abbrev pub LetsAll : Turn → Type 0
 LetsAll turn = (label : ℕ) → lets_through turn.among label ≡ true
 
@@ -149,7 +149,7 @@ module _ (test : EdgeTest) (acts : ActorTest) (a l : ℕ) (actor : acts a ≡ tr
       by_way x (replies (record { reply = front.0; uses = front.2; called = (turns.answer_lets front.0).0 front.3 }))
       (sym (front.4 ∙ ap (λ es. edge a Reply front.0 ∷ es) last.2))
 
-  -- all of the ways, in the order in which the code joins them
+  -- all ways, in the order in which the code joins them
 
   abbrev Near : List Edge → Type 0
   Near x = ((((Walk [] x ⊎ Walk (modify ∷ []) x) ⊎ Walk (bind ∷ []) x) ⊎ Walk (lend ∷ []) x) ⊎ Walk (send ∷ receiver ∷ []) x) ⊎ Walk (receive ∷ sender ∷ []) x

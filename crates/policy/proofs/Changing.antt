@@ -1,4 +1,4 @@
--- What may be changed is within full authority, and what may be made smaller within cut or full authority, way by way; both grow with
+-- Bounds on what labels change: changes are within full authority, and losses within cut or full authority, way by way; both grow with
 -- the policy and with the labels that act.
 use Rattle.std.proofs.Common.{ℕ, ◌∙◌, ◌≡◌, ◌⊎◌, inl, inr, refl, sym, true}
 use Rattle.base.specs.declared.kind.Kind.{Kind, TheVariants.{Await, Call, Context, Control, Derive, Grant, Holds, Notify, Receive, Reply}}
@@ -140,7 +140,7 @@ module _ (test : EdgeTest) (acts : ActorTest) (a l : ℕ) where
         record { endpoint = endpoint; sends = sent; receiver = receiver; receives = received; names = named }
     by_way (controls taken) = absurd (control_needs controlled taken)
 
--- more edges and more labels that act leave what may be done
+-- what may be done grows with the edges and with the labels that act
 module _ (test other : EdgeTest) (acts more : ActorTest) (within : IsWithin test other) (also : (x : ℕ) → acts x ≡ true → more x ≡ true)
     (a l : ℕ) where
   borrow_grows : (b : ℕ) → MayBorrow test b → MayBorrow other b

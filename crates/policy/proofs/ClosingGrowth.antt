@@ -1,4 +1,4 @@
--- Policies that grow: steps of growth make one, and fewer edges are absent after each that adds any.
+-- Policies that grow: steps of growth make one, and each step that adds edges leaves fewer absent.
 use Rattle.std.{specs.List.list_any, proofs.Common.{[], ℕ, ◌++◌, ◌+◌, ◌<◌, ◌||◌, ◌∙◌, ◌∷◌, ◌≡◌, ◌≤◌, Bool, List, ap, arith, cond, false}}
 use Rattle.std.proofs.{Common.{inl, inr, refl, subst, sym, true}, Math.Bool.{or-false, or_comm}, lemmas.Bool.or_cases}
 use Rattle.std.proofs.lemmas.List.Folds.{list_any-append}
@@ -31,11 +31,10 @@ module _ (old middle new : List Edge) where
     same = λ is. absurd (false≢true (sym is));
   }
 
-  -- a step that adds none
+  -- a step that adds no edge, after others
   pub grows_no_more : (before : Bool) → Grows old middle before → Grows middle new false → Grows old new before
   grows_no_more before first second = subst (λ edges. Grows old edges before) (sym (second.same refl)) first
 
--- what is missing at a label is added
 pub grows_by_join :
     (old new : List Edge) (from : ℕ) (kind : Kind) (lacks : Labels) (first : ℕ)
     → ((to : ℕ) → is_in lacks to ≡ true → IsMissing (allows old) from kind to) → Joins old new from kind lacks → first < Label.COUNT
@@ -52,7 +51,7 @@ grows_by_join old new from kind lacks first missing joins below is = record {
     | inr (starts, kinds, among) ↦ rw (starts, kinds) (has_asked (allows old) other within closed from kind end (missing end among).asked)
   ]
 
--- how many of the edges that there can be a policy doesn't have
+-- the number of possible edges that a policy lacks
 
 pub absent_among : EdgeTest → List Edge → ℕ
 absent_among test [] = 0
@@ -96,7 +95,6 @@ module _ (before after : EdgeTest) (kept : IsWithin before after) where
         omega arith
   ]
 
--- fewer are absent once a policy grows
 pub absent_falls : (old new : List Edge) → JoinsLabels new → Grows old new true → absent_count new < absent_count old
 absent_falls old new labels grows =
     let edge = grows.added refl in
@@ -104,7 +102,7 @@ absent_falls old new labels grows =
     fewer (allows old) (allows new) grows.kept edge.from edge.kind edge.to edge.absent edge.present (all_edges Label.COUNT)
     (possible Label.COUNT edge.from edge.kind edge.to ends.0 ends.1)
 
--- the least closed policy of edges is that of the same edges in another list
+-- the least closed policy of edges is that of a list with the same edges
 pub least_of_same : (one other policy : List Edge) → ((from : ℕ) (kind : Kind) (to : ℕ) → allows one from kind to ≡ allows other from kind to)
     → IsLeastClosed other policy → IsLeastClosed one policy
 least_of_same one other policy same least = record {

@@ -1,4 +1,4 @@
--- What the rules ask for: every closed policy has it, and a policy that has all of it is closed.
+-- The edges that the rules ask for: every closed policy has them, and a policy that has all of them is closed.
 use Rattle.std.proofs.Common.{ℕ, ◌<◌, ◌∙◌, ◌≡◌, Bool, IfSome, false, inl, inr, refl, sym, true}
 use Rattle.base.specs.declared.kind.Kind.{Kind, Kind as kinds, TheVariants.{Call, Context, Control, Derive, Receive, Reply, Runs, Space, Grant}}
 use Rattle.base.specs.Kinds.{is_structural}
@@ -7,7 +7,7 @@ use Rattle.policy.specs.{Closed.{IsClosed, MayBeGranted, caller, derived, grante
 use Rattle.policy.{specs.Settling.{IsAskedFor, IsGiven, by_grant, controlled, of_its_domain, of_their_domain, shared}, proofs.Unbroken.has_asked_at}
 use mathlib.Core.Bool.{false≢true}
 
--- what is asked for by the edges of one policy, a closed policy has that has these edges
+-- a closed policy has what the edges of a policy within it ask for
 module _ (one other : EdgeTest) (within : IsWithin one other) (closed : IsClosed other) where
   in_domain : (a x : ℕ) → IsInDomain one a x → IsInDomain other a x
   in_domain a x (inl space) = inl (within a Space x space)
@@ -66,7 +66,7 @@ alike true b forth back = sym (forth refl)
 alike false true forth back = back refl
 alike false false forth back = refl
 
--- control and sharing give no edge that says what may be derived, run or held
+-- control and sharing give no derive, runs or holds edge
 not_given : (test : EdgeTest) (from : ℕ) (kind : Kind) (to : ℕ) → is_structural kind ≡ true → (kind ≡ Space → ⊥) → IsGiven test from kind to → ⊥
 not_given test from kind to structural other (shared giver h is_use has) = false≢true (sym is_use ∙ structural)
 not_given test from kind to structural other (controlled h) = elim h.given [
@@ -80,7 +80,6 @@ asked_if_given test from Runs to h = absurd (not_given test from Runs to refl (�
 asked_if_given test from kinds.Holds to h = absurd (not_given test from kinds.Holds to refl (λ e. cc) h)
 asked_if_given test from kind to h = h
 
--- a policy that has all that it asks for is closed
 pub closed_if_settled : (test : EdgeTest) → ((from : ℕ) (kind : Kind) (to : ℕ) → IsAskedFor test from kind to → test from kind to ≡ true) → IsClosed test
 closed_if_settled test settled = record {
   subjects_agree = λ a b kind share to.
@@ -97,7 +96,7 @@ closed_if_settled test settled = record {
   given : (from : ℕ) (kind : Kind) (to : ℕ) → IsGiven test from kind to → test from kind to ≡ true
   given from kind to h = settled from kind to (asked_if_given test from kind to h)
 
--- what is asked for starts at a label of an edge
+-- an edge that is asked for starts at a label of an edge
 module _ (test : EdgeTest) (n : ℕ) (joins : (from : ℕ) (kind : Kind) (to : ℕ) → test from kind to ≡ true → (from < n) × (to < n)) where
   pub domain_joins : (a x : ℕ) → IsInDomain test a x → (a < n) × (x < n)
   domain_joins a x (inl e) = joins a Space x e

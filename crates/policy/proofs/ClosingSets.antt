@@ -1,4 +1,4 @@
--- The sets of labels to which edges are missing, as closing puts them together.
+-- Sets of labels to which edges are missing, as closing computes them.
 use Rattle.std.proofs.Common.{ℕ, ◌+◌, ◌<◌, ◌==◌, ◌∙◌, ◌≡◌, ◌⊎◌, ◌||◌, Bool, Some, arith, false, inl, inr, refl, slice_get, subst, sym, true}
 use Rattle.std.proofs.lemmas.Bool.{cases_order, eq-eqb, eqb-true, or_cases, or_left, or_right}
 use Rattle.base.specs.declared.kind.Kind.{Kind, Kind as kinds, TheVariants.{Context, Derive, Grant, Receive, Runs}}
@@ -10,7 +10,7 @@ use Rattle.policy.proofs.{KindNumbers.same_kind, RuleSets.{Holds, IsDifference, 
 use Rattle.policy.proofs.Stepping.{IsRow, only_kind, source_by, target_by}
 use mathlib.Core.Bool.{false≢true}
 
--- who shares with a label
+-- the labels that share with a label
 pub givers_told :
     (test : EdgeTest) (taker : ℕ) (subjects only around row granting domains all : Labels)
     → Holds subjects (λ giver. IsInDomain test giver taker) → ((label : ℕ) → is_in only label ≡ (label == taker))
@@ -46,7 +46,7 @@ givers_told test taker subjects only around row granting domains all in_subjects
       both giver ∙ or_right (is_in domains giver) (is_in granting giver)
       ((in_granting giver).1 (source_by test Grant row may.endpoint giver (in_row may.endpoint ∙ may.receives) may.grants))
 
--- what control and sharing give
+-- the labels to which control and sharing give an edge
 pub given_told :
     (test : EdgeTest) (from : ℕ) (kind : Kind) (controls givers shares all : Labels) → is_structural kind ≡ false
     → Holds controls (ControlGives test from kind) → Holds givers (λ giver. Shares test giver from)
@@ -66,7 +66,7 @@ given_told test from kind controls givers shares all of_use in_controls in_giver
       both to ∙ or_right (is_in controls to) (is_in shares to)
       ((in_shares to).1 (target_by test kind givers giver to ((in_givers giver).1 h) has))
 
--- what is missing for one of two reasons: P4 and P5, and P6 and P8
+-- the labels to which an edge is missing for one of two reasons: P4 and P5, and P6 and P8
 pub either_missing :
     (One Other : ℕ → Type 0) (there : ℕ → Bool) (first second all : Labels) → Holds first (λ to. IsLacking (One to) (there to))
     → Holds second (λ to. IsLacking (Other to) (there to)) → IsUnion first second all → Holds all (λ to. IsLacking (One to ⊎ Other to) (there to))
@@ -98,7 +98,7 @@ given_missing test from kinds.Holds given row lacks no_derive no_runs no_holds i
 given_missing test from kind given row lacks no_derive no_runs no_holds in_given in_row differ =
     lacking_told test from kind (IsGiven test from kind) given row lacks in_row differ in_given
 
--- where nothing is missing, what is asked for is there
+-- an edge that is asked for is there if none is missing
 pub settled_if_none :
     (test : EdgeTest) (from : ℕ) (kind : Kind) (lacks : Labels) → Holds lacks (IsMissing test from kind) → ((to : ℕ) → is_in lacks to ≡ false)
     → IsSettled test from kind
@@ -107,7 +107,7 @@ settled_if_none test from kind lacks in_lacks none to asked = by (test from kind
   by true is = is
   by false missing = absurd (false≢true (sym (none to) ∙ (in_lacks to).1 (record { asked = asked; missing = missing })))
 
--- one kind more
+-- one more kind
 pub one_more_kind :
     (P : Kind → Type 0) (n : ℕ) (here : Kind) → slice_get all_kinds n ≡ Some here → ((kind : Kind) → kind_number kind < n → P kind) → P here
     → (kind : Kind) → kind_number kind < n + 1 → P kind

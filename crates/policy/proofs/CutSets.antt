@@ -1,4 +1,4 @@
--- Cut authority as sets of labels, each of which is found by steps along edges.
+-- Cut authority as sets of labels, each found by steps along edges.
 use Rattle.std.{specs.List.list_any, proofs.Common.{[], ℕ, ◌==◌, ◌||◌, ◌↔◌, ◌∙◌, ◌∷◌, ◌≡◌, ◌⊎◌, Bool, ap, inl, inr, not, refl, sym, true}}
 use Rattle.std.proofs.lemmas.Bool.{eq-eqb, eqb-true, not-true, or_cases, or_left, or_right}
 use Rattle.base.specs.{declared.{kind.Kind.{Kind, TheVariants.{Control, Derive, Space}}, labels.Labels.Labels}, Kinds.is_structural}
@@ -87,7 +87,7 @@ holding_to kind (inl of_use) =
     of_kind (not (is_structural kind)) _ (ap not of_use) (each_kind (λ k. not (not (is_structural k)) || list_any (is_kind k) HOLDING) refl kind)
 holding_to kind (inr space) = ap (λ k. list_any (is_kind k) HOLDING) space
 
--- from there to what capabilities lead to, to what is linked with it and with that
+-- the labels to which capabilities lead from there, and what is linked with those, in two steps
 
 module _ (test : EdgeTest) (actor : ℕ) (bases led reached near : Labels) (bases_are : (base : ℕ) → (is_in bases base ≡ true) ↔ IsBase test actor base)
     (led_are : (to : ℕ) → (is_in led to ≡ true) ↔ IsTarget test HOLDING bases to)

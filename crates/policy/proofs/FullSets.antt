@@ -1,4 +1,4 @@
--- Full authority as a union of sets of labels, each of which is found by steps along edges.
+-- Full authority as a union of sets of labels, each found by steps along edges.
 use Rattle.std.{specs.List.list_any, proofs.Common.{[], ℕ, ◌==◌, ◌||◌, ◌↔◌, ◌∙◌, ◌∷◌, ◌≡◌, Bool, inl, inr, not, refl, sym, true}}
 use Rattle.std.proofs.lemmas.Bool.{eq-eqb, eqb-true, or_cases, or_left, or_right}
 use Rattle.base.specs.declared.kind.Kind.{Kind, TheVariants.{Await, Control, Grant, Holds, Notify, Receive, Reply, Send}}

@@ -1,4 +1,4 @@
--- Sets of labels by what holds of the labels in them: rows, steps along edges of one kind, and what is in one set or the other or in both.
+-- Sets of labels by what holds of their labels: rows, steps along edges of one kind, unions and intersections.
 use Rattle.std.{specs.List.{list_all, list_any}, proofs.Common.{[], ℕ, ◌&&◌, ◌==◌, ◌||◌, ◌↔◌, ◌∙◌, ◌∷◌, ◌≡◌, ◌⊎◌, Bool, List, inl, inr, sym, true}}
 use Rattle.std.proofs.lemmas.Bool.{and_from, and_parts, eq-eqb, eqb-true, or_cases, or_left, or_right}
 use Rattle.base.specs.{declared.{kind.Kind.Kind, labels.Labels.Labels}, Labels.is_in}

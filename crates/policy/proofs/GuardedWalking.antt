@@ -1,4 +1,4 @@
--- Walks by labels of given sets, edge by edge: from where a turn leads on, how the least walk begins, and what its first edge is.
+-- Walks by labels of given sets, edge by edge: the labels from which a turn leads on, how the least walk begins, and its first edge.
 use Rattle.std.proofs.Common.{[], ℕ, ◌&&◌, ◌↔◌, ◌∙◌, ◌∷◌, ◌≡◌, ◌⊎◌, Bool, List, Option, Vec, ap, arith, inl, inr, length, refl, subst, sym, true}
 use Rattle.std.{specs.declared.{alloc.Global.Global, cmp.Ordering.TheVariants.Less}, proofs.lemmas.Bool.{and_from, and_parts}}
 use Rattle.base.specs.{declared.{edge.Edge.Edge, kind.Kind.Kind, labels.Labels.Labels}, Labels.is_in}
@@ -148,7 +148,7 @@ module _ (test : EdgeTest) where
   ends_there from to [] walk = (refl, walk)
   ends_there from to (e ∷ es) walk = absurd walk
 
-  -- of a turn by edges of one kind
+  -- a turn along edges of one kind
 
   pub one_turn_along : (turn : Turn) (kind : Kind) (turns : List Turn) (from to : ℕ) (x : List Edge) → GoesAlong (kind ∷ []) turn.step
       → IsGuardedWalk test (turn ∷ turns) from to x
@@ -201,7 +201,7 @@ module _ (test : EdgeTest) where
         front.4 ∙ (λ i. edge (end.1 i) kind from ∷ end.0 i),
       )
 
-  -- a walk with an edge more
+  -- a walk with one more edge
 
   pub longer_along : (turn : Turn) (kinds : List Kind) (turns : List Turn) (from : ℕ) (kind : Kind) (next to : ℕ) (es : List Edge)
       → GoesAlong kinds turn.step → is_of kinds kind ≡ true → test from kind next ≡ true → lets_through turn.among next ≡ true

@@ -41,7 +41,7 @@ pub number_at : (k : ℕ) (d : Kind) → k < 17 → kind_number (get_or all_kind
 number_at k d lt =
     sym (get_or-map kind_number all_kinds k d (kind_number d) lt) ∙ get_or-range_with_len 0 17 k (kind_number d) lt ∙ zero-add k
 
--- and no other does
+-- no other kind stands there
 pub number_stands : (k : ℕ) (kind : Kind) → slice_get all_kinds k ≡ Some kind → kind_number kind ≡ k
 number_stands k kind at =
     let lt : k < 17 = slice_get_within all_kinds k kind at in
@@ -53,7 +53,7 @@ same_kind a b same = sym (at_number a a) ∙ ap (λ n. get_or all_kinds n a) sam
 abbrev pub is_kind : Kind → Kind → Bool
 is_kind kind other = kind_number kind == kind_number other
 
--- what all kinds pass, each passes
+-- each kind passes what all kinds pass
 every : (p : Kind → Bool) (kinds : List Kind) (kind : Kind) → list_all p kinds ≡ true → list_any (is_kind kind) kinds ≡ true → p kind ≡ true
 every p [] kind all is = absurd (false≢true is)
 every p (first ∷ rest) kind all is =

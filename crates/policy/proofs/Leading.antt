@@ -1,11 +1,11 @@
--- The first edge by which a step leads to a set: of the edges that a label has, and of all.
+-- The first edge by which a step leads to a set: of the edges of one label, and of all edges.
 use Rattle.std.{specs.{declared.cmp.Ordering.TheVariants.Less, Option.option_map, Ordering.nat_cmp}, proofs.Common.{ℕ, ◌+◌, ◌<◌, ◌↔◌, ◌∙◌}}
 use Rattle.std.proofs.{Common.{◌≡◌, None, Option, Some, arith, false, inl, inr, refl, subst, sym, true}, lemmas.Bool.cases_order}
 use Rattle.base.specs.{declared.{edge.Edge.Edge, kind.Kind.Kind, labels.Labels.Labels}, Kinds.kind_number, Labels.is_in}
 use Rattle.policy.{specs.{Places.IsNone, Reasons.edge, Search.FindsCell, Walks.FindsFirst}, proofs.{Cells.not_both, KindNumbers.same_kind}}
 use Rattle.policy.proofs.Places.{decided}
 
--- of the edges that a label has
+-- of the edges of one label
 module _ (P : Edge → Type 0) (start : ℕ) (gives : Kind → Labels → Type 0)
     (tells : (kind : Kind) (labels : Labels) → gives kind labels → (to : ℕ) → (is_in labels to ≡ true) ↔ P (edge start kind to)) where
   abbrev OfLabel : Edge → Type 0
@@ -40,7 +40,7 @@ module _ (P : Edge → Type 0) (start : ℕ) (gives : Kind → Labels → Type 0
   first_of_label found known finds same =
       subst (λ (f : Option (Kind × ℕ)). FindsFirst OfLabel (option_map (λ cell. edge start cell.0 cell.1) f)) same (first_of_cells found finds)
 
--- label by label
+-- of all edges, label by label
 module _ (P : Edge → Type 0) where
   abbrev NoneBelow : ℕ → Type 0
   NoneBelow n = (e : Edge) → e.from < n → P e → ⊥

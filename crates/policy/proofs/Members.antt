@@ -1,4 +1,4 @@
--- Rising lists of edges by their members: which edge is the last, and that lists with the same members are one.
+-- Rising lists of edges by their members: which edge is the last, and that lists with the same members are equal.
 use Rattle.std.specs.{declared.cmp.Ordering.{Ordering, TheVariants.{Equal, Greater, Less}}, List.{AllByRecursion, filter, range_with_len}}
 use Rattle.std.{specs.{Ordering.{is_eq, is_lt, ordering_reverse}, Prelude.IfSome}, proofs.Common.{[], ℕ, ◌&&◌, ◌++◌, ◌+◌, ◌-◌, ◌<◌, ◌||◌}}
 use Rattle.std.proofs.Common.{◌∙◌, ◌∷◌, ◌≡◌, ◌⊎◌, Bool, List, None, Option, Some, ap, arith, cond, false, get_or, inl, inr, length, map}
@@ -16,7 +16,7 @@ use mathlib.Core.Bool.{false≢true}
 abbrev pub Has : List Edge → Edge → Bool
 Has edges edge = allows edges edge.from edge.kind edge.to
 
--- an edge that has the parts of another is it
+-- an edge with the parts of another is that edge
 same_edge : (edge other : Edge) → is_edge edge.from edge.kind edge.to other ≡ true → other ≡ edge
 same_edge edge other is =
     let parts = same_parts other edge.from edge.kind edge.to is in
@@ -53,7 +53,7 @@ unfolding allows
 at_place edges edge k lt is =
     list_any_at (is_edge edge.from edge.kind edge.to) edges k edge lt (ap (is_edge edge.from edge.kind edge.to) is ∙ itself edge)
 
--- no edge that is there is above the last
+-- no edge of the list is above its last
 pub none_above_last : (edges : List Edge) (edge last : Edge) → IsRising edges → last_edge edges ≡ Some last → Has edges edge ≡ true
     → edge_cmp edge last ≡ Greater → ⊥
 none_above_last edges edge last rising ends has above =
@@ -73,7 +73,7 @@ none_above_last edges edge last rising ends has above =
       | inr (inr after) ↦ absurd (omega (arith, place.1))
     ]
 
--- there is an edge where one is last, and none where none is
+-- a list with a last edge has that edge, and one without a last edge has none
 pub last_is_there : (edges : List Edge) (last : Edge) → last_edge edges ≡ Some last → Has edges last ≡ true
 last_is_there [] last ends = let none : None ≡ Some last = ends in cc
 last_is_there (first ∷ rest) last ends =
@@ -89,7 +89,7 @@ none_there edges edge ends has =
     let both : Some (get_or edges (length edges - 1) edge) ≡ None =
     sym (slice_get-get_or edges (length edges - 1) edge (omega (arith, place.1))) ∙ ends in cc
 
--- an edge that is there, with none above it, is the last
+-- an edge of the list is the last if none is above it
 pub is_last : (edges : List Edge) (edge : Edge) → IsRising edges → Has edges edge ≡ true
     → ((other : Edge) → Has edges other ≡ true → edge_cmp other edge ≡ Greater → ⊥) → last_edge edges ≡ Some edge
 is_last edges edge rising has most =
@@ -105,7 +105,7 @@ is_last edges edge rising has most =
       | inr (inr after) ↦ absurd (omega (arith, place.1))
     ]
 
--- what is added
+-- the members of a list to which an edge was added
 
 abbrev pub IsAdded : List Edge → List Edge → Edge → Type 0
 IsAdded old new edge = (from : ℕ) (kind : Kind) (to : ℕ) → allows new from kind to ≡ (is_edge from kind to edge || allows old from kind to)
@@ -117,7 +117,7 @@ new_or_old old new edge other added has = elim (or_cases _ _ (sym (added other.f
   | inr before ↦ inr before
 ]
 
--- below the last, or tied with it, and so not above what is above it
+-- below the last, or equal to it, and so not above what is above it
 below : (other last edge : Edge) → (edge_cmp other last ≡ Greater → ⊥) → edge_cmp other edge ≡ Greater → edge_cmp edge last ≡ Less
 below other last edge most above = by (edge_cmp other last) refl where
   under : edge_cmp edge other ≡ Less
@@ -163,7 +163,7 @@ last_added old new edge before rising added = by (last_edge old) refl where
   ])
   by (Some last) ends = by_order last ends (edge_cmp edge last) refl
 
--- rising lists with the same members are one
+-- rising lists with the same members are equal
 
 above_all : (edge : Edge) (edges : List Edge) → AllByRecursion (λ other. edge_cmp edge other ≡ Less) edges → Has edges edge ≡ false
 unfolding allows
@@ -213,7 +213,7 @@ same_rising (x ∷ xs) (y ∷ ys) one other same =
     (λ is. same_rising xs ys (sorted_tail edge_cmp x xs one) (sorted_tail edge_cmp y ys other)
     (tails x xs ys one (subst (λ e. IsRising (e ∷ ys)) (sym is) other) (subst (λ e. SameEdges (x ∷ xs) (e ∷ ys)) (sym is) same)))
 
--- an edge above the last, at the end
+-- an edge above the last is added at the end
 
 pub rising_appended : (edges : List Edge) (edge : Edge) → IsRising edges → IsAboveLast edges edge → IsRising (edges ++ edge ∷ [])
 rising_appended edges edge rising above = sorted_from_all_adjacent edge_total (edges ++ edge ∷ []) edge (λ k more.
@@ -239,7 +239,7 @@ allows_appended edges edge from kind to =
     list_any-append (is_edge from kind to) edges (edge ∷ []) ∙ ap (λ b. allows edges from kind to || b) (or-false (is_edge from kind to edge))
     ∙ or_comm (allows edges from kind to) (is_edge from kind to edge)
 
--- an edge above the last is not there
+-- an edge above the last is not in the list
 pub not_above : (edges : List Edge) (edge : Edge) → IsRising edges → Has edges edge ≡ true → IsAboveLast edges edge → ⊥
 not_above edges edge rising has above = by (last_edge edges) refl where
   by : (last : Option Edge) → last_edge edges ≡ last → ⊥
@@ -261,7 +261,7 @@ one_more test labels n edge passes before after is tested so_far grown =
     grown ∙ (λ i. so_far i ++ cond (sym tested i) (edge ∷ []) []) ∙ ap (λ e. filter test (map (edge_at labels) (range_with_len 0 n)) ++ cond (test e) (e ∷ []) []) is
     ∙ sym (filter_of_map_range_with_len_more test (edge_at labels) 0 n n (omega arith))
 
--- of all edges between the labels that it joins, those that a policy allows are its own
+-- the edges that a policy allows, of all between the labels that it joins, are its own
 pub listed : (edges : List Edge) → IsRising edges → (n : ℕ) → JoinsBelow n edges → (count : ℕ) → count ≡ edge_count n
     → filter (λ edge. allows edges edge.from edge.kind edge.to) (map (edge_at n) (range_with_len 0 count)) ≡ edges
 unfolding allows

@@ -1,4 +1,4 @@
--- For each rule of closed policies a policy that breaks it alone.
+-- Policies that break one rule of closed policies each, and obey all others.
 use Rattle.std.proofs.Common.{ℕ, ◌+◌, ◌==◌, ◌≡◌, ◌≢◌, false, inl, inr, refl, sym, true}
 use Rattle.base.specs.declared.kind.Kind.{Kind, TheVariants.{Call, Context, Control, Derive, Grant, Receive, Reply, Reset, Runs, Space}}
 use Rattle.policy.specs.Closed.{ContextRuns, ControlGivesAll, DeriveByGrant, DeriveInDomain, GrantShares, IsClosed, LentRuns, ReplyHolds}
@@ -14,7 +14,7 @@ Lacks test k = (a b : ℕ) → test a k b ≡ false
 abbrev HasAll : EdgeTest → Kind → Type 0
 HasAll test k = (a b : ℕ) → test a k b ≡ true
 
--- rules that a policy obeys since it lacks a kind, or has all of it
+-- rules that a policy obeys because it lacks a kind, or has all of it
 
 outside : (test : EdgeTest) → Lacks test Space → Lacks test Control → (a x : ℕ) → IsInDomain test a x → ⊥
 outside test space control a x (inl e) = not_both e (space a x)

@@ -1,4 +1,4 @@
--- The order of edges: it is total, only an edge itself ties with it, and it is the one that the code compares by.
+-- The order of edges: it is total, only equal edges tie, and the code compares edges by it.
 use Rattle.std.specs.{declared.cmp.Ordering.{Ordering, TheVariants.{Equal, Greater, Less}}, Cmp.{IsTotalOrder, nat_cmp_total}}
 use Rattle.std.specs.{Cmp.unsigned_tied, List.list_all, Ordering.{is_eq, nat_cmp, ordering_then, partial_ordering_then}}
 use Rattle.std.proofs.{Common.{◌&&◌, ◌==◌, ◌∙◌, ◌≡◌, Bool, Option, Some, ap, false, refl, sym, true}, lemmas.Cmp.{on_total, then_total}}
@@ -53,7 +53,6 @@ is_eq-ordering_then Less s = refl
 is_eq-ordering_then Equal s = refl
 is_eq-ordering_then Greater s = refl
 
--- an edge is the one that ties with it
 pub is_edge-edge_cmp : (edge other : Edge) → is_edge edge.from edge.kind edge.to other ≡ is_eq (edge_cmp other edge)
 is_edge-edge_cmp edge other =
     let from = nat_cmp other.from edge.from in

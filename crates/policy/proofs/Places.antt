@@ -1,12 +1,12 @@
--- The search for the first place: in a list whose elements add rising numbers to a beginning, the first element under which a
--- place has a property has the first such place under it.
+-- The search for the first place, in a list whose elements add rising numbers to a beginning: the first element under which a place has a
+-- property has the first such place under it.
 use Rattle.std.{specs.{declared.cmp.Ordering.{Ordering, TheVariants.Less}, Ordering.{is_lt, nat_cmp, ordering_then}}, proofs.Common.{[], ℕ}}
 use Rattle.std.proofs.Common.{◌++◌, ◌+◌, ◌<◌, ◌∙◌, ◌∷◌, ◌≡◌, ◌≤◌, ◌⊎◌, List, Some, ap, arith, inl, inr, length, slice_get, subst, sym}
 use Rattle.std.proofs.lemmas.{Bool.cases_order, Option.{same_Some, slice_get_within}}
 use Rattle.policy.specs.Places.{Begins, ComesBefore, IsLeast, IsNone, IsUnder}
 use mathlib.Core.Bool.{false≢true}
 
--- what comes first decides
+-- the first number that differs decides
 pub decided : (x y : ℕ) (rest : Ordering) → ordering_then (nat_cmp x y) rest ≡ Less → (x < y) ⊎ ((x ≡ y) × (rest ≡ Less))
 decided x y rest less = grind (arith, less)
 
@@ -14,7 +14,7 @@ pub not_before_itself : (place : List ℕ) → ComesBefore place place → ⊥
 not_before_itself [] less = false≢true (ap is_lt less)
 not_before_itself (x ∷ xs) less = elim (decided x x _ less) [ inl before ↦ omega arith | inr same ↦ not_before_itself xs same.1 ]
 
--- the first number in which two lists differ, which both have, is smaller in the first
+-- two lists differ first in a number that both have, which is smaller in the first
 abbrev pub IsBelow : List ℕ → List ℕ → Type 0
 IsBelow [] other = ⊥
 IsBelow (x ∷ xs) [] = ⊥
@@ -24,7 +24,7 @@ below_joined : (beginning one other : List ℕ) → IsBelow one other → IsBelo
 below_joined [] one other below = below
 below_joined (b ∷ bs) one other below = inr ((λ i. b), below_joined bs one other below)
 
--- what begins with the smaller comes first
+-- a list that begins with the smaller number comes first
 apart :
     (one other low high : List ℕ) → IsBelow one other → Begins one low → Begins other high → ComesBefore high low → ⊥
 apart [] other low high below left right less = below
@@ -89,7 +89,7 @@ module _
         ];
   }
 
--- the only one that has a property
+-- the only place with a property is the first
 pub only_least :
     {X : Type 0} (place : X → List ℕ) (P : X → Type 0) (x : X) → P x → ((other : X) → P other → other ≡ x) → IsLeast place P x
 only_least place P x has only = record {
@@ -101,7 +101,7 @@ begins_joined : (beginning more : List ℕ) → Begins beginning (beginning ++ m
 begins_joined [] more = tt
 begins_joined (b ∷ bs) more = ((λ i. b), begins_joined bs more)
 
--- after the same beginning the rest decides
+-- lists with the same beginning are ordered by the rest
 before_joined : (beginning one other : List ℕ) → ComesBefore (beginning ++ one) (beginning ++ other) → ComesBefore one other
 before_joined [] one other less = less
 before_joined (b ∷ bs) one other less = elim (decided b b _ less) [ inl lt ↦ absurd (omega (arith, lt)) | inr same ↦ before_joined bs one other same.1 ]

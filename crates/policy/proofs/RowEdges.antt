@@ -23,7 +23,6 @@ pub nat_same : (a b : ℕ) → a ≡ b → nat_cmp a b ≡ Equal
 nat_same a b same =
     ap (λ t. cond t Less (cond (a == b) Equal Greater)) (le-ltb a b (omega arith)) ∙ ap (λ t. cond t Equal Greater) (eq-eqb a b same)
 
--- the kind that stands at a number has it
 pub numbered : (n : ℕ) → n < kind_count → kind_number (get_or all_kinds n Control) ≡ n
 numbered n below = number_stands n (get_or all_kinds n Control) (slice_get-get_or all_kinds n Control below)
 
@@ -110,7 +109,7 @@ unfolding edges_of_rows
 edges_rising rows =
     IsStrictlySortedBy-filter edge_cmp (λ edge. is_in (row_of rows edge.from edge.kind) edge.to) (all_edges Label.COUNT) (all_rising Label.COUNT)
 
--- an edge is told by its parts
+-- an edge has the parts by which it is found
 pub same_parts : (edge : Edge) (from : ℕ) (kind : Kind) (to : ℕ) → is_edge from kind to edge ≡ true
     → (edge.from ≡ from) × (kind_number edge.kind ≡ kind_number kind) × (edge.to ≡ to)
 same_parts edge from kind to is =
@@ -124,7 +123,7 @@ of_parts edge from kind to starts is ends =
     and_from (edge.from == from) _ (eq-eqb _ _ starts)
     (and_from (kind_number edge.kind == kind_number kind) _ (eq-eqb _ _ is) (eq-eqb _ _ ends))
 
--- whether an edge can be between as many labels
+-- whether an edge is possible between this many labels
 abbrev pub is_possible : ℕ → ℕ → Kind → ℕ → Bool
 is_possible n from kind to = list_any (is_edge from kind to) (all_edges n)
 
@@ -143,7 +142,7 @@ pub all_of : (n count : ℕ) → count ≡ edge_count n → map (edge_at n) (ran
 unfolding all_edges
 all_of n count is = ap (λ k. map (edge_at n) (range_with_len 0 k)) is
 
--- where an edge stands, and what stands at a number
+-- the number of an edge, and the edge at a number
 
 abbrev pub edge_number : ℕ → ℕ → Kind → ℕ → ℕ
 edge_number n from kind to = (from * kind_count + kind_number kind) * n + to
@@ -166,7 +165,7 @@ stands_at n from kind to high =
       mod-mul-add (from * kind_count + kind_number kind) n to high,
     )
 
--- between labels that there are, every edge can be
+-- every edge between labels that there are is possible
 pub possible : (n from : ℕ) (kind : Kind) (to : ℕ) → from < n → to < n → is_possible n from kind to ≡ true
 unfolding all_edges edge_at
 possible n from kind to low high =
@@ -179,7 +178,7 @@ possible n from kind to low high =
     list_any_at (is_edge from kind to) (all_edges n) number (edge_at n 0) (omega (arith, within, length-map-range_with_len (edge_at n) 0 (edge_count n)))
     (ap (is_edge from kind to) stands ∙ of_parts (edge_at n number) from kind to parts.0 kinds parts.2)
 
--- and no other
+-- no other edge is possible
 joins : (n count from : ℕ) (kind : Kind) (to : ℕ) → count ≡ edge_count n
     → list_any (is_edge from kind to) (map (edge_at n) (range_with_len 0 count)) ≡ true → (from < n) × (to < n)
 unfolding edge_at
@@ -204,7 +203,7 @@ pub edges_join_below : (n : ℕ) (rows : List Labels) → RowsJoin n rows → Jo
 edges_join_below n rows labels from kind to is =
     labels from kind to (and_parts (is_in (row_of rows from kind) to) _ (sym (allows-rows rows from kind to) ∙ is)).0
 
--- a row has the labels to which there are edges
+-- the row of a label has the labels to which it has edges
 pub row_allows : (rows : List Labels) (span : ℕ) → span ≤ Label.COUNT → RowsJoin span rows → (from : ℕ) (kind : Kind) (to : ℕ)
     → is_in (row_of rows from kind) to ≡ allows (edges_of_rows rows) from kind to
 row_allows rows span few labels from kind to = by (is_in (row_of rows from kind) to) refl where
@@ -215,7 +214,7 @@ row_allows rows span few labels from kind to = by (is_in (row_of rows from kind)
       is ∙ sym (allows-rows rows from kind to ∙ (λ i. is i && can i))
   by false is = is ∙ sym (allows-rows rows from kind to ∙ ap (λ b. b && is_possible Label.COUNT from kind to) is)
 
--- no row, no edge
+-- no edges stand in no rows
 pub no_rows : edges_of_rows [] ≡ []
 unfolding edges_of_rows
 no_rows = none (all_edges Label.COUNT) where
@@ -229,7 +228,7 @@ no_rows = none (all_edges Label.COUNT) where
 pub no_bits : RowsJoin 0 []
 no_bits from kind to is = absurd (false≢true (sym (in_no_labels to) ∙ is))
 
--- the rows once an edge is added
+-- the rows after an edge is added
 
 -- rows that are filled up with rows of no label
 pub filled : (rows : List Labels) (count n : ℕ) (none : Labels) (to : ℕ) → is_in none to ≡ false
@@ -281,7 +280,7 @@ row_set rows grown edge row count low same is from kind to = by (cases_eq (row_n
       (false_from_ne_true (is_edge from kind to edge)
       (λ e. let same_place = same_parts edge from kind to e in other (λ i. sym same_place.0 i * kind_count + sym same_place.1 i))))
 
--- the edges that are allowed once one is added
+-- the edges that are allowed after one is added
 pub edges_added : (old new : List Labels) (span greater : ℕ) (edge : Edge) → span ≤ greater → greater ≤ Label.COUNT → edge.from < greater → edge.to < greater
     → ((from : ℕ) (kind : Kind) (to : ℕ)
     → is_in (row_of new from kind) to ≡ (is_edge from kind to edge || is_in (row_of old from kind) to)) → RowsJoin span old

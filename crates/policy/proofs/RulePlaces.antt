@@ -1,4 +1,4 @@
--- Where each broken place is among the rules, and among the numbered places of its rule.
+-- The number of each broken place, among the rules and among the places of its rule.
 use Rattle.std.proofs.Common.{[], ℕ, ◌%◌, ◌*◌, ◌+◌, ◌-◌, ◌/◌, ◌<◌, ◌∙◌, ◌∷◌, ◌≡◌, List, None, Option, Some, ap, arith, inl, inr, refl}
 use Rattle.std.proofs.{Common.{slice_get, subst, suc, sym, true, zero}, lemmas.{List.FromFn.length-range_with_len, Nat.div-mul-add}}
 use Rattle.std.proofs.lemmas.{Nat.{mod-mul-add, mul-add-lt}, Option.{same_Some, slice_get_within}}
@@ -55,7 +55,7 @@ abbrev start : Option Edge → ℕ
 start (Some edge) = edge.from
 start None = 0
 
--- where a place between n labels is among those of its rule
+-- the number of a place between n labels, among those of its rule
 record IsNumbered (n : ℕ) (b : Broken) : Type 0 where
   number : ℕ
   within : number < count_of n (rule_of b)
@@ -82,7 +82,7 @@ places_rise n rule.P1 a b some lt = pairs_rise n a b some lt
 places_rise n rule.P3 a b some lt = pairs_rise n a b some lt
 places_rise n _ a b some lt = inl lt
 
--- where there are places, there are labels
+-- no label, no place
 none_of_none : (r : Rule) (k : ℕ) → k < count_of 0 r → ⊥
 none_of_none rule.P1 k below = omega (arith, below)
 none_of_none rule.P3 k below = omega (arith, below)
@@ -152,7 +152,7 @@ of_rules test = record { covers = covers; rises = rises } where
       let other = numbered j b at_j in
       inl (omega (arith, lt, one, other))
 
--- what is least under no beginning is least of all
+-- the least place under no beginning is the least of all
 pub of_all : (test : EdgeTest) (found : Option Broken) → FindsBroken test [] found → FindsLeast broken_place (IsBrokenAt test) found
 of_all test None none = λ b broken. none b (tt, broken)
 of_all test (Some b) least = record { has = least.has.1; first = λ other broken. least.first other (tt, broken) }

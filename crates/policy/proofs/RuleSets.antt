@@ -1,4 +1,4 @@
--- The sets of labels at which P4, P5, P7 and P8 are broken, as the search puts them together.
+-- Sets of labels at which P4, P5, P7 and P8 are broken, as the search computes them.
 use Rattle.std.{specs.Prelude.◌↔◌, proofs.Common.{[], ℕ, ◌&&◌, ◌==◌, ◌||◌, ◌∙◌, ◌∷◌, ◌≡◌, ◌⊎◌, Bool, false, inl, inr, not, refl, subst}}
 use Rattle.std.proofs.{Common.{sym, true}, lemmas.Bool.{and_parts, eq-eqb, eqb-true, or_cases, or_left, or_right}}
 use Rattle.base.specs.declared.{kind.Kind.{Kind, TheVariants.{Call, Derive, Grant, Receive, Reply, Runs}}, labels.Labels.Labels}
@@ -36,7 +36,7 @@ lacking a false e = ((and_parts a true e).0, refl)
 remains : (a b : Bool) → a ≡ true → b ≡ false → (a && not b) ≡ true
 remains a b has missing = rw (has, missing) refl
 
--- what comes about and isn't in a row
+-- the labels that should be in a row, and aren't
 pub lacking_told :
     (test : EdgeTest) (from : ℕ) (kind : Kind) (Comes : ℕ → Type 0) (comes row lacks : Labels) → IsRow test from kind row
     → IsDifference comes row lacks → Holds comes Comes → Holds lacks (λ label. IsLacking (Comes label) (test from kind label))

@@ -1,4 +1,4 @@
--- What each rule's places are made of.
+-- The places of each rule: what they are made of.
 use Rattle.std.proofs.Common.{[], ℕ, ◌↔◌, ◌∷◌, ◌≡◌, ◌≢◌, List, arith, false, refl, sym, true}
 use Rattle.base.specs.{declared.{kind.Kind.{Kind, TheVariants.{Derive, Holds}}, labels.Labels.Labels}, Kinds.{is_structural, kind_number}}
 use Rattle.base.specs.Labels.{is_in}

@@ -1,4 +1,4 @@
--- A closed policy is sharply closed, whichever labels keep, rule by rule; and fewer keepers ask for less.
+-- Closed policies are sharply closed, whichever labels keep, rule by rule; and fewer keepers ask for less.
 use Rattle.std.proofs.Common.{ℕ, ◌∙◌, inr, refl, sym}
 use Rattle.base.specs.declared.kind.Kind.TheVariants.{Context}
 use Rattle.policy.specs.{Closed.{ContextRuns, IsClosed, caller, derived, granted, server}, Domain.{EdgeTest, SubjectsAgree}}
@@ -12,12 +12,12 @@ agree_rise test agree a b kind share to has = agree a b kind share to ∙ has
 pub closed_rises : (test : EdgeTest) → IsClosed test → UsesRise test
 closed_rises test closed = agree_rise test closed.subjects_agree
 
--- who may bind a context hands that on to whom it controls
+-- a label that another controls may bind the contexts that the other may, and so may run on them
 pub agree_bound : (test : EdgeTest) → SubjectsAgree test → ContextRuns test → BoundRun test
 agree_bound test agree runs a b s uses controls =
     runs b s (sym (agree a b Context (record { domain = inr controls; of_use = refl }) s) ∙ uses)
 
--- each sharp rule asks for no more than the rule of closed policies of its number; but that who may be bound may run rests on two
+-- each sharp rule asks for no more than the rule of closed policies with its number, except that `BoundRun` rests on two
 pub obeys_sharply :
     (test : EdgeTest) (Keeps : Keepers) → (ContextRuns test → BoundRun test) → (rule : Rule) → Obeys test rule
     → ObeysSharply test Keeps rule
@@ -41,7 +41,6 @@ obeys_sharply test Keeps bound reply_holds holds = (
 obeys_sharply test Keeps bound lent_runs runs = λ b reply endpoint calls context serves idles may_call ran.
     runs b context (record { lender = calls; endpoint = endpoint; calls = may_call; receives = serves.receives; runs = ran })
 
--- the rules together
 sharp_by_rules :
     (test : EdgeTest) (Keeps : Keepers) → ((rule : Rule) → ObeysSharply test Keeps rule) → IsSharplyClosed test Keeps
 sharp_by_rules test Keeps obeys = record {

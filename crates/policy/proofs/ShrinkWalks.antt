@@ -1,4 +1,4 @@
--- Each way to make smaller as the walks along a chain of turns.
+-- Ways to make smaller as walks: each way is the walks along a chain of turns.
 use Rattle.std.{specs.declared.alloc.Global.Global, proofs.Common.{[], ℕ, ◌||◌, ◌∙◌, ◌∷◌, ◌≡◌, ◌⊎◌, List, Option, Vec, ap, not, refl, subst, sym}}
 use Rattle.std.proofs.Common.{inl, inr, true}
 use Rattle.base.specs.declared.edge.Edge.{Edge}
@@ -143,7 +143,7 @@ module _ (test : EdgeTest) (acts : ActorTest) (a l : ℕ) (actor : acts a ≡ tr
       (sym (front.4 ∙ ap (λ es. edge a Control front.0 ∷ es)
       (gone.4 ∙ ap (λ es. edge front.0 Reset gone.0 ∷ es) (met.4 ∙ ap (λ es. edge met.0 Receive gone.0 ∷ es) last.2))))
 
-  -- all of the ways, in the order in which the code joins them
+  -- all ways, in the order in which the code joins them
 
   abbrev Unbound : List Edge → Type 0
   Unbound x = Walk (context ∷ []) x ⊎ Walk (context ∷ runner ∷ []) x

@@ -28,7 +28,7 @@ found_kind q (first ∷ rest) kind is has = elim (or_cases (is_kind kind first) 
 abbrev pub IsRow : EdgeTest → ℕ → Kind → Labels → Type 0
 IsRow test from kind row = (to : ℕ) → is_in row to ≡ test from kind to
 
--- what holds of a label below a number
+-- a property holds of a label below a number
 abbrev pub IsBelow : (ℕ → Type 0) → ℕ → Type 0
 IsBelow P n = (k : ℕ) × (k < n) × P k
 
@@ -68,7 +68,6 @@ only_kind test kind from to is = sym (or-false (test from kind to)) ∙ is
 pub of_kind : (is then_so : Bool) → is ≡ true → (not is || then_so) ≡ true → then_so ≡ true
 of_kind is then_so holds either = sym (ap (λ b. not b || then_so) holds) ∙ either
 
--- some kind of the list has the edge
 pub joined_by : (test : EdgeTest) (kinds : List Kind) (from to : ℕ) → is_joined test kinds from to ≡ true → (kind : Kind) × (test from kind to ≡ true)
 joined_by test kinds from to is = let some = Any-from_list_any (λ kind. test from kind to) kinds is in (some.1, some.4)
 
@@ -92,7 +91,7 @@ domain_joined test subject label = (forth, back) where
   back (inl space) = or_left (test subject Space label) _ space
   back (inr control) = or_right (test subject Space label) _ (or_left (test subject Control label) false control)
 
--- whether two sets have a label in common, as the least of them tells
+-- two sets have a label in common, if the least of their common labels is found
 
 pub some_common : (least : Option ℕ) (both : Labels) → is_some least ≡ true
     → IfSome least (λ label. (is_in both label ≡ true) × ((other : ℕ) → other < label → is_in both other ≡ false))

@@ -1,4 +1,4 @@
--- The sweep over the places of a rule: what is found first among numbers, and where each place is among them.
+-- The sweep over the places of a rule: which place is found first, and the number of each place.
 use Rattle.std.{specs.{Borrow.Bor, List.{AllZip, range_with_len}, Prelude.{IsTrue, MatchOption, filter_map}}, proofs.Common.{[], ℕ, ◌++◌}}
 use Rattle.std.proofs.Common.{◌<◌, ◌∙◌, ◌∷◌, ◌≡◌, Bool, List, None, Option, Some, ap, arith, length, refl, slice_get, subst, suc, sym, zero}
 use Rattle.std.proofs.{Common.zero-add, lemmas.{List.FromFn.{get_or-range_with_len, length-range_with_len}, Option.same_Some}}
@@ -6,7 +6,7 @@ use Rattle.std.proofs.lemmas.Option.{slice_get-get_or, slice_get_within}
 use Rattle.rayon.specs.Lists.{filter_by_mask}
 use Rattle.policy.{specs.Places.{FindsLeast, IsUnder}, proofs.Places.{Searches, least_here, none_at_all}}
 
--- what is found at the first element at which anything is
+-- the answer at the first element that has an answer
 abbrev pub IsFoundFirst : {A B : Type 0} → List A → (A → Option B → Type 0) → Option B → Type 0
 IsFoundFirst {A} xs gives found =
     MatchOption found ((k : ℕ) (a : A) → slice_get xs k ≡ Some a → gives a None)
@@ -40,15 +40,13 @@ all_pass [] (b ∷ bs) all = absurd all
 all_pass (x ∷ xs) [] all = absurd all
 all_pass (x ∷ xs) (b ∷ bs) all = rw all.0.2 (ap (λ l. x ∷ l) (all_pass xs bs all.1))
 
--- the first of what is found first under each element is the first of all
+-- the first of the first answers under each element is the first of all
 pub least_found :
     {X A : Type 0} {place : X → List ℕ} {P : X → Type 0} {beginning : List ℕ} {xs : List A} {adds : A → List ℕ}
     (search : Searches place P beginning xs adds) (found : Option X)
     → IsFoundFirst xs (λ a. FindsLeast place (IsUnder place P (beginning ++ adds a))) found → FindsLeast place (IsUnder place P beginning) found
 least_found {xs = xs} search None none = none_at_all search (length xs) (omega arith) (λ k a lt at. none k a at)
 least_found search (Some x) first = least_here search first.0 first.1 first.2 (λ k a lt at. first.4 k a lt at) x first.3
-
--- the numbers below n
 
 abbrev pub numbers : ℕ → List ℕ
 numbers n = range_with_len 0 n

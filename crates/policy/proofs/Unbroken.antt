@@ -8,7 +8,7 @@ abbrev IsUnbroken : EdgeTest → Type 0
 IsUnbroken test = (b : Broken) → ¬ IsBrokenAt test b
 
 module _ (test : EdgeTest) (closed : IsClosed test) where
-  -- what the rules ask for is there
+  -- the edge that a rule asks for is there
   pub has_asked_at : (place : Broken) → Asks test place → is_there test (edge_asked_at place) ≡ true
   has_asked_at (broken.SubjectsDisagree a b kind to) = λ none. refl
   has_asked_at (broken.ControlLacks a kind b) = closed.control_gives_all a kind b

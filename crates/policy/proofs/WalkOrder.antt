@@ -1,4 +1,5 @@
--- The order of walks: fewer edges come first, of as many the first other edge decides, and the lesser of two least walks is the least.
+-- The order of walks: one with fewer edges comes first, of equally long ones the first edge that differs decides; and the lesser of two
+-- least walks is the least.
 use Rattle.std.specs.declared.{alloc.Global.Global, cmp.Ordering.{Ordering, TheVariants.{Equal, Greater, Less}}}
 use Rattle.std.specs.{Cmp.Lexicographic.{slice_cmp, slice_partial_cmp}, Ordering.{is_lt, nat_cmp, ordering_reverse, ordering_then}}
 use Rattle.std.{specs.Ordering.partial_ordering_then, proofs.Common.{[], ℕ, ◌<◌, ◌∙◌, ◌∷◌, ◌≡◌, ◌⊎◌, Bool, List, None, Option, Some, Vec}}
@@ -36,7 +37,7 @@ nat_more a b more =
     ap (λ t. cond t Less (cond (nat_eq a b) Equal Greater)) (le-ltb a b (omega (arith, more)))
     ∙ ap (λ t. cond t Equal Greater) (false_from_ne_true (nat_eq a b) (λ same. let is = eqb-true a b same in omega (arith, is, more)))
 
--- where the first numbers differ they decide
+-- first numbers that differ decide
 pub apart_first : (a b : ℕ) (rest : Ordering) → (a ≡ b → ⊥) → nat_lt a b ≡ is_lt (ordering_then (nat_cmp a b) rest)
 apart_first a b rest apart = elim (cases_order a b) [
   | inl same ↦ absurd (apart same)
@@ -44,11 +45,11 @@ apart_first a b rest apart = elim (cases_order a b) [
   | inr (inr more) ↦ le-ltb a b (omega (arith, more)) ∙ sym (ap (λ o. is_lt (ordering_then o rest)) (nat_more a b more))
 ]
 
--- where they don't the rest does
+-- equal first numbers leave the rest to decide
 pub same_first : (a b : ℕ) (rest : Ordering) → a ≡ b → ordering_then (nat_cmp a b) rest ≡ rest
 same_first a b rest same = ap (λ o. ordering_then o rest) (nat_same a b same)
 
--- of walks with as many edges the first edge decides, or the rest
+-- walks of equal length are ordered by their first edges, or by the rest
 pub before_front : (e f : Edge) (es fs : List Edge) → length es ≡ length fs → ComesBefore (reason_place (e ∷ es)) (reason_place (f ∷ fs))
     → (edge_cmp e f ≡ Less) ⊎ ((e ≡ f) × ComesBefore (reason_place es) (reason_place fs))
 before_front e f es fs long less = elim (decided (length (e ∷ es)) (length (f ∷ fs)) _ less) [
@@ -75,7 +76,7 @@ less_from Less is = refl
 less_from Equal is = absurd (false≢true is)
 less_from Greater is = absurd (false≢true is)
 
--- what comes before one comes before another that isn't before that
+-- what comes before a walk comes before each that isn't before that walk
 before_other : (x a b : List ℕ) → is_lt (slice_cmp nat_cmp b a) ≡ false → ComesBefore x a → ComesBefore x b
 before_other x a b not less = by (slice_cmp nat_cmp b a) refl where
   by : (o : Ordering) → slice_cmp nat_cmp b a ≡ o → ComesBefore x b
@@ -112,7 +113,6 @@ least_either {P} {Q} {R} (Some a) (Some b) p q of_p of_q split = by (is_lt (slic
     ];
   }
 
--- the same walks have the same least
 pub finds_same : {P Q : List Edge → Type 0} (found : Option (Vec Edge Global)) → ((x : List Edge) → P x → Q x) → ((x : List Edge) → Q x → P x)
     → FindsWalk P found → FindsWalk Q found
 finds_same None to from none = λ x has. none x (from x has)

@@ -1,4 +1,4 @@
--- Steps of walks: from where a step leads to a set, and where it ends.
+-- Steps of walks: the labels from which a step leads to a set, and the end of a step.
 use Rattle.std.{specs.List.{list_all, list_any}, proofs.Common.{[], ℕ, ◌==◌, ◌||◌, ◌↔◌, ◌∙◌, ◌∷◌, ◌≡◌, Bool, List, ap, cond, false, inl}}
 use Rattle.std.proofs.{Common.{inr, not, refl, sym, true}, lemmas.Bool.{eq-eqb, eqb-true, or_cases, or_left, or_right}}
 use Rattle.base.specs.{declared.{edge.Edge.Edge, kind.Kind.Kind, labels.Labels.Labels}, Kinds.kind_number, Labels.is_in}
@@ -8,7 +8,7 @@ use Rattle.policy.{specs.Walks.{is_of, other_end, Passes.{against, along}}, proo
 use Rattle.policy.proofs.Stepping.{found_kind}
 use mathlib.Core.Bool.{false≢true}
 
--- an edge of one of the kinds is one of some kind of them
+-- an edge of one of the kinds is an edge of some kind among them
 joined_of : (test : EdgeTest) (kinds : List Kind) (from to : ℕ) → is_joined test kinds from to ≡ true
     → (kind : Kind) × (is_of kinds kind ≡ true) × (test from kind to ≡ true)
 joined_of test [] from to is = absurd (false≢true is)
@@ -38,7 +38,7 @@ pub any_is : (kinds : List Kind) (kind : Kind) → list_any (λ other. kind_equa
 any_is [] kind = refl
 any_is (first ∷ rest) kind = (λ i. kind_eq kind first i || any_is rest kind i)
 
--- from where a step leads to a set
+-- the labels from which a step leads to a set
 module _ (test : EdgeTest) (step : Step) (goals : Labels) (from : ℕ) (one other : Bool)
     (one_is : (one ≡ true) ↔ IsSource test step.along.now goals from) (other_is : (other ≡ true) ↔ IsTarget test step.against.now goals from) where
   leads_from : (one || other) ≡ true → (edge : Edge) × Leads test step from goals edge
@@ -72,7 +72,6 @@ module _ (test : EdgeTest) (step : Step) (goals : Labels) (from : ℕ) (one othe
   pub before_is : ((one || other) ≡ true) ↔ ((edge : Edge) × Leads test step from goals edge)
   before_is = (leads_from, λ leads. leads_to leads.0 leads.1.0 leads.1.1 leads.1.2 leads.1.3)
 
--- where a step ends
 pub end_is : (step : Step) (from : ℕ) (edge : Edge) (next : ℕ) → Passes step from edge next → other_end edge from ≡ next
 end_is step from edge next (along is starts ends) = ap (λ b. cond b edge.to edge.from) (eq-eqb edge.from from starts) ∙ ends
 end_is step from edge next (against is starts ends) = by (edge.from == from) refl where

@@ -1,5 +1,5 @@
--- Why a label may change what is of another, or make it smaller, where only some labels act: the edges of a way, in their order, and the
--- reason that is told of several (telling why is confine's own).
+-- Reasons why a label may change another's objects, or make them smaller, if only some labels act: the edges of a way, in their order, and
+-- which of several reasons is told (telling why is confine's own).
 use Rattle.std.specs.Prelude.{[], ℕ, ◌∷◌, ◌≡◌, List}
 use Rattle.base.specs.declared.{edge.Edge.Edge, kind.Kind.{TheVariants.{Await, Call, Context, Control, Grant, Holds, Notify}}}
 use Rattle.base.specs.declared.kind.Kind.TheVariants.{Receive, Reply, Reset, Runs, Send}
@@ -8,14 +8,13 @@ use Rattle.policy.specs.Change.{binds, configures, grants, lends, links, modifie
 use Rattle.policy.specs.NarrowTake.{MayShrink, TakesByControl, WayToShrink, controls, drops, ends, frees, halts, releases, removes, stops}
 use Rattle.policy.specs.{NarrowTake.{unbinds, wakes}, Places.IsLeast, Reasons.{edge, reason_place}}
 
--- the edge by which a label has to do with a context that it may change
+-- the edge by which a label may change a context
 abbrev pub context_edges : {test : EdgeTest} {acts : ActorTest} {a l : ℕ} → MayChangeContext test acts a l → List Edge
 context_edges {test} {acts} {a} {l} (configures core used governed) = edge a Context l ∷ []
 context_edges {test} {acts} {a} {l} (binds thread used controlled) = edge a Context l ∷ []
 context_edges {test} {acts} {a} {l} (lends ran lent) = edge a Runs l ∷ []
 context_edges {test} {acts} {a} {l} (returns ran borrowed) = edge a Runs l ∷ []
 
--- the edges of a way to change
 abbrev pub change_edges : {test : EdgeTest} {acts : ActorTest} {a l : ℕ} → WayToChange test acts a l → List Edge
 change_edges (own same) = []
 change_edges {test} {acts} {a} {l} (modifies kind is_changing there) = edge a kind l ∷ []
@@ -30,7 +29,7 @@ change_edges {test} {acts} {a} {l} (grants endpoint receiver granted received wa
     edge a Grant endpoint ∷ edge receiver Receive endpoint ∷ edge receiver Control l ∷ []
 change_edges {test} {acts} {a} {l} (replies answer) = edge a Reply answer.reply ∷ edge answer.reply Holds l ∷ []
 
--- the edges by which a label takes where it controls another
+-- the edges by which a label takes through a label that it controls
 abbrev pub control_edges : {test : EdgeTest} {acts : ActorTest} {a l : ℕ} → TakesByControl test acts a l → List Edge
 control_edges {test} {acts} {a} {l} (removes controlled kind is_removed control there) =
     edge a Control controlled ∷ edge controlled kind l ∷ []
@@ -40,7 +39,6 @@ control_edges {test} {acts} {a} {l} (wakes controlled end kind is_waiting contro
 control_edges {test} {acts} {a} {l} (drops controlled endpoint receiver control reset received waits named) =
     edge a Control controlled ∷ edge controlled Reset endpoint ∷ edge receiver Receive endpoint ∷ edge receiver Reply l ∷ []
 
--- the edges of a way to make smaller
 abbrev pub shrink_edges : {test : EdgeTest} {acts : ActorTest} {a l : ℕ} → WayToShrink test acts a l → List Edge
 shrink_edges {test} {acts} {a} {l} (unbinds used) = edge a Context l ∷ []
 shrink_edges {test} {acts} {a} {l} (stops context used ran) = edge a Context context ∷ edge l Runs context ∷ []
@@ -51,15 +49,15 @@ shrink_edges {test} {acts} {a} {l} (frees endpoint receiver sent received waits 
     edge a Send endpoint ∷ edge receiver Receive endpoint ∷ edge receiver Reply l ∷ []
 shrink_edges (controls taken) = control_edges taken
 
--- these are the edges of a way in which a label may change
+-- the list has the edges of a way in which a label may change another's objects
 abbrev pub IsChangeBy : EdgeTest → ActorTest → ℕ → ℕ → List Edge → Type 0
 IsChangeBy test acts a l edges = (may : MayChange test acts a l) × (change_edges may.way ≡ edges)
 
--- these are the edges of a way in which a label may make smaller
+-- the list has the edges of a way in which a label may make another's objects smaller
 abbrev pub IsShrinkBy : EdgeTest → ActorTest → ℕ → ℕ → List Edge → Type 0
 IsShrinkBy test acts a l edges = (may : MayShrink test acts a l) × (shrink_edges may.way ≡ edges)
 
--- what a label may do to another where these act, and the first reason for it
+-- what a label may do to another's objects if these labels act, and the first reason for it
 abbrev pub IsWhyAmong : EdgeTest → ActorTest → ℕ → ℕ → Why → Type 0
 IsWhyAmong test acts a l (why.Full edges) = IsLeast reason_place (IsChangeBy test acts a l) edges.items
 IsWhyAmong test acts a l (why.Take edges) = (¬ MayChange test acts a l) × IsLeast reason_place (IsShrinkBy test acts a l) edges.items

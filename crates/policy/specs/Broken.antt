@@ -1,6 +1,5 @@
--- Where the rules of closed policies (`Closed`) are broken: a rule asks for an edge there, and it is missing. In which order these
--- places come (compare 'seL4 Enforces Integrity', section 3, well-formed policies; the rules, their places and their order are
--- confine's own).
+-- Places at which the rules of closed policies (`Closed`) are broken: the rule asks for an edge, and it is missing; and the order of these
+-- places (compare 'seL4 Enforces Integrity', section 3, well-formed policies; the rules, their places and their order are confine's own).
 use Rattle.std.specs.Prelude.{[], ℕ, ◌∷◌, ◌≢◌, Bool, List, None, Option, Some, codes, true}
 use Rattle.base.specs.{declared.{edge.Edge.Edge, kind.Kind.{Kind, TheVariants.{Derive, Holds, Runs}}}, Kinds.kind_number}
 use Rattle.policy.specs.{declared.broken.Broken.{Broken, Broken as broken}, Closed.{ComesToDerive, ComesToHold, ControlGives, GrantGives}}
@@ -32,12 +31,12 @@ p7 = 7
 abbrev pub p8 : ℕ
 p8 = 8
 
--- P1: of two labels of one domain only one has an edge
+-- P1: only one of two labels of one domain has an edge
 pub record SubjectsDisagree (test : EdgeTest) (subject other : ℕ) (kind : Kind) (target : ℕ) : Type 0 where
   pub share : ShareUse test subject other kind
   pub differ : test subject kind target ≢ test other kind target
 
--- P2 to P8: what has to be so at a place for its rule to ask for an edge there
+-- P2 to P8: the condition under which the rule asks for an edge at a place
 abbrev pub Asks : EdgeTest → Broken → Type 0
 Asks test (broken.SubjectsDisagree _ _ _ _) = ⊥
 Asks test (broken.ControlLacks subject kind object) = ControlGives test subject kind object
@@ -52,7 +51,7 @@ Asks test (broken.LentLacks borrower context) = MayBeLent test borrower context
 abbrev pub edge_of : ℕ → Kind → ℕ → Edge
 edge_of from kind to = record { from = from; kind = kind; to = to }
 
--- the edge that it asks for. P1 says that one of two labels has an edge and the other hasn't, but not which, so it asks for no one edge
+-- the edge that a rule asks for at a place; none by P1, which doesn't say which of the two labels lacks it
 abbrev pub edge_asked_at : Broken → Option Edge
 edge_asked_at (broken.SubjectsDisagree _ _ _ _) = None
 edge_asked_at (broken.ControlLacks subject kind object) = Some (edge_of subject kind object)
@@ -63,7 +62,7 @@ edge_asked_at (broken.ContextLacks subject context) = Some (edge_of subject Runs
 edge_asked_at (broken.ReplyLacks reply thread) = Some (edge_of reply Holds thread)
 edge_asked_at (broken.LentLacks borrower context) = Some (edge_of borrower Runs context)
 
--- whether an edge is there; where there is none to look for, nothing is missing
+-- whether an edge is there; nothing is missing if there is none to look for
 abbrev pub is_there : EdgeTest → Option Edge → Bool
 is_there test (Some edge) = test edge.from edge.kind edge.to
 is_there test None = true
@@ -84,7 +83,6 @@ broken_place (broken.ContextLacks subject context) = p6 ∷ subject ∷ kind_num
 broken_place (broken.ReplyLacks reply thread) = p7 ∷ reply ∷ kind_number Holds ∷ thread ∷ []
 broken_place (broken.LentLacks borrower context) = p8 ∷ borrower ∷ kind_number Runs ∷ context ∷ []
 
--- the name of the rule
 abbrev pub broken_rule : Broken → List ℕ
 broken_rule (broken.SubjectsDisagree _ _ _ _) = codes "P1"
 broken_rule (broken.ControlLacks _ _ _) = codes "P2"

@@ -1,15 +1,14 @@
--- What a label may change, where only threads of some labels act: a bound that lies within full authority (the integrity property of
+-- The labels whose objects a label may change if only threads of some labels act: a bound within full authority (the integrity property of
 -- 'seL4 Enforces Integrity', section 4, restated for this profile; the labels that act, and the narrower cases, are confine's own).
 use Rattle.std.specs.Prelude.{ℕ, ◌≡◌, Bool, false, true}
 use Rattle.base.specs.declared.kind.Kind.{Kind, TheVariants.{Await, Call, Context, Control, Grant, Holds, Notify, Receive, Reply, Runs}}
 use Rattle.base.specs.declared.kind.Kind.TheVariants.{SchedControl, Send, Write}
 use Rattle.policy.specs.{Domain.EdgeTest, Sharp.MayIdle}
 
--- whether threads of a label act
 abbrev pub ActorTest : Type 0
 ActorTest = ℕ → Bool
 
--- the kinds whose use changes the object itself, which isn't a context
+-- the kinds by which a label changes the object itself, which isn't a context
 abbrev pub is_changing : Kind → Bool
 is_changing Control = true
 is_changing Send = true
@@ -40,7 +39,7 @@ pub data MayChangeContext (test : EdgeTest) (acts : ActorTest) (a l : ℕ) : Typ
   configures : (core : ℕ) → test a Context l ≡ true → test a SchedControl core ≡ true → MayChangeContext test acts a l
   -- the thread that a context is bound to
   binds : (thread : ℕ) → test a Context l ≡ true → test a Control thread ≡ true → MayChangeContext test acts a l
-  -- a context that a runs on goes by a call to a thread that waits without one; who was lent one gives it back
+  -- a context that a runs on goes by a call to a thread that waits without one, or by an answer back to the thread that lent it
   lends : test a Runs l ≡ true → MayLend test acts a → MayChangeContext test acts a l
   returns : test a Runs l ≡ true → MayBorrow test a → MayChangeContext test acts a l
 
@@ -65,23 +64,23 @@ pub record MayAnswer (test : EdgeTest) (acts : ActorTest) (a l : ℕ) : Type 0 w
 pub data WayToChange (test : EdgeTest) (acts : ActorTest) (a l : ℕ) : Type 0 where
   -- its own objects
   own : l ≡ a → WayToChange test acts a l
-  -- what it has a capability to
+  -- an object that it has a capability to
   modifies : (kind : Kind) → is_changing kind ≡ true → test a kind l ≡ true → WayToChange test acts a l
   -- a context
   shares : MayChangeContext test acts a l → WayToChange test acts a l
-  -- who waits at an endpoint or a notification that it uses
+  -- threads that wait at an endpoint or a notification that it uses
   sends : (endpoint : ℕ) → test a Send endpoint ≡ true → test l Receive endpoint ≡ true → acts l ≡ true → WayToChange test acts a l
   receives : (endpoint : ℕ) → test a Receive endpoint ≡ true → test l Send endpoint ≡ true → acts l ≡ true → WayToChange test acts a l
   notifies :
       (notification : ℕ) → test a Notify notification ≡ true → test l Await notification ≡ true → acts l ≡ true
       → WayToChange test acts a l
-  -- the replies of who receives its calls
+  -- replies of labels that receive its calls
   links : (endpoint receiver : ℕ) → test a Send endpoint ≡ true → test a Call endpoint ≡ true → test receiver Receive endpoint ≡ true
       → acts receiver ≡ true → test receiver Reply l ≡ true → WayToChange test acts a l
-  -- where who receives its capabilities keeps them
+  -- where labels that receive its capabilities keep them
   grants : (endpoint receiver : ℕ) → test a Grant endpoint ≡ true → test receiver Receive endpoint ≡ true → acts receiver ≡ true
       → test receiver Control l ≡ true → WayToChange test acts a l
-  -- who called, and is held by a reply that it uses
+  -- threads that called, and are held by a reply that it uses
   replies : MayAnswer test acts a l → WayToChange test acts a l
 
 -- a may change objects of l: a acts, and there is a way

@@ -1,4 +1,4 @@
--- Cut authority: which labels' objects may shrink when a label deletes capabilities
+-- Cut authority: the labels whose objects may shrink when a label deletes capabilities
 -- (the deletions that 'seL4 Enforces Integrity', section 4, allows, restated for this profile).
 use Rattle.std.specs.Prelude.{ℕ, ◌≡◌, ◌⊎◌, Bool, false, true}
 use Rattle.base.specs.declared.kind.Kind.{Kind, TheVariants.{Await, Control, Derive, Holds, Receive, Reply, Runs, Send, Space}}
@@ -22,7 +22,7 @@ pub data IsNear (test : EdgeTest) (x y : ℕ) : Type 0 where
   along : (kind : Kind) → is_link kind ≡ true → test x kind y ≡ true → IsNear test x y
   against : (kind : Kind) → is_link kind ≡ true → test y kind x ≡ true → IsNear test x y
 
--- at most one control edge, then at most one derive edge: where a may remove capabilities
+-- a may remove capabilities there: at most one control edge leads there, then at most one derive edge
 pub record IsBase (test : EdgeTest) (a base : ℕ) : Type 0 where
   pub controlled : ℕ
   pub control : (a ≡ controlled) ⊎ (test a Control controlled ≡ true)
@@ -32,7 +32,7 @@ pub record IsBase (test : EdgeTest) (a base : ℕ) : Type 0 where
 abbrev pub IsHolding : Kind → Type 0
 IsHolding kind = (is_structural kind ≡ false) ⊎ (kind ≡ Space)
 
--- from where a may remove capabilities, to what they lead to, to what is linked with it and with that
+-- from where a may remove capabilities, to the label of a capability's object, and on to l by at most two links
 pub record IsCut (test : EdgeTest) (a l : ℕ) : Type 0 where
   pub base : ℕ
   pub based : IsBase test a base

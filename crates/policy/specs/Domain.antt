@@ -1,9 +1,9 @@
--- Which labels a label finds its capabilities in, and that they are one subject with it
+-- The domain of a label: the labels in which it finds its capabilities, which are one subject with it
 -- ('seL4 Enforces Integrity', section 3, where a policy maps the objects of one subject to one label).
 use Rattle.std.specs.Prelude.{ℕ, ◌≡◌, ◌⊎◌, Bool, false, true}
 use Rattle.base.specs.{declared.kind.Kind.{Kind, TheVariants.{Control, Space}}, Kinds.is_structural}
 
--- whether there is an edge from a label, of a kind, to a label
+-- whether a policy has an edge from a label, of a kind, to a label
 abbrev pub EdgeTest : Type 0
 EdgeTest = ℕ → Kind → ℕ → Bool
 

@@ -1,11 +1,11 @@
--- Full authority: on which labels' objects the acts of a label may have any effect
+-- Full authority: the labels on whose objects the acts of a label may have any effect
 -- (the integrity property of 'seL4 Enforces Integrity', section 4, restated for this profile).
 use Rattle.std.specs.Prelude.{ℕ, ◌≡◌, Bool, false, true}
 use Rattle.base.specs.declared.kind.Kind.{Kind, TheVariants.{Await, Context, Control, Grant, Holds, Notify, Receive, Reply, Runs, Send}}
 use Rattle.base.specs.declared.kind.Kind.TheVariants.{Write}
 use Rattle.policy.specs.Domain.{EdgeTest}
 
--- the kinds whose use changes the object itself; of a context it is who binds it, and who runs on it
+-- the kinds whose use changes the object itself; of a context, binding it and running on it
 abbrev pub is_modifying : Kind → Bool
 is_modifying Control = true
 is_modifying Send = true
@@ -21,16 +21,16 @@ is_modifying _ = false
 pub data IsFull (test : EdgeTest) (a l : ℕ) : Type 0 where
   -- its own objects
   own : l ≡ a → IsFull test a l
-  -- what it has a capability to, or runs on
+  -- objects that it has a capability to, or runs on
   modifies : (kind : Kind) → is_modifying kind ≡ true → test a kind l ≡ true → IsFull test a l
-  -- who waits at an endpoint or a notification that it uses
+  -- threads that wait at an endpoint or a notification that it uses
   sends : (endpoint : ℕ) → test a Send endpoint ≡ true → test l Receive endpoint ≡ true → IsFull test a l
   receives : (endpoint : ℕ) → test a Receive endpoint ≡ true → test l Send endpoint ≡ true → IsFull test a l
   notifies : (notification : ℕ) → test a Notify notification ≡ true → test l Await notification ≡ true → IsFull test a l
-  -- the replies of who receives from it
+  -- replies of labels that receive from it
   links : (endpoint receiver : ℕ) → test a Send endpoint ≡ true → test receiver Receive endpoint ≡ true
       → test receiver Reply l ≡ true → IsFull test a l
-  -- where who receives its capabilities keeps them
+  -- where labels that receive its capabilities keep them
   grants : (endpoint receiver : ℕ) → test a Grant endpoint ≡ true → test receiver Receive endpoint ≡ true
       → test receiver Control l ≡ true → IsFull test a l
   -- the threads that its replies hold

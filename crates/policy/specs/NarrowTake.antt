@@ -1,4 +1,4 @@
--- What a label may make smaller, where only threads of some labels act: a bound that lies within cut and full authority
+-- The labels whose objects a label may make smaller if only threads of some labels act: a bound within cut and full authority
 -- (the deletions that 'seL4 Enforces Integrity', section 4, allows; the ways are confine's own).
 use Rattle.std.specs.Prelude.{ℕ, ◌≡◌, Bool, false, true}
 use Rattle.base.specs.declared.kind.Kind.{Kind, TheVariants.{Await, Context, Control, Derive, Holds, Receive, Reply, Reset, Runs}}
@@ -22,14 +22,14 @@ is_waiting Receive = true
 is_waiting Await = true
 is_waiting _ = false
 
--- what a may take where it controls a label
+-- what a may take through a label that it controls
 pub data TakesByControl (test : EdgeTest) (acts : ActorTest) (a l : ℕ) : Type 0 where
-  -- who is joined to what is removed
+  -- objects joined to what is removed
   removes : (controlled : ℕ) (kind : Kind) → is_removed kind ≡ true → test a Control controlled ≡ true → test controlled kind l ≡ true
       → TakesByControl test acts a l
   -- the reply that holds a thread that called
   releases : (caller : ℕ) → test a Control caller ≡ true → acts caller ≡ true → test l Holds caller ≡ true → TakesByControl test acts a l
-  -- who waits for what is deleted, and the reply that it names
+  -- threads that wait for what is deleted, and the replies that they name
   wakes : (controlled end : ℕ) (kind : Kind) → is_waiting kind ≡ true → test a Control controlled ≡ true → test controlled Reset end ≡ true
       → test l kind end ≡ true → acts l ≡ true → TakesByControl test acts a l
   drops : (controlled endpoint receiver : ℕ) → test a Control controlled ≡ true → test controlled Reset endpoint ≡ true
@@ -52,14 +52,14 @@ pub data WayToShrink (test : EdgeTest) (acts : ActorTest) (a l : ℕ) : Type 0 w
   -- a context loses its thread, and the thread its context
   unbinds : test a Context l ≡ true → WayToShrink test acts a l
   stops : (context : ℕ) → test a Context context ≡ true → test l Runs context ≡ true → WayToShrink test acts a l
-  -- who waits with a reply that a uses is halted, and leaves the queue in which it waits
+  -- a thread that waits with a reply that a uses is halted, and leaves the queue in which it waits
   halts : MayHalt test acts a l → WayToShrink test acts a l
   ends : (reply receiver : ℕ) → test a Reply reply ≡ true → test receiver Reply reply ≡ true → acts receiver ≡ true
       → test receiver Receive l ≡ true → WayToShrink test acts a l
-  -- the reply of who receives a message from a is free then
+  -- the reply of a thread that receives a message from a is free then
   frees : (endpoint receiver : ℕ) → test a Send endpoint ≡ true → test receiver Receive endpoint ≡ true → acts receiver ≡ true
       → test receiver Reply l ≡ true → WayToShrink test acts a l
-  -- what a takes where it controls a label
+  -- what a takes through a label that it controls
   controls : TakesByControl test acts a l → WayToShrink test acts a l
 
 -- objects of l may shrink by what a does: a acts, and there is a way
@@ -71,7 +71,7 @@ pub record MayShrink (test : EdgeTest) (acts : ActorTest) (a l : ℕ) : Type 0 w
 abbrev pub HasNone : EdgeTest → ℕ → Kind → Type 0
 HasNone test a kind = (to : ℕ) → test a kind to ≡ false
 
--- a may send to who receives with a reply of l
+-- a may send to a label that receives with a reply of l
 pub record MaySendTo (test : EdgeTest) (a l : ℕ) : Type 0 where
   pub endpoint : ℕ
   pub sends : test a Send endpoint ≡ true

@@ -1,5 +1,5 @@
--- The rules of closed policies one by one, and the sharp ones; and that none of the first follows from the others: there is a policy that
--- obeys all of the others and not that one (the rules are confine's own).
+-- The rules of closed policies one by one, and the sharp rules; and that no rule of closed policies follows from the others: some policy
+-- breaks it alone (the rules are confine's own).
 use Rattle.std.specs.Prelude.{◌≢◌}
 use Rattle.policy.specs.Closed.{ContextRuns, ControlGivesAll, DeriveByGrant, DeriveInDomain, GrantShares, LentRuns, ReplyHolds}
 use Rattle.policy.specs.{Domain.{EdgeTest, SubjectsAgree}, Sharp.{BoundRun, DerivesOn, GrantsDerive, HoldsCallers, HoldsServers, Keepers}}
@@ -25,7 +25,7 @@ Obeys test context_runs = ContextRuns test
 Obeys test reply_holds = ReplyHolds test
 Obeys test lent_runs = LentRuns test
 
--- the sharp rules, by the names of the rules of closed policies with the same number, where these labels keep
+-- the sharp rules, each by the name of the rule of closed policies with its number, for these keepers
 abbrev pub ObeysSharply : EdgeTest → Keepers → Rule → Type 0
 ObeysSharply test Keeps subjects_agree = UsesRise test × UsesFall test Keeps
 ObeysSharply test Keeps control_gives_all = KeepersHaveAll test Keeps

@@ -1,8 +1,8 @@
--- The order of places, each a list of numbers: what it is to be at the first place, and to find what is there (confine's own).
+-- Places as lists of numbers, and their order: which of several is the first, and what is found there (confine's own).
 use Rattle.std.specs.{declared.cmp.Ordering.TheVariants.Less, Cmp.Lexicographic.slice_cmp, Ordering.nat_cmp, Prelude.{[], ℕ, ◌∷◌, ◌≡◌}}
 use Rattle.std.specs.Prelude.{List, MatchOption, Option}
 
--- the first number in which they differ is smaller
+-- the first number that differs is smaller
 abbrev pub ComesBefore : List ℕ → List ℕ → Type 0
 ComesBefore one other = slice_cmp nat_cmp one other ≡ Less
 
@@ -12,7 +12,7 @@ Begins [] ys = Unit {0}
 Begins (x ∷ xs) [] = ⊥
 Begins (x ∷ xs) (y ∷ ys) = (x ≡ y) × Begins xs ys
 
--- it has a property, and nothing at an earlier place does
+-- x has a property, and nothing at an earlier place has it
 pub record IsLeast {X : Type 0} (place : X → List ℕ) (P : X → Type 0) (least : X) : Type 0 where
   pub has : P least
   pub first : (other : X) → P other → ¬ ComesBefore (place other) (place least)
@@ -20,10 +20,10 @@ pub record IsLeast {X : Type 0} (place : X → List ℕ) (P : X → Type 0) (lea
 abbrev pub IsNone : {X : Type 0} → (X → Type 0) → Type 0
 IsNone {X} P = (x : X) → ¬ P x
 
--- what has a property at a place that begins with these numbers
+-- x has a property, at a place that begins with these numbers
 abbrev pub IsUnder : {X : Type 0} → (X → List ℕ) → (X → Type 0) → List ℕ → X → Type 0
 IsUnder place P beginning x = Begins beginning (place x) × P x
 
--- what has a property at the first place, or nothing where nothing has it
+-- what has a property at the first place, or nothing if nothing has it
 abbrev pub FindsLeast : {X : Type 0} → (X → List ℕ) → (X → Type 0) → Option X → Type 0
 FindsLeast place P found = MatchOption found (IsNone P) (IsLeast place P)

@@ -1,4 +1,4 @@
--- A policy as the rising list of its edges: the order of edges, and which edges a policy allows
+-- Policies as rising lists of edges: the order of edges, and the edges that a policy allows
 -- ('seL4 Enforces Integrity', section 3, where a policy is a graph of labels).
 use Rattle.std.specs.{declared.cmp.Ordering.{Ordering, TheVariants.Less}, List.{list_any, Sorted.IsStrictlySortedBy}, Ordering.nat_cmp}
 use Rattle.std.specs.{Ordering.{on, then_cmp}, Prelude.{ℕ, ◌&&◌, ◌-◌, ◌<◌, ◌==◌, ◌≡◌, Bool, IfSome, List, Option, length, slice_get, true}}
@@ -11,7 +11,7 @@ edge_cmp =
     then_cmp (on (λ edge. edge.from) nat_cmp)
     (then_cmp (on (λ edge. kind_number edge.kind) nat_cmp) (on (λ edge. edge.to) nat_cmp))
 
--- each edge is below those after it, so none comes twice
+-- each edge is below those after it, so none is there twice
 abbrev pub IsRising : List Edge → Type 0
 IsRising edges = IsStrictlySortedBy edge_cmp edges
 
@@ -19,7 +19,6 @@ IsRising edges = IsStrictlySortedBy edge_cmp edges
 abbrev pub is_edge : ℕ → Kind → ℕ → Edge → Bool
 is_edge from kind to edge = (edge.from == from) && ((kind_number edge.kind == kind_number kind) && (edge.to == to))
 
--- whether the edge from this label, of this kind, to that label is among them
 unfoldable pub allows : List Edge → ℕ → Kind → ℕ → Bool
 allows edges from kind to = list_any (is_edge from kind to) edges
 
@@ -27,7 +26,7 @@ allows edges from kind to = list_any (is_edge from kind to) edges
 abbrev pub JoinsBelow : ℕ → List Edge → Type 0
 JoinsBelow number edges = (from : ℕ) (kind : Kind) (to : ℕ) → allows edges from kind to ≡ true → (from < number) × (to < number)
 
--- each edge joins two of the labels that there can be
+-- each edge joins two possible labels
 abbrev pub JoinsLabels : List Edge → Type 0
 JoinsLabels edges = JoinsBelow Label.COUNT edges
 
@@ -39,6 +38,6 @@ pub record IsPolicy (edges : List Edge) : Type 0 where
 abbrev pub last_edge : List Edge → Option Edge
 last_edge edges = slice_get edges (length edges - 1)
 
--- the last edge, if there is one, is below this one
+-- the edge is above the last edge, if there is one
 abbrev pub IsAboveLast : List Edge → Edge → Type 0
 IsAboveLast edges edge = IfSome (last_edge edges) (λ last. edge_cmp last edge ≡ Less)

@@ -1,4 +1,4 @@
--- What the search for the first broken rule finds (confine's own).
+-- The search for the first broken rule: what it finds (confine's own).
 use Rattle.std.specs.Prelude.{ℕ, ◌<◌, ◌≡◌, List, MatchOption, Option, false, true}
 use Rattle.base.specs.{declared.{kind.Kind.Kind, labels.Labels.Labels}, Kinds.kind_number, Labels.is_in}
 use Rattle.policy.specs.{declared.broken.Broken.Broken, Broken.{IsBrokenAt, broken_place}, Domain.EdgeTest, Places.{FindsLeast, IsUnder}}
@@ -13,7 +13,7 @@ IsNobody labels = (label : ℕ) → is_in labels label ≡ false
 abbrev pub IsLeastIn : Labels → ℕ → Type 0
 IsLeastIn labels least = (is_in labels least ≡ true) × ((label : ℕ) → label < least → is_in labels label ≡ false)
 
--- of labels that are given for each kind: the least label of the first kind that has any
+-- the least label of the first kind that has any label, of the labels given for each kind
 abbrev pub FindsCell : (Kind → Labels → Type 0) → Option (Kind × ℕ) → Type 0
 FindsCell gives found =
     MatchOption found ((kind : Kind) → (labels : Labels) × gives kind labels × IsNobody labels)

@@ -1,5 +1,4 @@
--- How a policy is closed: the edges that the rules of closed policies ask for, and the steps in which those that are missing are
--- added (confine's own).
+-- Closing a policy in steps: the edges that the rules of closed policies ask for, and how missing ones are added (confine's own).
 use Rattle.std.specs.Prelude.{ℕ, ◌<◌, ◌≡◌, ◌⊎◌, Bool, List, false, true}
 use Rattle.base.specs.declared.{edge.Edge.Edge, kind.Kind.{Kind, TheVariants.{Derive, Holds, Runs}}, labels.Labels.Labels}
 use Rattle.base.specs.declared.label.TheConstants.Label as Label
@@ -7,7 +6,7 @@ use Rattle.base.specs.{Kinds.is_structural, Labels.is_in}
 use Rattle.policy.specs.{declared.broken.Broken.Broken as broken, Broken.Asks, Closed.{ControlGives, IsClosed, IsLacking, MayBeGranted}}
 use Rattle.policy.specs.{Closing.IsWithin, Domain.{EdgeTest, IsInDomain}, Policy.allows}
 
--- what the giver may do the taker may do too: they are of one domain, or the taker may be granted the giver's capabilities
+-- the taker may do what the giver may: they are of one domain, or the taker may be granted the giver's capabilities
 pub data Shares (test : EdgeTest) (giver taker : ℕ) : Type 0 where
   of_its_domain : IsInDomain test giver taker → Shares test giver taker
   of_their_domain : IsInDomain test taker giver → Shares test giver taker
@@ -25,11 +24,9 @@ IsAskedFor test from Runs to = Asks test (broken.ContextLacks from to) ⊎ Asks 
 IsAskedFor test from Holds to = Asks test (broken.ReplyLacks from to)
 IsAskedFor test from kind to = IsGiven test from kind to
 
--- an edge that is asked for and isn't there
 abbrev pub IsMissing : EdgeTest → ℕ → Kind → ℕ → Type 0
 IsMissing test from kind to = IsLacking (IsAskedFor test from kind to) (test from kind to)
 
--- no edge of this kind is missing at this label
 abbrev pub IsSettled : EdgeTest → ℕ → Kind → Type 0
 IsSettled test from kind = (to : ℕ) → IsAskedFor test from kind to → test from kind to ≡ true
 
@@ -48,7 +45,7 @@ pub record IsNew (old new : List Edge) : Type 0 where
   pub absent : allows old from kind to ≡ false
   pub present : allows new from kind to ≡ true
 
--- edges are added that every closed policy has if it has the old ones; whether there are any
+-- edges are added that every closed policy with the old ones has; and whether any is
 pub record Grows (old new : List Edge) (changed : Bool) : Type 0 where
   pub kept : IsWithin (allows old) (allows new)
   pub forced : (other : EdgeTest) → IsClosed other → IsWithin (allows old) other → IsWithin (allows new) other

@@ -1,5 +1,5 @@
--- Sharply closed policies: what a policy has to have so that no run leads out of it, where it is known which labels keep capabilities for
--- CNodes. Only their threads receive, copy, move and make capabilities. A closed policy is sharply closed, whichever labels keep
+-- Sharply closed policies: the edges that a policy must have so that no run leads out of it, if it is known which labels keep capabilities
+-- for CNodes. Only their threads receive, copy, move and make capabilities. A closed policy is sharply closed, whichever labels keep
 -- (the rules are confine's own; compare the well-formed policies of 'seL4 Enforces Integrity', section 3).
 use Rattle.std.specs.Prelude.{ℕ, ◌≡◌, Bool, false, true}
 use Rattle.base.specs.declared.kind.Kind.{Kind, TheVariants.{Call, Context, Control, Derive, Holds, Receive, Reply, Runs}}
@@ -18,8 +18,8 @@ KeeperTest = ℕ → Bool
 abbrev pub Told : KeeperTest → Keepers
 Told keeps a = keeps a ≡ true
 
--- S1: a label has the edges of use of each label in its domain. It finds capabilities there; or it controls that label, and then may find
--- none of its capabilities, but may remove them all
+-- S1: a label has the edges of use of each label in its domain: it finds capabilities there, or controls that label and may remove all of
+-- its capabilities
 abbrev pub UsesRise : EdgeTest → Type 0
 UsesRise test = (a b : ℕ) (kind : Kind) → ShareUse test a b kind → (to : ℕ) → test b kind to ≡ true → test a kind to ≡ true
 
@@ -47,8 +47,7 @@ KeepersAreGranted test Keeps =
 abbrev pub KeepersDerive : EdgeTest → Keepers → Type 0
 KeepersDerive test Keeps = (a x y : ℕ) → IsInDomain test a x → MayPut test Keeps a y → test x Derive y ≡ true
 
--- S5: if a keeper may be granted a label's capabilities, each label in that label's domain has derive to each label that the keeper
--- controls
+-- S5: each label in the domain of a label whose capabilities a keeper may be granted has derive to each label that the keeper controls
 abbrev pub GrantsDerive : EdgeTest → Keepers → Type 0
 GrantsDerive test Keeps =
     (a b x y : ℕ) → MayBeGranted test a b → IsInDomain test a x → MayPut test Keeps b y → test x Derive y ≡ true
@@ -57,7 +56,7 @@ GrantsDerive test Keeps =
 abbrev pub DerivesOn : EdgeTest → Type 0
 DerivesOn test = (x y z : ℕ) → test x Derive y ≡ true → test y Derive z ≡ true → test x Derive z ≡ true
 
--- S6: if a label may bind a context, each label that it controls may run on the context
+-- S6: a label that another controls may run on each context that the other may bind
 abbrev pub BoundRun : EdgeTest → Type 0
 BoundRun test = (a b s : ℕ) → test a Context s ≡ true → test a Control b ≡ true → test b Runs s ≡ true
 

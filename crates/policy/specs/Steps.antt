@@ -7,7 +7,7 @@ use Rattle.policy.specs.{Cut.IsNear, Domain.EdgeTest}
 abbrev pub is_joined : EdgeTest → List Kind → ℕ → ℕ → Bool
 is_joined test kinds from to = list_any (λ kind. test from kind to) kinds
 
--- a label that a label of the set has an edge of one of the kinds to
+-- a label to which a label of the set has an edge of one of the kinds
 pub record IsTarget (test : EdgeTest) (kinds : List Kind) (froms : Labels) (to : ℕ) : Type 0 where
   pub from : ℕ
   pub among : is_in froms from ≡ true

@@ -1,4 +1,4 @@
--- Steps of walks, each of which goes along an edge or against one, and the least of walks (confine's own).
+-- Steps of walks, each along an edge or against one, and the least of several walks (confine's own).
 use Rattle.std.specs.{declared.{alloc.Global.Global, cmp.Ordering.TheVariants.Less}, Cmp.Lexicographic.slice_cmp, List.list_any}
 use Rattle.std.specs.{Ordering.{is_lt, nat_cmp}, Prelude.{[], ℕ, ◌==◌, ◌≡◌, Bool, List, MatchOption, None, Option, Some, Vec}}
 use Rattle.std.specs.Prelude.{if◌then◌else◌, true}
@@ -22,23 +22,23 @@ pub data Passes (step : Step) (from : ℕ) (edge : Edge) (next : ℕ) : Type 0 w
 abbrev pub IsThere : EdgeTest → Edge → Type 0
 IsThere test edge = test edge.from edge.kind edge.to ≡ true
 
--- by this edge a step leads to a label of the set
+-- a step leads by this edge to a label of the set
 abbrev pub Leads : EdgeTest → Step → ℕ → Labels → Edge → Type 0
 Leads test step from goals edge = (next : ℕ) × (is_in goals next ≡ true) × IsThere test edge × Passes step from edge next
 
--- .. one of the edges that a label has
+-- a step leads there by one of the edges that a label has
 abbrev pub LeadsOf : EdgeTest → Step → ℕ → Labels → ℕ → Edge → Type 0
 LeadsOf test step from goals start edge = (edge.from ≡ start) × Leads test step from goals edge
 
--- the end of an edge that isn't this one, if they are two
+-- the other end of an edge, seen from this one
 abbrev pub other_end : Edge → ℕ → ℕ
 other_end edge from = if edge.from == from then edge.to else edge.from
 
--- the first edge that has a property, or nothing where none has it
+-- the first edge that has a property, or nothing if none has it
 abbrev pub FindsFirst : (Edge → Type 0) → Option Edge → Type 0
 FindsFirst P found = MatchOption found (IsNone P) (λ edge. P edge × ((other : Edge) → P other → edge_cmp other edge ≡ Less → ⊥))
 
--- the least walk that has a property, or nothing where none has it
+-- the least walk that has a property, or nothing if none has it
 abbrev pub FindsWalk : (List Edge → Type 0) → Option (Vec Edge Global) → Type 0
 FindsWalk P found = MatchOption found (IsNone P) (λ edges. IsLeast reason_place P edges.items)
 

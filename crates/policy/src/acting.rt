@@ -1,4 +1,4 @@
-//! Laws about what may change and what may shrink where only some labels act.
+//! Laws on what may change and what may shrink if only some labels act.
 ghost use Rattle.std.specs.Prelude.{ℕ, ◌≡◌, ◌⊎◌, true};
 ghost use Rattle.base.specs.declared.kind.Kind.{Kind};
 ghost use Rattle.base.specs.declared.kind.Kind.TheVariants as authority;
@@ -7,7 +7,7 @@ ghost use Rattle.policy.specs.{Cut.IsCut, Full.IsFull, NarrowTake.{HasNone, MayS
 
 /// A law: a label has full authority on each label whose objects it may change, whichever labels act.
 ///
-/// It may change no fewer where the policy has more edges or more labels act; and a label that doesn't
+/// It may change no fewer if the policy has more edges or more labels act; and a label that doesn't
 /// act may change nothing.
 pub fn what_may_be_changed_is_within_full_authority()
     ensures full { (test : EdgeTest) (acts : ActorTest) (a l : ℕ) → MayChange test acts a l → IsFull test a l }
@@ -20,9 +20,9 @@ pub fn what_may_be_changed_is_within_full_authority()
 
 /// A law: a label has cut or full authority on each label whose objects may shrink by what it does.
 ///
-/// This is so whichever labels act. No less may shrink where the policy has more edges or more
+/// This holds whichever labels act. No less may shrink if the policy has more edges or more
 /// labels act. Nothing shrinks by a label that doesn't act. By a label without an edge of control,
-/// context or reply nothing shrinks but the replies of those to whom it may send.
+/// context or reply, nothing shrinks but the replies of labels to which it may send.
 pub fn what_may_shrink_may_be_cut()
     ensures cut { (test : EdgeTest) (acts : ActorTest) (a l : ℕ) → MayShrink test acts a l
         → IsCut test a l ⊎ IsFull test a l }
@@ -48,11 +48,11 @@ pub fn what_may_shrink_may_be_cut()
 ///
 /// - its own label
 /// - a label to which it has an edge of a kind that changes the object
-/// - the label of a context, by a case of its own (`configures`, `binds`, `lends` and `returns`)
-/// - those who wait where it sends, receives or notifies
-/// - the replies of those who receive its calls
-/// - where those keep capabilities who receive them from it
-/// - those who called and are held by one of its replies.
+/// - the label of a context, in a case of its own (`configures`, `binds`, `lends` and `returns`)
+/// - labels whose threads wait where it sends, receives or notifies
+/// - the replies of labels that receive its calls
+/// - where labels that receive capabilities from it keep them
+/// - labels whose threads called and are held by one of its replies.
 pub fn changes_follow_paths()
     ensures own { (test : EdgeTest) (acts : ActorTest) (a : ℕ) → acts a ≡ true → MayChange test acts a a }
     ensures modifies { (test : EdgeTest) (acts : ActorTest) (a l : ℕ) (k : Kind)
@@ -134,10 +134,10 @@ pub fn changes_follow_paths()
 
 /// A law: objects of the labels that a label that acts reaches by one of these paths may shrink by what it does.
 ///
-/// - the contexts that it has, and those who run on them
-/// - those who may wait with one of its replies, and where such a label receives
-/// - the replies of those who receive from it
-/// - where it controls a label, what that label has to do with, and who waits for what that label
+/// - the contexts that it has, and labels that run on them
+/// - labels that may wait with one of its replies, and where such a label receives
+/// - the replies of labels that receive from it
+/// - what a label that it controls has an edge to, and labels that wait for what that label
 ///   may delete.
 pub fn shrinks_follow_paths()
     ensures unbinds { (test : EdgeTest) (acts : ActorTest) (a l : ℕ)

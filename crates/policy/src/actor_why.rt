@@ -1,4 +1,4 @@
-//! What a label may do to another's objects where only some labels act, and the edges of one reason for it.
+//! Reasons why a label may change another's objects, or make them smaller, if only some labels act.
 ghost use Rattle.std.specs.Prelude.{◌≡◌, IfErr, IfOk};
 ghost use Rattle.base.specs.{Labels.is_in, Refusals.out_of_memory};
 ghost use Rattle.policy.specs.{ActorReasons.{IsChangeBy, IsShrinkBy, IsWhyAmong}, Policy.allows};
@@ -13,13 +13,11 @@ use base::{Edge, Kind, Label, Labels, Refusal};
 use std::alloc::Global;
 
 impl Policy {
-    /// Returns what `actor` may do to objects of the label `object`, and why.
-    ///
-    /// Only threads of the labels `actors` act.
+    /// Returns what `actor` may do to objects of the label `object` if only threads of the labels `actors` act, and why.
     ///
     /// # Errors
     ///
-    /// 40 where memory is refused.
+    /// 40 if memory is refused.
     pub fn why_among(
         &self,
         alloc: Global,
@@ -39,7 +37,7 @@ impl Policy {
         }
     }
 
-    // The least of the ways to change, one walk for each.
+    // The least of the walks of all ways to change.
     fn change_reason(
         &self,
         alloc: Global,
@@ -83,7 +81,7 @@ impl Policy {
         self.lesser_guarded(alloc, grants, &[answer, held], actor, object)
     }
 
-    // The least of the ways to make smaller, one walk for each.
+    // The least of the walks of all ways to make smaller.
     fn shrink_reason(
         &self,
         alloc: Global,

@@ -1,4 +1,4 @@
-//! The first rule of closed policies that a policy breaks, and where.
+//! Rules of closed policies that a policy breaks: the first of them, and where.
 pub(crate) mod cells;
 pub(crate) mod rules;
 pub(crate) mod steps;
@@ -19,7 +19,7 @@ use std::thread::Threads;
 
 /// A rule of closed policies that a policy breaks, and where.
 ///
-/// They are ordered by rule, and then by what they name, from left to right.
+/// They are ordered by rule, and then by the labels and kinds that they name, from left to right.
 #[derive(Clone, Copy, PartialEq, Eq, Debug)]
 pub enum Broken {
     /// P1: `other` is in the domain of `subject`, and only one of the two has the edge of this kind to
@@ -122,7 +122,6 @@ impl Broken {
     }
 }
 
-// A rule of closed policies, as in [`Broken`].
 #[derive(Clone, Copy)]
 enum Rule {
     P1,
@@ -147,7 +146,7 @@ impl Rule {
         Rule::P8,
     ];
 
-    // At how many places it is looked at between as many labels: at pairs of labels, or at labels.
+    // The number of places of a rule between this many labels: pairs of labels, or labels.
     fn places(self, labels: usize) -> usize
         requires { labels ≤ Label.COUNT }
         ensures { result ≡ count_of labels self }
@@ -182,7 +181,7 @@ impl Rule {
         }
     }
 
-    // The first place where it is broken. Places are looked at side by side.
+    // The first place where the rule is broken. Places are looked at in parallel.
     fn first_broken(self, rt: &(impl Threads + Sync), policy: &Policy) -> Option<Broken>
         ensures { FindsBroken (allows policy.now) (rule_number self ∷ []) result }
     {
@@ -206,7 +205,7 @@ impl Rule {
     }
 }
 
-// How many places one thread looks at, at least: fewer take less time than a thread's start.
+// The least number of places that one thread looks at: fewer take less time than a thread's start.
 const AT_ONCE: usize = 2048;
 
 // The label of this number.
@@ -217,7 +216,7 @@ fn label(number: usize) -> Label
     Label::new(number as u16).unwrap()
 }
 
-// The pair of labels of this number, in the order of the pairs of as many labels.
+// The pair of labels with this number, in the order of the pairs of this many labels.
 fn pair(labels: usize, number: usize) -> (Label, Label)
     requires few { labels ≤ Label.COUNT }
     requires within { number < labels * labels }
@@ -227,9 +226,9 @@ fn pair(labels: usize, number: usize) -> (Label, Label)
     (label(number / labels), label(number % labels))
 }
 
-/// Returns the first rule of closed policies that a policy breaks, and the first place where it does.
+/// Returns the first rule of closed policies that a policy breaks, and the first place where it does so.
 ///
-/// Pairs of labels are looked at side by side. It takes no memory.
+/// Pairs of labels are looked at in parallel. The call takes no memory.
 pub fn first_broken(rt: &(impl Threads + Sync), policy: &Policy) -> Option<Broken>
     ensures { FindsLeast broken_place (IsBrokenAt (allows policy.now)) result }
 {

@@ -1,4 +1,4 @@
-//! Whose objects a label may change where only some labels act.
+//! The labels whose objects a label may change if only some labels act.
 ghost use Rattle.std.specs.Prelude.{ℕ, ◌↔◌, ◌≡◌, ◌⊎◌, IsTrue, true};
 ghost use Rattle.base.specs.{declared.kind.Kind.TheVariants.Runs, Labels.is_in};
 ghost use Rattle.policy.specs.Change.{MayAnswer, MayBorrow, MayChange, MayChangeContext, MayHoldCaller, MayLend};
@@ -28,7 +28,7 @@ impl Policy {
         self.change_labels(actors, actor).has(object)
     }
 
-    /// Returns the labels whose objects `actor` may change, as [`Policy::may_change`] says of each.
+    /// Returns the labels whose objects `actor` may change, each by [`Policy::may_change`].
     pub fn change_labels(&self, actors: Labels, actor: Label) -> Labels
         ensures { (object : ℕ)
             → (is_in result object ≡ true) ↔ MayChange (allows self.now) (is_in actors) actor object }
@@ -62,7 +62,6 @@ impl Policy {
         self.sources(ends, kinds).intersection(actors)
     }
 
-    // The labels whose contexts the label may change.
     fn contexts(&self, actors: Labels, actor: Label) -> Labels
         ensures { (object : ℕ)
             → (is_in result object ≡ true) ↔ MayChangeContext (allows self.now) (is_in actors) actor object }
@@ -81,9 +80,9 @@ impl Policy {
         self.targets(movers.intersection(Labels::only(actor)), &[Kind::Runs])
     }
 
-    /// Returns the labels that may lend a context by a call, where only threads of the labels `actors` act.
+    /// Returns the labels that may lend a context by a call, if only threads of the labels `actors` act.
     ///
-    /// A label that acts and may be lent one receives their calls.
+    /// A label that acts and may be lent a context receives their calls.
     pub fn lenders(&self, actors: Labels) -> Labels
         ensures { (a : ℕ) → (is_in result a ≡ true) ↔ MayLend (allows self.now) (is_in actors) a }
     {
@@ -127,7 +126,6 @@ impl Policy {
         }
     }
 
-    // The labels whose calls the label may answer.
     fn answered(&self, actors: Labels, actor: Label) -> Labels
         ensures { (object : ℕ)
             → (is_in result object ≡ true) ↔ MayAnswer (allows self.now) (is_in actors) actor object }
@@ -144,7 +142,7 @@ impl Policy {
         found
     }
 
-    /// The replies that may hold threads of the label since they called.
+    /// The replies that may hold threads of the label that called.
     pub(crate) fn holding(&self, actors: Labels, caller: Label) -> Labels
         ensures { (reply : ℕ)
             → (is_in result reply ≡ true) ↔ MayHoldCaller (allows self.now) (is_in actors) reply caller }

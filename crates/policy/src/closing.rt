@@ -14,11 +14,11 @@ use std::alloc::Global;
 
 /// Returns the least closed policy that has the edges of a policy, and these.
 ///
-/// Every closed policy that has them has all of its edges.
+/// Every closed policy that has them has all edges of the result.
 ///
 /// # Errors
 ///
-/// 40 where memory is refused.
+/// 40 if memory is refused.
 pub fn close(alloc: Global, policy: &Policy, edges: &[Edge]) -> Result<Policy, Refusal>
     ensures least { IfOk result (λ closed. IsLeastClosed (policy.now ++ edges.now) closed) }
     ensures memory { IfErr result (λ refusal. refusal ≡ out_of_memory) }
@@ -41,7 +41,7 @@ fn settle(policy: &mut Policy) -> Result<(), Refusal>
     Ok(())
 }
 
-// Adds what is missing at each label. Whether anything was.
+// Adds the missing edges of each label. Returns whether there were any.
 fn settle_labels(policy: &mut Policy) -> Result<bool, Refusal>
     ensures grows { IfOk result (λ changed. Grows policy.old policy.new changed) }
     ensures settled { IfOk result (λ changed. changed ≡ false → IsClosed (allows policy.new)) }
@@ -58,7 +58,7 @@ fn settle_labels(policy: &mut Policy) -> Result<bool, Refusal>
     Ok(changed)
 }
 
-// Adds what is missing at a label. Whether anything was.
+// Adds the missing edges of a label. Returns whether there were any.
 fn settle_label(policy: &mut Policy, from: Label) -> Result<bool, Refusal>
     ensures grows { IfOk result (λ changed. Grows policy.old policy.new changed) }
     ensures settled { IfOk result
@@ -76,8 +76,7 @@ fn settle_label(policy: &mut Policy, from: Label) -> Result<bool, Refusal>
     Ok(changed)
 }
 
-// Adds the edges of this kind that are missing at a label, of which these share what they may do. Whether
-// any was.
+// Adds the missing edges of a label and a kind, as these labels share with it. Returns whether there were any.
 fn settle_row(
     policy: &mut Policy,
     from: Label,
@@ -117,7 +116,7 @@ fn missing(policy: &Policy, from: Label, kind: Kind, sharing: Labels) -> Labels
     }
 }
 
-// The labels to which the label is given the edge of this kind, by control or by those who share with it.
+// The labels to which control, or a label that shares with it, gives the label the edge of this kind.
 fn given(policy: &Policy, from: Label, kind: Kind, sharing: Labels) -> Labels
     requires { (giver : ℕ) → (is_in sharing giver ≡ true) ↔ Shares (allows policy.now) giver from }
     ensures { (to : ℕ) → (is_in result to ≡ true) ↔ IsGiven (allows policy.now) from kind to }
@@ -129,7 +128,7 @@ fn given(policy: &Policy, from: Label, kind: Kind, sharing: Labels) -> Labels
     controlled.union(policy.targets(sharing, &[kind]))
 }
 
-// The labels to which control gives the label the edge of this kind.
+// The labels to which the label gets the edge of this kind by control.
 fn controlled(policy: &Policy, from: Label, kind: Kind) -> Labels
     ensures { (to : ℕ) → (is_in result to ≡ true) ↔ ControlGives (allows policy.now) from kind to }
 {

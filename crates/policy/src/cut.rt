@@ -1,4 +1,4 @@
-//! Cut authority: whose objects may shrink when threads of a label delete capabilities.
+//! Cut authority: the labels whose objects may shrink when threads of a label delete capabilities.
 ghost use Rattle.std.specs.Prelude.{ℕ, ◌↔◌, ◌≡◌, IsTrue, true};
 ghost use Rattle.base.specs.Labels.{is_in};
 ghost use Rattle.policy.specs.{Cut.{IsBase, IsCut, IsNear}, Policy.allows, Steps.IsNearSome};
@@ -43,7 +43,7 @@ impl Policy {
         self.cut_labels(actor).has(object)
     }
 
-    /// Returns the labels on which `actor` has cut authority, as [`Policy::cut`] says of each.
+    /// Returns the labels on which `actor` has cut authority, each by [`Policy::cut`].
     pub fn cut_labels(&self, actor: Label) -> Labels
         ensures { (object : ℕ) → (is_in result object ≡ true) ↔ IsCut (allows self.now) actor object }
     {
@@ -52,7 +52,7 @@ impl Policy {
         self.near(self.near(reached))
     }
 
-    // Where the label may remove capabilities.
+    // The labels from whose objects the label may remove capabilities.
     fn bases(&self, actor: Label) -> Labels
         ensures { (base : ℕ) → (is_in result base ≡ true) ↔ IsBase (allows self.now) actor base }
     {

@@ -1,4 +1,4 @@
-//! Full authority: whose objects the acts of a label's threads may change.
+//! Full authority: the labels whose objects the acts of a label's threads may change.
 ghost use Rattle.std.specs.Prelude.{ℕ, ◌↔◌, ◌≡◌, IsTrue, true};
 ghost use Rattle.base.specs.Labels.{is_in};
 ghost use Rattle.policy.specs.{Full.IsFull, Policy.allows};
@@ -27,7 +27,7 @@ impl Policy {
         self.full_labels(actor).has(object)
     }
 
-    /// Returns the labels on which `actor` has full authority, as [`Policy::full`] says of each.
+    /// Returns the labels on which `actor` has full authority, each by [`Policy::full`].
     pub fn full_labels(&self, actor: Label) -> Labels
         ensures { (object : ℕ) → (is_in result object ≡ true) ↔ IsFull (allows self.now) actor object }
     {

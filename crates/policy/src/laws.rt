@@ -1,4 +1,4 @@
-//! Laws about closed policies.
+//! Laws on closed policies.
 ghost use Rattle.std.specs.Prelude.{ℕ, ◌↔◌, ◌≡◌, true};
 ghost use Rattle.policy.specs.{declared.broken.Broken.Broken as BrokenOf, Broken.IsBrokenAt, Closed.IsClosed};
 ghost use Rattle.policy.specs.{Domain.EdgeTest, Needed.{BreaksOnly, Obeys, Rule}};
@@ -21,7 +21,7 @@ pub fn closed_policies_are_unbroken()
 
 /// A law: a closed policy is sharply closed, whichever labels keep capabilities for CNodes.
 ///
-/// A policy that is sharply closed stays so where fewer labels keep them.
+/// A policy that is sharply closed stays so if fewer labels keep them.
 pub fn closed_policies_are_sharply_closed()
     ensures closed { (test : EdgeTest) (keeps : KeeperTest) → IsClosed test → IsSharplyClosed test (Told keeps) }
     ensures fewer { (test : EdgeTest) (keeps fewer : KeeperTest)

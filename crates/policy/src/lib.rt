@@ -1,7 +1,6 @@
 //! Policies: the edges of authority that a system may have.
 //!
-//! `sharp`, `labels`, `integrity` and `verdict` stand on it, and the texts of policies. It knows no
-//! objects.
+//! The crate knows no objects.
 #![tactic(auto)]
 
 mod acting;

@@ -1,4 +1,4 @@
-//! Whose objects may shrink by what a label does where only some labels act.
+//! The labels whose objects may shrink by what a label does, if only some labels act.
 ghost use Rattle.std.specs.Prelude.{ℕ, ◌↔◌, ◌≡◌, IsTrue, true};
 ghost use Rattle.base.specs.Labels.{is_in};
 ghost use Rattle.policy.specs.{NarrowTake.{MayHalt, MayHoldReceiver, MayShrink, TakesByControl}, Policy.allows};
@@ -28,7 +28,7 @@ impl Policy {
         self.shrink_labels(actors, actor).has(object)
     }
 
-    /// Returns the labels whose objects may shrink by what `actor` does, as [`Policy::may_shrink`] says of each.
+    /// Returns the labels whose objects may shrink by what `actor` does, each by [`Policy::may_shrink`].
     pub fn shrink_labels(&self, actors: Labels, actor: Label) -> Labels
         ensures { (object : ℕ)
             → (is_in result object ≡ true) ↔ MayShrink (allows self.now) (is_in actors) actor object }
@@ -47,7 +47,7 @@ impl Policy {
             .union(self.taken(actors, actor))
     }
 
-    // The labels from which the label may take where it controls a label.
+    // The labels from which the label may take through a label that it controls.
     fn taken(&self, actors: Labels, actor: Label) -> Labels
         ensures { (object : ℕ)
             → (is_in result object ≡ true) ↔ TakesByControl (allows self.now) (is_in actors) actor object }

@@ -1,4 +1,4 @@
-//! A policy as a set of edges.
+//! Policies as sets of edges.
 ghost use Rattle.std.specs.Prelude.{[], ℕ, ◌++◌, ◌+◌, ◌<◌, ◌||◌, ◌∷◌, ◌≡◌, ◌≤◌, IfErr, IfOk, IsOk, List, OnErr, OnOk};
 ghost use Rattle.std.specs.Prelude.{SomeIff, max, true, vec_len};
 ghost use Rattle.base.specs.{declared.{edge.Edge.Edge, kind.Kind.Kind}, Labels.is_in, Refusals.out_of_memory};
@@ -10,7 +10,7 @@ use base::{Edge, Kind, Label, Labels, Refusal};
 use std::alloc::{AllocError, Global};
 use std::marker::Model;
 
-// How many kinds there are, and how many rows.
+// The number of kinds, and the number of rows.
 const KINDS: usize = Kind::ALL.len();
 
 const ROWS: usize = Label::COUNT as usize * KINDS;
@@ -54,7 +54,7 @@ impl Policy {
     ///
     /// # Errors
     ///
-    /// 40 where memory is refused.
+    /// 40 if memory is refused.
     pub fn add(&mut self, edge: Edge) -> Result<(), Refusal>
         ensures rising { IsRising self.new }
         ensures added { OnOk result ((from : ℕ) (kind : Kind) (to : ℕ) →
@@ -78,7 +78,7 @@ impl Policy {
     ///
     /// # Errors
     ///
-    /// 40 where memory is refused. Some of the edges may then be added.
+    /// 40 if memory is refused. Some of the edges may then be added.
     pub fn extend(&mut self, edges: &[Edge]) -> Result<(), Refusal>
         ensures added { OnOk result ((from : ℕ) (kind : Kind) (to : ℕ) →
             allows self.new from kind to ≡ (allows edges.now from kind to || allows self.old from kind to)) }
@@ -94,7 +94,7 @@ impl Policy {
     ///
     /// # Errors
     ///
-    /// 40 where memory is refused. Some of the edges may then be added.
+    /// 40 if memory is refused. Some of the edges may then be added.
     pub fn add_row(&mut self, from: Label, kind: Kind, to: Labels) -> Result<(), Refusal>
         ensures joins { OnOk result (Joins self.old self.new from kind to) }
         ensures memory { IfErr result (λ refusal. refusal ≡ out_of_memory) }
@@ -120,7 +120,7 @@ impl Policy {
         self.contains(&edge)
     }
 
-    // As `has`, of an edge that is lent.
+    // `has`, for an edge by reference.
     fn contains(&self, edge: &Edge) -> bool
         ensures { result ≡ allows self.now edge.now.from edge.now.kind edge.now.to }
     {
@@ -129,7 +129,7 @@ impl Policy {
 
     /// Returns the labels to which the label has an edge of this kind.
     ///
-    /// It takes constant time, whatever the number of edges.
+    /// The call takes constant time, whatever the number of edges.
     pub fn row(&self, from: Label, kind: Kind) -> Labels
         ensures { (to : ℕ) → is_in result to ≡ allows self.now from kind to }
     {
@@ -143,7 +143,7 @@ impl Policy {
     ///
     /// # Errors
     ///
-    /// 40 where memory is refused.
+    /// 40 if memory is refused.
     pub fn edges(&self, alloc: Global) -> Result<Vec<Edge>, Refusal>
         ensures all { IfOk result (λ edges. edges.items ≡ self.now) }
         ensures memory { IfErr result (λ refusal. refusal ≡ out_of_memory) }
@@ -188,7 +188,6 @@ impl Policy {
     }
 }
 
-// An edge joins two labels.
 fn joins_labels(edge: &Edge)
     ensures from { edge.now.from < Label.COUNT }
     ensures to { edge.now.to < Label.COUNT }
@@ -197,7 +196,7 @@ fn joins_labels(edge: &Edge)
     edge.to.number();
 }
 
-// Where the row of a label and a kind stands.
+// The place of the row of a label and a kind.
 fn number_of(from: Label, kind: Kind) -> usize
     ensures value { result ≡ row_number from kind }
     ensures below { result < ROWS }
@@ -206,7 +205,7 @@ fn number_of(from: Label, kind: Kind) -> usize
     usize::from(from.number()) * KINDS + usize::from(kind.number())
 }
 
-// The number after the greatest label, with those that an edge joins.
+// The number after the greatest label, including those that an edge joins.
 fn span_with(span: u16, edge: &Edge) -> u16
     requires { span ≤ Label.COUNT }
     ensures greatest { result ≡ max span (max (edge.now.from + 1) (edge.now.to + 1)) }
@@ -240,7 +239,7 @@ fn later(last: Option<Edge>, edge: Edge) -> Edge
     }
 }
 
-// How many edges there can be between as many labels.
+// The number of possible edges between this many labels.
 #[tactic(auto, unfolding(crate::specs::Rows::edge_count))]
 fn edges_between(labels: usize) -> usize
     requires { labels ≤ Label.COUNT }
@@ -249,7 +248,7 @@ fn edges_between(labels: usize) -> usize
     labels * (labels * KINDS)
 }
 
-// The edge of this number, in the order of the edges that there can be between as many labels.
+// The edge with this number, in the order of the possible edges between this many labels.
 fn edge_numbered(labels: usize, number: usize) -> Option<Edge>
     requires { labels ≤ Label.COUNT }
     ensures { SomeIff result (number < edge_count labels) (edge_at labels number) }

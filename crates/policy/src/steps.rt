@@ -1,4 +1,4 @@
-//! The labels to which a label of a set has an edge of some kinds, and those that have one to it.
+//! Steps along edges of some kinds: from a label, from a set of labels, and to a set.
 ghost use Rattle.std.specs.Prelude.{ℕ, ◌↔◌, ◌≡◌, true};
 ghost use Rattle.base.specs.Labels.{is_in};
 ghost use Rattle.policy.specs.{Policy.allows, Steps.{IsSource, IsTarget, is_joined}};
@@ -9,7 +9,7 @@ use base::{Kind, Label, Labels};
 impl Policy {
     /// Returns the labels to which the label has an edge of one of these kinds.
     ///
-    /// Without kinds there are no such labels.
+    /// Returns no label if there are no kinds.
     pub fn row_of_kinds(&self, from: Label, kinds: &[Kind]) -> Labels
         ensures { (to : ℕ) → is_in result to ≡ is_joined (allows self.now) kinds.now from to }
     {

@@ -1,4 +1,4 @@
-//! The steps of walks, along edges of a policy and against them, and the lesser of two walks.
+//! Steps of walks, along edges of a policy and against them, and the lesser of two walks.
 ghost use Rattle.std.specs.{Cmp.Lexicographic.slice_cmp, Ordering.{is_lt, nat_cmp}};
 ghost use Rattle.std.specs.Prelude.{ℕ, ◌&&◌, ◌↔◌, ◌≡◌, true};
 ghost use Rattle.base.specs.{declared.edge.Edge.Edge, Labels.is_in};
@@ -9,7 +9,7 @@ use crate::Policy;
 use crate::broken::cells::first_cell;
 use base::{Edge, Kind, Label, Labels};
 
-/// A step of a walk: along an edge of one of some kinds, or against one of others.
+/// A step of a walk: along an edge of one of some kinds, or against an edge of one of others.
 #[derive(Clone, Copy)]
 pub(crate) struct Step<'a> {
     pub(crate) along: &'a [Kind],
@@ -62,7 +62,7 @@ impl Policy {
         None
     }
 
-    // The first of the edges that the label `start` has, by which it does.
+    // The first edge of the label `start` by which a step leads there.
     fn first_edge_of(&self, step: &Step, from: Label, goals: Labels, start: Label) -> Option<Edge>
         ensures { FindsFirst (LeadsOf (allows self.now) step.now from goals start) result }
     {
@@ -79,7 +79,7 @@ impl Policy {
         })
     }
 
-    // The labels to which `start` has an edge of this kind, by which it does.
+    // The labels to which `start` has an edge of this kind by which a step leads there.
     fn ends_of(&self, step: &Step, from: Label, goals: Labels, start: Label, kind: Kind) -> Labels
         ensures { (to : ℕ) → (is_in result to ≡ true)
             ↔ Leads (allows self.now) step.now from goals (edge start kind to) }
@@ -98,14 +98,13 @@ fn takes(kinds: &[Kind], kind: Kind) -> bool
     kinds.contains(&kind)
 }
 
-// The set, or no label.
 fn labels_if(taken: bool, labels: Labels) -> Labels
     ensures { (label : ℕ) → is_in result label ≡ (taken && is_in labels label) }
 {
     if taken { labels } else { Labels::none() }
 }
 
-/// The end of an edge that isn't this one, if they are two.
+/// The other end of an edge, seen from `from`.
 pub(crate) fn end(edge: &Edge, from: Label) -> Label
     ensures { result ≡ other_end edge.now from }
 {
@@ -133,7 +132,7 @@ pub(crate) fn lesser(one: Option<Vec<Edge>>, other: Option<Vec<Edge>>) -> Option
     }
 }
 
-// Whether a walk comes before another: it has fewer edges, or as many and the first other one is less.
+// Returns whether a walk comes before another: it has fewer edges, or equally many and the first that differs is less.
 fn comes_before(one: &[Edge], other: &[Edge]) -> bool
     ensures { result ≡ is_lt (slice_cmp nat_cmp (reason_place one.now) (reason_place other.now)) }
 {

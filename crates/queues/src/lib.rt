@@ -1,6 +1,6 @@
 //! The queues of threads at endpoints and notifications, first in, first out.
 //!
-//! `replies`, `transfer` and `kernel` stand on it. It knows no policy.
+//! The crate knows no policy.
 #![tactic(auto)]
 
 ghost use Rattle.std.specs.Prelude.{◌≡◌, IsSome, None, Some};
@@ -18,7 +18,7 @@ use steps::blocks_keep_machines_well_formed;
 
 /// Puts a thread behind those that wait at an object.
 ///
-/// Does nothing where there is no such object.
+/// Does nothing if there is no such object.
 pub fn push_last(state: &mut State, id: ObjId, thread: ObjId)
     requires present { IsSome (object_of state.old thread) }
     requires free { WaitsNowhere state.old thread }
@@ -29,7 +29,7 @@ pub fn push_last(state: &mut State, id: ObjId, thread: ObjId)
 
 /// Has a thread wait at an object in a run state, after those that wait there (seL4 manual, "Threads and Execution").
 ///
-/// Does nothing where there is no such thread.
+/// Does nothing if there is no such thread.
 pub fn block(state: &mut State, thread: ObjId, id: ObjId, run: RunState)
     requires { WaitsNowhere state.old thread }
     ensures blocked { state.new ≡ with_blocked state.old thread id run }
@@ -61,7 +61,7 @@ fn wait_at(state: &mut State, thread: ObjId, id: ObjId, run: RunState)
     }
 }
 
-/// Takes the first of the threads that wait at an object, and returns which it was, if there was one.
+/// Takes the first of the threads that wait at an object, and returns it, if there is one.
 ///
 /// The others stay in their order.
 #[tactic(auto, using(machine::proofs::Queues::nobody_leaves))]

@@ -3,7 +3,6 @@ use Rattle.std.{specs.Prelude.nat_lt, proofs.{Common.{ℕ, ◌&&◌, ◌<◌, �
 use Rattle.base.specs.declared.kind.Kind.{Kind, TheVariants.{Derive, Holds}}
 use Rattle.policy.specs.{Closed.{ComesToDerive, ComesToHold, IsClosed, caller, derived, granted, server}, Domain.{EdgeTest, IsInDomain}}
 
--- the policy with every edge between labels below a number
 pub among : ℕ → EdgeTest
 among n from kind to = nat_lt from n && nat_lt to n
 

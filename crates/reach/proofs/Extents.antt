@@ -1,4 +1,4 @@
--- What every run keeps, by how far a label goes with another; and that a table has one reach.
+-- Extents by the reach of a table: what every run keeps by them; and a table has one reach.
 use Rattle.std.proofs.Common.{ℕ, ◌↔◌, ◌∙◌, ◌≡◌, Bool, false, refl, subst, sym, true}
 use Rattle.base.specs.Labels.{is_in}
 use Rattle.machine.specs.Layout.{Layout}
@@ -22,7 +22,7 @@ module _ (reach : TableReach) (is : IsTableReach reach) (bounds : KeepsNarrowBou
   kept_to a l extent.Take goes = takes a l goes.0
   kept_to a l extent.Nothing goes = apart a l goes.0 goes.1
 
--- two tests that hold of the same labels are one
+-- two tests that hold of the same are equal
 same_bool : (one other : Bool) → (one ≡ true → other ≡ true) → (other ≡ true → one ≡ true) → one ≡ other
 same_bool true true forth back = refl
 same_bool false false forth back = refl
@@ -39,7 +39,7 @@ same_limits test Acts one other is also acts too =
     same_acts a =
         same_bool (one.acts a) (other.acts a) (λ act. (too a).1 ((acts a).0 act)) (λ act. (acts a).1 ((too a).0 act))
 
--- a table has one reach: two have the same edges, and the same labels whose threads make calls
+-- two reaches of a table have the same edges, and the same labels whose threads make calls
 module _ (t : Layout) (one other : TableReach) (is : IsReachOf t one) (also : IsReachOf t other) where
   same_table : one.table ≡ other.table
   same_table = is.of_table ∙ sym also.of_table

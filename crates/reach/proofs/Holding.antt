@@ -1,4 +1,4 @@
--- The labels of CNodes that hold capabilities for CNodes at boot are those that the filled slots tell, one after another.
+-- Labels of CNodes that hold capabilities for CNodes at boot: they are those that the filled slots give, one after another.
 use Rattle.std.{specs.Option.option_and_then, proofs.Common.{ℕ, ◌+◌, ◌==◌, ◌||◌, ◌↔◌, ◌∙◌, ◌≡◌, ◌≤◌, Bool, None, Option, Some, ap}}
 use Rattle.std.proofs.{Common.{arith, cond, false, length, refl, slice_get, sym, true}, lemmas.Bool.{eq-eqb, eqb-true, false≢true}}
 use Rattle.std.proofs.lemmas.Option.{none-some, same_Some, slice_get_within}
@@ -29,7 +29,7 @@ object_node : (object : Object) → kind_of_object object ≡ kind.CNode → is_
 object_node (o.CNode node) is = refl
 object_node _ is = cc
 
--- where the holder of a slot is told, it holds a CNode's capability
+-- the label that a slot gives holds a CNode's capability
 told_holds : (t : Layout) (slot : SlotRef) (a : ℕ) → node_holder t slot ≡ Some a → HoldsNode t a
 told_holds t slot a is = by_cap (initial_cap t slot) refl is where
   at_holder :
@@ -74,7 +74,7 @@ told_holds t slot a is = by_cap (initial_cap t slot) refl is where
   by_cap None filled is = absurd (none-some a is)
   by_cap (Some held) filled is = by_test held (is_node_cap held) filled refl is
 
--- and the holder of such a slot is told
+-- such a slot gives the label of its holder
 holds_told : (t : Layout) (a : ℕ) → (holds : HoldsNode t a) → node_holder t holds.slot ≡ Some a
 holds_told t a holds =
     rw (holds.filled, detail_node holds.held.detail holds.for_node, holds.declares, object_node holds.holder.object holds.in_node)
@@ -86,7 +86,7 @@ pub record HoldsAt (t : Layout) (a k : ℕ) : Type 0 where
   pub here : slice_get t.caps k ≡ Some filled
   pub told : node_holder t filled.slot ≡ Some a
 
--- one slot more
+-- one more slot
 module _ (t : Layout) (a n : ℕ) (filled : Filled) (here : slice_get t.caps n ≡ Some filled) where
   told_here : HoldsAt t a n → node_holder t filled.slot ≡ Some a
   told_here has = ap (λ (f : Filled). node_holder t f.slot) (same_Some filled has.filled (sym here ∙ has.here)) ∙ has.told
@@ -104,7 +104,7 @@ module _ (t : Layout) (a n : ℕ) (filled : Filled) (here : slice_get t.caps n �
       → (before ≡ true) ↔ IsBelow (HoldsAt t a) (n + 1)
   none_holds before is so_far = none_more n before so_far (λ has. none-some a (sym is ∙ told_here has))
 
--- of all slots
+-- all slots
 pub holds_from : (t : Layout) (a n : ℕ) → IsBelow (HoldsAt t a) n → HoldsNode t a
 holds_from t a n below = told_holds t below.2.filled.slot a below.2.told
 

@@ -1,4 +1,4 @@
--- The least sharply closed policy that has the edges of a table's boot state is what the table can come to.
+-- The least sharply closed policy with the edges of a table's boot state is the table's reach.
 use Rattle.std.proofs.Common.{ℕ, ◌↔◌, ◌≡◌, Bool, List, false, refl, sym, true}
 use Rattle.base.specs.{declared.{edge.Edge.Edge, kind.Kind.Kind, labels.Labels.Labels}, Labels.is_in}
 use Rattle.machine.specs.{Authority.HasAuthority, Boot.IsBoot, Layout.Layout, Machine.Machine}
@@ -9,7 +9,7 @@ use Rattle.sharp.specs.{Keeping.{KeepsFrom, KeepsFrom.{finds as found, handed as
 use Rattle.integrity.specs.Acting.{HoldsOfActors}
 use Rattle.reach.specs.Reach.{HasBootAuthority, IsReach, IsTableReach, TableReach}
 
--- who keeps by the labels that hold such capabilities at boot may keep, and the other way round
+-- the keepers by the labels that hold such capabilities at boot are the labels that may keep
 module _ (t : Layout) (test : EdgeTest) (labels : Labels) (told : (a : ℕ) → (is_in labels a ≡ true) ↔ HoldsNode t a) where
   pub from_may : {a : ℕ} → KeepsFrom test (is_in labels) a → MayKeep t test a
   from_may (held {a} is) = holds ((told a).0 is)
@@ -43,7 +43,7 @@ pub closed_within :
     → IsWithin (allows edges) allowed
 closed_within t edges allowed reach closed has = reach.least allowed (closed_sharply allowed (MayKeep t allowed) closed) has
 
--- and is one
+-- a table has one reach
 alike : (a b : Bool) → (a ≡ true → b ≡ true) → (b ≡ true → a ≡ true) → a ≡ b
 alike true b on back = sym (on refl)
 alike false true on back = back refl

@@ -1,4 +1,4 @@
--- The search for the labels that act: those that act from boot on are the labels of ready threads that bindings name.
+-- The search for labels that act: those that act from boot on are the labels of ready threads that bindings name.
 use Rattle.std.{specs.Option.option_and_then, proofs.Common.{[], ℕ, ◌&&◌, ◌+◌, ◌==◌, ◌||◌, ◌↔◌, ◌∙◌, ◌∷◌, ◌≡◌, ◌≤◌, ◌⊎◌, Bool, None}}
 use Rattle.std.proofs.{Common.{Option, Some, ap, arith, cond, false, inl, inr, length, refl, slice_get, sym, true}, lemmas.Bool.and_from}
 use Rattle.std.proofs.lemmas.{Bool.{and_parts, eq-eqb, eqb-true, false≢true, or_cases, or_left, or_right}, Option.{none-some, same_Some}}
@@ -65,7 +65,7 @@ pub record HasReady (t : Layout) (a k : ℕ) : Type 0 where
   pub here : slice_get t.bindings k ≡ Some binding
   pub ready : ready_label t binding.thread ≡ Some a
 
--- one binding more
+-- one more binding
 module _ (t : Layout) (a n : ℕ) (binding : Binding) (here : slice_get t.bindings n ≡ Some binding) where
   ready_here : HasReady t a n → ready_label t binding.thread ≡ Some a
   ready_here has = ap (λ b. ready_label t b.thread) (same_Some binding has.binding (sym here ∙ has.here)) ∙ has.ready
@@ -84,7 +84,7 @@ module _ (t : Layout) (a n : ℕ) (binding : Binding) (here : slice_get t.bindin
   none_ready before is so_far = none_more n before so_far (λ has. none-some a (sym is ∙ ready_here has))
 
 module _ (t : Layout) (lawful : IsLawful t) (a : ℕ) where
-  -- of all bindings
+  -- all bindings
   pub starts_from : (n : ℕ) → IsBelow (HasReady t a) n → Starts t a
   starts_from n below =
       let has = below.2 in
@@ -160,7 +160,7 @@ kind_source (o.Untyped memory) is = refl
 kind_source _ (inl is) = cc
 kind_source _ (inr is) = cc
 
--- one object more
+-- one more object
 module _ (t : Layout) (a n : ℕ) (initial : Initial) (here : slice_get t.objects n ≡ Some initial) where
   source_is : HasSource t a n → (initial.label ≡ a) × (has_threads initial.object ≡ true)
   source_is has =
@@ -180,7 +180,7 @@ module _ (t : Layout) (a n : ℕ) (initial : Initial) (here : slice_get t.object
       → (before ≡ true) ↔ IsBelow (HasSource t a) (n + 1)
   no_source before none so_far = none_more n before so_far (λ has. false≢true (sym none ∙ (source_is has).1))
 
--- of all objects
+-- all objects
 module _ (t : Layout) (a : ℕ) where
   pub threads_from : (n : ℕ) → IsBelow (HasSource t a) n → MayHaveThreads t a
   unfolding initial_of

@@ -1,4 +1,4 @@
--- Which threads of a table are ready at boot, which objects threads can be made of, and whose threads make calls (confine's own).
+-- Threads of a table that are ready at boot, objects of which threads can be made, and labels whose threads make calls (confine's own).
 use Rattle.std.specs.{Option.option_and_then, Prelude.{ℕ, Bool, None, Option, Some, false, if◌then◌else◌, true}}
 use Rattle.base.specs.declared.ids.ObjId.{ObjId}
 use Rattle.machine.specs.declared.{object.Object.{Object, Object as o}, thread.RunState.{RunState, RunState as state}}
@@ -27,6 +27,6 @@ abbrev pub ready_label : Layout → ObjId → Option ℕ
 ready_label t id =
     option_and_then (λ initial. if is_ready initial.object then Some initial.label else None) (initial_of t id)
 
--- a label may act and may have threads: only such a label's threads make calls
+-- a label may act and may have threads: only threads of such labels make calls
 abbrev pub IsActor : Layout → EdgeTest → ℕ → Type 0
 IsActor t allowed a = MayAct t allowed a × MayHaveThreads t a

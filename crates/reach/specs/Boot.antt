@@ -1,10 +1,9 @@
--- The label of a CNode that holds a capability for a CNode at boot (confine's own).
+-- Labels of CNodes that hold capabilities for CNodes at boot (confine's own).
 use Rattle.std.specs.{Option.option_and_then, Prelude.{ℕ, Bool, None, Option, Some, false, if◌then◌else◌, true}}
 use Rattle.base.specs.declared.ids.SlotRef.{SlotRef}
 use Rattle.machine.specs.declared.{cap.{Cap.Cap, Detail.{Detail, Detail as d}}, object.Object.{Object, Object as o}}
 use Rattle.machine.specs.Layout.{Layout, initial_cap, initial_of}
 
--- whether a capability is for a CNode
 abbrev pub is_node_detail : Detail → Bool
 is_node_detail (d.CNode _) = true
 is_node_detail _ = false
@@ -12,7 +11,6 @@ is_node_detail _ = false
 abbrev pub is_node_cap : Cap → Bool
 is_node_cap held = is_node_detail held.detail
 
--- whether an object is a CNode
 abbrev pub is_node : Object → Bool
 is_node (o.CNode _) = true
 is_node _ = false

@@ -34,7 +34,7 @@ pub record IsTableReach (reach : TableReach) : Type 0 where
   pub idlers : (b : ℕ) → (is_in reach.idlers b ≡ true) ↔ MayIdle (allows reach.policy) b
   pub actors : (a : ℕ) → (is_in reach.actors a ≡ true) ↔ IsActor reach.table (allows reach.policy) a
 
--- it is that of this table
+-- the reach is that of this table
 pub record IsReachOf (t : Layout) (reach : TableReach) : Type 0 where
   pub of_table : reach.table ≡ t
   pub is : IsTableReach reach

@@ -1,4 +1,4 @@
-//! Which labels may act in runs of a table, and whose threads may make calls.
+//! Labels that may act in runs of a table, and labels whose threads may make calls.
 ghost use Rattle.std.specs.Prelude.{ℕ, ◌↔◌, ◌≡◌, true};
 ghost use Rattle.base.specs.Labels.{is_in};
 ghost use Rattle.policy.specs.{Policy.allows, Sharp.UsesRise};
@@ -24,7 +24,7 @@ pub fn actors(table: &Table, policy: &Policy) -> Labels
 
 /// Returns the labels that may act: those with a thread that can run at boot, and those that such a label controls.
 ///
-/// Uses have to rise in the policy, as they do in each closed one.
+/// Uses must rise in the policy, as they do in each closed one.
 pub fn labels_that_act(table: &Table, policy: &Policy) -> Labels
     ensures { UsesRise (allows policy.now) → (a : ℕ)
         → (is_in result a ≡ true) ↔ MayAct table.now (allows policy.now) a }
@@ -47,7 +47,6 @@ fn starting(table: &Table) -> Labels
     found
 }
 
-// The label of an initial thread that is ready.
 #[tactic(auto, unfolding(machine::specs::Layout::initial_of))]
 fn ready_label(table: &Table, thread: ObjId) -> Option<Label>
     ensures { result ≡ ready_label table.now thread }
@@ -59,7 +58,6 @@ fn ready_label(table: &Table, thread: ObjId) -> Option<Label>
     None
 }
 
-// Whether an object is a thread that is ready.
 fn is_ready(object: &Object) -> bool
     ensures { result ≡ is_ready object.now }
 {

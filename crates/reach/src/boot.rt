@@ -1,4 +1,4 @@
-//! Which labels hold capabilities for CNodes at boot.
+//! Labels that hold capabilities for CNodes at boot.
 ghost use Rattle.std.specs.Prelude.{ℕ, ◌↔◌, ◌≡◌, true};
 ghost use Rattle.base.specs.Labels.{is_in};
 ghost use Rattle.table.specs.Rules.{IsLawful};
@@ -39,14 +39,12 @@ fn node_holder(table: &Table, slot: SlotRef) -> Option<Label>
     None
 }
 
-// Whether a capability is for a CNode.
 fn is_node_cap(held: &Cap) -> bool
     ensures { result ≡ is_node_cap held.now }
 {
     matches!(held.detail, Detail::CNode(_))
 }
 
-// Whether an object is a CNode.
 fn is_node(object: &Object) -> bool
     ensures { result ≡ is_node object.now }
 {

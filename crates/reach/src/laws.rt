@@ -1,4 +1,4 @@
-//! Laws about the reach of a table.
+//! Laws on the reach of a table.
 ghost use Rattle.std.specs.Prelude.{ℕ, ◌≡◌, List};
 ghost use Rattle.base.specs.declared.{edge.Edge.Edge, kind.Kind.Kind};
 ghost use Rattle.machine.specs.Layout.{Layout};
@@ -10,10 +10,10 @@ ghost use Rattle.reach.specs.Reach.{HasBootAuthority, IsReach};
 
 use integrity::{bounded_systems_keep_labels_apart, sharply_confined_systems_are_safe};
 
-/// A law: every run of a table is safe by the reach of the table, and that needs no other policy.
+/// A law: every run of a table is safe by the reach of the table, without any other policy.
 ///
 /// The reach lies within each closed policy that has all authority of the boot state, so within each
-/// policy by which the table is accepted. A table has only one reach: two have the same edges.
+/// policy by which the table is accepted. A table has only one reach: any two have the same edges.
 pub fn runs_stay_in_reach()
     ensures safe { (t : Layout) (edges : List Edge)
         → IsLawful t
@@ -35,7 +35,7 @@ pub fn runs_stay_in_reach()
 /// A law: in every run of a table, threads of a label change only what they may change by the reach of the table.
 ///
 /// No step of theirs changes, makes or removes an object of a label that they may not change and may
-/// not make smaller. Where they may not change it, each object stays as it is, or shrinks. This is so
+/// not make smaller. If they may not change it, each object stays as it is, or shrinks. This holds
 /// for each test of labels that holds of all that may act and may have threads.
 pub fn runs_keep_labels_apart()
     ensures apart { (t : Layout) (edges : List Edge) (acts : ActorTest) (a l : ℕ)

@@ -58,7 +58,7 @@ impl<'a> Reach<'a> {
     ///
     /// # Errors
     ///
-    /// 40 where memory is refused.
+    /// 40 if memory is refused.
     pub fn of(alloc: Global, table: &'a Table) -> Result<Reach<'a>, Refusal>
         ensures table { IfOk result (λ reach. reach.table ≡ table.now) }
         ensures reach { IfOk result (λ reach. IsTableReach reach) }
@@ -148,7 +148,7 @@ impl<'a> Reach<'a> {
 
     /// Returns how far the label `actor` goes with the label `object`.
     ///
-    /// In every run no step of a thread of the one goes further.
+    /// No step of a thread of `actor` goes further in any run.
     pub fn extent(&self, actor: Label, object: Label) -> Extent
         ensures extent { GoesTo (limits_of self.now) actor object result }
         ensures kept { KeepsTo self.now.table actor object result }
@@ -166,7 +166,7 @@ impl<'a> Reach<'a> {
     ///
     /// # Errors
     ///
-    /// 40 where memory is refused.
+    /// 40 if memory is refused.
     pub fn why(&self, alloc: Global, actor: Label, object: Label) -> Result<Why, Refusal>
         ensures why { IfOk result
             (λ why. IsWhyAmong (allows self.now.policy) (is_in self.now.actors) actor object why) }
@@ -176,7 +176,7 @@ impl<'a> Reach<'a> {
     }
 }
 
-// The least sharply closed policy that has all authority of a table's boot state, where these labels hold
+// The least sharply closed policy that has all authority of a table's boot state, if these labels hold
 // capabilities for CNodes.
 fn least_policy(alloc: Global, table: &Table, held: Labels) -> Result<Policy, Refusal>
     requires { (a : ℕ) → (is_in held a ≡ true) ↔ HoldsNode table.now a }

@@ -1,8 +1,7 @@
 //! The reach of a capability table: the least sharply closed policy that has all authority of its boot state; and how far it lets a
 //! label go with another.
 //!
-//! `verdict` stands on it, and so do the answers about a table alone: claims, summaries and drawings. It knows no code of the kernel,
-//! and decides nothing.
+//! The crate knows no code of the kernel, and decides nothing.
 #![tactic(auto)]
 
 mod acting;

@@ -1,4 +1,4 @@
--- The label of a frame has memory in the table: the frame is an initial one, or was made of initial untyped memory of that label.
+-- Labels of frames have memory in the table: a frame is an initial one, or was made of initial untyped memory of its label.
 use Rattle.std.{specs.List.{find, slice_get}, proofs.Common.{ℕ, ◌&&◌, ◌==◌, ◌∙◌, ◌≡◌, Bool, None, Option, Some, ap, false}}
 use Rattle.std.proofs.Common.{if◌then◌else◌, length, nat_lt, option_and_then, option_map, refl, sym, true}
 use Rattle.std.proofs.lemmas.{Bool.eq-eqb, List.Folds.list_any_at, Option.{get_or_from_slice_get, none-some, same_Some, slice_get_within}}
@@ -29,7 +29,7 @@ untyped_is initial address has = by initial.object refl where
   by (o.Untyped memory) is = refl
   by _ is = let seen : has_memory_at address initial ≡ false = rw is refl in cc
 
--- what a label of initial objects comes from
+-- the initial object that a label comes from
 some_label :
     (found : Option Initial) (label : ℕ) → option_map (λ (i : Initial). i.label) found ≡ Some label
     → (initial : Initial) × (found ≡ Some initial) × (initial.label ≡ label)
@@ -46,7 +46,7 @@ has_at t label at initial here labelled is =
     list_any_at p t.objects at initial (slice_get_within t.objects at initial here)
     (ap p (get_or_from_slice_get t.objects at initial initial here) ∙ passes)
 
--- a frame that is there
+-- a present frame's label has memory
 pub frame_has_memory :
     (t : Layout) (m : Machine) → IsOfTable t m → (id : ObjId) (object : Object) → object_of m id ≡ Some object
     → kind_of_object object ≡ kind.Frame → (label : ℕ) → label_of t m id ≡ Some label → has_memory t label ≡ true
@@ -68,7 +68,7 @@ frame_has_memory t m of_table id object there frame label labelled =
         let at = found_at (has_memory_at (address_of object)) t.objects found.0 found.1 in
         has_at t label at.at found.0 at.here found.2 (untyped_is found.0 (address_of object) at.passes)
 
--- what a call writes is a frame
+-- the object that a call writes is a frame
 writes_frame : (c : Call) (usage : Use) → use_of c ≡ Some usage → usage.authority ≡ authority.Write → usage.object ≡ kind.Frame
 writes_frame (call.Read address index) usage is so = ap (λ (u : Use). u.object) (sym (same_Some _ usage is))
 writes_frame (call.Write address index word) usage is so = ap (λ (u : Use). u.object) (sym (same_Some _ usage is))

@@ -1,4 +1,4 @@
--- A call that reads or writes found a capability with the right to do so: its thread's label has that authority over the object's.
+-- Edges of labels whose threads read or write: a call that does so found a capability with the right, so its label has that authority.
 use Rattle.std.{specs.Prelude.{Err, Ok, Option, Result, Some}, proofs.Common.{ℕ, ◌∙◌, ◌≡◌, Bool, ap, false, refl, subst, sym, true}}
 use Rattle.std.proofs.lemmas.{Bool.false≢true, Option.{none-some, same_Some}}
 use Rattle.base.specs.{declared.{ids.{ObjId.ObjId, SlotRef.SlotRef}, kind.Kind.{Kind, Kind as authority}, refusal.Cause.Cause}, Kinds.is_structural}

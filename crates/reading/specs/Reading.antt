@@ -1,4 +1,4 @@
--- What threads read: a word of a frame, the word of a notification, or a message at an endpoint; which words of frames they write; and that
+-- Reads by threads, of a word of a frame, the word of a notification or a message at an endpoint; writes of words of frames; and that
 -- threads of a label never do so to objects of another (compare the authority to read in 'seL4 Enforces Integrity', section 3; as a law on
 -- runs it is confine's own).
 use Rattle.std.specs.Prelude.{ℕ, ◌≡◌, ◌≢◌, None, Ok, Option, Some}
@@ -8,13 +8,13 @@ use Rattle.machine.specs.declared.object.ObjectKind.{ObjectKind, ObjectKind as k
 use Rattle.machine.specs.{Authority.label_of, Layout.Layout, Machine.Machine, Outcomes.IsRefused, Step.{Find.find, Step}}
 use Rattle.integrity.specs.Safe.{IsReached}
 
--- by which authority a call reads or writes, an object of which kind, and at which address it finds its capability
+-- the authority by which a call reads or writes, the kind of the object, and the address at which it finds its capability
 pub record Use : Type 0 where
   pub authority : Kind
   pub object : ObjectKind
   pub address : ℕ
 
--- the calls that read, and the one that writes a word
+-- the use by each call that reads, and by the one that writes a word
 abbrev pub use_of : Call → Option Use
 use_of (call.Read address index) = Some (record { authority = authority.Read; object = kind.Frame; address = address })
 use_of (call.Write address index word) = Some (record { authority = authority.Write; object = kind.Frame; address = address })
@@ -33,20 +33,19 @@ pub record UsesObject (m : Machine) (event : Event) (by : Kind) (id : ObjId) : T
   pub finds : find usage.object m event.thread usage.address ≡ Ok (slot, held)
   pub object : held.object ≡ id
 
--- in no run does a call of a thread of the label a that isn't refused, so one that is done or that waits, use this authority on an object of
--- the label l
+-- in no run does a call of a thread of the label a use this authority on an object of the label l, unless it is refused
 abbrev pub NeverUses : Layout → ℕ → Kind → ℕ → Type 0
 NeverUses t a by l =
     (m next : Machine) (event : Event) (outcome : Outcome) → IsReached t m → Step m event outcome next → ¬ IsRefused outcome
     → label_of t m event.thread ≡ Some a → (id : ObjId) → label_of t m id ≡ Some l → ¬ UsesObject m event by id
 
--- .. neither reads, receives, polls nor waits there
+-- threads of the label a neither read, receive, poll nor wait at objects of the label l
 pub record NeverReads (t : Layout) (a l : ℕ) : Type 0 where
   pub words : NeverUses t a authority.Read l
   pub messages : NeverUses t a authority.Receive l
   pub signals : NeverUses t a authority.Await l
 
--- in some run a call of a thread of the label a that isn't refused uses this authority on an object of the label l
+-- in some run a call of a thread of the label a uses this authority on an object of the label l, and isn't refused
 pub record IsUsed (t : Layout) (a : ℕ) (by : Kind) (l : ℕ) : Type 0 where
   pub before : Machine
   pub next : Machine
@@ -60,6 +59,6 @@ pub record IsUsed (t : Layout) (a : ℕ) (by : Kind) (l : ℕ) : Type 0 where
   pub labelled : label_of t before id ≡ Some l
   pub uses : UsesObject before event by id
 
--- threads of the label a write no frame of a label of which threads of the label l read a frame, but for frames of l itself
+-- threads of the label a write no frame of a label whose frames threads of the label l read, except frames of l itself
 abbrev pub NeverPassesMemory : Layout → ℕ → ℕ → Type 0
 NeverPassesMemory t a l = (region : ℕ) → region ≢ l → IsUsed t a authority.Write region → ¬ IsUsed t l authority.Read region

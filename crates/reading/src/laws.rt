@@ -1,4 +1,4 @@
-//! The laws on reading.
+//! Laws on reading.
 ghost use Rattle.std.specs.Prelude.{ℕ, ◌≡◌, List, false};
 ghost use Rattle.base.specs.declared.{edge.Edge.Edge, kind.Kind.Kind};
 ghost use Rattle.machine.specs.Layout.{Layout};
@@ -16,7 +16,7 @@ use table::boot_states_are_well_formed;
 ///
 /// Without an edge `read` no read of a frame is ever done, and without an edge `write` no write. Without an edge `await`
 /// no poll or wait is done or waits, and without an edge `receive` no receive. A call that is refused reads nothing.
-/// This is so for the reach of the table, and for each sharply closed policy that has all authority of the boot state.
+/// This holds for the reach of the table, and for each sharply closed policy that has all authority of the boot state.
 pub fn runs_read_within_reach()
     ensures reach { (t : Layout) (edges : List Edge) (a : ℕ) (by : Kind) (l : ℕ)
         → IsLawful t
@@ -33,10 +33,10 @@ pub fn runs_read_within_reach()
     boot_states_are_well_formed();
 }
 
-/// A law: what the summary of a table says of memory and of readers is so in every run.
+/// A law: what the summary of a table says of memory and of readers holds in every run.
 ///
-/// Where a cell has no `m`, threads of the row's label write no frame of a label of which threads of the column's label
-/// read a frame, whatever is made of untyped memory; but for the frames of that label itself. And a label that isn't
+/// If a cell has no `m`, threads of the row's label write no frame of a label whose frames threads of the column's
+/// label read, whatever is made of untyped memory, except the frames of that label itself. A label that isn't
 /// among those by which another is read never reads, polls, waits or receives there.
 pub fn summaries_show_who_reads()
     ensures memory { (t : Layout) (edges : List Edge) (a l : ℕ)

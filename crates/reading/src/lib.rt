@@ -1,6 +1,6 @@
 //! Laws on what threads read and write, in every run of a table.
 //!
-//! It decides nothing, and knows no code of the kernel.
+//! The crate decides nothing, and knows no code of the kernel.
 #![tactic(auto)]
 
 mod laws;

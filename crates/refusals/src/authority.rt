@@ -1,4 +1,4 @@
-//! `labels::authority` and `labels::slot_edges`; and `reach::Reach::of`.
+//! Calls of `labels::authority`, `labels::slot_edges` and `reach::Reach::of`.
 use crate::bell::{self, SLOT, table_edges};
 use crate::edges::has_edges;
 use crate::memory::{NO_MEMORY, Stopped, are_made, are_made_again, met, passes, passes_again};
@@ -10,8 +10,8 @@ use table::Table;
 ///
 /// # Errors
 ///
-/// [`Stopped::Refused`] where the call was refused memory and answered when it was made again, and
-/// [`Stopped::Wrong`] where something else isn't as it has to be.
+/// [`Stopped::Refused`] if the call was refused memory and answered when it was made again, and
+/// [`Stopped::Wrong`] if something else isn't as it has to be.
 pub fn lists_authority<R: AllocGlobal>(rt: &R, table: &Table) -> Result<(), Stopped> {
     let expected = table_edges()?;
     match met(NO_MEMORY, authority(rt.alloc(), table))? {
@@ -24,8 +24,8 @@ pub fn lists_authority<R: AllocGlobal>(rt: &R, table: &Table) -> Result<(), Stop
 ///
 /// # Errors
 ///
-/// [`Stopped::Refused`] where the call was refused memory and answered when it was made again, and
-/// [`Stopped::Wrong`] where something else isn't as it has to be.
+/// [`Stopped::Refused`] if the call was refused memory and answered when it was made again, and
+/// [`Stopped::Wrong`] if something else isn't as it has to be.
 pub fn lists_edges_of_a_slot<R: AllocGlobal>(rt: &R, table: &Table) -> Result<(), Stopped> {
     let expected = bell::slot_edges()?;
     match met(NO_MEMORY, slot_edges(rt.alloc(), table, SLOT))? {
@@ -38,8 +38,8 @@ pub fn lists_edges_of_a_slot<R: AllocGlobal>(rt: &R, table: &Table) -> Result<()
 ///
 /// # Errors
 ///
-/// [`Stopped::Refused`] where the call was refused memory and answered when it was made again, and
-/// [`Stopped::Wrong`] where something else isn't as it has to be.
+/// [`Stopped::Refused`] if the call was refused memory and answered when it was made again, and
+/// [`Stopped::Wrong`] if something else isn't as it has to be.
 pub fn reaches_the_edges<R: AllocGlobal>(rt: &R, table: &Table) -> Result<(), Stopped> {
     match met(NO_MEMORY, Reach::of(rt.alloc(), table))? {
         Some(made) => passes(made, has_the_edges),

@@ -1,5 +1,4 @@
-//! The system of these tests, a thread with a notification of its own: its texts, and what they say,
-//! worked by hand.
+//! The system of these tests, a thread with a notification of its own: its texts and their contents, worked by hand.
 use crate::memory::{Stopped, Wrong, holds};
 use base::{CoreNo, Edge, Kind, Kinds, Label, ObjId, SlotRef};
 use bitflags::Flags;
@@ -91,7 +90,7 @@ fn label() -> Result<Label, Stopped> {
 ///
 /// # Errors
 ///
-/// [`Stopped::Wrong`] where 0 is no core.
+/// [`Stopped::Wrong`] if 0 is no core.
 pub fn core() -> Result<CoreNo, Stopped> {
     Ok(CoreNo::new(0).ok_or(Stopped::Wrong(Wrong::Core))?)
 }
@@ -100,7 +99,7 @@ pub fn core() -> Result<CoreNo, Stopped> {
 ///
 /// # Errors
 ///
-/// [`Stopped::Wrong`] where 0 is no label.
+/// [`Stopped::Wrong`] if 0 is no label.
 pub fn edges() -> Result<[Edge; 6], Stopped> {
     let a = label()?;
     let edge = |kind| Edge {
@@ -122,7 +121,7 @@ pub fn edges() -> Result<[Edge; 6], Stopped> {
 ///
 /// # Errors
 ///
-/// [`Stopped::Wrong`] where 0 is no label.
+/// [`Stopped::Wrong`] if 0 is no label.
 pub fn table_edges() -> Result<[Edge; 5], Stopped> {
     let [reset, notify, await_, space, _, runs] = edges()?;
     Ok([reset, notify, await_, space, runs])
@@ -132,7 +131,7 @@ pub fn table_edges() -> Result<[Edge; 5], Stopped> {
 ///
 /// # Errors
 ///
-/// [`Stopped::Wrong`] where 0 is no label.
+/// [`Stopped::Wrong`] if 0 is no label.
 pub fn slot_edges() -> Result<[Edge; 3], Stopped> {
     let [reset, notify, await_, ..] = edges()?;
     Ok([reset, notify, await_])
@@ -147,7 +146,7 @@ fn kinds_given() -> Kinds {
 ///
 /// # Errors
 ///
-/// [`Stopped::Wrong`] where 0 is no label.
+/// [`Stopped::Wrong`] if 0 is no label.
 pub fn certificate_lines() -> Result<[Line; 3], Stopped> {
     let a = label()?;
     Ok([
@@ -183,7 +182,7 @@ fn event(call: Call) -> Result<Event, Stopped> {
 ///
 /// # Errors
 ///
-/// [`Stopped::Wrong`] where 0 is no core.
+/// [`Stopped::Wrong`] if 0 is no core.
 pub fn events() -> Result<[Event; 2], Stopped> {
     Ok([
         event(Call::Signal { address: 0 })?,

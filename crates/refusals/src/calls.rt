@@ -1,4 +1,4 @@
-//! The calls by their names.
+//! Calls by name, of crates and of engines.
 use crate::bell::{POLICY, TABLE};
 use crate::memory::{Stopped, Wrong, prepared, spend};
 use crate::{
@@ -11,7 +11,7 @@ use std::sync::Wait;
 use std::thread::Threads;
 use table::Table;
 
-/// The names of the calls, but for those of engines.
+/// The names of the calls, except those of engines.
 pub const NAMES: &str = "\
 read_table read_policy read_script read_log write_table write_policy write_script write_log add \
 edges close authority slot_edges reach make_certificate read_certificate write_certificate verify \
@@ -21,8 +21,8 @@ judge check open boot run step step_cnode step_frame step_sixteen run_retype rep
 ///
 /// # Errors
 ///
-/// [`Stopped::Before`] where memory is refused before the call, [`Stopped::Refused`] where the call
-/// was refused memory and answered when it was made again, and [`Stopped::Wrong`] where something
+/// [`Stopped::Before`] if memory is refused before the call, [`Stopped::Refused`] if the call
+/// was refused memory and answered when it was made again, and [`Stopped::Wrong`] if something
 /// else isn't as it has to be.
 pub fn make<R: AllocGlobal + Threads + Wait + Sync>(
     rt: &R,
@@ -35,7 +35,7 @@ pub fn make<R: AllocGlobal + Threads + Wait + Sync>(
     }
 }
 
-/// The calls that are given nothing that a text says.
+/// Makes a call that is given nothing that a text says.
 fn make_alone<R: AllocGlobal + Threads + Sync>(
     rt: &R,
     call: &str,
@@ -54,7 +54,7 @@ fn make_alone<R: AllocGlobal + Threads + Sync>(
     }
 }
 
-/// Those of events that make objects.
+/// Makes a call of events that make objects.
 fn make_objects<R: AllocGlobal + Threads + Sync>(
     rt: &R,
     call: &str,
@@ -66,7 +66,7 @@ fn make_objects<R: AllocGlobal + Threads + Sync>(
     }
 }
 
-/// Those that are given the system's table.
+/// Makes a call that is given the system's table.
 fn make_for_the_system<R: AllocGlobal + Threads + Sync>(
     rt: &R,
     call: &str,
@@ -103,7 +103,7 @@ fn make_with_table<R: AllocGlobal + Threads + Sync>(
     }
 }
 
-/// Those that are given its policy too.
+/// Makes a call that is given the system's policy too.
 fn make_for_the_policy<R: AllocGlobal + Threads + Sync>(
     rt: &R,
     call: &str,

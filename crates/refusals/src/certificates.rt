@@ -1,4 +1,4 @@
-//! `certificate::make`, `certificate::read`, `certificate::write` and `checker::verify`.
+//! Calls of `certificate::make`, `certificate::read`, `certificate::write` and `checker::verify`.
 use crate::bell::{CERTIFICATE, certificate_lines};
 use crate::memory::{
     NO_MEMORY, Stopped, UNREAD, again, are, are_made, are_made_again, met, passes, passes_again,
@@ -14,7 +14,7 @@ use table::Table;
 ///
 /// # Errors
 ///
-/// [`Stopped::Wrong`] where it is another one.
+/// [`Stopped::Wrong`] if it is another one.
 pub fn is_the_certificate(certificate: &Certificate) -> Result<(), Stopped> {
     are(certificate.lines(), &certificate_lines()?)
 }
@@ -23,8 +23,8 @@ pub fn is_the_certificate(certificate: &Certificate) -> Result<(), Stopped> {
 ///
 /// # Errors
 ///
-/// [`Stopped::Refused`] where the call was refused memory and answered when it was made again, and
-/// [`Stopped::Wrong`] where something else isn't as it has to be.
+/// [`Stopped::Refused`] if the call was refused memory and answered when it was made again, and
+/// [`Stopped::Wrong`] if something else isn't as it has to be.
 pub fn makes_a_certificate<R: AllocGlobal>(rt: &R, table: &Table) -> Result<(), Stopped> {
     match met(NO_MEMORY, make(rt.alloc(), table))? {
         Some(made) => passes(made, is_the_certificate),
@@ -36,8 +36,8 @@ pub fn makes_a_certificate<R: AllocGlobal>(rt: &R, table: &Table) -> Result<(), 
 ///
 /// # Errors
 ///
-/// [`Stopped::Refused`] where the call was refused memory and answered when it was made again, and
-/// [`Stopped::Wrong`] where something else isn't as it has to be.
+/// [`Stopped::Refused`] if the call was refused memory and answered when it was made again, and
+/// [`Stopped::Wrong`] if something else isn't as it has to be.
 pub fn reads_a_certificate<R: AllocGlobal>(rt: &R, table: &Table) -> Result<(), Stopped> {
     match met(UNREAD, read(rt.alloc(), CERTIFICATE.as_bytes(), table))? {
         Some(made) => passes(made, is_the_certificate),
@@ -67,8 +67,8 @@ fn writes<R: AllocGlobal>(rt: &R, certificate: &Certificate, table: &Table) -> R
 ///
 /// # Errors
 ///
-/// [`Stopped::Before`] where memory is refused before the call, [`Stopped::Refused`] where the call
-/// was refused memory and answered when it was made again, and [`Stopped::Wrong`] where something
+/// [`Stopped::Before`] if memory is refused before the call, [`Stopped::Refused`] if the call
+/// was refused memory and answered when it was made again, and [`Stopped::Wrong`] if something
 /// else isn't as it has to be.
 pub fn writes_a_certificate<R: AllocGlobal>(rt: &R, table: &Table) -> Result<(), Stopped> {
     match certificate_of(rt, table) {
@@ -103,8 +103,8 @@ fn verifies<R: AllocGlobal + Threads + Sync>(
 ///
 /// # Errors
 ///
-/// [`Stopped::Before`] where memory is refused before the call, [`Stopped::Refused`] where the call
-/// was refused memory and answered when it was made again, and [`Stopped::Wrong`] where something
+/// [`Stopped::Before`] if memory is refused before the call, [`Stopped::Refused`] if the call
+/// was refused memory and answered when it was made again, and [`Stopped::Wrong`] if something
 /// else isn't as it has to be.
 pub fn verifies_a_certificate<R: AllocGlobal + Threads + Sync>(
     rt: &R,

@@ -1,4 +1,4 @@
-//! `policy::Policy::add`, `policy::Policy::edges` and `policy::close`.
+//! Calls of `policy::Policy::add`, `policy::Policy::edges` and `policy::close`.
 use crate::bell::edges;
 use crate::memory::{
     NO_MEMORY, Stopped, Wrong, again, are_made, are_made_again, holds, met, passes, passes_again,
@@ -7,11 +7,11 @@ use crate::memory::{
 use base::Edge;
 use policy::Policy;
 
-/// Asserts that of the system's edges a policy has these, and that the last of them is its last.
+/// Asserts that a policy has these of the system's edges, and that the last of them is its last.
 ///
 /// # Errors
 ///
-/// [`Stopped::Wrong`] where the policy doesn't have them.
+/// [`Stopped::Wrong`] if the policy doesn't have them.
 pub fn has_edges(policy: &Policy, rising: &[Edge]) -> Result<(), Stopped> {
     for edge in &edges()? {
         holds(policy.has(*edge) == rising.contains(edge), Wrong::Edges)?;
@@ -24,13 +24,13 @@ pub fn has_edges(policy: &Policy, rising: &[Edge]) -> Result<(), Stopped> {
 ///
 /// # Errors
 ///
-/// [`Stopped::Wrong`] where the policy doesn't have them.
+/// [`Stopped::Wrong`] if the policy doesn't have them.
 pub fn has_all_edges(policy: &Policy) -> Result<(), Stopped> {
     has_edges(policy, &edges()?)
 }
 
-/// Adds the first of these edges to a policy of the others: an edge that is refused isn't in it,
-/// and comes in the second time.
+/// Adds the first of these edges to a policy of the others. An edge that is refused isn't in the policy, and is
+/// added the second time.
 fn adds_the_first(policy: &mut Policy, rising: &[Edge]) -> Result<(), Stopped> {
     let (first, others) = rising.split_first().ok_or(Stopped::Wrong(Wrong::NoEdge))?;
     match policy.add(*first) {
@@ -59,8 +59,8 @@ fn adds_edges_to(policy: &mut Policy) -> Result<(), Stopped> {
 ///
 /// # Errors
 ///
-/// [`Stopped::Before`] where memory is refused before the call, [`Stopped::Refused`] where the call
-/// was refused memory and answered when it was made again, and [`Stopped::Wrong`] where something
+/// [`Stopped::Before`] if memory is refused before the call, [`Stopped::Refused`] if the call
+/// was refused memory and answered when it was made again, and [`Stopped::Wrong`] if something
 /// else isn't as it has to be.
 pub fn adds_edges<R: AllocGlobal>(rt: &R, count: u64) -> Result<(), Stopped> {
     spend(rt.alloc(), count)?;
@@ -89,8 +89,8 @@ fn fills_and_lists<R: AllocGlobal>(rt: &R, policy: &mut Policy) -> Result<(), St
 ///
 /// # Errors
 ///
-/// [`Stopped::Before`] where memory is refused before the call, [`Stopped::Refused`] where the call
-/// was refused memory and answered when it was made again, and [`Stopped::Wrong`] where something
+/// [`Stopped::Before`] if memory is refused before the call, [`Stopped::Refused`] if the call
+/// was refused memory and answered when it was made again, and [`Stopped::Wrong`] if something
 /// else isn't as it has to be.
 pub fn lists_edges<R: AllocGlobal>(rt: &R, count: u64) -> Result<(), Stopped> {
     spend(rt.alloc(), count)?;
@@ -113,8 +113,8 @@ fn closes_the<R: AllocGlobal>(rt: &R, empty: &Policy) -> Result<(), Stopped> {
 ///
 /// # Errors
 ///
-/// [`Stopped::Before`] where memory is refused before the call, [`Stopped::Refused`] where the call
-/// was refused memory and answered when it was made again, and [`Stopped::Wrong`] where something
+/// [`Stopped::Before`] if memory is refused before the call, [`Stopped::Refused`] if the call
+/// was refused memory and answered when it was made again, and [`Stopped::Wrong`] if something
 /// else isn't as it has to be.
 pub fn closes<R: AllocGlobal>(rt: &R, count: u64) -> Result<(), Stopped> {
     spend(rt.alloc(), count)?;

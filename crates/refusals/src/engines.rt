@@ -1,4 +1,4 @@
-//! The engines of the program, each on its way to an answer, a denial, another end or a fault.
+//! Engines of the program, each on its way to an answer, a denial, another end or a fault.
 ghost use Rattle.std.specs.Prelude.{◌≡◌, false};
 
 use crate::bell::{CERTIFICATE, LOG, POLICY, SCRIPT, TABLE};
@@ -23,18 +23,18 @@ pub enum Engine {
     Sharp,
     Verify,
     Replay,
-    /// What is asked of a system alone: a table, or a description with the least rights.
+    /// A question on a system alone: a table, or a description with the least rights.
     Asked(OfSystem<'static>),
-    /// What is asked of a table and a policy.
+    /// A question on a table and a policy.
     AskedOfPolicy(OfPolicy<'static>),
     Claims,
-    /// What changes from the table to the third text.
+    /// The changes from the table to the third text.
     Changes(Form),
-    /// What is imported of a description, with the least rights.
+    /// An import of a description, with the least rights.
     Import(Imported),
 }
 
-/// A call of an engine: what is asked, and of which texts, which are empty where none is read; and how it answers.
+/// A call of an engine: the question, the texts that it reads, empty if it reads none, and its answer.
 #[derive(Clone, Copy)]
 pub struct EngineCall {
     pub name: &'static str,
@@ -703,7 +703,7 @@ where
     }
 }
 
-/// As what the first text of a call is read.
+/// The file as which the first text of a call is read.
 fn taken_of(text: &str) -> Taken {
     if text.starts_with('<') {
         Taken::System(Some(Minting::Least))
@@ -734,13 +734,13 @@ fn carry_out_onto<R: AllocGlobal + Threads + Wait + Sync>(
     (end, out.into_inner())
 }
 
-/// Whether this is written where the first of the events is refused memory, and the run goes on.
+/// Whether this is written if the first event is refused memory, and the run goes on.
 fn goes_on(call: EngineCall, written: &[u8]) -> bool {
     call.text == retypes::LOG && written == LOG_WITHOUT_MEMORY.as_bytes()
 }
 
-/// Whether an engine was refused memory: then it has written nothing, or what it may write without.
-/// Else it has answered.
+/// Whether an engine was refused memory: it has then written nothing, or what it may write without. Else it has
+/// answered.
 fn was_refused(end: End, written: &[u8], call: EngineCall) -> Result<bool, Stopped> {
     if end == End::NoMemory {
         holds(written.len() == 0, Wrong::Written)?;
@@ -776,8 +776,8 @@ fn is_refused<R: AllocGlobal + Threads + Wait + Sync>(
 ///
 /// # Errors
 ///
-/// [`Stopped::Before`] where memory is refused before the call, [`Stopped::Refused`] where the call
-/// was refused memory and answered when it was made again, and [`Stopped::Wrong`] where something
+/// [`Stopped::Before`] if memory is refused before the call, [`Stopped::Refused`] if the call
+/// was refused memory and answered when it was made again, and [`Stopped::Wrong`] if something
 /// else isn't as it has to be.
 pub fn answers<R: AllocGlobal + Threads + Wait + Sync>(
     rt: &R,

@@ -1,4 +1,4 @@
-//! `evtext::write_log`.
+//! Calls of `evtext::write_log`.
 use crate::bell::{DONE, LOG, WORD, events};
 use crate::memory::{NO_MEMORY, Stopped, are_made, are_made_again, met, prepared, spend};
 use evtext::write_log;
@@ -15,8 +15,8 @@ fn writes_the<R: AllocGlobal>(rt: &R, log: &Log) -> Result<(), Stopped> {
 ///
 /// # Errors
 ///
-/// [`Stopped::Before`] where memory is refused before the call, [`Stopped::Refused`] where the call
-/// was refused memory and answered when it was made again, and [`Stopped::Wrong`] where something
+/// [`Stopped::Before`] if memory is refused before the call, [`Stopped::Refused`] if the call
+/// was refused memory and answered when it was made again, and [`Stopped::Wrong`] if something
 /// else isn't as it has to be.
 pub fn writes_the_log<R: AllocGlobal>(rt: &R, count: u64) -> Result<(), Stopped> {
     spend(rt.alloc(), count)?;

@@ -1,15 +1,14 @@
-//! The calls of a run, of a replay, of a check, of a verification and of a closing, the engines, and
-//! the opening of a kernel that threads share, whose memory is refused: for `tests/refuse-memory`,
-//! which has their allocations refused one by one.
+//! Calls whose memory is refused: those of a run, a replay, a check, a verification and a closing, the
+//! engines, and the opening of a kernel that threads share. `tests/refuse-memory` has their
+//! allocations refused one by one.
 //!
-//! No crate stands on it. It knows no command line, and no words of `--explain`.
+//! The crate knows no command line, and no words of `--explain`.
 //!
-//! Asked for `CALL COUNT`, the program makes `COUNT` allocations of its own, then prepares what the
-//! call is given, which may take some more, and then makes the call. A call that meets a refusal
-//! has to say so, with all that it was given as it was, and to answer its value when it is made
-//! again; else it has to answer its value at once. The program then goes on to allocate, to see
-//! whether the refusal is still to come. It says which it was. Asked for nothing it makes each call
-//! once.
+//! For `CALL COUNT`, the program makes `COUNT` allocations of its own, then prepares what the call is
+//! given, which may take some more, and then makes the call. A call that meets a refusal must say so,
+//! leave all that it was given as it was, and answer its value when it is made again. Any other call
+//! must answer its value at once. The program then goes on to allocate, to see whether the refusal is
+//! still to come, and says which it was. Without words it makes each call once.
 #![tactic(auto)]
 
 mod authority;
@@ -43,7 +42,7 @@ fn main(rt: HostRuntime) -> io::Result<()> {
     Ok(())
 }
 
-/// Makes each call, and says of each how it ended.
+/// Makes each call, and says how it ended.
 fn make_each<R: Print + AllocGlobal + Threads + Wait + Sync>(rt: &R) -> io::Result<()> {
     for name in NAMES.split(' ') {
         println!(rt; "{name}: {}", told(make(rt, name, 0)))?;
@@ -55,7 +54,7 @@ fn make_each<R: Print + AllocGlobal + Threads + Wait + Sync>(rt: &R) -> io::Resu
     Ok(())
 }
 
-/// How the call ended that was asked for.
+/// Returns how the requested call ended.
 fn answer<R: AllocGlobal + Threads + Wait + Sync>(rt: &R, asked: &str) -> &'static str {
     let Some((name, count)) = asked.split_once(' ') else {
         return "usage: refusals [CALL COUNT]";
@@ -69,10 +68,10 @@ fn answer<R: AllocGlobal + Threads + Wait + Sync>(rt: &R, asked: &str) -> &'stat
     }
 }
 
-/// The number of allocations after a call. It is greater than that of the one that is refused.
+/// The number of allocations after a call, which is greater than that of the refused one.
 const FURTHER: u64 = 1000;
 
-/// How a call ended that has answered its value: before the refusal, or in spite of it.
+/// Returns how a call ended that has answered its value: before the refusal, or in spite of it.
 fn passed<R: AllocGlobal>(rt: &R) -> &'static str {
     match spend(rt.alloc(), FURTHER) {
         Ok(()) => "passed over",

@@ -1,4 +1,4 @@
-//! Allocations of the program's own, a call that may be refused memory, and how a call ends where it was.
+//! Allocations of the program's own, calls that may be refused memory, and the ends of refused ones.
 ghost use Rattle.std.specs.Prelude.{◌≡◌, IfOk, Ok};
 
 use base::Refusal;
@@ -17,7 +17,7 @@ pub const UNREAD: Fault = Fault {
     line: 0,
 };
 
-/// The reason why a call isn't one that met no refusal and answered its value.
+/// The reason why a call met a refusal, or didn't answer its value.
 #[derive(Clone, Copy)]
 pub enum Stopped {
     /// Memory was refused before the call.
@@ -97,7 +97,7 @@ impl Wrong {
     }
 }
 
-/// Asserts what has to hold, with what it is where it doesn't.
+/// Asserts a condition, and fails with `wrong` if it doesn't hold.
 ///
 /// # Errors
 ///
@@ -114,7 +114,7 @@ pub fn holds(is_so: bool, wrong: Wrong) -> Result<(), Stopped> {
 ///
 /// # Errors
 ///
-/// [`Stopped::Before`] where memory is refused.
+/// [`Stopped::Before`] if memory is refused.
 pub fn spend(alloc: Global, count: u64) -> Result<(), Stopped> {
     for number in 0..count {
         prepared(Box::new(alloc, number))?;
@@ -126,7 +126,7 @@ pub fn spend(alloc: Global, count: u64) -> Result<(), Stopped> {
 ///
 /// # Errors
 ///
-/// [`Stopped::Before`] where it wasn't made.
+/// [`Stopped::Before`] if it wasn't made.
 pub fn prepared<T, E: Drop>(made: Result<T, E>) -> Result<T, Stopped>
     ensures { IfOk result (λ value. made ≡ Ok value) }
 {
@@ -136,12 +136,12 @@ pub fn prepared<T, E: Drop>(made: Result<T, E>) -> Result<T, Stopped>
     }
 }
 
-/// Returns what a call has made, or nothing where it was refused memory. Then it has to say so by
-/// this error, and must be made again.
+/// Returns what a call has made, or nothing if it was refused memory. Then it must say so by this error, and be made
+/// again.
 ///
 /// # Errors
 ///
-/// [`Stopped::Wrong`] where the call answered another error.
+/// [`Stopped::Wrong`] if the call answered another error.
 pub fn met<T, E: PartialEq + Drop>(
     no_memory: E,
     answer: Result<T, E>,
@@ -155,11 +155,11 @@ pub fn met<T, E: PartialEq + Drop>(
     }
 }
 
-/// Returns what a call answered that was made again.
+/// Returns the answer of a call that was made again.
 ///
 /// # Errors
 ///
-/// [`Stopped::Wrong`] where the call answered an error again.
+/// [`Stopped::Wrong`] if the call answered an error again.
 pub fn again<T, E: Drop>(answer: Result<T, E>) -> Result<T, Stopped> {
     match answer {
         Ok(value) => Ok(value),
@@ -167,8 +167,8 @@ pub fn again<T, E: Drop>(answer: Result<T, E>) -> Result<T, Stopped> {
     }
 }
 
-/// Asserts that what a call has made passes a test. It is let go here, as a value of any type: a
-/// function that lets go of a `Table` by name has a step for each of its fields, at each way out.
+/// Asserts that what a call has made passes a test. It is dropped here, as a value of any type: a
+/// function that drops a `Table` by name has a step for each of its fields, at each way out.
 ///
 /// # Errors
 ///
@@ -182,11 +182,11 @@ pub fn passes<T: Drop, F: Fn(&T) -> Result<(), Stopped> + Drop>(
     test(&made)
 }
 
-/// Ends a call that was refused memory, and is made again: now it has to have made what passes the test.
+/// Ends a call that was refused memory, and is made again: now what it has made must pass the test.
 ///
 /// # Errors
 ///
-/// [`Stopped::Wrong`] where the call answered an error again, the error of the test where that
+/// [`Stopped::Wrong`] if the call answered an error again, the error of the test if that
 /// fails, and else [`Stopped::Refused`]: the call was refused memory once.
 pub fn passes_again<T: Drop, E: Drop, F: Fn(&T) -> Result<(), Stopped> + Drop>(
     answer: Result<T, E>,
@@ -202,7 +202,7 @@ pub fn passes_again<T: Drop, E: Drop, F: Fn(&T) -> Result<(), Stopped> + Drop>(
 ///
 /// # Errors
 ///
-/// [`Stopped::Wrong`] where they are others.
+/// [`Stopped::Wrong`] if they are others.
 pub fn are<T: PartialEq>(items: &[T], expected: &[T]) -> Result<(), Stopped> {
     holds(items == expected, Wrong::Items)
 }
@@ -211,16 +211,16 @@ pub fn are<T: PartialEq>(items: &[T], expected: &[T]) -> Result<(), Stopped> {
 ///
 /// # Errors
 ///
-/// [`Stopped::Wrong`] where they are others.
+/// [`Stopped::Wrong`] if they are others.
 pub fn are_made<T: PartialEq + Drop>(made: Vec<T>, expected: &[T]) -> Result<(), Stopped> {
     are(&made, expected)
 }
 
-/// Ends a call that was refused memory, and is made again: now it has to make the expected items.
+/// Ends a call that was refused memory, and is made again: now it must make the expected items.
 ///
 /// # Errors
 ///
-/// [`Stopped::Wrong`] where the call answered an error again or made other items, and else
+/// [`Stopped::Wrong`] if the call answered an error again or made other items, and else
 /// [`Stopped::Refused`]: the call was refused memory once.
 pub fn are_made_again<T: PartialEq + Drop, E: Drop>(
     answer: Result<Vec<T>, E>,

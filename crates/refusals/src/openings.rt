@@ -1,4 +1,4 @@
-//! `cores::Opened::open`.
+//! Calls of `cores::Opened::open`.
 use crate::bell::core;
 use crate::memory::{NO_MEMORY, Stopped, Wrong, holds, met, passes, passes_again, prepared};
 use cores::{Opened, Seat};
@@ -25,8 +25,8 @@ fn opens_for<R: AllocGlobal>(rt: &R, accepted: &Accepted<'_>) -> Result<(), Stop
 ///
 /// # Errors
 ///
-/// [`Stopped::Before`] where memory is refused before the call, [`Stopped::Refused`] where the call
-/// was refused memory and answered when it was made again, and [`Stopped::Wrong`] where something
+/// [`Stopped::Before`] if memory is refused before the call, [`Stopped::Refused`] if the call
+/// was refused memory and answered when it was made again, and [`Stopped::Wrong`] if something
 /// else isn't as it has to be.
 pub fn opens<R: AllocGlobal + Threads + Sync>(
     rt: &R,

@@ -1,4 +1,4 @@
-//! `evtext::read_script` and `read_log`.
+//! Calls of `evtext::read_script` and `read_log`.
 use crate::bell::{DONE, LOG, SCRIPT, WORD, events};
 use crate::memory::{Stopped, UNREAD, are_made, are_made_again, met, spend};
 use evtext::{read_log, read_script};
@@ -7,8 +7,8 @@ use evtext::{read_log, read_script};
 ///
 /// # Errors
 ///
-/// [`Stopped::Before`] where memory is refused before the call, [`Stopped::Refused`] where the call
-/// was refused memory and answered when it was made again, and [`Stopped::Wrong`] where something
+/// [`Stopped::Before`] if memory is refused before the call, [`Stopped::Refused`] if the call
+/// was refused memory and answered when it was made again, and [`Stopped::Wrong`] if something
 /// else isn't as it has to be.
 pub fn reads_the_script<R: AllocGlobal>(rt: &R, count: u64) -> Result<(), Stopped> {
     spend(rt.alloc(), count)?;
@@ -23,8 +23,8 @@ pub fn reads_the_script<R: AllocGlobal>(rt: &R, count: u64) -> Result<(), Stoppe
 ///
 /// # Errors
 ///
-/// [`Stopped::Before`] where memory is refused before the call, [`Stopped::Refused`] where the call
-/// was refused memory and answered when it was made again, and [`Stopped::Wrong`] where something
+/// [`Stopped::Before`] if memory is refused before the call, [`Stopped::Refused`] if the call
+/// was refused memory and answered when it was made again, and [`Stopped::Wrong`] if something
 /// else isn't as it has to be.
 pub fn reads_the_log<R: AllocGlobal>(rt: &R, count: u64) -> Result<(), Stopped> {
     spend(rt.alloc(), count)?;

@@ -1,4 +1,4 @@
-//! `kernel::step`, `kernel::retype_refusal`, `kernel::run` and `kernel::replay` of events that make objects.
+//! Calls of `kernel::step`, `kernel::retype_refusal`, `kernel::run` and `kernel::replay` with events that make objects.
 ghost use Rattle.machine.specs.WellFormed.{IsWellFormed};
 
 use crate::bell::core;
@@ -27,7 +27,7 @@ bind t x
 end
 ";
 
-/// The same with a CNode that has room for sixteen capabilities.
+/// A thread with untyped memory, and with a capability for its CNode, of 32 slots, in that CNode.
 const WIDE_TABLE: &str = "\
 confine-table 1
 label a
@@ -52,7 +52,7 @@ const THREAD: ObjId = ObjId(1);
 /// The number of the untyped memory.
 const UNTYPED: ObjId = ObjId(3);
 
-/// What the thread asks for: so many objects of a kind, whose capabilities come into slots of the CNode from one on.
+/// A retype that the thread asks for: a number of objects of a kind, with capabilities in successive slots of the CNode.
 #[derive(Clone, Copy)]
 struct Wanted {
     kind: MemoryKind,
@@ -71,7 +71,7 @@ fn one(kind: MemoryKind, offset: u64) -> Wanted {
     }
 }
 
-/// So many CNodes of this size.
+/// This many CNodes of this size.
 fn cnodes(count: u64, bits: u64) -> Wanted {
     Wanted {
         kind: MemoryKind::CNode,
@@ -97,7 +97,7 @@ impl Wanted {
         })
     }
 
-    /// What the event answers that makes them.
+    /// The answer to the event that makes them.
     fn done(self) -> Outcome {
         Outcome::Done(machine::Answer::Count(self.count))
     }
@@ -127,7 +127,7 @@ fn watermark(state: &State) -> Option<u64> {
 /// The next number, the watermark, and whether the first and the last slot are filled.
 type Standing = (u64, Option<u64>, bool, bool);
 
-/// What a call that is refused memory may not change.
+/// The parts of a state that a call may not change if it is refused memory.
 fn standing(state: &State, wanted: Wanted) -> Standing {
     (
         state.next_id(),
@@ -137,7 +137,7 @@ fn standing(state: &State, wanted: Wanted) -> Standing {
     )
 }
 
-/// Asserts that a call that is refused memory has left what it found.
+/// Asserts that a call that is refused memory has changed none of them.
 fn is_left(state: &State, wanted: Wanted, before: Standing) -> Result<(), Stopped> {
     holds(standing(state, wanted) == before, Wrong::Changed)
 }
@@ -157,7 +157,7 @@ fn refuses(state: &State, wanted: Wanted, code: u64) -> Result<(), Stopped>
     holds(refusal == expected, Wrong::Refusal)
 }
 
-/// Asserts that objects were made, of which the first has this number.
+/// Asserts that objects were made, the first with this number.
 fn are_made(state: &State, wanted: Wanted, first: u64) -> Result<(), Stopped> {
     let next = first.saturating_add(wanted.count);
     holds(state.next_id() == next, Wrong::NextNumber)?;
@@ -170,7 +170,7 @@ fn are_made(state: &State, wanted: Wanted, first: u64) -> Result<(), Stopped> {
     holds(parent == Some(slot(0)), Wrong::Parent)
 }
 
-/// What an event that makes objects comes to.
+/// The outcome of an event that makes objects.
 fn making(state: &mut State, wanted: Wanted) -> Result<Outcome, Stopped>
     requires { IsWellFormed state.old }
     ensures { IsWellFormed state.new }
@@ -190,7 +190,7 @@ fn steps_again(state: &mut State, wanted: Wanted, first: u64) -> Result<(), Stop
     Err(Stopped::Refused)
 }
 
-/// Makes objects. Where memory is refused, nothing changes, and the same event is done when it comes again.
+/// Makes objects. If memory is refused, nothing changes, and the same event is done the second time.
 fn steps(state: &mut State, wanted: Wanted) -> Result<(), Stopped>
     requires { IsWellFormed state.old }
     ensures { IsWellFormed state.new }
@@ -227,10 +227,10 @@ fn steps_twice(state: &mut State) -> Result<(), Stopped>
     holds(watermark(state) == Some(0x1800), Wrong::Watermark)
 }
 
-/// What an object is refused with whose slot is filled.
+/// The refusal of an object whose slot is filled.
 const FILLED: Outcome = Outcome::Refused(Refusal { code: 8, detail: 0 });
 
-/// Asserts what a run came to. An event that is refused memory is an outcome, and the second makes the object.
+/// Asserts the outcomes of a run. An event that is refused memory is an outcome, and the second makes the object.
 fn has_run(state: &State, outcomes: &[Outcome], wanted: Wanted, first: u64) -> Result<(), Stopped> {
     are_made(state, wanted, first)?;
     if outcomes.first() == Some(&Outcome::Refused(NO_MEMORY)) {
@@ -287,7 +287,7 @@ fn is_replayed(stop: Option<usize>) -> Result<(), Stopped> {
     holds(stop == None, Wrong::ReplayStops)
 }
 
-/// Replays a log in which an object is made. Where memory is refused, it is replayed the second time.
+/// Replays a log in which an object is made. If memory is refused, it is replayed the second time.
 fn replays_on(state: &mut State) -> Result<(), Stopped>
     requires { IsWellFormed state.old }
 {
@@ -303,7 +303,7 @@ fn replays_on(state: &mut State) -> Result<(), Stopped>
     }
 }
 
-/// The thing that is tried in a boot state.
+/// A trial in a boot state.
 #[derive(Clone, Copy)]
 pub enum Trial {
     /// An endpoint and a thread are made, one after the other.
@@ -318,7 +318,7 @@ pub enum Trial {
     Replays,
 }
 
-/// Returns what the call of this name tries, if it is one of these.
+/// Returns the trial of the call of this name, if it is one of these.
 pub fn trial_of(call: &str) -> Option<Trial> {
     match call {
         "step" => Some(Trial::Twice),
@@ -355,12 +355,12 @@ fn try_after_boot<R: AllocGlobal>(rt: &R, table: &Table, trial: Trial) -> Result
     }
 }
 
-/// Tries it in the boot state of a table, after `count` allocations.
+/// Makes a trial in the boot state of a table, after `count` allocations.
 ///
 /// # Errors
 ///
-/// [`Stopped::Before`] where memory is refused before the call, [`Stopped::Refused`] where the call
-/// was refused memory and answered when it was made again, and [`Stopped::Wrong`] where something
+/// [`Stopped::Before`] if memory is refused before the call, [`Stopped::Refused`] if the call
+/// was refused memory and answered when it was made again, and [`Stopped::Wrong`] if something
 /// else isn't as it has to be.
 pub fn tried<R: AllocGlobal>(rt: &R, count: u64, trial: Trial) -> Result<(), Stopped> {
     spend(rt.alloc(), count)?;
@@ -416,7 +416,7 @@ confine-log 1
 end
 ";
 
-/// The log of its run where the first event is refused memory, and the run goes on.
+/// The log of its run if the first event is refused memory, and the run goes on.
 pub const LOG_WITHOUT_MEMORY: &str = "\
 confine-log 1
 0 1 retype 0 endpoint 0 1 2 1 = refused 40 0

@@ -1,4 +1,4 @@
-//! `kernel::boot` and `kernel::run`.
+//! Calls of `kernel::boot` and `kernel::run`.
 ghost use Rattle.std.specs.Prelude.{IfOk};
 ghost use Rattle.machine.specs.WellFormed.{IsWellFormed};
 
@@ -15,8 +15,8 @@ use table::Table;
 ///
 /// # Errors
 ///
-/// [`Stopped::Refused`] where the call was refused memory and answered when it was made again, and
-/// [`Stopped::Wrong`] where something else isn't as it has to be.
+/// [`Stopped::Refused`] if the call was refused memory and answered when it was made again, and
+/// [`Stopped::Wrong`] if something else isn't as it has to be.
 pub fn boots<R: AllocGlobal>(rt: &R, table: &Table) -> Result<(), Stopped> {
     match met(NO_MEMORY, boot(rt.alloc(), table))? {
         Some(made) => passes(made, is_booted),
@@ -24,7 +24,7 @@ pub fn boots<R: AllocGlobal>(rt: &R, table: &Table) -> Result<(), Stopped> {
     }
 }
 
-/// A run of the script's events on the boot state: one that is refused has made no step, and is made the second time.
+/// Runs the script's events on the boot state. A run that is refused has made no step, and is made the second time.
 fn runs_into(state: &mut State, outcomes: &mut Vec<Outcome>) -> Result<(), Stopped>
     requires { IsWellFormed state.old }
 {
@@ -55,7 +55,7 @@ fn runs_on<R: AllocGlobal>(rt: &R, state: &mut State) -> Result<(), Stopped>
 ///
 /// # Errors
 ///
-/// [`Stopped::Before`] where memory is refused.
+/// [`Stopped::Before`] if memory is refused.
 pub fn booted<R: AllocGlobal>(rt: &R, table: &Table) -> Result<State, Stopped>
     ensures { IfOk result IsWellFormed }
 {
@@ -66,8 +66,8 @@ pub fn booted<R: AllocGlobal>(rt: &R, table: &Table) -> Result<State, Stopped>
 ///
 /// # Errors
 ///
-/// [`Stopped::Before`] where memory is refused before the call, [`Stopped::Refused`] where the call
-/// was refused memory and answered when it was made again, and [`Stopped::Wrong`] where something
+/// [`Stopped::Before`] if memory is refused before the call, [`Stopped::Refused`] if the call
+/// was refused memory and answered when it was made again, and [`Stopped::Wrong`] if something
 /// else isn't as it has to be.
 pub fn runs<R: AllocGlobal>(rt: &R, table: &Table) -> Result<(), Stopped> {
     match booted(rt, table) {

@@ -1,4 +1,4 @@
-//! `captext::read_table` and `captext::read_policy`.
+//! Calls of `captext::read_table` and `captext::read_policy`.
 use crate::bell::{POLICY, TABLE, is_the_system};
 use crate::edges::has_all_edges;
 use crate::memory::{Stopped, UNREAD, met, passes, passes_again, spend};
@@ -9,8 +9,8 @@ use table::Table;
 ///
 /// # Errors
 ///
-/// [`Stopped::Before`] where memory is refused before the call, [`Stopped::Refused`] where the call
-/// was refused memory and answered when it was made again, and [`Stopped::Wrong`] where something
+/// [`Stopped::Before`] if memory is refused before the call, [`Stopped::Refused`] if the call
+/// was refused memory and answered when it was made again, and [`Stopped::Wrong`] if something
 /// else isn't as it has to be.
 pub fn reads_the_table<R: AllocGlobal>(rt: &R, count: u64) -> Result<(), Stopped> {
     spend(rt.alloc(), count)?;
@@ -24,8 +24,8 @@ pub fn reads_the_table<R: AllocGlobal>(rt: &R, count: u64) -> Result<(), Stopped
 ///
 /// # Errors
 ///
-/// [`Stopped::Refused`] where the call was refused memory and answered when it was made again, and
-/// [`Stopped::Wrong`] where something else isn't as it has to be.
+/// [`Stopped::Refused`] if the call was refused memory and answered when it was made again, and
+/// [`Stopped::Wrong`] if something else isn't as it has to be.
 pub fn reads_the_policy<R: AllocGlobal>(rt: &R, table: &Table) -> Result<(), Stopped> {
     match met(UNREAD, read_policy(rt.alloc(), POLICY.as_bytes(), table))? {
         Some(made) => passes(made, has_all_edges),

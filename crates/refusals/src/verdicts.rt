@@ -1,4 +1,4 @@
-//! `verdict::judge` and `checker::check`.
+//! Calls of `verdict::judge` and `checker::check`.
 use crate::certificates::is_the_certificate;
 use crate::memory::{NO_MEMORY, Stopped, Wrong, holds, met, passes, passes_again};
 use checker::{CheckError, Verdict, check};
@@ -16,8 +16,8 @@ fn is_granted(verdict: &Result<Accepted<'_>, Denial>) -> Result<(), Stopped> {
 ///
 /// # Errors
 ///
-/// [`Stopped::Refused`] where the call was refused memory and answered when it was made again, and
-/// [`Stopped::Wrong`] where something else isn't as it has to be.
+/// [`Stopped::Refused`] if the call was refused memory and answered when it was made again, and
+/// [`Stopped::Wrong`] if something else isn't as it has to be.
 pub fn accepts<R: AllocGlobal + Threads + Sync>(
     rt: &R,
     table: &Table,
@@ -40,8 +40,8 @@ fn is_accepted(verdict: &Verdict<'_>) -> Result<(), Stopped> {
 ///
 /// # Errors
 ///
-/// [`Stopped::Refused`] where the call was refused memory and answered when it was made again, and
-/// [`Stopped::Wrong`] where something else isn't as it has to be.
+/// [`Stopped::Refused`] if the call was refused memory and answered when it was made again, and
+/// [`Stopped::Wrong`] if something else isn't as it has to be.
 pub fn checks<R: AllocGlobal + Threads + Sync>(
     rt: &R,
     table: &Table,

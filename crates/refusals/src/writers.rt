@@ -1,4 +1,4 @@
-//! `captext::write_table`, `captext::write_policy` and `evtext::write_script`: what was read is written as it was.
+//! Calls of `captext::write_table`, `captext::write_policy` and `evtext::write_script`, which write what was read.
 use crate::bell::{POLICY, SCRIPT, TABLE, events};
 use crate::memory::{NO_MEMORY, Stopped, are_made, are_made_again, met, spend};
 use captext::{write_policy, write_table};
@@ -10,8 +10,8 @@ use table::Table;
 ///
 /// # Errors
 ///
-/// [`Stopped::Refused`] where the call was refused memory and answered when it was made again, and
-/// [`Stopped::Wrong`] where something else isn't as it has to be.
+/// [`Stopped::Refused`] if the call was refused memory and answered when it was made again, and
+/// [`Stopped::Wrong`] if something else isn't as it has to be.
 pub fn writes_a_table<R: AllocGlobal>(rt: &R, table: &Table) -> Result<(), Stopped> {
     match met(NO_MEMORY, write_table(rt.alloc(), table))? {
         Some(made) => are_made(made, TABLE.as_bytes()),
@@ -23,8 +23,8 @@ pub fn writes_a_table<R: AllocGlobal>(rt: &R, table: &Table) -> Result<(), Stopp
 ///
 /// # Errors
 ///
-/// [`Stopped::Refused`] where the call was refused memory and answered when it was made again, and
-/// [`Stopped::Wrong`] where something else isn't as it has to be.
+/// [`Stopped::Refused`] if the call was refused memory and answered when it was made again, and
+/// [`Stopped::Wrong`] if something else isn't as it has to be.
 pub fn writes_a_policy<R: AllocGlobal>(
     rt: &R,
     policy: &Policy,
@@ -40,8 +40,8 @@ pub fn writes_a_policy<R: AllocGlobal>(
 ///
 /// # Errors
 ///
-/// [`Stopped::Before`] where memory is refused before the call, [`Stopped::Refused`] where the call
-/// was refused memory and answered when it was made again, and [`Stopped::Wrong`] where something
+/// [`Stopped::Before`] if memory is refused before the call, [`Stopped::Refused`] if the call
+/// was refused memory and answered when it was made again, and [`Stopped::Wrong`] if something
 /// else isn't as it has to be.
 pub fn writes_a_script<R: AllocGlobal>(rt: &R, count: u64) -> Result<(), Stopped> {
     spend(rt.alloc(), count)?;

@@ -1,9 +1,9 @@
-//! What regions are to devices, as far as a description says.
+//! Uses of regions by devices, as far as a description says.
 use forms::Shown;
 use microkit::{Description, Map, User, Variable};
 use std::fmt;
 
-/// What a region is to devices.
+/// The use of a region by devices.
 #[derive(Clone, Copy, Debug)]
 pub(crate) enum DeviceUse {
     /// Registers of a device: the region has a fixed address, and somebody maps it uncached.
@@ -14,7 +14,7 @@ pub(crate) enum DeviceUse {
     Told(Variable),
 }
 
-/// Returns what the region of this number is to devices, if somebody maps it.
+/// Returns the use of the region of this number by devices, if somebody maps it.
 pub(crate) fn device_use(description: &Description, number: usize) -> Option<DeviceUse> {
     let region = description.regions.get(number)?;
     let maps = &description.maps;

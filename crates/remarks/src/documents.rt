@@ -1,4 +1,4 @@
-//! Why a text isn't a document: the first thing in it that isn't spelled as it should be.
+//! The reason why a text isn't a document: the first thing in it that isn't spelled as it should be.
 ghost use Rattle.std.specs.Prelude.{◌≤◌};
 
 use forms::{File, LayoutFlaw, Shown, header_flaw, line_at};
@@ -96,7 +96,7 @@ const ENCODINGS: [&str; 4] = ["UTF-8", "utf-8", "US-ASCII", "us-ascii"];
 ///
 /// # Errors
 ///
-/// [`AllocError`] where memory is refused.
+/// [`AllocError`] if memory is refused.
 pub(crate) fn first_slip<'t>(alloc: Global, text: &'t [u8]) -> Result<Slip<'t>, AllocError> {
     if text.len() > MAX_TEXT_LENGTH {
         return Ok(Slip::Limit(Limit::Text));
@@ -143,7 +143,7 @@ fn other_of(text: &[u8]) -> Option<File> {
     }
 }
 
-/// What is left of a text, and what was found before that.
+/// The rest of a text, and what was found before it.
 #[derive(Drop)]
 struct Scan<'t> {
     rest: &'t [u8],
@@ -151,12 +151,12 @@ struct Scan<'t> {
     open: Vec<Open<'t>>,
     /// The root, if it began.
     root: Option<Open<'t>>,
-    /// How many elements began.
+    /// The number of elements that began.
     begun: usize,
 }
 
 impl<'t> Scan<'t> {
-    // Takes so many bytes, or all that are left.
+    // Takes this many bytes, or all that are left.
     fn take(&mut self, count: usize) -> &'t [u8] {
         let (taken, rest) = self.rest.split_at(count.min(self.rest.len()));
         let feeds = taken.iter().filter(|byte| **byte == b'\n').count();
@@ -174,7 +174,7 @@ impl<'t> Scan<'t> {
         comes
     }
 
-    // Takes all up to these bytes, and them too; or all that is left. Returns whether they were found.
+    // Takes everything up to these bytes, and them too, or all that is left. Returns whether they were found.
     fn take_past(&mut self, end: &[u8]) -> bool {
         for _ in 0..self.rest.len() {
             if self.has_taken(end) {
@@ -206,7 +206,7 @@ impl<'t> Scan<'t> {
         self.take(count)
     }
 
-    // Takes the quote that comes next, if one does.
+    // Takes the quote that comes next, if there is one.
     fn quote(&mut self) -> Option<u8> {
         match self.rest.first() {
             Some(quote) if *quote == b'"' || *quote == b'\'' => {
@@ -431,7 +431,7 @@ fn refused<'t>(given: &[&'t [u8]], element: &'t [u8], name: &'t [u8]) -> Option<
     }
 }
 
-// How many bytes a value has once its references are read.
+// The number of bytes of a value once its references are read.
 fn read_length(value: &[u8]) -> usize {
     let mut length: usize = 0;
     let mut is_in_reference = false;
@@ -467,13 +467,13 @@ fn has_known_references(value: &[u8]) -> bool {
     pieces.all(|piece| is_reference(piece))
 }
 
-// Whether what stands behind an `&` is a reference, and then anything.
+// Whether a text behind an `&` begins with a reference.
 fn is_reference(piece: &[u8]) -> bool {
     let names: [&[u8]; 5] = [b"lt;", b"gt;", b"amp;", b"quot;", b"apos;"];
     names.iter().any(|name| piece.starts_with(name)) || is_of_number(piece)
 }
 
-// Whether it begins with the number of a printable ASCII character, as a reference has it behind its `&`.
+// Whether a text begins with the number of a printable ASCII character, as in a reference behind its `&`.
 fn is_of_number(piece: &[u8]) -> bool {
     let mut parts = piece.split(|byte| *byte == b';');
     let (Some(number), Some(_)) = (parts.next(), parts.next()) else {
@@ -489,7 +489,7 @@ fn is_of_number(piece: &[u8]) -> bool {
     code.is_some_and(|code| (32..=126).contains(&code))
 }
 
-// The number that these digits are.
+// The number that these digits spell.
 fn code_of(base: u32, digits: &[u8]) -> Option<u32>
     requires low { 2 ≤ base }
     requires high { base ≤ 16 }
@@ -503,7 +503,7 @@ fn code_of(base: u32, digits: &[u8]) -> Option<u32>
 }
 
 impl Slip<'_> {
-    /// Returns what begins the sentence on it.
+    /// Returns the beginning of the sentence on it.
     pub(crate) fn start(self) -> &'static str {
         match self {
             Slip::HeaderOf(_) | Slip::Twice(_, _) | Slip::Limit(_) => "",
@@ -603,13 +603,13 @@ impl fmt::Display for Slip<'_> {
     }
 }
 
-// That a text is another one, by its header.
+// Says that a text is another one, by its header.
 fn tell_header<W: fmt::Write>(f: &mut fmt::Formatter<W>, other: File) -> fmt::Result {
     let (name, wanted) = (other.name(), File::Description.name());
     write!(f, "this is the header of a {name}, not of a {wanted}")
 }
 
-// That something stands behind the root.
+// Says that something stands behind the root.
 fn tell_after<W: fmt::Write>(f: &mut fmt::Formatter<W>, root: Open<'_>) -> fmt::Result {
     if root.name == b"system".as_slice() {
         return f.write_str("`<system>` has ended: only comments may follow");
@@ -620,7 +620,7 @@ fn tell_after<W: fmt::Write>(f: &mut fmt::Formatter<W>, root: Open<'_>) -> fmt::
     )
 }
 
-// That an attribute is given twice.
+// Says that an attribute is given twice.
 fn tell_twice<W: fmt::Write>(
     f: &mut fmt::Formatter<W>,
     name: &[u8],

@@ -1,4 +1,4 @@
-//! The elements of a description, and where they stand.
+//! Elements of a description, and where they stand.
 use microkit::number_of;
 use xml::{Attribute, Element};
 
@@ -15,7 +15,7 @@ impl<'a, 't> Place<'a, 't> {
         self.elements.get(self.number)
     }
 
-    /// Returns the element's name, which is empty where there is none.
+    /// Returns the element's name, which is empty if there is no element.
     pub(crate) fn name(self) -> &'a [u8] {
         match self.element() {
             Some(element) => element.name,
@@ -23,7 +23,7 @@ impl<'a, 't> Place<'a, 't> {
         }
     }
 
-    /// Returns the line of the element, which is 0 where there is none.
+    /// Returns the line of the element, which is 0 if there is none.
     pub(crate) fn line(self) -> u64 {
         match self.element() {
             Some(element) => element.line,
@@ -31,7 +31,7 @@ impl<'a, 't> Place<'a, 't> {
         }
     }
 
-    /// Returns the level of the element, which is 0 where there is none.
+    /// Returns the level of the element, which is 0 if there is none.
     pub(crate) fn level(self) -> usize {
         match self.element() {
             Some(element) => element.level,
@@ -47,7 +47,7 @@ impl<'a, 't> Place<'a, 't> {
             .find(|attribute| attribute.name == name.as_bytes())
     }
 
-    /// Returns the name of the attribute of this number, which is empty where there is none.
+    /// Returns the name of the attribute of this number, which is empty if there is none.
     pub(crate) fn attribute_name(self, number: usize) -> &'a [u8] {
         match self.element() {
             Some(element) => match element.attributes.get(number) {

@@ -1,4 +1,4 @@
-//! Which element of a description has a fault, and what is wrong with it.
+//! The sentence on a fault of a description: which element has it, and what is wrong.
 use crate::documents::first_slip;
 use crate::elements::Place;
 use crate::flaws::{Cause, Said};
@@ -11,11 +11,11 @@ use xml::read_document;
 
 /// Says which element of a description has a fault, and what is wrong with it.
 ///
-/// `text` is all of the file called `name`. Where memory was refused that is said, and no line.
+/// `text` is all of the file called `name`. If memory was refused, the sentence says so, without a line.
 ///
 /// # Errors
 ///
-/// [`AllocError`] where memory is refused.
+/// [`AllocError`] if memory is refused.
 pub fn explain_fault(
     alloc: Global,
     name: &str,

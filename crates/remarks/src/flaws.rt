@@ -1,4 +1,4 @@
-//! What is said of an element that has a fault.
+//! Sentences on an element that has a fault.
 use crate::elements::Place;
 use crate::others::{OtherLine, first_machine, overlapped};
 use crate::rules::elements_in;
@@ -15,7 +15,7 @@ pub(crate) const LAST_CORE: u64 = 15;
 const LIMITS: &str =
     "256 labels, cores 0 to 15, times of 1 to 3600000000 microseconds, 4096 slots, or 2^48 bytes of memory";
 
-/// What is wrong with an element.
+/// The cause of a fault of an element.
 #[derive(Clone, Copy)]
 pub(crate) enum Cause {
     /// It is what the reader of descriptions finds.
@@ -28,11 +28,11 @@ pub(crate) enum Cause {
     MachineTime(&'static str),
     /// Its table passes a limit of tables.
     Table,
-    /// The table passes such a limit at an element of its line; at which one isn't known.
+    /// The table passes such a limit at an element of its line; it isn't known at which.
     Several,
 }
 
-/// What is said of an element.
+/// The sentence on an element.
 #[derive(Clone, Copy)]
 pub(crate) struct Said<'a, 't> {
     pub place: Place<'a, 't>,
@@ -71,7 +71,7 @@ impl fmt::Display for Said<'_, '_> {
     }
 }
 
-// The attribute of which something is wrong.
+// The attribute with the fault.
 fn attribute_of<'a, 't>(place: Place<'a, 't>, cause: Cause) -> Option<&'a Attribute<'t>> {
     match cause {
         Cause::Flaw(Flaw::Attribute(_, number)) => place.element()?.attributes.get(number),
@@ -179,7 +179,7 @@ fn tell_machine_time<W: fmt::Write>(
     )
 }
 
-// Which element has the same name.
+// Says which element has the same name.
 fn tell_same_name<W: fmt::Write>(
     f: &mut fmt::Formatter<W>,
     place: Place<'_, '_>,
@@ -197,7 +197,7 @@ fn tell_same_name<W: fmt::Write>(
     )
 }
 
-// Which element has the same id.
+// Says which element has the same id.
 fn tell_same_id<W: fmt::Write>(
     f: &mut fmt::Formatter<W>,
     place: Place<'_, '_>,
@@ -215,7 +215,7 @@ fn tell_same_id<W: fmt::Write>(
     )
 }
 
-// The virtual machine that a domain has already.
+// Says which virtual machine a domain has already.
 fn tell_second<W: fmt::Write>(
     f: &mut fmt::Formatter<W>,
     machine: Place<'_, '_>,
@@ -233,7 +233,7 @@ fn tell_second<W: fmt::Write>(
     )
 }
 
-// The region that a region overlaps.
+// Says which region a region overlaps.
 fn tell_overlap<W: fmt::Write>(
     f: &mut fmt::Formatter<W>,
     region: Place<'_, '_>,
@@ -263,7 +263,7 @@ fn tell_budget<W: fmt::Write>(f: &mut fmt::Formatter<W>, place: Place<'_, '_>) -
     )
 }
 
-// Which ends a channel lacks.
+// Says which ends a channel lacks.
 fn tell_few_ends<W: fmt::Write>(f: &mut fmt::Formatter<W>, channel: Place<'_, '_>) -> fmt::Result {
     let end = channel.at(channel.number.saturating_add(1));
     if !end.is_named("end") {
@@ -278,7 +278,7 @@ fn tell_few_ends<W: fmt::Write>(f: &mut fmt::Formatter<W>, channel: Place<'_, '_
     )
 }
 
-// An attribute that isn't of whole pages.
+// Says that an attribute isn't of whole pages.
 fn tell_pages<W: fmt::Write>(
     f: &mut fmt::Formatter<W>,
     region: Place<'_, '_>,
@@ -293,7 +293,7 @@ fn tell_pages<W: fmt::Write>(
     tell_meant(f, meant_pages(region, attribute))
 }
 
-// A name that an element gives, and that is unknown.
+// Says that a name is unknown which an element gives.
 fn tell_no_name<W: fmt::Write>(
     f: &mut fmt::Formatter<W>,
     place: Place<'_, '_>,
@@ -316,7 +316,7 @@ fn tell_meant<W: fmt::Write>(f: &mut fmt::Formatter<W>, meant: Option<&[u8]>) ->
     }
 }
 
-// A name that is unknown, and which one is meant.
+// Says that a name is unknown, and which one is meant.
 fn tell_unknown<W: fmt::Write>(
     f: &mut fmt::Formatter<W>,
     what: &str,
@@ -330,7 +330,7 @@ fn tell_unknown<W: fmt::Write>(
     }
 }
 
-// Which attributes there are, or which form a value must have.
+// Says which attributes there are, or which form a value must have.
 fn tell_attribute<W: fmt::Write>(
     f: &mut fmt::Formatter<W>,
     place: Place<'_, '_>,
@@ -362,7 +362,7 @@ fn tell_attribute<W: fmt::Write>(
     Ok(())
 }
 
-// Which elements may stand there, or which one is meant.
+// Says which elements may stand there, or which one is meant.
 fn tell_element<W: fmt::Write>(
     f: &mut fmt::Formatter<W>,
     place: Place<'_, '_>,
@@ -394,7 +394,7 @@ fn tell_element<W: fmt::Write>(
     Ok(())
 }
 
-// The priorities of the domains of a channel's ends.
+// Says the priorities of the domains of a channel's ends.
 fn tell_priorities<W: fmt::Write>(
     f: &mut fmt::Formatter<W>,
     channel: Place<'_, '_>,
@@ -496,7 +496,7 @@ fn page_of(region: Place<'_, '_>) -> u64 {
     region.number_in("page_size").unwrap_or(4096)
 }
 
-// The number that these digits are in hexadecimal.
+// The number that these digits spell in hexadecimal.
 fn hexadecimal_of(digits: &[u8]) -> Option<u64> {
     let mut number: Option<u64> = None;
     for byte in digits {

@@ -1,6 +1,6 @@
 //! Words on the description of a system: what its table doesn't show, and what is wrong with an element.
 //!
-//! `serving` stands on it. It knows no policy and no verdict.
+//! The crate knows no policy and no verdict.
 #![tactic(auto)]
 
 mod devices;

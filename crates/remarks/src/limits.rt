@@ -1,4 +1,4 @@
-//! The limits that the table of a description passes.
+//! Limits that the table of a description passes.
 use crate::elements::Place;
 use crate::flaws::{Cause, LAST_CORE, Said};
 use base::MAX_PERIOD;
@@ -86,7 +86,7 @@ fn runs_here(machine: Place<'_, '_>) -> bool {
     false
 }
 
-// Which time of an element isn't within the limits.
+// The time of an element that isn't within the limits.
 fn wrong_time(place: Place<'_, '_>) -> Option<&'static str> {
     for name in ["budget", "period"] {
         if place

@@ -6,11 +6,11 @@ use forms::{nearest_name, text_of};
 use microkit::{Flaw, Kind, rules_of};
 use std::alloc::{AllocError, Global};
 
-/// Returns the name that is nearest to the one that an element gives, if this name is unknown and one is near.
+/// Returns the name nearest to the one that an element gives, if this name is unknown and one is near.
 ///
 /// # Errors
 ///
-/// [`AllocError`] where memory is refused.
+/// [`AllocError`] if memory is refused.
 pub(crate) fn near_name<'a>(
     alloc: Global,
     place: Place<'a, '_>,
@@ -25,7 +25,7 @@ pub(crate) fn near_name<'a>(
     }
 }
 
-// The attribute of elements of this kind that is nearest to one that they don't have.
+// The attribute of elements of this kind nearest to one that they don't have.
 fn near_attribute<'a>(
     alloc: Global,
     place: Place<'a, '_>,
@@ -43,7 +43,7 @@ fn near_attribute<'a>(
     nearest_name(alloc, text_of(word), &names)
 }
 
-// The name, nearest to a word, that an element called `kind` has.
+// The name nearest to a word, of elements called `kind`.
 fn near_named<'a>(
     alloc: Global,
     place: Place<'a, '_>,

@@ -1,4 +1,4 @@
-//! What the table of a description doesn't show.
+//! Notes on what the table of a description doesn't show.
 use crate::devices::{DeviceUse, Writers, device_use};
 use crate::overlaps::{Overlap, overlaps_in};
 use base::Label;
@@ -13,19 +13,19 @@ use table::Table;
 /// What the table of a description doesn't show, or shows otherwise, and the line of the element.
 #[derive(Clone, Copy, Debug)]
 pub struct Note<'a> {
-    /// 0 where it is of the whole description.
+    /// 0 if the note is on the whole description.
     pub line: u64,
     pub matter: Matter<'a>,
 }
 
-/// What a note is of.
+/// The matter of a note.
 #[derive(Clone, Copy, Debug)]
 pub enum Matter<'a> {
     /// The monitor and the initial task.
     Monitor,
-    /// A table of so many labels, which is of version 2.
+    /// A table with this many labels, which is of version 2.
     Labels(usize),
-    /// How many regions have the label of another one.
+    /// The number of regions with the label of another one.
     Sharing(usize),
     /// An interrupt, by its number.
     Interrupt(u64),
@@ -47,7 +47,7 @@ pub enum Matter<'a> {
     NoCaller(&'a [u8], &'a [u8]),
     /// A channel whose ends are both of this domain.
     Loop(&'a [u8]),
-    /// A region with the registers of a device, and who may write to it.
+    /// A region with the registers of a device, and the users that may write to it.
     Registers(&'a [u8], Writers<'a>),
     /// A region at a fixed address that a device may write by itself.
     Memory(&'a [u8]),
@@ -68,12 +68,12 @@ impl Note<'_> {
 
 /// Returns what the table of a description doesn't show.
 ///
-/// What is of the whole description comes first, then the notes in the order of their lines. `table` is the
+/// Notes on the whole description come first, then the others in the order of their lines. `table` is the
 /// description's, with capabilities that have the rights of `minting`.
 ///
 /// # Errors
 ///
-/// [`AllocError`] where memory is refused.
+/// [`AllocError`] if memory is refused.
 pub fn notes_of<'a>(
     alloc: Global,
     description: &'a Description,
@@ -96,13 +96,13 @@ pub fn notes_of<'a>(
     Ok(notes)
 }
 
-/// Returns the notes on those regions with this label that a device may write by itself.
+/// Returns the notes on regions with this label that a device may write by itself.
 ///
 /// `table` is the description's, and its objects have these origins.
 ///
 /// # Errors
 ///
-/// [`AllocError`] where memory is refused.
+/// [`AllocError`] if memory is refused.
 pub fn notes_on_label<'a>(
     alloc: Global,
     description: &'a Description,
@@ -127,7 +127,7 @@ pub fn notes_on_label<'a>(
 ///
 /// # Errors
 ///
-/// [`AllocError`] where memory is refused.
+/// [`AllocError`] if memory is refused.
 pub fn explain_notes(alloc: Global, file: &str, notes: &[Note<'_>]) -> Result<String, AllocError> {
     let mut lines = String::new(alloc);
     for note in notes {
@@ -275,7 +275,7 @@ fn add_note<'a>(
     Ok(())
 }
 
-// Adds how many regions have the label of another one.
+// Adds the number of regions with the label of another one.
 fn add_sharing<'a>(
     alloc: Global,
     notes: &mut Vec<Note<'a>>,
@@ -321,7 +321,7 @@ fn label_of(number: usize) -> Option<Label> {
     }
 }
 
-// The name of what has a label, and its line; of the time of a domain, none.
+// The name and the line of what has a label; none for the time of a domain.
 fn name_of(description: &Description, subject: Subject) -> Option<(&[u8], u64)> {
     match subject {
         Subject::Domain(n) => {
@@ -360,7 +360,7 @@ fn add_regions<'a>(
     Ok(())
 }
 
-// What a note is of on the region of this number, if a device may write it by itself.
+// The matter of a note on the region of this number, if a device may write it by itself.
 fn memory_matter(description: &Description, number: usize) -> Option<Matter<'_>> {
     let region = description.regions.get(number)?.name.as_slice();
     match device_use(description, number)? {
@@ -407,7 +407,7 @@ fn region_name(description: &Description, number: usize) -> &[u8] {
     }
 }
 
-// Adds what is left out of each domain.
+// Adds the notes on each domain.
 fn add_domains<'a>(
     notes: &mut Vec<Note<'a>>,
     description: &'a Description,

@@ -1,8 +1,8 @@
-//! The other element with which an element doesn't go together.
+//! Other elements with which an element conflicts.
 use crate::elements::Place;
 use std::fmt;
 
-/// The line of another element, as it is said of an element in the line `own`.
+/// The line of another element, as words on an element in the line `own`.
 #[derive(Clone, Copy)]
 pub(crate) struct OtherLine {
     pub line: u64,
@@ -19,7 +19,7 @@ impl fmt::Display for OtherLine {
     }
 }
 
-/// Returns the first region that overlaps this one, of those that stand before it.
+/// Returns the first region before this one that overlaps it.
 pub(crate) fn overlapped<'a, 't>(region: Place<'a, 't>) -> Option<Place<'a, 't>> {
     for number in 0..region.number {
         let other = region.at(number);

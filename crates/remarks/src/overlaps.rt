@@ -18,11 +18,11 @@ struct Span {
     end: u64,
 }
 
-/// Returns for each map whose virtual addresses begin within another map of its domain or virtual machine the two maps.
+/// Returns each map whose virtual addresses begin within another map of its domain or virtual machine, with that map.
 ///
 /// # Errors
 ///
-/// [`AllocError`] where memory is refused.
+/// [`AllocError`] if memory is refused.
 pub(crate) fn overlaps_in(
     alloc: Global,
     description: &Description,
@@ -84,7 +84,7 @@ fn is_same(user: User, other: User) -> bool {
     }
 }
 
-// Two maps, of which the one that stands below is first.
+// The two maps, first the one that stands below.
 fn in_order(one: Map, another: Map) -> Overlap {
     if one.line < another.line {
         Overlap {

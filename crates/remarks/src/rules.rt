@@ -1,7 +1,7 @@
-//! Which elements of a description stand in which.
+//! Names of elements of a description, by the kind of element in which they may stand.
 use microkit::Kind;
 
-/// Returns which elements may stand in one of this kind.
+/// Returns the names of the elements that may stand in one of this kind.
 pub(crate) fn elements_in(kind: Kind) -> &'static [&'static str] {
     match kind {
         Kind::Document => &IN_DOCUMENT,

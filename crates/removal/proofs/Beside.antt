@@ -1,4 +1,4 @@
--- Where nothing is going any more all else is as it was, and a change of the derivation tree alone leaves a removal where it stands.
+-- Changes beside a removal: when nothing is going any more all else is as it was, and the tree alone changes no removal under way.
 use Rattle.std.{specs.FinMap.FinMap, proofs.Common.{ℕ, ◌∙◌, ◌≡◌, Bool, ap, arith, refl}}
 use Rattle.base.specs.declared.ids.SlotRef.{SlotRef}
 use Rattle.machine.specs.{Changes.with_none_going, Counts.caps_to, Machine.{Machine, cap_of, object_of, parent_of, slot_cmp}}
@@ -6,7 +6,7 @@ use Rattle.machine.specs.WellFormed.{Descends, child, further}
 use Rattle.derivation.specs.Removing.{parent_without}
 use Rattle.removal.specs.UnderWay.{AreGoing, IsUnderWay}
 
--- where nothing is going any more
+-- a machine where nothing is going any more
 
 pub none_going : (m : Machine) → AreGoing (with_none_going m)
 unfolding with_none_going
@@ -32,7 +32,7 @@ pub descends_cleared : (m : Machine) {low high : SlotRef} → Descends m low hig
 descends_cleared m (child at) = child (parent_of-with_none_going m _ ∙ at)
 descends_cleared m (further at rest) = further (parent_of-with_none_going m _ ∙ at) (descends_cleared m rest)
 
--- where the tree alone changes
+-- changes of the tree alone
 
 way_beside :
     (m : Machine) (chosen : SlotRef → Bool) (now : Machine) (looked : ℕ) (links : FinMap slot_cmp SlotRef) → IsUnderWay m chosen now looked

@@ -1,4 +1,4 @@
--- How far a cascade has come, and what it has reached where no more objects are going.
+-- The cascade of a removal: how far it has come, and what it has reached when no more objects are going.
 use Rattle.std.{specs.Prelude.{None, Some, slice_get}, proofs.Common.{ℕ, ◌+◌, ◌∙◌, ◌≡◌, Bool, add-one, ap, arith, true}}
 use Rattle.std.proofs.lemmas.Option.{slice_get_past}
 use Rattle.base.specs.declared.ids.{ObjId.ObjId, SlotRef.SlotRef}
@@ -41,7 +41,7 @@ pub cascade_ended :
 cascade_ended first now looked so_far all m chosen way given =
     ended m chosen now looked (so_far.way m chosen way) (λ slot is. so_far.empty slot (given slot is)) all
 
--- no more than all objects are going
+-- no more objects are going than there are
 pub none_past_all : (first now : Machine) (looked : ℕ) → Cascades first now looked → slice_get now.going (objects_in first) ≡ None
 unfolding objects_in
 none_past_all first now looked so_far =

@@ -1,4 +1,4 @@
--- Where one slot is chosen, it leaves the tree and is emptied, a removal is under way from which all else follows.
+-- A removal of one slot begins: the slot leaves the tree and is emptied, and the rest of the removal is under way.
 use Rattle.std.{specs.Prelude.None, proofs.Common.{◌∙◌, ◌≡◌, ap, subst, true}}
 use Rattle.base.specs.declared.ids.SlotRef.{SlotRef}
 use Rattle.machine.specs.{Changes.with_none_going, Gone.given, Machine.{Machine, cap_of, parent_of, same_slot}}

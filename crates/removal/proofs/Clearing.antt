@@ -1,4 +1,4 @@
--- How much of what descends from a slot has been emptied and has left the tree, where its children do so one after another.
+-- Slots that descend from one leave the tree and are emptied, child by child: how many have, and how many still descend.
 use Rattle.std.specs.{FinMap.keys, List.{count_by, list_any}, Prelude.{◌⊎◌, None, Option, Some, if◌then◌else◌, is_some, option_and_then}}
 use Rattle.std.proofs.{Common.{◌<◌, ◌∙◌, ◌≡◌, ◌≢◌, Bool, List, ap, cond, false, inl, inr, refl, subst, sym, true}, lemmas.Bool.false≢true}
 use Rattle.std.proofs.lemmas.Option.{none-some, same_Some}
@@ -32,7 +32,7 @@ module _
     either true = refl
     either false = refl
 
-  -- what a parent becomes
+  -- the parent of each slot then
   after : (q p : SlotRef) → parent_of now q ≡ Some p
       → (q ≡ node) ⊎ (((p ≡ node) × (parent_of next q ≡ Some above)) ⊎ ((p ≢ node) × (parent_of next q ≡ Some p)))
   after q p at = by_tie (same_slot q node) refl where
@@ -53,7 +53,7 @@ module _
         (by_parent (same_slot p node) refl
         (told q false (Some p) e at))
 
-  -- each pair then was one, or joins a child of the node to what was above it
+  -- each pair then was one before, or joins a child of the node to what was above the node
   before : (q p : SlotRef) → parent_of next q ≡ Some p → Descends now q p
   before q p at = by_over (parent_of now q) refl where
     by_after : (r : SlotRef) → parent_of now q ≡ Some r
@@ -69,7 +69,7 @@ module _
     by_over None was = absurd (none-some p (sym (root_stays q was) ∙ at))
     by_over (Some r) was = by_after r was (after q r was)
 
-  -- what descended from the slot above still does, but for the node
+  -- what descended from the slot above still does, except the node
   still : {q : SlotRef} → Descends now q above → (q ≡ node) ⊎ Descends next q above
   still {q} (child at) = by_after (after q above at) where
     by_after :
@@ -87,7 +87,7 @@ module _
     by_after (inr (inr there)) (inl same) = absurd (there.0 same)
     by_after (inr (inr there)) (inr later) = inr (further there.1 later)
 
-  -- and there are fewer pairs
+  -- there are fewer pairs
   pub fewer_pairs :
       (slots : List SlotRef) → list_any (same_slot node) slots ≡ true
       → count_by (λ q. is_some (parent_of next q)) slots < count_by (λ q. is_some (parent_of now q)) slots
@@ -185,7 +185,7 @@ module _
           by_over q apart None at = root_stays now next above node is parents q at ∙ sym at
           by_over q apart (Some p) at = by_after q p apart at (after now next above node is parents q p at) ∙ sym at
 
--- where the slot has no children any more
+-- the slot has no children any more
 module _
     (m : Machine) (above : SlotRef) (now : Machine) (so_far : Clears m above now)
     (none : (q : SlotRef) → parent_of now q ≢ Some above) where

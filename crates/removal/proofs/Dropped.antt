@@ -1,4 +1,4 @@
--- Objects to which nothing holds go one after another.
+-- Objects to which nothing holds are removed one after another.
 use Rattle.std.{specs.{List.list_any, Prelude.{◌||◌, Contains, IsSome, None, Option, Some, option_and_then, slice_get}}, proofs.Common.[]}
 use Rattle.std.proofs.Common.{ℕ, ◌+◌, ◌∙◌, ◌∷◌, ◌≡◌, ◌≤◌, Bool, List, ap, arith, cond, false, inl, inr, length, refl, subst, suc, sym, take}
 use Rattle.std.proofs.{Common.{true, zero}, lemmas.Option.{get_or_from_slice_get, same_Some, slice_get_within}}
@@ -10,7 +10,7 @@ use Rattle.machine.proofs.ObjectGone.{queue_of-without_object, words_of-without_
 use Rattle.objects.specs.Pairs.{AreFilled, AreFilledOrGoing, IsFilledOrGoing}
 use Rattle.removal.specs.Dropping.{IsCutOff, dropped, without_objects}
 
--- nobody comes to wait at an object where another goes
+-- nobody starts to wait at an object when another is removed
 nobody_waits : (m : Machine) (gone id : ObjId) → first_waiting m id ≡ None → first_waiting (without_object m gone) id ≡ None
 unfolding first_waiting
 nobody_waits m gone id none =
@@ -20,7 +20,7 @@ nobody_waits m gone id none =
     by_tie true = refl
     by_tie false = none
 
--- and nothing to hold to it
+-- nothing starts to hold to it
 pub cut_off_stays : (m : Machine) (gone id : ObjId) → IsCutOff m id → IsCutOff (without_object m gone) id
 cut_off_stays m gone id cut =
     record {
@@ -40,7 +40,7 @@ cut_off_stays m gone id cut =
     was at threads true is = let none : None ≡ Some threads = is in cc
     was at threads false is = is
 
--- one more goes
+-- one more object is removed
 
 next_gone :
     (m : Machine) (ids : List ObjId) (index : ℕ) (id : ObjId) → slice_get ids index ≡ Some id
@@ -70,7 +70,7 @@ none_past (first ∷ ids) (suc index) none = let rest = none_past ids index none
 pub listed_at : (ids : List ObjId) (index : ℕ) (id : ObjId) → slice_get ids index ≡ Some id → Contains ids id
 listed_at ids index id is = (index, slice_get_within ids index id is, get_or_from_slice_get ids index id id is)
 
--- what each look-up answers where objects have gone
+-- each look-up after objects were removed
 
 gone_twice : {A : Type 0} (first rest : Bool) (o : Option A) → cond rest None (cond first None o) ≡ cond (first || rest) None o
 gone_twice true true o = refl
@@ -119,7 +119,7 @@ pub next-without_objects : (m : Machine) (ids : List ObjId) → (without_objects
 next-without_objects m [] = refl
 next-without_objects m (first ∷ ids) = next-without_objects (without_object m first) ids ∙ next-without_object m first
 
--- where nothing holds to what is going, all pairs are of filled slots, also once it has gone
+-- all pairs join filled slots if nothing holds to what is going, also after that is removed
 
 pub filled_beside_cut_off : (m : Machine) → AreFilledOrGoing m → ((id : ObjId) → Contains m.going id → IsCutOff m id) → AreFilled m
 filled_beside_cut_off m paired cut =
@@ -144,7 +144,7 @@ filled_without m ids filled =
       some : (slot : SlotRef) → IsSome (cap_of m slot) → IsSome (cap_of (without_objects m ids) slot)
       some slot is = subst (λ (o : Option Cap). IsSome o) (sym (cap_of-without_objects m ids slot)) is
 
--- beside the objects that were going, and what is going, a machine is as it was
+-- a machine is another without the objects that were going, and nothing is going
 pub record IsWithout (m : Machine) (ids : List ObjId) (next : Machine) : Type 0 where
   pub objects : (id : ObjId) → object_of next id ≡ cond (list_any (same_id id) ids) None (object_of m id)
   pub queues : (id : ObjId) → queue_of next id ≡ cond (list_any (same_id id) ids) None (queue_of m id)

@@ -1,4 +1,4 @@
--- What the look-ups answer after a slot is emptied: it is empty, and the other slots, the objects and the tree are as they were.
+-- Look-ups after a slot is emptied: it is empty, and the other slots, the objects and the tree are as they were.
 use Rattle.std.{specs.{FinMap.FinMap, Prelude.{◌==◌, None, Option, Some}}, proofs.Common.{◌∙◌, ◌≡◌, Bool, ap, cond, false, refl, sym, true}}
 use Rattle.base.specs.declared.ids.{ObjId.ObjId, SlotRef.SlotRef}
 use Rattle.machine.specs.{declared.cap.Cap.Cap, Changes.with_going, Counts.caps_to, Machine.{Machine, cap_of, parent_of}}
@@ -29,7 +29,7 @@ module _ (m : Machine) (slot : SlotRef) where
   unfolding parent_of
   parents-emptied q = ap (λ (n : Machine). parent_of n q) rest-emptied
 
-  -- it is emptied alike whatever the tree
+  -- a slot is emptied alike whatever the tree
   emptied_beside :
       (links : FinMap slot_cmp SlotRef) → emptied (record m { parents = links }) slot ≡ record (emptied m slot) { parents = links }
   unfolding emptied with_going without_cap cap_of caps_to

@@ -1,4 +1,4 @@
--- A removal stays under way where a slot that goes is emptied.
+-- A removal stays under way as a slot that goes is emptied.
 use Rattle.std.specs.FinMap as map
 use Rattle.std.{specs.Prelude.{◌==◌, ◌⊎◌, Contains, None, Option, Some, slice_get}, proofs.Common.{[], ℕ, ◌++◌, ◌+◌, ◌<◌, ◌∙◌, ◌∷◌, ◌≡◌}}
 use Rattle.std.proofs.Common.{◌≢◌, ◌≤◌, Bool, List, ap, arith, cond, eq-eqb, eqb-true, false, inl, inr, length, length-append, refl, subst}
@@ -34,7 +34,7 @@ get_front (x ∷ front) behind zero less = refl
 get_front (x ∷ front) behind (suc k) less = get_front front behind k (omega (arith, less))
 
 module _ (m : Machine) (chosen : SlotRef → Bool) (looked : ℕ) where
-  -- an object that has lost its last capability comes to be going
+  -- an object that has lost its last capability is going then
   add :
       (now : Machine) (id : ObjId) → now ≡ record m { caps = now.caps; parents = now.parents; going = now.going }
       → ((slot : SlotRef) → (cap_of now slot ≡ cap_of m slot) ⊎ ((cap_of now slot ≡ None) × IsGone m chosen slot))

@@ -1,4 +1,4 @@
--- A removal has come to its end where the chosen slots are empty and each object that is going has been looked through.
+-- A removal is at its end when the chosen slots are empty and each object that is going has been looked through.
 use Rattle.std.{specs.Prelude.{◌⊎◌, Contains, None, Option, Some, is_some, not, slice_get}, proofs.Common.{[], ℕ, ◌∙◌, ◌∷◌, ◌≡◌, ◌≤◌, Bool}}
 use Rattle.std.proofs.{Common.{List, ap, arith, cond, false, inl, inr, length, refl, subst, suc, sym, true, zero}, lemmas.Bool.false≢true}
 use Rattle.std.proofs.lemmas.Option.{slice_get-get_or}
@@ -13,7 +13,7 @@ none_past [] k none = omega arith
 none_past (x ∷ xs) zero none = absurd (cc)
 none_past (x ∷ xs) (suc k) none = let rest = none_past xs k none in omega (arith, rest)
 
--- a removal begins where nothing is going any more
+-- a removal begins when nothing is going any more
 pub begun : (m : Machine) (chosen : SlotRef → Bool) → IsUnderWay m chosen (with_none_going m) 0
 unfolding with_none_going cap_of caps_to
 begun m chosen =
@@ -41,7 +41,7 @@ module _
     by_cap None e = refl
     by_cap (Some held) e = absurd (false≢true e)
 
-  -- what is filled was so before
+  -- what is filled was filled before
   was : (slot : SlotRef) (held : Cap) → cap_of now slot ≡ Some held → cap_of m slot ≡ Some held
   was slot held filled = by_kept (way.kept slot) where
     by_kept : (cap_of now slot ≡ cap_of m slot) ⊎ ((cap_of now slot ≡ None) × IsGone m chosen slot) → cap_of m slot ≡ Some held

@@ -1,4 +1,4 @@
--- Where chosen slots have left the tree and all that goes with them is empty, all that goes has been found.
+-- All that goes in a removal has been found, once the chosen slots have left the tree and all that goes with them is empty.
 use Rattle.std.{specs.Prelude.{None, Option, Some, if◌then◌else◌, is_some}, proofs.Common.{◌∙◌, ◌≡◌, Bool, ap, cond, false, refl, subst}}
 use Rattle.std.proofs.{Common.{sym, true}, lemmas.Bool.false≢true}
 use Rattle.base.specs.declared.ids.SlotRef.{SlotRef}
@@ -41,7 +41,7 @@ finds m chosen now formed emptied going left =
           };
     }
 
--- before it all pairs are of filled slots
+-- all pairs are of filled slots before the removal
 pub formed_filled : (m : Machine) → IsWellFormed m → AreFilled m
 formed_filled m formed =
     record {
@@ -69,7 +69,7 @@ one_found m slot now formed emptied going parents =
     (left_alike m (with_tree m now) (λ q. same_slot q slot) (same_slot slot) (λ q. same_turned q slot)
     (node_left m (with_tree m now) slot (λ at. formed.slots.acyclic slot (child at)) has))
 
--- all that descends from a slot has
+-- all that descends from a slot has left the tree
 
 pub below_found :
     (m : Machine) (above : SlotRef) (now : Machine) → IsWellFormed m → AreEmptied m (is_below m above) now → AreGoing now
@@ -85,7 +85,7 @@ below_found m above now formed emptied going parents =
           (sym (tree_of m now q ∙ parents q ∙ ap (λ b. cond b None (parent_of m q)) is)) (stays q is (parent_of m q) refl);
     })
   where
-    -- what is above a slot that doesn't descend doesn't either
+    -- a slot above one that doesn't descend doesn't descend either
     stays :
         (q : SlotRef) → is_below m above q ≡ false → (to : Option SlotRef) → parent_of m q ≡ to
         → Nearest (parent_of m) (is_below m above) to to

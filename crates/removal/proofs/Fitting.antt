@@ -1,4 +1,4 @@
--- A list of objects that are there, none of them twice, is no longer than there are objects.
+-- Lists of objects that are there, none of them twice: such a list is no longer than there are objects.
 use Rattle.std.{specs.{FinMap.{FinMap, entries}, Prelude.{◌⊎◌, Contains, IsSome, None, is_some}}, proofs.Common.{[], ℕ, ◌++◌, ◌-◌, ◌<◌}}
 use Rattle.std.specs.FinMap as map
 use Rattle.std.proofs.Common.{◌∙◌, ◌∷◌, ◌≡◌, ◌≢◌, ◌≤◌, List, ap, arith, cond, inl, inr, length, length-append, refl, subst, suc, sym, zero}
@@ -9,7 +9,7 @@ use Rattle.machine.specs.{declared.object.Object.Object, Counts.objects_in, Mach
 use Rattle.machine.proofs.{FiniteLemmas.cond_elsewhere, LookUps.{id_apart, id_total}}
 use Rattle.removal.specs.UnderWay.{HasNoneTwice}
 
--- what stands first, if it stands once
+-- an object that stands first and once isn't among the rest
 first_apart : (id : ObjId) (ids : List ObjId) → HasNoneTwice (id ∷ ids) → ¬ (Contains ids id)
 first_apart id ids once there = once 0 (suc there.0) id (omega arith) (omega (arith, there.1)) (sym there.2)
 
@@ -19,7 +19,7 @@ further_in id ids each there = (suc there.0, omega (arith, there.1), there.2)
 pub first_in : (id : ObjId) (ids : List ObjId) → Contains (id ∷ ids) id
 first_in id ids = (0, omega arith, refl)
 
--- what has a key has one at least
+-- a table that has a key is not empty
 some_key : (table : FinMap id_cmp Object) (id : ObjId) → IsSome (map.get table id) → 1 ≤ map.len table
 some_key table id there = by_len (map.len table) refl where
   by_len : (n : ℕ) → map.len table ≡ n → 1 ≤ n
@@ -58,17 +58,16 @@ pub no_more_than_objects :
 unfolding object_of
 no_more_than_objects m ids once there = let all = objects_counted m in let few = fits_in ids m.objects once there in omega (arith, all, few)
 
--- who stands in a list of one is that one
 pub only_one : (x y : ObjId) → Contains (x ∷ []) y → y ≡ x
 only_one x y (zero, within, is) = sym is
 only_one x y (suc k, within, is) = absurd (omega (arith, within))
 
--- one more comes to stand once, if it isn't there yet
+-- an object that isn't in a list may be added to it, once
 pub once_more : (ids : List ObjId) (id : ObjId) → HasNoneTwice ids → (¬ (Contains ids id)) → HasNoneTwice (ids ++ id ∷ [])
 once_more ids id once apart =
     all_pairs_push (λ a b. a ≢ b) ids id once (λ k d less same. apart (k, less, get_or_default ids k id d less ∙ same))
 
--- where one that is there is missing, there is room for it
+-- a list that lacks a present object has room for it
 pub room_for_one :
     (m : Machine) (ids : List ObjId) (id : ObjId) → HasNoneTwice ids → ((each : ObjId) → Contains ids each → IsSome (object_of m each))
     → IsSome (object_of m id) → (¬ (Contains ids id)) → length ids < objects_in m

@@ -1,4 +1,4 @@
--- What is going stays there, without a capability and once, where a slot is emptied, and there is room for one more.
+-- Objects that are going stay there, without a capability and once, as a slot is emptied; and there is room for one more.
 use Rattle.std.{specs.Prelude.{◌⊎◌, Contains, IsSome, Some}, proofs.Common.{[], ◌<◌, ◌∷◌, ◌≡◌, arith, inl, inr, length, refl, subst, sym}}
 use Rattle.std.proofs.lemmas.List.Elements.{Contains-append_cases}
 use Rattle.base.specs.declared.ids.{ObjId.ObjId, SlotRef.SlotRef}
@@ -29,7 +29,7 @@ module _
       let none = going.unheld id listed in
       let parts = caps_to-without_cap m slot held filled id in omega (arith, none, parts)
 
-  -- where none are left, the object comes to be going
+  -- an object of which no capability is left is going then
   pub one_more_going : caps_to (without_cap m slot) held.object ≡ 0 → AreGoing (with_going (without_cap m slot) held.object)
   unfolding with_going without_cap object_of caps_to
   one_more_going none =

@@ -1,4 +1,4 @@
--- Once all that goes is empty: the rest of a removal, pass by pass, and that it ends as the removal does.
+-- The rest of a removal once all that goes is empty: pass by pass, it ends as the removal does.
 use Rattle.std.specs.{FinMap.FinMap, List.list_any, Prelude.{Contains, IsTrue, None, Option, Some, count_by, option_map}}
 use Rattle.std.specs.FinMap as map
 use Rattle.std.proofs.{Common.{◌∙◌, ◌≡◌, Bool, List, ap, cond, false, inl, inr, refl, subst, sym, true}, lemmas.Bool.false≢true}
@@ -13,7 +13,7 @@ use Rattle.derivation.proofs.TreeAfter.{any_listed, listed_any, there_or_alone, 
 use Rattle.finalising.specs.Pass.{IsFinalised}
 use Rattle.removal.{specs.{Dropping.{IsCutOff, dropped}, Sweeping.IsFound}, proofs.Dropped.{IsWithout, dropped_looks}}
 
--- links between objects are agreed whatever the capabilities and the tree
+-- links between objects agree whatever the capabilities and the tree
 links_beside :
     (m : Machine) (caps : FinMap slot_cmp Cap) (parents : FinMap slot_cmp SlotRef) (going : List ObjId) → LinksAgree m
     → LinksAgree (record m { caps = caps; parents = parents; going = going })
@@ -32,7 +32,6 @@ links_beside m caps parents going links =
       context_thread = links.context_thread;
     }
 
--- a test and another that tells the same
 same_test : (one other : Bool) → (one ≡ true → other ≡ true) → (other ≡ true → one ≡ true) → one ≡ other
 same_test true other there back = sym (there refl)
 same_test false true there back = absurd (false≢true (back refl))
@@ -49,7 +48,7 @@ module _
   unfolding object_of
   objects_now id = ap (λ (n : Machine). object_of n id) found.emptied.rest
 
-  -- who goes is listed
+  -- an object is listed exactly if it vanishes
   listed_now : (id : ObjId) → list_any (same_id id) now.going ≡ vanished id
   listed_now id =
       same_test (list_any (same_id id) now.going) (vanished id)
@@ -59,14 +58,14 @@ module _
       (λ is. listed_any (same_id id) now.going id ((found.emptied.going id).1 is) (itself id))
 
   module _ (tree : Machine) (left : HaveLeft now tree (is_going_slot now)) where
-    -- beside capabilities, the tree and what is going the machine is what it was
+    -- the machine is what it was, but for capabilities, the tree and what is going
     beside : tree ≡ record m { caps = now.caps; parents = tree.parents; going = now.going }
     beside = left.rest ∙ ap (λ (n : Machine). let changed : Machine = record n { parents = tree.parents } in changed) found.emptied.rest
 
     pub links_agree : LinksAgree tree
     links_agree = rw beside (links_beside m now.caps tree.parents now.going found.formed.links)
 
-    -- what is going is in no pair of the tree any more
+    -- an object that is going is in no pair of the tree any more
     going_alone : (slot : SlotRef) → Contains now.going slot.holder → IsAlone tree slot
     going_alone slot listed =
         elim
@@ -97,7 +96,7 @@ module _
       goes_last : (id : ObjId) → Contains now.going id → list_any (same_id id) tree.going ≡ true
       goes_last id listed = ap (λ (n : Machine). list_any (same_id id) n.going) beside ∙ listed_any (same_id id) now.going id listed (itself id)
 
-      -- so it can go
+      -- nothing holds to an object that is going
       pub going_cut_off : (id : ObjId) → Contains last.going id → IsCutOff last id
       going_cut_off id is =
           let listed : Contains now.going id = listed_last id is in
@@ -117,7 +116,7 @@ module _
             free = ends.waits_nowhere id (goes_last id listed);
           }
 
-      -- and the machine without it is the one after the removal
+      -- the machine without it is the one after the removal
 
       goes_tree : (id : ObjId) → list_any (same_id id) tree.going ≡ vanished id
       goes_tree id = ap (λ (n : Machine). list_any (same_id id) n.going) beside ∙ listed_now id

@@ -1,4 +1,4 @@
--- A removal stays under way where an object that is going is looked through, and then one more has been.
+-- A removal stays under way as an object that is going is looked through, and then one more has been.
 use Rattle.std.{specs.Prelude.{◌==◌, ◌⊎◌, Contains, IsTrue, None, Option, Some, is_some, not, slice_get}, proofs.Common.{[], ℕ, ◌+◌, ◌<◌}}
 use Rattle.std.proofs.Common.{◌∙◌, ◌∷◌, ◌≡◌, ◌≤◌, Bool, ap, arith, cond, eqb-true, false, inl, inr, refl, subst, suc, sym, true, zero}
 use Rattle.std.proofs.lemmas.{Bool.{eqb-false, false≢true, ltb-true}, Option.{get_or_from_slice_get, same_Some, slice_get-get_or}}
@@ -10,13 +10,12 @@ use Rattle.machine.{specs.{Objects.slot_count, Removal.cap_after}, proofs.CapCou
 use Rattle.removal.{specs.UnderWay.{IsUnderWay, emptied, emptied_below, noted, slots_at, slots_of}, proofs.Dropped.listed_at}
 use Rattle.removal.proofs.Emptying.{cap_of-with_going, emptied_here, emptied_way, get_front, stays_empty}
 
--- what has slots is a CNode or a thread
 slots_held : (object : Object) (index : ℕ) → index < slot_count object → has_slots (Some object) ≡ true
 slots_held (o.CNode node) index less = refl
 slots_held (o.Tcb tcb) index less = refl
 slots_held _ index less = absurd (omega (arith, less))
 
--- what an emptied slot leaves as it was
+-- an emptied slot leaves the rest as it was
 
 -- a machine differs from another in what is filled and in what more is going
 record Leaves (before after : Machine) : Type 0 where
@@ -92,7 +91,7 @@ emptied_within m id (suc count) index less = by_last (index == count) refl (empt
       (emptied_leaves (emptied_below m id count) (record { holder = id; index = count })).empty (record { holder = id; index = index })
       (before (omega (arith, less, differs)))
 
--- no slot of an object is filled where all are emptied
+-- no slot of an object is filled when all are emptied
 
 has_less : (m : Machine) (slot : SlotRef) → IsTrue (has_slot m slot) → slot.index < slots_at m slot.holder
 has_less m slot there = by_object (object_of m slot.holder) refl where
@@ -201,7 +200,7 @@ module _ (m : Machine) (chosen : SlotRef → Bool) (now : Machine) (looked : ℕ
 pub stays_emptied : (m : Machine) (slot q : SlotRef) → cap_of m q ≡ None → cap_of (emptied m slot) q ≡ None
 stays_emptied m slot = (emptied_leaves m slot).empty
 
--- what is going stays so
+-- an object that is going stays so
 pub listed_on : (m : Machine) (slot : SlotRef) (id : ObjId) → Contains m.going id → Contains (emptied m slot).going id
 listed_on m slot id listed =
     let there : slice_get m.going listed.0 ≡ Some id = slice_get-get_or m.going listed.0 id listed.1 ∙ ap Some listed.2 in

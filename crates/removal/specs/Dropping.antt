@@ -1,4 +1,4 @@
--- The end of a removal: the objects that have lost their last capability go, once nothing holds to them (seL4 manual, "Deletion,
+-- The end of a removal: objects that have lost their last capability are removed, once nothing holds to them (seL4 manual, "Deletion,
 -- Revocation, and Recycling").
 use Rattle.std.specs.{List.fold, Prelude.{◌≡◌, List, None}}
 use Rattle.base.specs.declared.ids.{ObjId.ObjId, SlotRef.SlotRef}
@@ -18,6 +18,6 @@ pub record IsCutOff (m : Machine) (id : ObjId) : Type 0 where
   pub deserted : first_waiting m id ≡ None
   pub free : WaitsNowhere m id
 
--- nothing is going, and those that were have gone
+-- nothing is going, and the objects that were going are removed
 abbrev pub dropped : Machine → Machine
 dropped m = with_none_going (without_objects m m.going)

@@ -1,4 +1,4 @@
--- Where a removal stands when all that goes has been found: its slots are empty, and the chosen ones have left the derivation tree (seL4
+-- A removal in which all that goes has been found: its slots are empty, and the chosen ones have left the derivation tree (seL4
 -- manual, "Deletion, Revocation, and Recycling"; in this order it is confine's own).
 use Rattle.std.specs.Prelude.{◌≡◌, Bool, true}
 use Rattle.base.specs.declared.ids.SlotRef.{SlotRef}
@@ -6,8 +6,8 @@ use Rattle.machine.specs.{Gone.gone_of, Machine.Machine, Tree.IsAlone, WellForme
 use Rattle.derivation.specs.Thinning.{IsThinned}
 use Rattle.removal.specs.UnderWay.{AreEmptied, AreGoing}
 
--- From a well-formed machine on, each slot that goes with the chosen ones has been emptied. The chosen ones are in no pair of the tree,
--- in which each slot that stays has for its nearest ancestor that stays the one that it had.
+-- each slot that goes with the chosen ones has been emptied, from a well-formed machine on; the chosen ones are in no pair of the tree, in
+-- which each slot that stays has the nearest ancestor that stays which it had
 pub record IsFound (m : Machine) (chosen : SlotRef → Bool) (now : Machine) : Type 0 where
   pub formed : IsWellFormed m
   pub emptied : AreEmptied m chosen now

@@ -1,4 +1,4 @@
-//! How the slots of objects that are going are emptied.
+//! Slots of objects that are going, and how they are emptied.
 ghost use Rattle.std.specs.Prelude.{ℕ, ◌≡◌, Bool, Contains, None, Some, true};
 ghost use Rattle.base.specs.declared.ids.SlotRef.{SlotRef as Slot};
 ghost use Rattle.machine.specs.Machine.{Machine, cap_of};
@@ -26,7 +26,7 @@ pub(crate) fn empty_slot(state: &mut State, slot: SlotRef)
     }
 }
 
-// How many slots the object has; none where there is no such object.
+// The number of slots of the object; 0 if there is no such object.
 fn slot_count(state: &State, id: ObjId) -> u64
     ensures { result ≡ slots_at state.now id }
 {

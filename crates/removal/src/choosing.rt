@@ -1,4 +1,4 @@
-//! How the slots that a removal names are taken out and emptied.
+//! Slots that a removal names, and how they are taken out of the tree and emptied.
 ghost use Rattle.std.specs.Prelude.{◌≡◌, None, if◌then◌else◌};
 ghost use Rattle.base.specs.declared.ids.SlotRef.{SlotRef as Slot};
 ghost use Rattle.machine.specs.{Below.is_below, Machine.{parent_of, same_slot}};

@@ -1,4 +1,4 @@
-//! How objects that lost their last capability are removed.
+//! Removal of objects that lost their last capability.
 ghost use Rattle.std.specs.Prelude.{◌≡◌, Contains};
 ghost use Rattle.base.specs.declared.ids.ObjId.{ObjId as Id};
 ghost use Rattle.removal.specs.Dropping.{IsCutOff, dropped, without_objects};

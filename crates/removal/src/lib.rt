@@ -1,6 +1,6 @@
 //! Removal of capabilities, pass by pass (seL4 manual, "Deletion, Revocation, and Recycling").
 //!
-//! `threads` and `kernel` stand on it. It knows no policy.
+//! The crate knows no policy.
 #![tactic(auto)]
 
 mod calls;

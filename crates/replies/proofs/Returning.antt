@@ -1,4 +1,4 @@
--- Where a thread that answers gives its context back, the context may be handed over to the called thread.
+-- A context that a thread gives back as it answers may be handed over to the called thread.
 use Rattle.std.{specs.Prelude.{None, Option, Some, option_map}, proofs.{Common.{◌∙◌, ◌≡◌, ◌≢◌, refl, sym, true}, lemmas.Option.none-some}}
 use Rattle.base.specs.declared.ids.ObjId.{ObjId}
 use Rattle.machine.specs.declared.{object.{Object.{Object, Object as o}, ObjectKind.ObjectKind as kind}, thread.Lent.Lent}
@@ -6,7 +6,7 @@ use Rattle.machine.specs.{Machine.{Machine, object_of}, Objects.kind_of_object, 
 use Rattle.machine.specs.WellFormed.{kind_of}
 use Rattle.steps.proofs.Lending.{GivesBack, gives_back_is}
 
--- who has lent something is a thread
+-- a lender is a thread
 lender_is : (content : Option Object) (lent : Lent) → loan_in content ≡ Some lent → option_map kind_of_object content ≡ Some kind.Tcb
 lender_is (Some (o.Tcb tcb)) lent e = refl
 lender_is None lent e = absurd (none-some lent e)

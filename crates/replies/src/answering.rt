@@ -28,7 +28,7 @@ fn caller_through(state: &State, id: ObjId) -> Option<ObjId>
     }
 }
 
-/// What a thread lent that called and waits for its answer.
+/// The thread's loan, if it called and waits for its answer.
 fn loan_in(state: &State, thread: ObjId) -> Option<Lent>
     ensures { result ≡ loan_in (object_of state.now thread) }
 {
@@ -45,8 +45,7 @@ fn loan_in(state: &State, thread: ObjId) -> Option<Lent>
     }
 }
 
-/// Whether a thread that answers gives its context back: the called thread lent it to it, and has none
-/// now.
+/// Whether a thread that answers gives its context back: the called thread lent it to it, and has none now.
 fn gives_back(state: &State, invoker: ObjId, called: ObjId) -> bool
     ensures { result ≡ gives_back state.now invoker called }
 {
@@ -60,8 +59,8 @@ fn gives_back(state: &State, invoker: ObjId, called: ObjId) -> bool
     }
 }
 
-/// Has the called thread run on the context that it lent to the one that answers, where that still has
-/// it. Nothing changes otherwise.
+/// Has the called thread run on the context that it lent to the one that answers, if that still has
+/// it. Else nothing changes.
 fn give_back(state: &mut State, invoker: ObjId, called: ObjId)
     requires { IsWellFormed state.old }
     ensures returned { state.new ≡ with_returned state.old invoker called }
@@ -72,8 +71,8 @@ fn give_back(state: &mut State, invoker: ObjId, called: ObjId)
     }
 }
 
-/// Gives the words to a thread that waits for an answer, if there is one, after the context that it
-/// lent.
+/// Gives a thread that waits for an answer, if there is one, first the context that it lent, then the
+/// words.
 fn answer(state: &mut State, invoker: ObjId, called: Option<ObjId>, words: [u64; 4])
     requires { IsWellFormed state.old }
     ensures { state.new ≡ answered state.old invoker called words }
@@ -89,7 +88,7 @@ fn answer(state: &mut State, invoker: ObjId, called: Option<ObjId>, words: [u64;
     }
 }
 
-// Does what the row of a reply says.
+// Makes a reply by its row.
 #[tactic(auto, unfolding(machine::specs::Step::Reply::reply_of))]
 fn make_reply(
     state: &mut State,
@@ -108,10 +107,10 @@ fn make_reply(
 
 /// Answers the call that was made through the reply at an address (seL4 manual, "Reply objects").
 ///
-/// The thread that called gets the words and can run, and the reply is free. Where nobody has
+/// The thread that called gets the words and can run, and the reply is free. If nobody has
 /// called through it, nothing changes. No capability is sent with an answer.
 ///
-/// The scheduling context that the thread lent goes back to it, if it was lent to the caller, which
+/// The scheduling context that the thread lent goes back to it if it was lent to the caller, which
 /// still runs on it, and the thread has got no other meanwhile.
 ///
 /// # Errors

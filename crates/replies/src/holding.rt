@@ -1,4 +1,4 @@
-//! How threads wait with reply objects.
+//! Replies that hold threads: one that waits for a message, or one that called.
 ghost use Rattle.std.specs.Prelude.{◌≡◌, Some};
 ghost use Rattle.base.specs.declared.ids.ObjId.{ObjId as Id};
 ghost use Rattle.machine.specs.declared.{object.ReplyState.TheVariants.Waiting, thread.Tcb.Tcb as Thread};
@@ -30,7 +30,7 @@ fn hold(state: &mut State, id: ObjId, holds: ReplyState)
     }
 }
 
-/// Makes the reply hold nobody. The thread that it held isn't changed. Does nothing where there is no
+/// Makes the reply hold nobody. The thread that it held isn't changed. Does nothing if there is no
 /// reply of that number.
 pub(crate) fn free(state: &mut State, id: ObjId)
     ensures { state.new ≡ with_free state.old id }
@@ -38,8 +38,8 @@ pub(crate) fn free(state: &mut State, id: ObjId)
     hold(state, id, ReplyState::Free);
 }
 
-// Has the reply wait with a thread that waits for a message. The thread isn't changed: its run state has
-// to name the reply. Does nothing where there is no reply of that number.
+// Has the reply wait with a thread that waits for a message. The thread isn't changed: its run state
+// must name the reply. Does nothing if there is no reply of that number.
 fn wait_with(state: &mut State, id: ObjId, thread: ObjId)
     ensures { state.new ≡ with_holding state.old id (Waiting thread) }
 {
@@ -66,8 +66,8 @@ fn wait_for_message(state: &mut State, thread: ObjId, receiving: Receiving)
 ///
 /// The thread waits behind those that wait there. If it names a reply, that reply waits with it.
 ///
-/// The thread that the reply held before isn't changed: the reply has to be free, and the thread
-/// that waits ready or inactive.
+/// The thread that the reply held before isn't changed: the reply must be free, and the thread
+/// that waits must be ready or inactive.
 pub fn await_message(state: &mut State, thread: ObjId, receiving: Receiving)
     requires { WaitsNowhere state.old thread }
     ensures awaiting { state.new ≡ awaiting_message state.old thread receiving }
@@ -85,7 +85,7 @@ pub fn await_message(state: &mut State, thread: ObjId, receiving: Receiving)
     wait_for_message(state, thread, receiving);
 }
 
-/// Says of a thread and a reply that each waits with the other for an answer.
+/// Ties a thread and a reply to each other, as the thread waits for an answer.
 #[tactic(auto, unfolding(machine::specs::Releasing::with_called))]
 fn tie(state: &mut State, thread: ObjId, calling: Calling)
     ensures { state.new ≡ with_called state.old thread calling }
@@ -103,7 +103,7 @@ fn tie(state: &mut State, thread: ObjId, calling: Calling)
 /// Has a thread wait for the answer to its call, through a reply that then holds it (seL4 manual, "Reply objects").
 ///
 /// The thread that the reply held before isn't changed, nor is the queue in which the caller waited:
-/// the reply has to be free, and the caller ready or inactive. Does nothing where there is no such thread.
+/// the reply must be free, and the caller ready or inactive. Does nothing if there is no such thread.
 pub fn link(state: &mut State, thread: ObjId, calling: Calling)
     ensures called { state.new ≡ with_called state.old thread calling }
     ensures well_formed { (tcb : Thread)
@@ -134,7 +134,7 @@ fn halt_holder(state: &mut State, id: ObjId)
 
 /// Halts the thread that the reply holds, if it holds one (seL4 manual, "Reply objects").
 ///
-/// That frees the reply, so both ends agree. Does nothing where there is no reply of that number.
+/// That frees the reply, so both ends agree. Does nothing if there is no reply of that number.
 pub fn unlink(state: &mut State, id: ObjId)
     requires { (thread : Id) → IsInItsQueue state.old thread }
     ensures unlinked { state.new ≡ with_holder_halted state.old id }

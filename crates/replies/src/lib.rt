@@ -1,6 +1,6 @@
 //! Replies, which answer calls (seL4 manual, "Endpoints"); and how a blocked thread leaves its queue and its reply.
 //!
-//! `finalising`, `transfer`, `threads` and `kernel` stand on it. It knows no policy.
+//! The crate knows no policy.
 #![tactic(auto)]
 
 mod answering;

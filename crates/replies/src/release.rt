@@ -1,4 +1,4 @@
-//! How a thread leaves its queue and its reply.
+//! Threads that leave their queue and their reply: halted, aborted, resumed, suspended, or with a message.
 ghost use Rattle.std.specs.Prelude.{◌≡◌, unwrap_or};
 ghost use Rattle.base.specs.declared.ids.ObjId.{ObjId as Id};
 ghost use Rattle.machine.specs.Releasing.{IsInItsQueue, unblocked, with_aborted, with_given, with_halted, with_ready};
@@ -31,7 +31,7 @@ fn unblock(state: &mut State, thread: ObjId, run: RunState)
 }
 
 // Has a thread leave its queue and its reply, with a run state, and an inbox if one is given. Does
-// nothing where there is no such thread.
+// nothing if there is no such thread.
 #[tactic(auto, unfolding(machine::specs::Releasing::with_released))]
 fn leave(state: &mut State, thread: ObjId, run: RunState, inbox: Option<Inbox>)
     requires { IsInItsQueue state.old thread }
@@ -51,7 +51,7 @@ fn leave(state: &mut State, thread: ObjId, run: RunState, inbox: Option<Inbox>)
 
 /// Has a thread leave its queue and its reply, and run no more (seL4 manual, "Threads and Execution").
 ///
-/// The thread keeps its inbox. Does nothing where there is no such thread.
+/// The thread keeps its inbox. Does nothing if there is no such thread.
 pub fn halt(state: &mut State, thread: ObjId)
     requires { IsInItsQueue state.old thread }
     ensures halted { state.new ≡ with_halted state.old thread }
@@ -62,7 +62,7 @@ pub fn halt(state: &mut State, thread: ObjId)
 
 /// Has a thread leave its queue and its reply, and continue.
 ///
-/// The thread's inbox says that what the thread waited for is gone. Does nothing where there is no
+/// The thread's inbox says that what the thread waited for is gone. Does nothing if there is no
 /// such thread.
 pub fn abort(state: &mut State, thread: ObjId)
     requires { IsInItsQueue state.old thread }
@@ -74,7 +74,7 @@ pub fn abort(state: &mut State, thread: ObjId)
 
 /// Has a thread leave its queue and its reply, and continue (seL4 manual, "Threads and Execution").
 ///
-/// The thread keeps its inbox. Does nothing where there is no such thread.
+/// The thread keeps its inbox. Does nothing if there is no such thread.
 pub fn resume(state: &mut State, thread: ObjId)
     requires { IsInItsQueue state.old thread }
     ensures ready { state.new ≡ with_ready state.old thread }
@@ -85,7 +85,7 @@ pub fn resume(state: &mut State, thread: ObjId)
 
 /// Stops a thread until it is resumed (seL4 manual, "Threads and Execution").
 ///
-/// The thread leaves its queue and its reply. What was in its inbox is lost. Does nothing where
+/// The thread leaves its queue and its reply. What was in its inbox is lost. Does nothing if
 /// there is no such thread.
 pub fn suspend(state: &mut State, thread: ObjId)
     requires { IsInItsQueue state.old thread }
@@ -97,7 +97,7 @@ pub fn suspend(state: &mut State, thread: ObjId)
 
 /// Has a thread leave its queue and its reply, and continue with a message (seL4 manual, "Endpoints").
 ///
-/// What was in its inbox is lost. Does nothing where there is no such thread.
+/// What was in its inbox is lost. Does nothing if there is no such thread.
 pub fn give(state: &mut State, thread: ObjId, message: Message)
     requires { IsInItsQueue state.old thread }
     ensures given { state.new ≡ with_given state.old thread message }

@@ -1,4 +1,4 @@
--- The least policy over labels of a table joins none but those, by each set of rules.
+-- That the least policy over the labels of a table joins only these labels, by each set of rules.
 use Rattle.std.{specs.List.AllByRecursion, proofs.Common.{[], ℕ, ◌++◌, ◌<◌, ◌||◌, ◌∙◌, ◌∷◌, ◌≡◌, Bool, List, arith}}
 use Rattle.std.proofs.{Common.{false, inl, inr, length, refl, sym, true}, lemmas.Bool.or_cases}
 use Rattle.base.specs.declared.{edge.Edge.Edge, kind.Kind.Kind}
@@ -16,7 +16,7 @@ all_obeyed : (n : ℕ) (set : Rules) (t : Layout) → Obeys set t (among n)
 all_obeyed n rules.Closed t = all_closed n
 all_obeyed n rules.Sharp t = closed_sharply (among n) (MayKeep t (among n)) (all_closed n)
 
--- so a policy that is within each one that obeys and has some edges joins labels that these join
+-- a policy within each obeying policy that has some edges joins only labels that these edges join
 pub least_within :
     (n : ℕ) (set : Rules) (t : Layout) (edges policy : List Edge) → IsLeastBy set t edges policy
     → ((from : ℕ) (kind : Kind) (to : ℕ) → allows edges from kind to ≡ true → (from < n) × (to < n))
@@ -27,7 +27,6 @@ least_within n set t edges policy least below from kind to e =
     (λ f k t has. joins n f k t (below f k t has).0 (below f k t has).1)
     from kind to e)
 
--- edges of two lists
 pub either_within :
     (n : ℕ) (one other : List Edge)
     → ((from : ℕ) (kind : Kind) (to : ℕ) → allows one from kind to ≡ true → (from < n) × (to < n))
@@ -39,7 +38,7 @@ either_within n one other first second from kind to e =
       | inr there ↦ second from kind to there
     ]
 
--- edges of a table's labels, edge by edge and as a list
+-- the edges of a table's labels, one by one and as a list
 
 pub listed_within :
     (t : Layout) (edges : List Edge) → AllByRecursion (IsEdgeOf t) edges

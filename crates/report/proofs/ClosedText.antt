@@ -1,4 +1,4 @@
--- The text of the least policy over a table, by a set of rules.
+-- The text of the least policy over a table by a set of rules: what it says, and that it is read back.
 use Rattle.std.{specs.{List.AllByRecursion, Prelude.{Err, IfOk, Ok, Result}}, proofs.Common.{[], ℕ, ◌++◌, ◌<◌, ◌↔◌, ◌∙◌, ◌∷◌, ◌≡◌, List}}
 use Rattle.std.proofs.{Common.{ap, inl, inr, length, refl, subst, sym}, lemmas.Bool.or_cases}
 use Rattle.base.specs.declared.{edge.Edge.Edge, kind.Kind.Kind}
@@ -14,7 +14,6 @@ use Rattle.report.specs.Closings.{Closes, IsAuthorityOf, IsClosing, IsInEachPoli
 use Rattle.report.proofs.{ClosedLabels.{either_within, least_within, listed_within, within_listed}, Missing.none_if_within}
 use Rattle.report.proofs.Missing.{within_if_none}
 
--- which tables and policies are accepted
 abbrev pub AcceptedAs : Rules → Layout → List Edge → Type 0
 AcceptedAs set t p = IsAcceptedBy set t (allows p) ↔ (Obeys set t (allows p) × ((m : Machine) → IsBoot t m → IsConfined t (allows p) m))
 
@@ -33,14 +32,14 @@ is_closing set t edges authority policy of_boot rising least accepted =
     confines m at from kind to has =
         least.has from kind to (allows_after edges authority from kind to ((of_boot m from kind to at).1 has))
 
--- nothing is lacked
+-- the status is 0 only if no edge is missing
 nothing_at : (missing : List Edge) → missing_status missing ≡ 0 → missing ≡ []
 nothing_at [] e = refl
 nothing_at (edge ∷ missing) e = cc
 
--- what is told, of a table with this boot state
+-- the texts about a table with this boot state
 module _ (set : Rules) (t : Layout) (boot : Machine) (booted : IsBoot t boot) where
-  -- its edges join labels of the table, if the given ones do
+  -- the least policy joins labels of the table, if the given edges do
   joins_labels :
       (edges policy : List Edge)
       → ((from : ℕ) (kind : Kind) (to : ℕ) → HasAuthority t boot from kind to → (from < length t.labels) × (to < length t.labels))
@@ -64,7 +63,7 @@ module _ (set : Rules) (t : Layout) (boot : Machine) (booted : IsBoot t boot) wh
     bare = plain.bare;
   }
 
-  -- the given edges are all there is, exactly if the table keeps to them
+  -- the least policy is the given edges exactly if the table keeps to these
   same_if_within : (edges policy : List Edge) → IsClosing set t edges policy → IsWithin (allows policy) (allows edges) → allows policy ≡ allows edges
   same_if_within edges policy closing within = λ i from kind to. same_answer _ _ (within from kind to)
       (λ e. closing.least.has from kind to (allows_before edges closing.authority from kind to e)) i
@@ -95,7 +94,7 @@ module _ (set : Rules) (t : Layout) (boot : Machine) (booted : IsBoot t boot) wh
   }
   missing_told (Err error) edges policy closing text status bare accepted = tt
 
-  -- the least policy for the table alone is within each to which the table keeps
+  -- the least policy for the table alone is within each policy to which the table keeps
   least_in_each : (least : List Edge) → IsClosing set t [] least → ((p : List Edge) → AcceptedAs set t p) → IsInEachPolicyFor set t least
   least_in_each least alone accepted policy kept =
       let parts = (accepted policy).0 kept in

@@ -1,4 +1,4 @@
--- What a denial answers.
+-- The answer to a denied system.
 use Rattle.std.proofs.Common.{◌≤◌, List, arith}
 use Rattle.base.specs.declared.edge.Edge.{Edge}
 use Rattle.machine.specs.Layout.{Layout}

@@ -1,4 +1,4 @@
--- The names of labels are copied one after another.
+-- That the names of a table's labels are copied one after another.
 use Rattle.std.specs.Global.{Vec}
 use Rattle.std.proofs.{Common.{[], ℕ, ◌++◌, ◌+◌, ◌<◌, ◌∙◌, ◌∷◌, ◌≡◌, List, ap, get_or, length, sym, take}, lemmas.List.{map_push, take_more}}
 use Rattle.microkit.specs.LabelView.{bytes_of}

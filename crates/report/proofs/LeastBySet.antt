@@ -1,4 +1,4 @@
--- The least policy by a set of rules: what closing gives, and what it is where no edge is given.
+-- The least policy by a set of rules: the policy that closing gives, also without given edges.
 use Rattle.std.proofs.Common.{[], ℕ, ◌↔◌, ◌≡◌, List, true}
 use Rattle.base.specs.{declared.{edge.Edge.Edge, labels.Labels.Labels}, Labels.is_in}
 use Rattle.machine.specs.Layout.{Layout}
@@ -13,7 +13,7 @@ use Rattle.report.specs.Closings.{IsClosing, IsLeastBy}
 pub least_closed : (t : Layout) (edges policy : List Edge) → IsLeastClosed edges policy → IsLeastBy rules.Closed t edges policy
 least_closed t edges policy is = record { obeys = is.closed; has = is.has; least = is.least }
 
--- the labels that keep are those that may keep, since those that hold at boot are the table's
+-- the keepers of the boot state are the labels that may keep
 pub least_sharp :
     (t : Layout) (held : Labels) (edges policy : List Edge) → ((a : ℕ) → (is_in held a ≡ true) ↔ HoldsNode t a)
     → IsLeastSharp edges (is_in held) policy → IsLeastBy rules.Sharp t edges policy
@@ -27,7 +27,7 @@ least_sharp t held edges policy told is = record {
       (fewer_keepers other (MayKeep t other) (KeepsFrom other (is_in held)) (λ a keeps. from_may t other held told keeps) sharp);
 }
 
--- a policy that is closed sharply over a table alone is its reach
+-- the sharply closed policy over a table alone is the table's reach
 pub is_reach : (t : Layout) (policy : List Edge) → IsClosing rules.Sharp t [] policy → IsReach t policy
 is_reach t policy is = record {
   sharp = is.least.obeys;

@@ -1,4 +1,4 @@
--- The edges of a policy that another lacks: there are none exactly where it is within the other.
+-- The edges of a policy that another lacks: there are none exactly if the policy is within the other.
 use Rattle.std.{specs.Prelude.filter, proofs.Common.{[], ℕ, ◌∙◌, ◌∷◌, ◌≡◌, Bool, List, ap, false, if◌then◌else◌, inl, inr, not, refl, sym}}
 use Rattle.std.proofs.{Common.true, lemmas.Bool.or_cases}
 use Rattle.base.specs.declared.{edge.Edge.Edge, kind.Kind.Kind}

@@ -1,4 +1,4 @@
--- Two answers to the bytes of files are one, where two answers to what such files hold are.
+-- That the bytes of files have one answer, if what the files hold has one.
 use Rattle.std.proofs.Common.{ℕ, ◌∙◌, ◌≡◌, Err, List, None, Ok, Option, Result, Some, sym}
 use Rattle.base.specs.declared.edge.Edge.{Edge}
 use Rattle.machine.specs.Layout.{Layout}
@@ -41,7 +41,7 @@ then_known (faulty file text table fault) next known each = tt
 then_known (misused why) next known each = tt
 then_known unknown next known each = absurd known
 
--- where what follows files is answered once, so are the files
+-- files have one answer if what they hold has one
 module _ {X : Type 0} (judges : X → Answer → Type 0) where
   whole_once : (x : X) → IsOne (judges x) → IsAnsweredOnce judges (whole x)
   whole_once x one text other status another (a, is, says, exit) (b, also, tells, out) =

@@ -1,4 +1,4 @@
--- A script has one log where no call is refused memory, and a log has one report of its replay.
+-- That a script has one log if no call is refused memory, and that a log has one report of its replay.
 use Rattle.std.{specs.List.zip, proofs.Common.{[], ℕ, ◌+◌, ◌∙◌, ◌∷◌, ◌≡◌, ◌⊎◌, All, List, Some, ap, inl, inr, length, refl, subst, sym}}
 use Rattle.std.proofs.lemmas.List.Elements.{All-head, All-tail}
 use Rattle.base.specs.declared.edge.Edge.{Edge}
@@ -17,8 +17,6 @@ use Rattle.verdict.proofs.{DenialPlaces.numbered, OneVerdict.{one_least, same_ou
 use Rattle.reptext.specs.{Places.place_names_by, Reports.{illegal_data, line_of, outside_data}}
 use Rattle.report.specs.{OneAnswer.{IsLogInMemory, RunsInMemory}, Replays.{IsFirstOutside, IsReplayedTo, Replays, illegal, outside, within}}
 use Rattle.report.proofs.{OneAnswer.{IsOne, JudgesOnce}, OneReport.verdict_once}
-
--- the log of a run
 
 abbrev Unrefused : Entry → Type 0
 Unrefused entry = ¬ IsLack entry.0 entry.1
@@ -58,8 +56,6 @@ log_once t events a b is also =
 pub run_told_once : (set : Rules) → JudgesOnce (RunsInMemory set)
 run_told_once set t edges events = verdict_once set t edges (IsLogInMemory t events) (log_once t events)
 
--- a replay
-
 led_once : (entries : List Entry) (m last after : Machine) → Leads m entries last → Leads m entries after → last ≡ after
 led_once [] m last after ran again = sym ran ∙ again
 led_once (e ∷ es) m last after ran again =
@@ -67,7 +63,7 @@ led_once (e ∷ es) m last after ran again =
     (subst (λ (n : Machine). Leads n es last) (one_next m e.0 e.1 ran.0 again.0 ran.1 again.1) ran.2) again.2
 
 module _ (t : Layout) (edges : List Edge) (entries : List Entry) where
-  -- a denial that tells where a machine's authority lies outside
+  -- a denial says where a machine's authority lies outside the policy
   abbrev TellsOutside : Machine → Denial → Type 0
   TellsOutside m d = (place : Excess) × (excess_of d ≡ Some place) × Exceeds (of_machine t m) (allows edges) place
 

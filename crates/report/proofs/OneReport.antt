@@ -1,4 +1,4 @@
--- A verdict is told by one text with one status: that of a check, and that of a certificate.
+-- That a verdict has one text and one status, as the answer to `check` and to `verify`.
 use Rattle.std.{specs.Prelude.slice_get, proofs.Common.{ℕ, ◌+◌, ◌∙◌, ◌≡◌, List, ap, inl, inr, sym}}
 use Rattle.std.proofs.lemmas.Bool.{cases_order}
 use Rattle.base.specs.declared.edge.Edge.{Edge}
@@ -15,7 +15,7 @@ use Rattle.commands.specs.Commands.{IsPlain, Says}
 use Rattle.report.specs.Answers.{Answers, AnswersVerdict, Checks}
 use Rattle.report.{specs.Answers.{TellsCheck, Verifies, accepted, denied}, proofs.OneAnswer.{IsOne, JudgesOnce, JudgesTwoOnce}}
 
--- an acceptance that is told in one way, and denials of which there is one, and none beside an acceptance
+-- an acceptance with one text, and denials of which there is at most one, and none beside an acceptance
 module _
     (t : Layout) (Accepted : Type 0) (Denied : Denial → Type 0) (Tells : Answer → Type 0)
     (one : (d e : Denial) → Denied d → Denied e → d ≡ e) (never : (d : Denial) → Accepted → Denied d → ⊥) (told : IsOne Tells) where
@@ -33,7 +33,7 @@ verdict_once set t edges Tells told =
     answers_once t (IsAcceptedBy set t (allows edges)) (IsLeastBrokenBy set t (allows edges)) Tells (one_denial set t (allows edges))
     (λ d none least. none d least.has) told
 
--- a check
+-- the answer to `check`
 
 check_told :
     (written : OnAccept) (t : Layout) (edges : List Edge) (text other : List ℕ) → TellsCheck written t edges text
@@ -46,7 +46,7 @@ check_once set written t edges =
     verdict_once set t edges (Says (TellsCheck written t edges))
     (λ a b is also. (check_told written t edges a.text.items b.text.items is.so also.so, is.status ∙ sym also.status))
 
--- a certificate
+-- the answer to `verify`
 
 differ_once : (lines right : List Line) (m n : ℕ) → DiffersFirst m lines right → DiffersFirst n lines right → m ≡ n
 differ_once lines right m n one two = elim (cases_order one.before two.before) [

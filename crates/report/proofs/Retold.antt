@@ -1,4 +1,4 @@
--- Answers whose text is another's.
+-- Answers whose text is that of another answer.
 use Rattle.std.proofs.Common.{ℕ, ◌∙◌, ◌≡◌, ◌≤◌, List, arith}
 use Rattle.commands.specs.{declared.{answer.Answer.Answer, listener.Finding.Finding}, Commands.{Finds, IsPlain, Says}}
 
@@ -17,7 +17,7 @@ finding_retold same finds = record {
   script = finds.script;
 }
 
--- an answer of a text alone says what is so of the text
+-- the text of an answer is the one that it was made of
 pub said :
     {IsSo : List ℕ → Type 0} {told : List ℕ} {answer : Answer} → IsSo told → IsPlain told 0 answer → Says IsSo answer × (answer.status ≤ 2)
 said is plain = (record { so = rw plain.text is; status = plain.status; bare = plain.bare }, omega (arith, plain.status))

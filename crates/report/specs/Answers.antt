@@ -1,4 +1,4 @@
--- What the commands answer to a table, a policy and a third file (confine's own).
+-- The answers of `check`, `verify` and `run` to a table, a policy and a third file (confine's own).
 use Rattle.std.specs.{List.zip, Prelude.{ℕ, ◌≡◌, List, None, Some, Vec}, declared.alloc.Global.Global}
 use Rattle.base.specs.declared.edge.Edge.{Edge}
 use Rattle.machine.specs.{declared.call.{Event.Event, Outcome.Outcome}, Boot.IsBoot, Layout.Layout, Machine.Machine, Run.Run}
@@ -16,7 +16,7 @@ use Rattle.forms.specs.declared.file.File.TheVariants as file
 use Rattle.commands.specs.declared.{answer.{Answer.Answer, Made.Made as made}, choices.{OnAccept.{OnAccept, OnAccept as on_accept}, Taken.Taken as taken}}
 use Rattle.commands.specs.{declared.end.End.End, Commands.{Denies, Input, IsDoneOnThree, IsDoneWith, IsPlain, Output, Says}}
 
--- a table and a policy are accepted and the answer tells it; or they are denied and it tells why, with status 1
+-- the answer to a verdict: it says that a table and a policy are accepted, or with status 1 why they are denied
 pub data Answers (t : Layout) (Accepted : Type 0) (Denied : Denial → Type 0) (Tells : Answer → Type 0) (answer : Answer) : Type 0 where
   accepted : Accepted → Tells answer → Answers t Accepted Denied Tells answer
   denied : (denial : Denial) → Denied denial → Denies t denial answer → Answers t Accepted Denied Tells answer
@@ -25,7 +25,7 @@ pub data Answers (t : Layout) (Accepted : Type 0) (Denied : Denial → Type 0) (
 abbrev pub AnswersVerdict : Rules → Layout → List Edge → (Answer → Type 0) → Answer → Type 0
 AnswersVerdict set t edges = Answers t (IsAcceptedBy set t (allows edges)) (IsLeastBrokenBy set t (allows edges))
 
--- a text is the log of a run of the events from the boot state of the table, which came to these outcomes
+-- a text is the log of a run of the events from the table's boot state, with these outcomes
 pub record IsRunOf (t : Layout) (events : List Event) (outcomes : List Outcome) (text : List ℕ) : Type 0 where
   pub boot : Machine
   pub last : Machine
@@ -42,8 +42,7 @@ pub record IsLogOfRun (t : Layout) (events : List Event) (answer : Answer) : Typ
   pub made : answer.made ≡ Some (made.InTurn outcomes)
   pub script : answer.script ≡ None
 
--- a text is this log of a run that is made of the events by several cores, from the boot state of the table: each core's events in their
--- order
+-- a text is this log of a run of the events by several cores from the table's boot state, where each core's events stay in their order
 pub record IsSplitOf (t : Layout) (events : List Event) (log : List Entry) (text : List ℕ) : Type 0 where
   pub boot : Machine
   pub last : Machine
@@ -60,7 +59,7 @@ pub record IsLogOfSplit (t : Layout) (events : List Event) (answer : Answer) : T
   pub made : answer.made ≡ Some (made.ByWorkers entries)
   pub script : answer.script ≡ None
 
--- what is written of an acceptance: the report, or the table's certificate
+-- the text on an acceptance: the report, or the table's certificate
 abbrev pub TellsCheck : OnAccept → Layout → List Edge → List ℕ → Type 0
 TellsCheck on_accept.Report t edges text = IsCheckReport t edges text
 TellsCheck on_accept.Certificate t edges text = text ≡ certificate_text t (right_certificate t)
@@ -79,22 +78,20 @@ Verifies set t edges lines =
 abbrev pub Runs : Rules → Layout → List Edge → List Event → Answer → Type 0
 Runs set t edges events = AnswersVerdict set t edges (IsLogOfRun t events)
 
--- the answer to a script that is split among the cores: by the rules of closed policies
+-- the answer to a script whose calls are split among the cores, by the rules of closed policies
 abbrev pub RunsSplit : Layout → List Edge → List Event → Answer → Type 0
 RunsSplit t edges events = AnswersVerdict rules.Closed t edges (IsLogOfSplit t events)
 
--- a table was checked against a policy
 abbrev pub IsChecked : {T P O : Type 0} → Rules → OnAccept → Input T → Input P → Output O → End → Type 0
 IsChecked set written = IsDoneWith taken.Table file.Policy read_policy_of (λ t. None) (Checks set written)
 
--- a certificate was verified with a table and a policy
 abbrev pub IsVerifiedWith : {T P S O : Type 0} → Rules → Input T → Input P → Input S → Output O → End → Type 0
 IsVerifiedWith set = IsDoneOnThree file.Certificate read_certificate_of (Verifies set)
 
--- a script was run on a table and a policy, where they are accepted
+-- a script was run on a table and a policy, if they are accepted
 abbrev pub IsRun : {T P S O : Type 0} → Rules → Input T → Input P → Input S → Output O → End → Type 0
 IsRun set = IsDoneOnThree file.Script (λ t. read_script_of) (Runs set)
 
--- a script was run on a table and a policy, where they are accepted, by a worker for each core
+-- a script was run on a table and a policy by a worker for each core, if they are accepted
 abbrev pub IsRunSplit : {T P S O : Type 0} → Input T → Input P → Input S → Output O → End → Type 0
 IsRunSplit = IsDoneOnThree file.Script (λ t. read_script_of) RunsSplit

@@ -1,5 +1,5 @@
--- What is told of claims on a table, and of the strongest that hold (confine's own; what they claim is kept by the integrity of 'seL4
--- Enforces Integrity', section 4, restated).
+-- The answers to claims on a table, and the strongest claims that hold (confine's own; claims are kept by the integrity of 'seL4 Enforces
+-- Integrity', section 4, restated).
 use Rattle.std.specs.{List.{Contains, filter}, Prelude.{[], ℕ, ◌∷◌, ◌≡◌, List, None, Option, Some, Vec, is_some, length}}
 use Rattle.std.specs.declared.alloc.Global.{Global}
 use Rattle.forms.specs.declared.file.File.{File as file}
@@ -13,22 +13,21 @@ use Rattle.reptext.specs.{Breaches.breaches_data, Reports.{hold_data, line_of}}
 use Rattle.commands.specs.declared.{answer.Answer.Answer, choices.Taken.Taken, end.End.End, listener.Finding.{Finding, Finding as finding}}
 use Rattle.commands.specs.Commands.{Finds, Input, IsDoneWith, IsPlain, Output}
 
--- how many claims lines say
+-- the number of claims in lines
 abbrev pub claim_count : List (Option Claim) → ℕ
 claim_count lines = length (filter is_some lines)
 
--- these claims are found broken
 abbrev pub AreFound : List Broken → Finding → Type 0
 AreFound broken found = (v : Vec Broken Global) × (found ≡ finding.Broken v) × (v.items ≡ broken)
 
--- what these claims say is kept in every run from the table's boot state. What claims on flows say of calls is kept too, if the system is
--- fixed, and it is told whether it is
+-- these claims are kept in every run from the table's boot state. Claims on flows are kept of calls too if the system is fixed, and the
+-- answer says whether it is
 pub record AreKept (t : Layout) (limits : Limits) (IsOurs : Claim → Type 0) (kept : Kept) : Type 0 where
   pub every : (claim : Claim) → IsOurs claim → IsKept t limits claim
   pub calls : IsFixed t → (claim : Claim) → IsOurs claim → IsKeptInCalls t limits claim
   pub told : IsKeptSo t kept
 
--- the answer to claims: all hold by the reach of the table, and are kept; or these are all that don't hold, and those that hold are kept
+-- the answer to claims: all hold by the table's reach and are kept; or these are all that don't hold, and the others are kept
 pub data Judges (t : Layout) (lines : List (Option Claim)) (answer : Answer) : Type 0 where
   all_hold : (reach : TableReach) → IsReachOf t reach → AreBroken t (limits_of reach) ClaimLines.FIRST lines [] → (kept : Kept)
       → AreKept t (limits_of reach) (λ claim. Contains lines (Some claim)) kept → IsPlain (line_of (hold_data (claim_count lines) kept)) 0 answer
@@ -42,7 +41,7 @@ pub data Judges (t : Layout) (lines : List (Option Claim)) (answer : Answer) : T
 abbrev pub AreJudged : {T S O : Type 0} → Taken → Input T → Input S → Output O → End → Type 0
 AreJudged taken = IsDoneWith taken file.Claims read_claims_of (λ t. None) Judges
 
--- a text is that of the strongest claims that hold by the reach of a table. What they claim is kept in every run
+-- a text is that of the strongest claims that hold by a table's reach, all of which are kept in every run
 pub record TellsStrongest (t : Layout) (text : List ℕ) : Type 0 where
   pub reach : TableReach
   pub is_reach : IsReachOf t reach

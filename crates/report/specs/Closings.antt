@@ -1,5 +1,5 @@
--- What closing a policy over a table answers: the least policy with the policy's edges to which the table keeps, by a set of rules
--- (confine's own; the policies that are closed are the well-formed ones of 'seL4 Enforces Integrity', section 3).
+-- The answers of `close`: the least policy with a policy's edges to which a table keeps, by a set of rules (confine's own; closed policies
+-- are the well-formed ones of 'seL4 Enforces Integrity', section 3).
 use Rattle.std.specs.Prelude.{[], ℕ, ◌++◌, ◌↔◌, ◌∷◌, ◌≡◌, List, Ok, filter, not, true}
 use Rattle.base.specs.declared.{edge.Edge.Edge, kind.Kind.Kind}
 use Rattle.machine.specs.{Authority.HasAuthority, Boot.IsBoot, Layout.Layout, Machine.Machine}
@@ -15,13 +15,12 @@ IsAuthorityOf t edges =
     (boot : Machine) (from : ℕ) (kind : Kind) (to : ℕ) → IsBoot t boot
     → allows edges from kind to ≡ true ↔ HasAuthority t boot from kind to
 
--- a policy obeys a set of rules: it is closed; or it is sharply closed, where the labels that may keep capabilities for CNodes are those
--- of the table
+-- a policy obeys a set of rules: it is closed; or sharply closed, with the table's labels that may keep capabilities for CNodes as keepers
 abbrev pub Obeys : Rules → Layout → EdgeTest → Type 0
 Obeys rules.Closed t = IsClosed
 Obeys rules.Sharp t = IsSharp t
 
--- a policy that obeys the set and has the edges, and that is within every policy that does
+-- the least policy with the edges that obeys the set
 pub record IsLeastBy (set : Rules) (t : Layout) (edges policy : List Edge) : Type 0 where
   pub obeys : Obeys set t (allows policy)
   pub has : IsWithin (allows edges) (allows policy)
@@ -44,20 +43,20 @@ IsInEachPolicyFor set t edges = (policy : List Edge) → IsAcceptedBy set t (all
 abbrev pub missing_edges : List Edge → List Edge → List Edge
 missing_edges edges policy = filter (λ edge. not (allows edges edge.from edge.kind edge.to)) policy
 
--- 0 where no edge is missing, else 1
+-- the status: 0 if no edge is missing, else 1
 abbrev pub missing_status : List Edge → ℕ
 missing_status [] = 0
 missing_status (edge ∷ edges) = 1
 
--- the edges over which a policy is closed: the given ones; or none, where it is asked which of these the table and the rules don't ask for
+-- the edges over which a policy is closed: the given ones; or none, if the question is which of these the table and the rules don't need
 abbrev pub kept_edges : OnClose → List Edge → List Edge
 kept_edges on_close.Policy edges = edges
 kept_edges on_close.Missing edges = edges
 kept_edges on_close.Surplus edges = []
 
--- a text and a status tell what is asked for of the least policy over some edges: its whole text; or the lines of what is missing,
--- with status 0 exactly where the table keeps to the given edges; or the lines of the given edges that it lacks, with status 0 exactly
--- where each of these is in every policy to which the table keeps
+-- the text and status on the least policy over some edges: its whole text; or the lines of the edges that are missing, with status 0
+-- exactly if the table keeps to the given ones; or the lines of the given edges that it lacks, with status 0 exactly if each of the given
+-- edges is in every policy to which the table keeps
 abbrev pub TellsClosing : Rules → OnClose → Layout → List Edge → List Edge → List ℕ → ℕ → Type 0
 TellsClosing set on_close.Policy t edges policy text status =
     (text ≡ policy_text t policy) × (IsPolicyOf t edges → read_policy_of t text ≡ Ok policy) × (status ≡ 0)
@@ -68,7 +67,7 @@ TellsClosing set on_close.Surplus t edges policy text status =
     (text ≡ edge_lines t (missing_edges policy edges)) × (status ≡ missing_status (missing_edges policy edges))
     × ((status ≡ 0) ↔ IsInEachPolicyFor set t edges)
 
--- the answer to a table and a policy that is to be closed over it; or, for a table alone, one without an edge
+-- the answer to a table and a policy that is closed over it, or to a table alone, for which the policy has no edges
 pub record Closes (set : Rules) (written : OnClose) (t : Layout) (edges : List Edge) (answer : Answer) : Type 0 where
   pub policy : List Edge
   pub closing : IsClosing set t (kept_edges written edges) policy

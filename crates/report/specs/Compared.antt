@@ -1,4 +1,4 @@
--- What the command `diff` answers to two tables (confine's own).
+-- The answer of `diff` to two tables (confine's own).
 use Rattle.std.specs.{List.list_any, Prelude.{ℕ, ◌≡◌, List, if◌then◌else◌}}
 use Rattle.machine.specs.Layout.{Layout}
 use Rattle.reach.specs.Reach.{IsReachOf, TableReach}
@@ -16,7 +16,7 @@ abbrev pub changes_told : Form → Layout → Layout → List Change → List �
 changes_told form.Text old new changed = changes_text old new changed
 changes_told form.Json old new changed = line_of (changes_data old new changed)
 
--- an answer tells the changes from the reach of one table to that of another
+-- the answer lists the changes from the reach of one table to that of another
 pub record Compares (written : Form) (old new : Layout) (answer : Answer) : Type 0 where
   pub old_reach : TableReach
   pub new_reach : TableReach

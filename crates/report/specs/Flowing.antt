@@ -1,11 +1,11 @@
--- What the command `flows` answers to a table (confine's own).
+-- The answers of `flows` to a table (confine's own).
 use Rattle.std.specs.Prelude.{ℕ, ◌≡◌, List, Some}
 use Rattle.machine.specs.Layout.{Layout}
 use Rattle.table.specs.Names.{label_named}
 use Rattle.reach.specs.Reach.{IsReachOf, TableReach}
 use Rattle.flowtext.specs.{FlowMatrix.IsFlowMatrix, FlowText.IsFlowText}
 
--- a text tells what flows from the label of one name to that of another, by the reach of a table
+-- a text lists what flows from the label of one name to that of another, by the table's reach
 pub record TellsFlows (from to : List ℕ) (t : Layout) (text : List ℕ) : Type 0 where
   pub of_from : ℕ
   pub of_to : ℕ
@@ -15,7 +15,7 @@ pub record TellsFlows (from to : List ℕ) (t : Layout) (text : List ℕ) : Type
   pub is_reach : IsReachOf t reach
   pub told : IsFlowText reach of_from of_to text
 
--- a text is the matrix of the flows between all programs, by the reach of a table
+-- a text is the matrix of the flows between all programs, by the table's reach
 pub record TellsAllFlows (t : Layout) (text : List ℕ) : Type 0 where
   pub reach : TableReach
   pub is_reach : IsReachOf t reach

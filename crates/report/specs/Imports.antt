@@ -1,12 +1,11 @@
--- What importing a system description answers: its capability table, or the claims that it makes (confine's own).
+-- The answer of `import` to a system description: its capability table, or the claims that it makes (confine's own).
 use Rattle.std.specs.Prelude.{ℕ, ◌≡◌, List, Ok}
 use Rattle.captext.specs.{TableText.table_text, Tables.read_table_of}
 use Rattle.separation.specs.Claims.{claims_text}
 use Rattle.commands.specs.{declared.end.End.End, Commands.{Input, IsDoneOnDescription, Output, Says}, Described.Described}
 use Rattle.commands.specs.declared.choices.{Imported.{Imported, Imported as imported}, OnImport.{OnImport}}
 
--- a text is what is asked for of a description and its table: the table's text, which is read as this table; or the text of the claims that
--- the description makes, with the names of the table's labels
+-- a text is that of the table, which is read back as this table; or that of the description's claims, with the names of the table's labels
 abbrev pub TellsImport : Imported → Described → List ℕ → Type 0
 TellsImport imported.Table d text = (text ≡ table_text d.table) × (read_table_of text ≡ Ok d.table)
 TellsImport imported.Claims d text = text ≡ claims_text d.table.labels d.description

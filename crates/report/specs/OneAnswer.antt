@@ -1,4 +1,4 @@
--- That files have one answer, whenever and wherever a command is carried out on them (confine's own).
+-- That files have one answer, whenever and wherever a command reads them (confine's own).
 use Rattle.std.specs.{List.zip, Prelude.{ℕ, ◌≡◌, All, List, Result, Some}}
 use Rattle.base.specs.declared.edge.Edge.{Edge}
 use Rattle.machine.specs.{declared.call.Event.Event, Layout.Layout}
@@ -11,13 +11,13 @@ use Rattle.commands.specs.{Files.{Contents, three_contents, with_contents}, Give
 use Rattle.verdict.specs.declared.rules.Rules.{Rules}
 use Rattle.report.specs.Answers.{AnswersVerdict, IsLogOfRun}
 
--- two answers to what files hold have the same text and the same status
+-- two answers to the same files have the same text and status
 abbrev pub IsAnsweredOnce : {X : Type 0} → (X → Answer → Type 0) → Contents X → Type 0
 IsAnsweredOnce judges contents =
     (text other : List ℕ) (status another : ℕ) → IsAnswer judges contents text status → IsAnswer judges contents other another
     → (text ≡ other) × (status ≡ another)
 
--- whatever bytes the files of a command hold, they have one answer
+-- the files of a command have one answer, whatever bytes they hold
 
 abbrev pub TwoHaveOneAnswer : (Layout → List Edge → Answer → Type 0) → Type 0
 TwoHaveOneAnswer judges =
@@ -35,6 +35,6 @@ pub record IsLogInMemory (t : Layout) (events : List Event) (answer : Answer) : 
   pub log : IsLogOfRun t events answer
   pub unrefused : All (λ entry. ¬ IsLack entry.0 entry.1) (zip events log.outcomes.items)
 
--- the answer to a script for a table and a policy, by a set of rules, where no call of it was refused memory
+-- the answer to a script by a set of rules, if no call is refused memory
 abbrev pub RunsInMemory : Rules → Layout → List Edge → List Event → Answer → Type 0
 RunsInMemory set t edges events = AnswersVerdict set t edges (IsLogInMemory t events)

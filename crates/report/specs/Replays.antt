@@ -1,4 +1,4 @@
--- What the command `replay` answers to a table, a policy and a log (confine's own).
+-- The answers of `replay` to a table, a policy and a log (confine's own).
 use Rattle.std.specs.Prelude.{ℕ, ◌+◌, ◌≡◌, ◌⊎◌, List, None, Option, Some, length, slice_get, take}
 use Rattle.base.specs.declared.edge.Edge.{Edge}
 use Rattle.forms.specs.declared.file.File.{File as file}
@@ -12,11 +12,11 @@ use Rattle.reptext.specs.{Places.place_names_by, Reports.{illegal_data, line_of,
 use Rattle.commands.specs.declared.{answer.Answer.Answer, end.End.End, listener.Finding.Finding as finding}
 use Rattle.commands.specs.Commands.{Finds, Input, IsDoneOnThree, IsPlain, Output}
 
--- the log's last state: its entries are a run from the boot state of the table to there
+-- the log is a run from the table's boot state, which leads to its last state
 abbrev pub IsReplayedTo : Layout → List Entry → Machine → Type 0
 IsReplayedTo t entries last = (boot : Machine) × IsBoot t boot × Leads boot entries last
 
--- after the entries before, which are a run from the table's boot state, the event of the entry can come to this outcome
+-- the entries before are a run from the table's boot state, and the event of the entry can have this outcome next
 pub record IsAnsweredAt (t : Layout) (entries : List Entry) (at : ℕ) (came : Outcome) : Type 0 where
   pub entry : Entry
   pub here : slice_get entries at ≡ Some entry
@@ -25,8 +25,8 @@ pub record IsAnsweredAt (t : Layout) (entries : List Entry) (at : ℕ) (came : O
   pub next : Machine
   pub stepped : Step before entry.0 came next
 
--- what the kernel answers to the event of an entry is this; or there is none, as there is no such entry, or those before it are no run
--- from the table's boot state
+-- the outcome that the kernel answers to an entry's event; or none, if there is no such entry, or those before it are no run from the
+-- table's boot state
 abbrev pub AnswersAt : Layout → List Entry → ℕ → Option Outcome → Type 0
 AnswersAt t entries at (Some came) = IsAnsweredAt t entries at came
 AnswersAt t entries at None = (slice_get entries at ≡ None) ⊎ ((boot : Machine) × (stop : ℕ) × IsBoot t boot × StopsAt boot (take at entries) stop)
@@ -35,8 +35,8 @@ AnswersAt t entries at None = (slice_get entries at ≡ None) ⊎ ((boot : Machi
 abbrev pub IsFirstOutside : Layout → List Edge → Machine → Denial → Type 0
 IsFirstOutside t edges m denial = (place : Excess) × (excess_of denial ≡ Some place) × IsOutside t (allows edges) m place
 
--- the log is legal and its last state lies within the policy, and the answer says so; or that lies outside, and it says where; or the log
--- isn't legal, and it says which entry is the first that is no step
+-- the answer: the log is legal and its last state lies within the policy; or where it lies outside; or the log isn't legal, and which entry
+-- is the first that is no step
 pub data Replays (t : Layout) (edges : List Edge) (entries : List Entry) (answer : Answer) : Type 0 where
   within : (last : Machine) → IsReplayedTo t entries last → IsConfined t (allows edges) last
       → IsPlain (line_of (within_data (length entries))) 0 answer → Replays t edges entries answer

@@ -1,5 +1,5 @@
--- What the command `show` answers to a table and two labels (compare the integrity of 'seL4 Enforces Integrity', section 4;
--- showing a run where that ends is confine's own).
+-- The answers of `show` to a table and two labels: a run that shows what the one may do to the other (compare the integrity of 'seL4
+-- Enforces Integrity', section 4; showing runs is confine's own).
 use Rattle.std.specs.{Prelude.{ℕ, ◌≡◌, ◌≤◌, List, None, Some, Vec, if◌then◌else◌}, declared.alloc.Global.Global}
 use Rattle.machine.specs.{declared.call.Event.Event, Layout.Layout}
 use Rattle.table.specs.Names.{label_named}
@@ -9,17 +9,16 @@ use Rattle.evtext.specs.Script.{script_text}
 use Rattle.reptext.specs.Reports.{impossible_data, line_of, unfound_data}
 use Rattle.commands.specs.{declared.{answer.Answer.Answer, choices.Search.Search}, Commands.IsPlain}
 
--- what is searched for: that a thread of the one label takes from an object of the other, or changes it in another way
+-- the question: that a thread of the one label takes from an object of the other, or changes it in another way
 abbrev pub question_of : Search → ℕ → ℕ → Question
 question_of sought a l = record { actor = a; object = l; taking = sought.takes }
 
--- the most calls that are tried: none where threads of the one label can only take, and no loss is sought
+-- the largest number of calls tried: 0 if threads of the one label can only take and no loss is sought
 abbrev pub most_calls : Search → Extent → ℕ
 most_calls sought extent.Full = sought.steps
 most_calls sought extent.Take = if sought.takes then sought.steps else 0
 most_calls sought extent.Nothing = 0
 
--- an answer is this script, of which a listener hears too
 pub record IsScript (script : List Event) (answer : Answer) : Type 0 where
   pub text : answer.text.items ≡ script_text script
   pub status : answer.status ≡ 0
@@ -29,20 +28,20 @@ pub record IsScript (script : List Event) (answer : Answer) : Type 0 where
   pub found : answer.script ≡ Some of
   pub items : of.items ≡ script
 
--- a script was found whose last call is as the question asks, with status 0; or after at most so many calls none was found, and the
--- text says how far the one label goes with the other, and how many calls were tried, with status 1
+-- a script whose last call is as the question asks, with status 0; or none was found after this number of calls, with status 1, how far the
+-- one label goes with the other, and the number of calls
 pub data TellsFound (t : Layout) (question : Question) (bound : Extent) (most : ℕ) (answer : Answer) : Type 0 where
   shown : (script : List Event) → Answers t question script → IsScript script answer → TellsFound t question bound most answer
   unfound : (steps : ℕ) → steps ≤ most → IsPlain (line_of (unfound_data bound steps)) 1 answer → TellsFound t question bound most answer
 
--- where the one label goes so far with the other: a run that is searched for; or that there can't be one, with status 1, just where the
--- reach excludes that the one does anything to the other
+-- a run that is searched for; or that there can't be one, with status 1, exactly if the reach excludes that the one label does anything to
+-- the other
 abbrev pub TellsRun : Layout → Question → Extent → ℕ → Answer → Type 0
 TellsRun t question extent.Full most = TellsFound t question extent.Full most
 TellsRun t question extent.Take most = TellsFound t question extent.Take most
 TellsRun t question extent.Nothing most = IsPlain (line_of impossible_data) 1
 
--- an answer tells of a run by how far one label goes with another by the reach of a table: no step of any run goes further
+-- the answer is by how far one label goes with another in the table's reach: no step of any run goes further
 pub record ShowsRun (sought : Search) (t : Layout) (a l : ℕ) (answer : Answer) : Type 0 where
   pub reach : TableReach
   pub is_reach : IsReachOf t reach
@@ -51,7 +50,7 @@ pub record ShowsRun (sought : Search) (t : Layout) (a l : ℕ) (answer : Answer)
   pub kept : KeepsTo t a l bound
   pub told : TellsRun t (question_of sought a l) bound (most_calls sought bound) answer
 
--- the answer to a table that is to show a run of the labels of these names
+-- the answer to a request for a run of the labels of these names
 pub record Shows (sought : Search) (actor object : List ℕ) (t : Layout) (answer : Answer) : Type 0 where
   pub of_actor : ℕ
   pub of_object : ℕ

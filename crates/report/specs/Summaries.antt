@@ -1,4 +1,4 @@
--- What the command `summary` answers to a table (confine's own).
+-- The answer of `summary` to a table (confine's own).
 use Rattle.std.specs.Prelude.{ℕ, List}
 use Rattle.machine.specs.Layout.{Layout}
 use Rattle.reach.specs.{Extents.limits_of, Reach.{IsReachOf, TableReach}}
@@ -7,12 +7,11 @@ use Rattle.reptext.specs.Summaries.{IsSummaryReport}
 use Rattle.commands.specs.declared.choices.Form.{Form, Form as form}
 use Rattle.report.specs.Questions.{AreKept}
 
--- a text is the summary of a reach, in a form
 abbrev pub IsSummaryIn : Form → TableReach → List ℕ → Type 0
 IsSummaryIn form.Text reach text = IsSummary reach text
 IsSummaryIn form.Json reach text = IsSummaryReport reach text
 
--- a text is the summary of the reach of a table, in a form, and every run keeps the limits of this reach
+-- a text is the summary of a table's reach in a form, and every run keeps the limits of this reach
 pub record TellsSummary (written : Form) (t : Layout) (text : List ℕ) : Type 0 where
   pub reach : TableReach
   pub is_reach : IsReachOf t reach

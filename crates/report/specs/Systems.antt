@@ -1,5 +1,5 @@
--- What is answered to a system alone, and to a system and a policy (compare the integrity of 'seL4 Enforces Integrity', section 4; the
--- questions are confine's own).
+-- The answers to a system alone, and to a system and a policy, by what is asked (compare the integrity of 'seL4 Enforces Integrity',
+-- section 4; the questions are confine's own).
 use Rattle.std.specs.Prelude.{[], ℕ, ◌≡◌, List, None, Option}
 use Rattle.base.specs.declared.edge.Edge.{Edge}
 use Rattle.machine.specs.Layout.{Layout}
@@ -13,7 +13,7 @@ use Rattle.commands.specs.Hearing as held
 use Rattle.report.specs.{Claimed.TellsStrongest, Closings.Closes, Questions.{IsPicture, IsSoByPolicy, IsSoByReach, TellsWhy, unlabelled}}
 use Rattle.report.specs.{Flowing.{TellsAllFlows, TellsFlows}, Shows.Shows, Summaries.TellsSummary, Using.{TellsUsers, unlabelled_object}}
 
--- of the labels that are asked about, the first that the table lacks
+-- the first label of the question that the table lacks
 abbrev pub lacking : OfSystem → Layout → Option Asked
 lacking (of_system.Why form actor object) t = unlabelled t actor.now object.now
 lacking (of_system.Users usage object) t = unlabelled_object t object.now
@@ -34,11 +34,10 @@ AnswersSystem (of_system.Flows from to) t = Says (TellsFlows from.now to.now t)
 AnswersSystem of_system.AllFlows t = Says (TellsAllFlows t)
 AnswersSystem of_system.Strongest t = Says (TellsStrongest t)
 
--- the answer to a system that is asked this was given
 abbrev pub IsAsked : {T O : Type 0} → OfSystem → Taken → Input T → Output O → End → Type 0
 IsAsked asked taken = IsDoneOnSystem taken (lacking asked) (AnswersSystem asked)
 
--- .. of a policy too
+-- questions about a system and a policy
 
 abbrev pub lacking_of_policy : OfPolicy → Layout → Option Asked
 lacking_of_policy (of_policy.Why form actor object) t = unlabelled t actor.now object.now
@@ -49,13 +48,13 @@ AnswersPolicy (of_policy.Close set written) t edges = Closes set written t edges
 AnswersPolicy (of_policy.Why form actor object) t edges = Says (λ text. IsSoByPolicy edges (TellsWhy form actor.now object.now t text))
 AnswersPolicy (of_policy.Draw picture) t edges = Says (λ text. IsSoByPolicy edges (IsPicture picture t text))
 
--- the policy that is closed is one that is mended, whose edges may come in any order; every other is read strictly
+-- the answer was given on a policy that may be mended, if it is to be closed, and is read strictly otherwise
 abbrev pub IsAskedOfPolicy : {T P O : Type 0} → OfPolicy → Taken → Input T → Input P → Output O → End → Type 0
 IsAskedOfPolicy (of_policy.Close set written) taken =
     IsDoneWith taken file.Policy read_draft_of no_label (λ t draft. Closes set written t draft.edges)
 IsAskedOfPolicy asked taken = IsDoneWith taken file.Policy read_policy_of (lacking_of_policy asked) (AnswersPolicy asked)
 
--- and a listener hears of it
+-- what a listener hears of a question about a system and a policy
 abbrev pub PolicyIsHeard :
     {L O : Type 0} → (L → Hearing → L → Type 0) → OfPolicy → Taken → Option (List ℕ) → Option (List ℕ) → L → L → Output O → End → Type 0
 PolicyIsHeard Hears (of_policy.Close set written) taken =

@@ -1,4 +1,4 @@
--- What the command `why` answers about all users of a label (confine's own).
+-- The answer of `why` about all users of a label (confine's own).
 use Rattle.std.specs.Prelude.{ℕ, ◌≡◌, List, None, Option, Some}
 use Rattle.machine.specs.Layout.{Layout}
 use Rattle.table.specs.Names.{label_named}
@@ -7,7 +7,7 @@ use Rattle.commands.specs.declared.{choices.Use.{Use, Use as usage}, end.Asked.{
 use Rattle.usertext.specs.UsersText.{IsChangersText, IsReadersText}
 use Rattle.report.specs.Questions.{AreKept}
 
--- a name that is asked about, if it is no label
+-- the name asked about, if it is no label
 abbrev pub absent_object : Option ℕ → Option Asked
 absent_object None = Some asked.Object
 absent_object (Some object) = None
@@ -15,12 +15,12 @@ absent_object (Some object) = None
 abbrev pub unlabelled_object : Layout → List ℕ → Option Asked
 unlabelled_object t object = absent_object (label_named t object)
 
--- a text lists those that use a label so
+-- a text lists the labels that use one in this way
 abbrev pub IsUsersText : Use → TableReach → ℕ → List ℕ → Type 0
 IsUsersText usage.Changes = IsChangersText
 IsUsersText usage.Reads = IsReadersText
 
--- a text lists those that use the label of a name so, by the reach of a table, and every run keeps the limits of this reach
+-- a text lists the labels that use a named one in this way by the table's reach, and every run keeps the limits of this reach
 pub record TellsUsers (usage : Use) (object : List ℕ) (t : Layout) (text : List ℕ) : Type 0 where
   pub of_object : ℕ
   pub object_named : label_named t object ≡ Some of_object

@@ -1,4 +1,4 @@
-//! What is asked of a system alone, and of a system and a policy.
+//! The answers to questions about a system alone, and about a system and a policy.
 ghost use Rattle.std.specs.Prelude.{◌++◌, ◌≡◌, IfErr, IfOk, None, false};
 ghost use Rattle.base.specs.Refusals.{out_of_memory};
 ghost use Rattle.captext.specs.PolicyText.{edge_lines};
@@ -28,10 +28,10 @@ use reptext::{summary_report, why_report, write_drawing, write_objects};
 use std::alloc::Global;
 use table::Table;
 
-/// Answers what is asked of a system alone.
+/// Answers a question about a system alone.
 ///
-/// Writes the answer, whose status is 0 but where `show` shows no run and `--missing` or `--surplus` finds an edge: 1; or the report of the
-/// first fault, with status 2.
+/// Writes the answer, or the report of the first fault with status 2. The status of an answer is 0,
+/// but 1 if `show` shows no run or `--missing` or `--surplus` finds an edge.
 pub fn ask<T, L, O>(
     alloc: Global,
     asked: OfSystem<'_>,
@@ -99,13 +99,13 @@ fn system_answer(alloc: Global, asked: OfSystem<'_>, table: &Table) -> Result<An
     }
 }
 
-/// Answers what is asked of a system and a policy.
+/// Answers a question about a system and a policy.
 ///
 /// A policy that is closed may have its edges in any order and more than once, and lines with labels that the table lacks, which are
 /// dropped.
 ///
-/// Writes the answer, whose status is 0 but where `--missing` or `--surplus` finds an edge: 1; or the report of the first fault, with
-/// status 2.
+/// Writes the answer, or the report of the first fault with status 2. The status of an answer is 0,
+/// but 1 if `--missing` or `--surplus` finds an edge.
 pub fn ask_policy<T, P, L, O>(
     alloc: Global,
     asked: OfPolicy<'_>,
@@ -143,7 +143,7 @@ where
     }
 }
 
-/// Answers what is asked of a system and a policy, which is read so.
+/// The answer to a question about a system and a policy, which is read in this way.
 fn ask_as<X, T, P, L, O>(
     alloc: Global,
     asked: OfPolicy<'_>,
@@ -257,7 +257,7 @@ fn explained_by(
     Ok(Answer::plain(told(alloc, form, table, actor, object, &why)?, 0))
 }
 
-/// What is told of what a label may do to another, in a form.
+/// The text on what a label may do to another, in a form.
 fn told(
     alloc: Global,
     form: Form,
@@ -322,7 +322,7 @@ fn policy_picture(
     picture_text(alloc, picture, table, policy, Labels::all())
 }
 
-/// The picture of who may change or take from whom, where threads of these labels make calls.
+/// The picture of who may change or take from whom, if threads of these labels make calls.
 fn picture_text(
     alloc: Global,
     picture: Picture,

@@ -1,4 +1,4 @@
-//! The command `check`.
+//! The command `check`: whether a table keeps to a policy.
 ghost use Rattle.std.specs.Prelude.{ℕ, ◌<◌, ◌≡◌, ◌≤◌, IfOk, None, false};
 ghost use Rattle.captext.specs.Policies.{read_policy_of};
 ghost use Rattle.forms.specs.declared.file.File.TheVariants as file;
@@ -19,9 +19,8 @@ use verdict::judge_by;
 
 /// Checks a table against a policy, by a set of rules, with 1 to 16 workers, each of which arrives at the
 /// gate first.
-///
-/// Writes the report or the certificate where they are accepted, with status 0; or the report of the
-/// denial, with status 1; or the report of the first fault, with status 2.
+/// Writes the report or the certificate of an acceptance with status 0, the report of a denial with
+/// status 1, or the report of the first fault with status 2.
 pub fn check<R, G, T, P, L, O>(
     rt: &R,
     alloc: Global,
@@ -90,7 +89,7 @@ fn checked<R: Threads + Sync, G: Gate + Sync>(
     }
 }
 
-/// The verdict on a table and a policy. What is written of an acceptance is made after it.
+/// The verdict on a table and a policy. The text on an acceptance is made after it.
 fn verdict_answer<R: Threads + Sync, G: Gate + Sync>(
     rt: &R,
     alloc: Global,
@@ -112,7 +111,7 @@ fn verdict_answer<R: Threads + Sync, G: Gate + Sync>(
     }
 }
 
-/// What is written of an acceptance: the certificate is made where it is asked for.
+/// The text on an acceptance. The certificate is made only if it is asked for.
 fn accepted_text(
     alloc: Global,
     table: &Table,

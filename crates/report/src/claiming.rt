@@ -15,10 +15,10 @@ use reptext::{breaches_report, hold_report};
 use std::alloc::Global;
 use table::Table;
 
-/// Tells whether claims hold by the reach of a system. Those that hold are kept in every run from its boot state.
+/// Reports whether claims hold by the reach of a system. Those that hold are kept in every run from its boot state.
 ///
-/// Writes how many claims hold, with status 0; or those that don't, with status 1; or the report of the first
-/// fault, with status 2.
+/// Writes how many claims hold with status 0, those that don't hold with status 1, or the report of
+/// the first fault with status 2.
 pub fn check_claims<T, S, L, O>(
     alloc: Global,
     taken: Taken,
@@ -47,7 +47,6 @@ where
     tell(alloc, &with, answer, listener, out)
 }
 
-/// Whether claims hold of a system, which were loaded.
 fn claims_judged(alloc: Global, loaded: &Result<With<ClaimLines>, Stop>) -> Result<Answer, Stop>
     ensures { WithIsJudged (λ t. None) claimed.Judges loaded.now result }
 {
@@ -57,7 +56,7 @@ fn claims_judged(alloc: Global, loaded: &Result<With<ClaimLines>, Stop>) -> Resu
     }
 }
 
-/// What is told of claims on a table.
+/// The answer to claims on a table.
 fn claims_answer(alloc: Global, table: &Table, lines: &ClaimLines) -> Result<Answer, Refusal>
     ensures right { IfOk result (claimed.Judges table.now lines.now) }
     ensures exit { IfOk result (λ answer. answer.status ≤ 2) }
@@ -66,12 +65,12 @@ fn claims_answer(alloc: Global, table: &Table, lines: &ClaimLines) -> Result<Ans
     reach_answer(alloc, &reach, lines)
 }
 
-/// What is told of claims by the reach of a table.
+/// The answer to claims by the reach of a table.
 fn reach_answer(alloc: Global, reach: &Reach<'_>, lines: &ClaimLines) -> Result<Answer, Refusal>
     ensures right { IfOk result (claimed.Judges reach.now.table lines.now) }
     ensures exit { IfOk result (λ answer. answer.status ≤ 2) }
 {
-    // That it is the reach of its table, a reach tells with its policy.
+    // The contract of `policy` says that this is the reach of its table.
     reach.policy();
     let broken = all_broken(alloc, reach, lines)?;
     let table = reach.table();
@@ -83,14 +82,14 @@ fn reach_answer(alloc: Global, reach: &Reach<'_>, lines: &ClaimLines) -> Result<
     Ok(Answer::found(text, Finding::Broken(broken)))
 }
 
-/// How many claims lines say.
+/// The number of claims in lines.
 fn claim_count(lines: &ClaimLines) -> usize
     ensures { result ≡ claimed.claim_count lines.now }
 {
     filled_count(lines.as_slice())
 }
 
-/// How many entries are filled.
+/// The number of filled entries.
 fn filled_count<X>(entries: &[Option<X>]) -> usize
     ensures { result ≡ length (filter is_some entries.now) }
 {

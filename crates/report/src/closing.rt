@@ -20,11 +20,11 @@ use std::alloc::Global;
 use table::Table;
 use verdict::a_verdict_is_on_the_boot_state;
 
-/// Closes a policy over a table, by a set of rules, and returns what is asked for of the least policy that has
-/// the policy's edges and to which the table keeps; for [`OnClose::Surplus`] of the least one to which it keeps,
-/// whatever the policy has.
+/// Closes a policy over a table, by a set of rules. Returns what is asked for of the least policy
+/// that has the policy's edges and to which the table keeps; for [`OnClose::Surplus`], of the least
+/// one to which the table keeps, whatever the policy has.
 ///
-/// By [`Rules::Closed`] it is a closed policy, and by [`Rules::Sharp`] a sharply closed one.
+/// The result is closed by [`Rules::Closed`], and sharply closed by [`Rules::Sharp`].
 pub(crate) fn closed(
     alloc: Global,
     rules: Rules,
@@ -109,8 +109,8 @@ fn missing_answer(
     lacked_answer(alloc, table, policy, &closed)
 }
 
-/// The lines of the edges that the policy has and the table and the rules don't ask for, and whether there
-/// are any.
+/// The lines of the edges that the policy has but the table and the rules don't need, and whether
+/// there are any.
 fn surplus_answer(
     alloc: Global,
     rules: Rules,
@@ -157,8 +157,8 @@ fn missing_edges(alloc: Global, policy: &Policy, other: &Policy) -> Result<Vec<E
     Ok(missing)
 }
 
-/// A law: by S1 to S8 the policy that is made for a table alone is the reach of the table, and the text is
-/// that of the reach.
+/// A law: by S1 to S8, the policy that is made for a table alone is the table's reach, and so is
+/// its text.
 pub fn the_sharp_policy_for_a_table_is_its_reach()
     ensures { (t : Layout) (answer : AnswerOf)
         → closings.Closes Rules.Sharp OnClose.Policy t [] answer

@@ -1,4 +1,4 @@
-//! The command `diff`: what changes from one system to another of who may change, read and reach whom.
+//! The command `diff`: what changes between two systems of who may change, read and reach whom.
 ghost use Rattle.std.specs.Prelude.{◌≡◌, ◌≤◌, IfErr, IfOk, false};
 ghost use Rattle.base.specs.Refusals.{out_of_memory};
 ghost use Rattle.commands.specs.{Commands.{IsDoneOnTwo, TwoIsJudged, input, output}, Hearing.TwoIsHeard};
@@ -13,10 +13,10 @@ use reptext::changes_report;
 use std::alloc::{AllocError, Global};
 use table::Table;
 
-/// Tells what changes from one system to another.
+/// Reports what changes from one system to another.
 ///
-/// Writes a line for each change, with status 1 if one adds authority, else 0; or the report of the first fault, with
-/// status 2.
+/// Writes a line for each change, with status 1 if one adds authority, else 0; or the report of the
+/// first fault with status 2.
 pub fn compare<S, T, L, O>(
     alloc: Global,
     form: Form,
@@ -46,7 +46,6 @@ where
     tell(alloc, &two, answer, listener, out)
 }
 
-/// What changes from one system to another, which were loaded.
 fn compared(alloc: Global, form: Form, loaded: &Result<Two, Stop>) -> Result<Answer, Stop>
     ensures { TwoIsJudged (Compares form) loaded.now result }
 {
@@ -56,7 +55,7 @@ fn compared(alloc: Global, form: Form, loaded: &Result<Two, Stop>) -> Result<Ans
     }
 }
 
-/// What changes from one table to another.
+/// The answer on what changes from one table to another.
 fn tables_compared(alloc: Global, form: Form, old: &Table, new: &Table) -> Result<Answer, Refusal>
     ensures right { IfOk result (Compares form old.now new.now) }
     ensures exit { IfOk result (λ answer. answer.status ≤ 2) }

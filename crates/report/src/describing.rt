@@ -1,4 +1,4 @@
-//! The command `import`.
+//! The command `import`: a system description becomes a capability table, or claims.
 ghost use Rattle.std.specs.Prelude.{◌<◌, ◌≡◌, IfErr, IfOk, None, false, length};
 ghost use Rattle.base.specs.Refusals.{out_of_memory};
 ghost use Rattle.captext.specs.PolicyText.{label_name};
@@ -19,8 +19,8 @@ use table::Table;
 
 /// Imports a system description of Microkit.
 ///
-/// Writes its capability table, or the claims that it makes, with status 0; or the report of the first fault,
-/// with status 2. A fault of the table that it would become is one of the description, too.
+/// Writes its capability table or the claims that it makes with status 0, or the report of the first
+/// fault with status 2. A fault of the table that it would become is one of the description, too.
 pub fn import<D, L, O>(
     alloc: Global,
     on_import: OnImport,

@@ -12,7 +12,7 @@ use reach::Reach;
 use std::alloc::Global;
 use table::Table;
 
-/// What flows from one label to another; or the first of the two names that is no label of the table.
+/// The flows from one label to another; or the first of the two names that is no label of the table.
 pub(crate) fn flows_told(alloc: Global, table: &Table, from: &str, to: &str) -> Result<Answer, Stop>
     ensures { IsJudgedSo (unlabelled table.now from.now to.now) (Says (TellsFlows from.now to.now table.now)) result }
 {

@@ -7,10 +7,10 @@ ghost use Rattle.commands.specs.declared.choices.OnAccept.{OnAccept};
 ghost use Rattle.report.specs.{Answers.{Checks, Verifies}, OneAnswer.{RunsInMemory, ThreeHaveOneAnswer, TwoHaveOneAnswer}};
 ghost use Rattle.report.specs.Replays.{Replays};
 
-/// Proves that the answers of `check`, `verify`, `replay` and `run` are functions of the bytes of the files:
-/// what is written, and the status, are the same whenever and wherever a command is carried out. Of a run that
-/// is so if no call was refused memory. It isn't so of a split run: its log is one of those that the cores'
-/// events may come to, each core's in their order.
+/// Proves that the answers of `check`, `verify`, `replay` and `run` are functions of the bytes of
+/// the files: text and status are the same whenever and wherever a command reads them. For a run
+/// this holds if no call was refused memory. It doesn't hold for a split run: its log is any of
+/// those that the cores' events may give, each core's in their order.
 pub fn reports_are_functions_of_the_bytes()
     ensures check { (set : Rules) (written : OnAccept) → TwoHaveOneAnswer (Checks set written) }
     ensures verify { (set : Rules) → ThreeHaveOneAnswer file.Certificate read_certificate_of (Verifies set) }

@@ -1,7 +1,7 @@
 //! The engines of the program `confine`: what they read from and write to, what they report, and
 //! how they end.
 //!
-//! `serving` stands on it. It knows no command line, and no words of `--explain`.
+//! The crate knows no command line, and no words of `--explain`.
 #![tactic(auto)]
 
 mod asking;

@@ -1,4 +1,4 @@
-//! The command `replay`.
+//! The command `replay`: whether a log is that of a run of a system.
 ghost use Rattle.std.specs.Prelude.{◌≡◌, ◌≤◌, IfOk, None, false};
 ghost use Rattle.machine.specs.{Boot.IsBoot, WellFormed.IsWellFormed};
 ghost use Rattle.evtext.specs.Log.{read_log_of};
@@ -22,9 +22,9 @@ use verdict::outside;
 
 /// Replays a log from the boot state of a table, whether that is accepted or not.
 ///
-/// Writes the report that the log is legal and its last state lies within the policy, with status 0; or
-/// that this lies outside, or which entry is the first that is no step, with status 1; or the report of
-/// the first fault, with status 2.
+/// Writes with status 0 that the log is legal and its last state lies within the policy; with
+/// status 1 that this state lies outside, or which entry is the first that is no step; or the
+/// report of the first fault with status 2.
 pub fn replay<T, P, S, L, O>(
     alloc: Global,
     table: &mut T,
@@ -55,7 +55,7 @@ where
     tell(alloc, &three, answer, listener, out)
 }
 
-/// What the replay of a log comes to, which was loaded with its system.
+/// The answer to a log that was loaded with its system.
 fn log_replayed(alloc: Global, loaded: &Result<Three<Entries>, Stop>) -> Result<Answer, Stop>
     ensures { ThreeIsJudged replays.Replays loaded.now result }
 {
@@ -65,7 +65,7 @@ fn log_replayed(alloc: Global, loaded: &Result<Three<Entries>, Stop>) -> Result<
     }
 }
 
-/// The answer to a log: the text and status of what its replay comes to.
+/// The answer to a log: the text and status of its replay.
 fn replayed(alloc: Global, table: &Table, policy: &Policy, log: &Entries) -> Result<Answer, Refusal>
     ensures right { IfOk result
         (replays.Replays table.now policy.now log.now) }
@@ -77,7 +77,7 @@ fn replayed(alloc: Global, table: &Table, policy: &Policy, log: &Entries) -> Res
     answer
 }
 
-/// The answer to a log that is replayed from the table's boot state, which it brings to where it stops.
+/// The answer to a log that is replayed from the table's boot state. The state is left where the replay stops.
 fn replayed_from(
     alloc: Global,
     table: &Table,
@@ -106,7 +106,7 @@ fn replayed_from(
 }
 
 /// Returns what the kernel answers to the event of an entry, from 0, after the steps of the entries
-/// before. It is `None` where these are no steps, and where there is no such entry.
+/// before. It is `None` if these are no steps, or there is no such entry.
 ///
 /// # Errors
 ///

@@ -1,4 +1,4 @@
-//! The command `run`, where one thread makes the calls.
+//! The command `run`, if one thread makes all calls.
 ghost use Rattle.std.specs.Prelude.{◌≡◌, IfOk, None, false};
 ghost use Rattle.evtext.specs.Script.{read_script_of};
 ghost use Rattle.forms.specs.declared.file.File.TheVariants as file;
@@ -17,10 +17,10 @@ use std::thread::Threads;
 use table::Table;
 use verdict::judge_by;
 
-/// Checks a table against a policy, by a set of rules, and runs a script where they are accepted.
+/// Checks a table against a policy, by a set of rules, and runs a script if they are accepted.
 ///
-/// Writes the log of the run, with status 0; or the report of the denial, with status 1; or the
-/// report of the first fault, with status 2.
+/// Writes the log of the run with status 0, the report of a denial with status 1, or the report of
+/// the first fault with status 2.
 pub fn run<R, T, P, S, L, O>(
     rt: &R,
     alloc: Global,
@@ -54,7 +54,7 @@ where
     tell(alloc, &three, answer, listener, out)
 }
 
-/// The log of a script on a system, which were loaded, or why the system is denied.
+/// The log of a script on a system, both loaded, or why the system is denied.
 fn ran<R: Threads + Sync>(
     rt: &R,
     alloc: Global,

@@ -1,4 +1,4 @@
-//! The command `show`.
+//! The command `show`: a run in which a label changes or takes from an object of another.
 ghost use Rattle.std.specs.Prelude.{◌≡◌, ◌≤◌, IfErr, IfOk};
 ghost use Rattle.base.specs.Refusals.{out_of_memory};
 ghost use Rattle.commands.specs.Commands.{IsJudgedSo};
@@ -38,7 +38,7 @@ pub(crate) fn shown(
     Ok(run_answer(alloc, sought, &reach, actor, object)?)
 }
 
-/// What is told of a run by the reach of a table.
+/// The answer by the reach of a table.
 fn run_answer(
     alloc: Global,
     sought: Search,
@@ -50,7 +50,7 @@ fn run_answer(
     ensures exit { IfOk result (λ answer. answer.status ≤ 2) }
     ensures memory { IfErr result (λ refusal. refusal ≡ out_of_memory) }
 {
-    // That it is the reach of its table, a reach tells with its policy.
+    // The contract of `policy` says that this is the reach of its table.
     reach.policy();
     let bound = reach.extent(actor, object);
     let question = Question {
@@ -69,7 +69,7 @@ fn run_answer(
     )
 }
 
-/// The most calls that are tried: none where threads of the one label can only take, and no loss is sought.
+/// The largest number of calls tried: 0 if threads of the one label can only take and no loss is sought.
 fn most_calls(sought: Search, bound: Extent) -> u64
     ensures { result ≡ shows.most_calls sought bound }
 {
@@ -80,7 +80,7 @@ fn most_calls(sought: Search, bound: Extent) -> u64
     }
 }
 
-/// What is told of a run where the one label goes so far with the other.
+/// The answer by how far the one label goes with the other.
 fn bounded_answer(
     alloc: Global,
     table: &Table,
@@ -99,7 +99,7 @@ fn bounded_answer(
     }
 }
 
-/// The script that at most so many calls find, or that they find none.
+/// The script found with at most this number of calls, or that none is found.
 fn found_answer(
     alloc: Global,
     table: &Table,

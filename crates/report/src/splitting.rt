@@ -1,4 +1,4 @@
-//! The command `run`, where a worker for each core makes the calls.
+//! The command `run`, if a worker for each core makes the calls.
 ghost use Rattle.std.specs.Prelude.{◌≡◌, IfOk, None, false};
 ghost use Rattle.evtext.specs.Script.{read_script_of};
 ghost use Rattle.forms.specs.declared.file.File.TheVariants as file;
@@ -16,13 +16,13 @@ use std::sync::Wait;
 use std::thread::Threads;
 use verdict::{Accepted, judge};
 
-/// Checks a table against a policy, and makes a script's calls where they are accepted: each core's
-/// by a worker of its own, in the script's order. A worker that has calls arrives at the gate
-/// first; workers are numbered by rising core.
+/// Checks a table against a policy, and makes a script's calls if they are accepted: each core's by
+/// a worker of its own, in the script's order. A worker that has calls arrives at the gate first;
+/// workers are numbered by rising core.
 ///
-/// Writes the log, in the order in which the calls were made, with status 0; or the report of the denial, with
-/// status 1; or the report of the first fault, with status 2. What is promised holds if it returns: a worker waits
-/// for the others' calls.
+/// Writes the log in the order of the calls with status 0, the report of a denial with status 1, or
+/// the report of the first fault with status 2. All this holds if the function returns: a worker
+/// waits for the others' calls.
 pub fn run_split<R, G, T, P, S, L, O>(
     rt: &R,
     alloc: Global,
@@ -57,7 +57,7 @@ where
     tell(alloc, &three, answer, listener, out)
 }
 
-/// The log that workers make of a script on a system, which were loaded, or why the system is denied.
+/// The log that workers make of a script on a system, both loaded, or why the system is denied.
 fn ran_split<R: Threads + Wait + Sync, G: Gate + Sync>(
     rt: &R,
     alloc: Global,
@@ -84,7 +84,6 @@ fn ran_split<R: Threads + Wait + Sync, G: Gate + Sync>(
     }
 }
 
-/// The log that the workers make of the script.
 fn split_answer<R: Threads + Wait + Sync, G: Gate + Sync>(
     rt: &R,
     alloc: Global,

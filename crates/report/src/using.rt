@@ -1,4 +1,4 @@
-//! What the command `why` lists of all users of a label.
+//! The answer of the command `why` about all users of a label.
 ghost use Rattle.std.specs.Prelude.{◌≡◌, IfErr, IfOk};
 ghost use Rattle.base.specs.Refusals.{out_of_memory};
 ghost use Rattle.commands.specs.Commands.{IsJudgedSo, Says};
@@ -13,7 +13,7 @@ use std::alloc::Global;
 use table::Table;
 use usertext::{changers_text, readers_text};
 
-/// The labels that use one so; or that its name is no label of the table.
+/// The labels that use a named one in this way; or that its name is no label of the table.
 pub(crate) fn users_told(
     alloc: Global,
     table: &Table,
@@ -29,7 +29,7 @@ pub(crate) fn users_told(
     Ok(Answer::plain(users_text(alloc, &reach, usage, object)?, 0))
 }
 
-// The lines of the labels that use one so.
+// The lines of the labels that use one in this way.
 fn users_text(
     alloc: Global,
     reach: &Reach<'_>,

@@ -1,4 +1,4 @@
-//! The command `verify`.
+//! The command `verify`: whether a certificate is that of a table.
 ghost use Rattle.std.specs.Prelude.{◌≡◌, None, false};
 ghost use Rattle.certificate.specs.Reading.{read_certificate_of};
 ghost use Rattle.forms.specs.declared.file.File.TheVariants as file;
@@ -14,10 +14,10 @@ use reptext::accept_report;
 use std::alloc::Global;
 use std::thread::Threads;
 
-/// Verifies a certificate with a table and a policy, which a set of rules judges.
+/// Verifies a certificate with a table and a policy, which are judged by a set of rules.
 ///
-/// Writes the report that they are accepted and the certificate is the table's, with status 0; or the
-/// report of the denial, with status 1; or the report of the first fault, with status 2.
+/// Writes with status 0 that they are accepted and the certificate is the table's, the report of a
+/// denial with status 1, or the report of the first fault with status 2.
 pub fn verify<R, T, P, S, L, O>(
     rt: &R,
     alloc: Global,
@@ -51,7 +51,7 @@ where
     tell(alloc, &three, answer, listener, out)
 }
 
-/// The verdict on a system and a certificate, which were loaded.
+/// The verdict on a system and a certificate, both loaded.
 fn verified<R: Threads + Sync>(
     rt: &R,
     alloc: Global,

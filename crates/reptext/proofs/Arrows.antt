@@ -1,4 +1,4 @@
--- A drawing grows label by label, and pair by pair; and where a label has authority on another there is an edge that gives it.
+-- Drawings that grow label by label and pair by pair; and that an authority of a label on another has a reason with a first edge.
 use Rattle.std.{specs.{List.{flat_map, range_with_len}, Prelude.{IfSome, IsSome, codes}}, proofs.Common.{[], ℕ, ◌++◌, ◌+◌, ◌<◌, ◌==◌, ◌∙◌}}
 use Rattle.std.proofs.Common.{◌∷◌, ◌≡◌, ◌≢◌, List, None, Option, Some, ap, append_assoc, arith, false, get_or, length, refl, subst, sym}
 use Rattle.std.proofs.{Common.{take, true}, lemmas.{Bool.Decides.nat_tests, List.{append-nil, flat_map_more, map-id, take_more}}}
@@ -14,7 +14,7 @@ use Rattle.reach.specs.Extents.{MayChangeIn, MayShrinkIn, Limits}
 use Rattle.reptext.specs.Drawing.{AddsArrows, Draws, IsArrow, arrow_line, pairs_with, IsArrow.{dashed, itself, nothing, solid}}
 use mathlib.Core.Bool.{false≢true}
 
--- one piece more, for the next of some values
+-- one more piece, for the next value
 pub piece_more : {X Y : Type 0} (f : X → List Y) (xs : List X) (i : ℕ) (d : X) (before text longer : List Y) → i < length xs
     → text ≡ before ++ flat_map f (take i xs) → longer ≡ text ++ f (get_or xs i d) → longer ≡ before ++ flat_map f (take (i + 1) xs)
 piece_more f xs i d before text longer within so_far grown =
@@ -22,8 +22,6 @@ piece_more f xs i d before text longer within so_far grown =
     ∙ ap (λ bytes. bytes ++ f (get_or xs i d)) so_far
     ∙ flat_map_more f before (take i xs) (get_or xs i d)
     ∙ ap (λ front. before ++ flat_map f front) (sym (take_more xs i d within))
-
--- the pairs grow
 
 range_more : (n : ℕ) → range_with_len 0 (n + 1) ≡ range_with_len 0 n ++ n ∷ []
 range_more n =
@@ -39,7 +37,7 @@ pairs_more : (count n : ℕ)
 pairs_more count n =
     ap (flat_map (pairs_with count)) (range_more n) ∙ sym (flat_map_more (pairs_with count) [] (range_with_len 0 n) n)
 
--- an authority has a reason with a first edge
+-- an authority has a reason with at least one edge
 
 is_there : (edge : Edge) (more edges : List Edge) → edge ∷ more ≡ edges → 0 < length edges
 is_there edge more edges is = let P : List Edge → Type 0 = λ xs. 0 < length xs in subst P is (omega arith)
@@ -77,8 +75,6 @@ headed : (edges : List Edge) → 0 < length edges → (edge : Edge) × (more : L
 headed [] there = absurd (omega arith)
 headed (edge ∷ more) there = (edge, more, refl)
 
--- labels by their numbers
-
 pub differ : (a b : ℕ) → (a == b) ≡ false → a ≢ b
 differ a b h = grind (arith, nat_tests)
 
@@ -93,7 +89,7 @@ pub label_there : (found : Option ℕ) → found ≡ None → IsSome found → �
 label_there (Some label) is there = cc
 label_there None is there = false≢true there
 
--- what is drawn for one list of pairs after another is drawn for both
+-- the drawing of two lists of pairs, one after the other, is that of both
 
 module _ (limits : Limits) (t : Layout) where
   draws_both : (one other : List (ℕ × ℕ)) (first second : List ℕ) → Draws limits t one first → Draws limits t other second
@@ -119,7 +115,7 @@ module _ (limits : Limits) (t : Layout) where
       → AddsArrows limits t ((a, l) ∷ []) old new
   adds_one a l old new arrow is grown = (arrow, (arrow, [], is, refl, sym (append-nil arrow)), grown)
 
-  -- no arrow from a label to itself, nor where it has no authority
+  -- no arrow leads from a label to itself, or to one on which it has no authority
 
   pub adds_itself : (a l : ℕ) (old : List ℕ) → (a == l) ≡ true → AddsArrows limits t ((a, l) ∷ []) old old
   adds_itself a l old is = adds_one a l old old [] (itself (same a l is) refl) (sym (append-nil old))
@@ -127,7 +123,7 @@ module _ (limits : Limits) (t : Layout) where
   pub adds_nothing : (a l : ℕ) (old : List ℕ) → (a == l) ≡ false → ¬ MayChangeIn limits a l → ¬ MayShrinkIn limits a l → AddsArrows limits t ((a, l) ∷ []) old old
   adds_nothing a l old is lacks takes = adds_one a l old old [] (nothing (differ a l is) lacks takes refl) (sym (append-nil old))
 
-  -- an arrow with the first edge of the reason
+  -- an arrow has the first edge of the reason
 
   pub adds_solid : (a l : ℕ) (edges : List Edge) (old new : List ℕ) → (a == l) ≡ false → IsLeast reason_place (IsChangeBy limits.test limits.acts a l) edges
       → ((edge : Edge) (more : List Edge) → edges ≡ edge ∷ more → new ≡ old ++ arrow_line t a l [] edge)

@@ -1,4 +1,4 @@
--- The changes from one system to another have no number with a fraction.
+-- That the changes from one system to another, as JSON, have no number with a fraction.
 use Rattle.std.proofs.Common.{[], ◌∷◌, ◌≡◌, List, false, map, refl}
 use Rattle.machine.specs.Layout.{Layout}
 use Rattle.diff.specs.declared.change.Change.{Change, Change as change}

@@ -1,4 +1,4 @@
--- The report of claims that don't hold, what a label may do, and the summary have no number with a fraction.
+-- That the reports of broken claims, of what a label may do, and of summaries have no number with a fraction.
 use Rattle.std.{specs.{List.flat_map, Prelude.codes, Str.bytes_eq}, proofs.Common.{[], ℕ, ◌++◌, ◌==◌, ◌∷◌, ◌≡◌, Bool, List, None, Option, Some}}
 use Rattle.std.{specs.Prelude.if◌then◌else◌, proofs.Common.{false, map, refl, true}}
 use Rattle.base.specs.declared.edge.Edge.{Edge}
@@ -37,7 +37,7 @@ pub breaches_have_no_float : (t : Layout) (lines : List (Option Claim)) (broken 
     → has_float (breaches_data t lines broken kept) ≡ false
 breaches_have_no_float t lines broken kept = rw (all t lines broken) refl
 
--- what a label may do
+-- the report of what a label may do
 
 edges_have_no_float : (t : Layout) (edges : List Edge) → items_have_float (items_of (map (edge_data t) edges)) ≡ false
 edges_have_no_float t [] = refl
@@ -48,7 +48,7 @@ why_has_no_float t a l (why.Full edges) = rw (edges_have_no_float t edges.items)
 why_has_no_float t a l (why.Take edges) = rw (edges_have_no_float t edges.items) refl
 why_has_no_float t a l why.Nothing = refl
 
--- a summary
+-- the report of a summary
 
 both : (first second : List Data) → items_have_float (items_of first) ≡ false → items_have_float (items_of second) ≡ false
     → items_have_float (items_of (first ++ second)) ≡ false

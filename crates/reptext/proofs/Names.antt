@@ -1,4 +1,4 @@
--- Names as JSON have no number among them, and an acceptance none with a fraction.
+-- That names as JSON have no number, and that the report of an acceptance has none with a fraction.
 use Rattle.std.specs.{declared.cmp.Ordering.{Ordering, TheVariants.{Equal, Greater, Less}}, Cmp.Lexicographic.slice_cmp, List.filter}
 use Rattle.std.{specs.{List.fold, Ordering.{match_ordering, nat_cmp}}, proofs.Common.{[], ℕ, ◌||◌, ◌∷◌, ◌≡◌, Bool, List, false, map, refl}}
 use Rattle.std.proofs.Common.{true}

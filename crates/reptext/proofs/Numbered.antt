@@ -1,4 +1,4 @@
--- A list of numbered values that have names grows by one, and ends.
+-- Lists of numbered values with names: how they grow by one, and end.
 use Rattle.std.{specs.List.{enumerate_from, zip}, proofs.Common.{ℕ, ◌++◌, ◌+◌, ◌<◌, ◌∙◌, ◌≡◌, ◌≤◌, List, ap, arith, get_or, length}}
 use Rattle.std.proofs.{Common.{map, sym, take}, lemmas.List.{take_all, FromFn.{get_or-enumerate_from, length-enumerate_from}}}
 use Rattle.std.proofs.lemmas.Slice.Zip.{get_or-zip, length-zip}

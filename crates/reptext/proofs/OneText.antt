@@ -1,4 +1,4 @@
--- The report of an acceptance has one text: two tests that decide a relation for the labels of a table agree on these.
+-- That the report of an acceptance has one text: two tests that decide the same relation agree on the labels of a table.
 use Rattle.std.{specs.{List.{filter, fold}, Prelude.codes}, proofs.Common.{[], ℕ, ◌<◌, ◌∙◌, ◌∷◌, ◌≡◌, All, Bool, List, ap, arith, false}}
 use Rattle.std.proofs.{Common.{get_or, length, map, refl, sym, true}, lemmas.List.Elements.{All-head, All-tail}}
 use Rattle.std.proofs.lemmas.List.FromFn.{get_or-range_with_len, length-range_with_len}
@@ -9,7 +9,7 @@ use Rattle.policy.specs.{Cut.IsCut, Full.IsFull, Policy.allows}
 use Rattle.captext.specs.PolicyText.{label_name}
 use Rattle.reptext.specs.{Relations.Decides, Reports.{IsCheckReport, labels_of, line_of, names_data, relation_data, with_related}}
 
--- two answers of which each is yes where the other is
+-- two booleans are equal if each is true whenever the other is
 pub same_answer : (one other : Bool) → (one ≡ true → other ≡ true) → (other ≡ true → one ≡ true) → one ≡ other
 same_answer true other there back = sym (there refl)
 same_answer false true there back = back refl
@@ -48,7 +48,7 @@ module _ (t : Layout) (one other : ℕ → ℕ → Bool) (R : ℕ → ℕ → Ty
       (λ members k d within. related_same members (get_or (labels_of t) k d) (agree (get_or (labels_of t) k d) (is_label k d within)))
       no_members)
 
--- the report that tells two relations
+-- the report of two relations
 abbrev report_of : Layout → Data → Data → List ℕ
 report_of t cut full =
     line_of

@@ -1,4 +1,4 @@
--- What is told of a table that is made one of version 2 is what was told of it before.
+-- That a table keeps the report of its acceptance and the names of places when it is turned into one of version 2.
 use Rattle.std.{specs.Prelude.Option, proofs.Common.{ℕ, ◌↔◌, ◌≡◌, List, refl, subst, sym}}
 use Rattle.base.specs.declared.{edge.Edge.Edge, ids.ObjId.ObjId}
 use Rattle.machine.specs.{declared.object.ObjectKind.ObjectKind, Authority.{label_at, label_of}, Layout.{Layout, declared_label, initial_of, upgraded}}
@@ -37,7 +37,7 @@ same_sharp t (sharp.ContextLacks subject context) = refl
 same_sharp t (sharp.ReplyLacks reply thread) = refl
 same_sharp t (sharp.LentLacks borrower context) = refl
 
--- by whichever kinds the objects are of
+-- the names don't depend on the version, for all kinds of the objects
 pub same_names :
     (kinds : ObjId → Option ObjectKind) (t : Layout) (d : Denial) → place_names_by kinds (upgraded t) d ≡ place_names_by kinds t d
 same_names kinds t (denial.Policy broken) = same_broken t broken

@@ -1,4 +1,4 @@
--- The report of claims that don't hold: each with its line, and the authority or the edge that breaks it (confine's own).
+-- The report of claims that don't hold: each with its line and what breaks it, an authority or an edge (confine's own).
 use Rattle.std.specs.{List.flat_map, Prelude.{[], ℕ, ◌∷◌, Bool, List, None, Option, Some, codes, false, if◌then◌else◌, true}}
 use Rattle.base.specs.declared.edge.Edge.{Edge}
 use Rattle.machine.specs.Layout.{Layout}
@@ -9,13 +9,13 @@ use Rattle.claims.specs.{Lines.claim_at, Text.claim_text}
 use Rattle.reptext.specs.{Reasons.edge_data, Reports.{extent_word, names_data}}
 use Rattle.serde_json.specs.{Data.{Data, array, member, no_members, number, object, string, unsigned}, View.items_of}
 
--- the claim itself names the two labels that it bounds, or the edge that it excludes
+-- whether the claim itself names the two labels that it bounds, or the edge that it excludes
 abbrev pub names_both : Claim → Bool
 names_both (claim.AtMost limit (who.One a) (who.One l)) = true
 names_both (claim.Without (who.One a) kind (who.One l)) = true
 names_both _ = false
 
--- a claim on authority is broken by this much of it; where the claim doesn't name them, the two labels are told too
+-- a claim on authority is broken by this authority; the two labels are added if the claim doesn't name them
 abbrev pub pair_data : Layout → Claim → ℕ → Breach → Data
 pair_data t claim line breach =
     object (member (codes "authority") (string (extent_word breach.extent))
@@ -30,7 +30,7 @@ plain_data t claim line =
     object (member (codes "claim") (string (claim_text t claim))
     (member (codes "line") (number (unsigned line)) no_members))
 
--- a claim is broken by an edge, which is told where the claim doesn't name it
+-- a claim is broken by an edge, which is added if the claim doesn't name it
 abbrev pub excluded_data : Layout → Claim → ℕ → Edge → Data
 excluded_data t claim line edge =
     if names_both claim then plain_data t claim line
@@ -38,13 +38,13 @@ excluded_data t claim line edge =
     (member (codes "edge") (edge_data t edge)
     (member (codes "line") (number (unsigned line)) no_members)))
 
--- what is told of a claim that is broken for this reason
+-- the entry of a claim that is broken for this reason
 abbrev pub failure_data : Layout → Claim → ℕ → Failure → Data
 failure_data t claim line (failure.Pair breach) = pair_data t claim line breach
 failure_data t claim line failure.Chain = plain_data t claim line
 failure_data t claim line (failure.Edge edge) = excluded_data t claim line edge
 
--- what is told of a line, which is one of the text's claims
+-- the entry of a line, which is one of the text's claims
 abbrev pub told_of : Layout → Broken → Option Claim → List Data
 told_of t broken None = []
 told_of t broken (Some claim) = failure_data t claim broken.line broken.failure ∷ []

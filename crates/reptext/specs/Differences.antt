@@ -1,4 +1,4 @@
--- The changes from one system to another, as JSON: what their lines say, each as an object (confine's own).
+-- The changes from one system to another, as JSON: each line of their text as an object (confine's own).
 use Rattle.std.specs.{List.list_any, Prelude.{[], ℕ, ◌∷◌, ◌≡◌, List, codes, map}}
 use Rattle.base.specs.{declared.kind.Kind.Kind, Kinds.kind_name}
 use Rattle.machine.specs.Layout.{Layout}
@@ -8,7 +8,7 @@ use Rattle.diff.specs.{Changes.{AreChanges, adds, sign_of}, Text.{cell_text, nam
 use Rattle.reptext.specs.Reports.{line_of, names_data}
 use Rattle.serde_json.specs.{Data.{Data, array, boolean, member, no_members, object, string}, View.items_of}
 
--- what a label was and is
+-- what a label was and what it is
 abbrev pub standing_data : Sign → List ℕ → Standing → Standing → Data
 standing_data sign name old new =
     object (member (codes "label") (string name)
@@ -16,7 +16,7 @@ standing_data sign name old new =
     (member (codes "old") (string (standing_text old))
     (member (codes "sign") (string (sign_text sign)) no_members))))
 
--- what the cell of two programs said and says
+-- what the cell of two programs was and what it is
 abbrev pub cell_data : Sign → List ℕ → List ℕ → Marks → Marks → Data
 cell_data sign from to old new =
     object (member (codes "cell") (names_data (from ∷ to ∷ []))
@@ -39,7 +39,7 @@ edge_data sign from kind to =
     object (member (codes "edge") (names_data (from ∷ kind_name kind ∷ to ∷ []))
     (member (codes "sign") (string (sign_text sign)) no_members))
 
--- what is told of a change, by the names of two tables
+-- the entry of a change, by the names of two tables
 abbrev pub change_data : Layout → Layout → Change → Data
 change_data old new (change.Standing named one other) =
     standing_data (sign_of (change.Standing named one other)) (name_text old new named) one other
@@ -49,7 +49,7 @@ change_data old new (change.Use sign from verb to) = use_data sign (name_text ol
 change_data old new (change.Role sign role named) = role_data sign role (name_text old new named)
 change_data old new (change.Edge sign from kind to) = edge_data sign (name_text old new from) kind (name_text old new to)
 
--- whether any adds authority, and all of them
+-- all changes, and whether any adds authority
 abbrev pub changes_data : Layout → Layout → List Change → Data
 changes_data old new changed =
     object (member (codes "adds") (boolean (list_any adds changed))

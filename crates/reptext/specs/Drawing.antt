@@ -1,6 +1,6 @@
--- The drawing of who may change or take from whom, as Graphviz reads it: the labels, and an arrow from each to each other whose objects it
--- may change or make smaller, solid where it may change them and dashed where it may not, with an edge of the reason (compare the integrity
--- of 'seL4 Enforces Integrity', section 4; its drawing is confine's own).
+-- The drawing of who may change or take from whom, for Graphviz: the labels, and an arrow from each to each other whose objects it may
+-- change (solid) or only make smaller (dashed), with an edge of the reason (compare the integrity of 'seL4 Enforces Integrity', section 4;
+-- the drawing is confine's own).
 use Rattle.std.specs.{List.{flat_map, range_with_len}, Prelude.{[], ℕ, ◌++◌, ◌∷◌, ◌≡◌, ◌≢◌, List, codes, length, map}}
 use Rattle.base.specs.{declared.edge.Edge.Edge, Kinds.kind_name}
 use Rattle.machine.specs.Layout.{Layout}
@@ -18,34 +18,34 @@ arrow_line t a l style edge =
     codes "  \"" ++ (label_name t a ++ (codes "\" -> \"" ++ (label_name t l ++ (codes "\" [" ++ (style ++ (codes "label=\""
     ++ (label_name t edge.from ++ (codes " " ++ (kind_name edge.kind ++ (codes " " ++ (label_name t edge.to ++ codes "\"]\n")))))))))))
 
--- what is drawn from one label to another: an arrow, with the first edge of the reason for it
+-- the drawing from one label to another: an arrow with the first edge of its reason, or nothing
 pub data IsArrow (limits : Limits) (t : Layout) (a l : ℕ) (text : List ℕ) : Type 0 where
-  -- from a label to itself none
+  -- none from a label to itself
   itself : a ≡ l → text ≡ [] → IsArrow limits t a l text
-  -- a solid one where the one may change the other's objects
+  -- solid, if the label may change the other's objects
   solid : a ≢ l → (edge : Edge) (more : List Edge) → IsLeast reason_place (IsChangeBy limits.test limits.acts a l) (edge ∷ more)
       → text ≡ arrow_line t a l [] edge → IsArrow limits t a l text
-  -- a dashed one where it may only make them smaller
+  -- dashed, if it may only make them smaller
   dashed : a ≢ l → ¬ MayChangeIn limits a l → (edge : Edge) (more : List Edge) → IsLeast reason_place (IsShrinkBy limits.test limits.acts a l) (edge ∷ more)
       → text ≡ arrow_line t a l (codes "style=dashed, ") edge → IsArrow limits t a l text
-  -- none where it may do neither
+  -- none, if it may do neither
   nothing : a ≢ l → ¬ MayChangeIn limits a l → ¬ MayShrinkIn limits a l → text ≡ [] → IsArrow limits t a l text
 
--- what is drawn for pairs of labels, one after another
+-- the drawing of pairs of labels, one after another
 abbrev pub Draws : Limits → Layout → List (ℕ × ℕ) → List ℕ → Type 0
 Draws limits t [] text = text ≡ []
 Draws limits t (pair ∷ pairs) text =
     (arrow : List ℕ) × (rest : List ℕ) × IsArrow limits t pair.0 pair.1 arrow × Draws limits t pairs rest × (text ≡ arrow ++ rest)
 
--- to a text what is drawn for pairs of labels was added
+-- the drawing of pairs of labels is added to a text
 abbrev pub AddsArrows : Limits → Layout → List (ℕ × ℕ) → List ℕ → List ℕ → Type 0
 AddsArrows limits t pairs old new = (arrows : List ℕ) × Draws limits t pairs arrows × (new ≡ old ++ arrows)
 
--- the pairs of a label with each of so many
+-- the pairs of a label with each of `count`
 abbrev pub pairs_with : ℕ → ℕ → List (ℕ × ℕ)
 pairs_with count a = map (λ l. (a, l)) (range_with_len 0 count)
 
--- all pairs of so many labels, rising
+-- all pairs of `count` labels, rising
 abbrev pub pairs_of : ℕ → List (ℕ × ℕ)
 pairs_of count = flat_map (pairs_with count) (range_with_len 0 count)
 

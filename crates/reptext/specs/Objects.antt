@@ -12,6 +12,5 @@ entry_words t number name initial = decimal number ∷ kind_word initial.object 
 abbrev pub entries : Layout → List (ℕ × (List ℕ × Initial))
 entries t = enumerate_from 0 (zip t.names t.objects)
 
--- the whole list
 abbrev pub objects_text : Layout → List ℕ
 objects_text t = text_of (map (λ entry. entry_words t entry.0 entry.1.0 entry.1.1) (entries t))

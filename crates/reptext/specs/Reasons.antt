@@ -1,4 +1,4 @@
--- What a label may do to another, as JSON: how far that goes, and the edges of a reason for it (confine's own).
+-- The authority of a label on another, as JSON: how far it goes, and the edges of a reason for it (confine's own).
 use Rattle.std.specs.Prelude.{[], ℕ, List, codes, map}
 use Rattle.base.specs.declared.edge.Edge.{Edge}
 use Rattle.machine.specs.Layout.{Layout}

@@ -1,4 +1,4 @@
--- The relations of labels that the report of an acceptance tells, and tests that decide them (confine's own).
+-- The relations of labels in the report of an acceptance, and tests that decide them (confine's own).
 use Rattle.std.specs.Prelude.{ℕ, ◌<◌, ◌↔◌, ◌≡◌, Bool, List, get_or, length, true}
 use Rattle.base.specs.{declared.labels.Labels.Labels, Labels.{is_in, no_labels}}
 use Rattle.machine.specs.Layout.{Layout}

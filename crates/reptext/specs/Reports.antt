@@ -1,4 +1,4 @@
--- The reports: each is one JSON object on a line, without spaces, its keys in the order of their bytes (confine's own).
+-- Reports, each one JSON object on a line, without spaces and with its keys in the order of their bytes (confine's own).
 use Rattle.std.specs.{List.{filter, fold, range_with_len}, Prelude.{[], ℕ, ◌++◌, ◌∷◌, ◌≡◌, Bool, List, codes, length, map}}
 use Rattle.serde_json.specs.{Data.{Data, Members, array, member, no_members, number, object, put, string, unsigned}, View.items_of}
 use Rattle.serde_json.specs.Written.{compact_text}
@@ -16,7 +16,7 @@ use Rattle.reptext.specs.Relations.{Decides}
 abbrev pub line_of : Data → List ℕ
 line_of value = compact_text value ++ 10 ∷ []
 
--- a fault of a text: its number, the file and the line
+-- the report of a fault: its number, the file and the line
 abbrev pub fault_data : ℕ → File → ℕ → Data
 fault_data fault file line =
     object (member (codes "fault") (number (unsigned fault))
@@ -27,7 +27,7 @@ fault_data fault file line =
 abbrev pub names_data : List (List ℕ) → Data
 names_data names = array (items_of (map string names))
 
--- a denial: the place that breaks a rule, and the rule
+-- a denial: the names of the place, and the rule that is broken there
 abbrev pub denial_data : List ℕ → List (List ℕ) → Data
 denial_data rule place =
     object (member (codes "place") (names_data place)
@@ -38,7 +38,7 @@ denial_data rule place =
 abbrev pub labels_of : Layout → List ℕ
 labels_of t = range_with_len 0 (length t.labels)
 
--- the members with one more: a label's name, with the names of those that the test relates it to, in the order of their numbers
+-- the members with one more: a label's name, with the names of all that the test relates it to, in the order of their numbers
 abbrev pub with_related : Layout → (ℕ → ℕ → Bool) → Members → ℕ → Members
 with_related t test members a = put (label_name t a) (names_data (map (label_name t) (filter (test a) (labels_of t)))) members
 
@@ -46,7 +46,7 @@ with_related t test members a = put (label_name t a) (names_data (map (label_nam
 abbrev pub relation_data : Layout → (ℕ → ℕ → Bool) → Data
 relation_data t test = object (fold (with_related t test) no_members (labels_of t))
 
--- an acceptance: how many slots are filled, and for each label those that it may act on, by removals and at all
+-- an acceptance: how many slots are filled, and for each label those that it may act on, by removals and in any way
 abbrev pub check_data : Layout → (ℕ → ℕ → Bool) → (ℕ → ℕ → Bool) → Data
 check_data t cut full =
     object (member (codes "caps") (number (unsigned (length t.caps)))
@@ -61,7 +61,7 @@ within_data entries =
     (member (codes "state") (string (codes "within"))
     (member (codes "verdict") (string (codes "legal")) no_members)))
 
--- the same, where that lies outside: the place, and the rule that is broken there
+-- a legal log whose last state lies outside the policy: the place, and the rule that is broken there
 abbrev pub outside_data : ℕ → List ℕ → List (List ℕ) → Data
 outside_data entries rule place =
     object (member (codes "entries") (number (unsigned entries))
@@ -76,11 +76,11 @@ illegal_data entry =
     object (member (codes "entry") (number (unsigned entry))
     (member (codes "verdict") (string (codes "illegal")) no_members))
 
--- an acceptance, and no more
+-- an acceptance, without details
 abbrev pub accept_data : Data
 accept_data = object (member (codes "verdict") (string (codes "accept")) no_members)
 
--- claims that hold: how many there are, and what those on flows bound
+-- claims that hold: their number, and what those on flows bound
 abbrev pub hold_data : ℕ → Kept → Data
 hold_data claims kept =
     object (member (codes "claims") (number (unsigned claims))
@@ -93,13 +93,13 @@ extent_word extent.Full = codes "full"
 extent_word extent.Take = codes "take"
 extent_word extent.Nothing = codes "none"
 
--- no run by which one label does something to another: there can't be one
+-- no run in which one label does something to another: it is impossible
 abbrev pub impossible_data : Data
 impossible_data =
     object (member (codes "bound") (string (codes "none"))
     (member (codes "run") (string (codes "impossible")) no_members))
 
--- no run that was found: how far the authority goes, and how many calls were tried
+-- no run was found: how far the authority goes, and how many calls were tried
 abbrev pub unfound_data : Extent → ℕ → Data
 unfound_data bound steps =
     object (member (codes "bound") (string (extent_word bound))
@@ -112,7 +112,7 @@ fault_report fault file line = line_of (fault_data fault file line)
 abbrev pub denial_report : List ℕ → List (List ℕ) → List ℕ
 denial_report rule place = line_of (denial_data rule place)
 
--- a text is the report of an acceptance, with each label's cut and full authority
+-- a text is the report of an acceptance, with the cut and full authority of each label
 pub record IsCheckReport (t : Layout) (edges : List Edge) (text : List ℕ) : Type 0 where
   pub cut : ℕ → ℕ → Bool
   pub full : ℕ → ℕ → Bool

@@ -1,4 +1,4 @@
--- The summary of the reach of a table, as JSON: what its text says, with whole lists (confine's own).
+-- The summary of a table's reach, as JSON: what its text says, with whole lists (confine's own).
 use Rattle.std.specs.{List.flat_map, Prelude.{[], ℕ, ◌∷◌, ◌==◌, ◌≡◌, List, codes, if◌then◌else◌, map}, Str.bytes_eq}
 use Rattle.machine.specs.Layout.{Layout}
 use Rattle.captext.specs.PolicyText.{label_name}
@@ -7,7 +7,6 @@ use Rattle.summary.specs.{declared.rows.Row.Row, Labelled.{others_of, programs_o
 use Rattle.reptext.specs.Reports.{line_of, names_data}
 use Rattle.serde_json.specs.{Data.{Data, array, member, no_members, object, string}, View.items_of}
 
--- the names of labels
 abbrev pub labels_data : Layout → List ℕ → Data
 labels_data t labels = names_data (map (label_name t) labels)
 
@@ -15,12 +14,11 @@ labels_data t labels = names_data (map (label_name t) labels)
 abbrev pub cell_data : Layout → Row → Row → Data
 cell_data t row other = names_data (label_name t row.label ∷ label_name t other.label ∷ marks row other.label ∷ [])
 
--- what is told of a cell: nothing of that of a label and itself, nor of a dot
+-- the entry of a cell: nothing for a label and itself, or for a dot
 abbrev pub told_cell : Layout → Row → Row → List Data
 told_cell t row other =
     if row.label == other.label then [] else (if bytes_eq (marks row other.label) (codes ".") then [] else cell_data t row other ∷ [])
 
--- the cells of a row that are told
 abbrev pub cells_of : Layout → List Row → Row → List Data
 cells_of t rows row = flat_map (told_cell t row) rows
 

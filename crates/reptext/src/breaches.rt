@@ -14,10 +14,11 @@ use serde_json::{Value, json};
 use std::alloc::{AllocError, Global};
 use table::Table;
 
-/// Returns the report of claims that don't hold, each with its line, and of what those on flows bound that hold.
+/// Returns the report of claims that don't hold, each with its line, and of what the claims on flows that hold bound.
 ///
-/// A claim on authority is told with the authority that breaks it, and with the two labels if it doesn't name both. One
-/// that excludes edges is told with the first that breaks it, if it doesn't name that one itself.
+/// A claim on authority has the authority that breaks it, and the two labels if it doesn't name
+/// both. A claim that excludes edges has the first edge that breaks it, if it doesn't name that one
+/// itself.
 ///
 /// # Errors
 ///
@@ -49,7 +50,6 @@ fn breaches_value(
     json!(in alloc; {"broken": values, "kept": kept, "verdict": "broken"})
 }
 
-// What is told of each claim that doesn't hold.
 fn values_of(
     alloc: Global,
     table: &Table,
@@ -65,7 +65,6 @@ fn values_of(
     Ok(values)
 }
 
-// Adds what is told of a claim that doesn't hold.
 fn push_value(
     alloc: Global,
     table: &Table,
@@ -82,7 +81,6 @@ fn push_value(
     Ok(())
 }
 
-// What is told of a claim that doesn't hold.
 fn value_of(
     alloc: Global,
     table: &Table,

@@ -42,7 +42,6 @@ fn changes_value(
     json!(in alloc; {"adds": adds, "changes": values})
 }
 
-// What is told of each change.
 fn values_of(
     alloc: Global,
     old: &Table,
@@ -58,7 +57,6 @@ fn values_of(
     Ok(values)
 }
 
-// What is told of a change.
 fn change_value(
     alloc: Global,
     old: &Table,
@@ -183,7 +181,6 @@ fn word(alloc: Global, word: &str) -> Result<Value, AllocError>
     Ok(Value::String(String::from_str(alloc, word)?))
 }
 
-// The marks of a cell.
 fn marks_string(alloc: Global, marks: Marks) -> Result<String, AllocError>
     ensures { IfOk result (λ text. string_bytes text ≡ cell_text marks) }
 {

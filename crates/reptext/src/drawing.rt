@@ -1,4 +1,4 @@
-//! The drawing of who may change or take from whom.
+//! The drawing of who may change or take from whom, for Graphviz.
 ghost use Rattle.std.specs.List.{flat_map};
 ghost use Rattle.std.specs.Prelude.{[], ◌++◌, ◌<◌, ◌∷◌, ◌≡◌, IfErr, IfOk, List, OnErr, OnOk, length, string_bytes};
 ghost use Rattle.base.specs.{declared.edge.Edge.Edge as EdgeOf, Refusals.out_of_memory};
@@ -11,12 +11,12 @@ use policy::{Policy, Why};
 use std::alloc::{AllocError, Global};
 use table::Table;
 
-/// Returns the drawing of who may change or take from whom where threads of the labels `actors` make calls,
-/// as Graphviz reads it.
+/// Returns the drawing of who may change or take from whom, for Graphviz. Threads of the labels
+/// `actors` make calls.
 ///
-/// It has the labels of the table, and from each an arrow to each other whose objects it may change or make
-/// smaller, with the first edge of the reason that [`Policy::why_among`] gives. The arrow is solid where it may
-/// change them, and dashed where it may only make them smaller.
+/// It has the labels of the table, and from each an arrow to each other label whose objects it may
+/// change or make smaller, with the first edge of the reason that [`Policy::why_among`] gives. The
+/// arrow is solid if the label may change them, and dashed if it may only make them smaller.
 ///
 /// # Errors
 ///
@@ -41,7 +41,7 @@ pub fn write_drawing(
 fn write_labels(text: &mut String, table: &Table) -> Result<(), AllocError>
     ensures { OnOk result (string_bytes text.new ≡ string_bytes text.old ++ flat_map label_line table.now.labels) }
 {
-    // A rule of tables: their labels are few.
+    // By a rule of tables, their labels are few.
     table.keeps_rules();
     for number in 0..table.label_count() {
         if let Some(label) = Label::new(number as u16) {
@@ -113,7 +113,7 @@ fn write_arrow_of(
     if actor == object {
         return Ok(());
     }
-    // That there is none is seen sooner than searched for.
+    // These tests are cheaper than a search for a reason.
     let changes = policy.may_change(actors, actor, object);
     if !changes && !policy.may_shrink(actors, actor, object) {
         return Ok(());

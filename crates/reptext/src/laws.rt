@@ -6,9 +6,9 @@ ghost use Rattle.policy.specs.Domain.{EdgeTest};
 ghost use Rattle.verdict.specs.{declared.denial.Denial.Denial, Rules.Excess, Verdict.IsOutside};
 ghost use Rattle.reptext.specs.{Places.{place_names, place_names_by}, Reports.IsCheckReport};
 
-/// Proves that an upgraded table keeps the reports of its acceptance, the names at the place of
-/// each denial, and the first place outside of a policy in each state of its runs, with the names
-/// there. None of these depends on the version.
+/// Proves that an upgraded table keeps the report of its acceptance, the names at the place of each
+/// denial, and the first place outside a policy in each state of its runs, with the names there.
+/// None of these depends on the version.
 pub fn upgraded_tables_are_reported_alike()
     ensures report { (t : Layout) (edges : List Edge) (text : List ℕ)
         → IsCheckReport (upgraded t) edges text ↔ IsCheckReport t edges text }

@@ -2,7 +2,7 @@
 //! one JSON object on a line, and the names at the place that it tells; the summary, and what a label
 //! may do, and what changes from one system to another, as JSON; the list of a table's objects; and the drawing of who may change or take from whom.
 //!
-//! `commands` and `report` stand on it. It knows no device, and no code of the kernel's calls.
+//! The crate knows no device, and no code of the kernel's calls.
 #![tactic(auto)]
 
 mod breaches;

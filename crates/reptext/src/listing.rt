@@ -12,8 +12,8 @@ use machine::{Initial, ObjectKind};
 use std::alloc::{AllocError, Global};
 use table::Table;
 
-/// Returns the list of a table's objects. Each object has a line of its own: its number, which a
-/// script names, its kind, its name and its label.
+/// Returns the list of a table's objects. Each object has a line: its number, which scripts name,
+/// its kind, its name and its label.
 ///
 /// # Errors
 ///

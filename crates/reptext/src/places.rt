@@ -1,4 +1,4 @@
-//! The names at the place that a denial names.
+//! The names at the place of a denial.
 ghost use Rattle.std.specs.Prelude.{[], ◌∷◌, ◌≡◌, IfOk, Option, map, string_bytes};
 ghost use Rattle.base.specs.{Kinds.kind_name, declared.ids.ObjId.ObjId as Id};
 ghost use Rattle.machine.specs.{declared.object.ObjectKind.ObjectKind as KindOfObject, WellFormed.kind_of};
@@ -15,7 +15,7 @@ use std::alloc::{AllocError, Global};
 use table::Table;
 use verdict::Denial;
 
-/// Who tells the kinds of objects: a table those of the initial ones, a state those of all that are there.
+/// A source of the kinds of objects: a table for the initial ones, a state for all that exist.
 pub trait KindsOfObjects {
     // The kind of the object of each number.
     ghost kinds: { Self → Id → Option KindOfObject };
@@ -44,8 +44,7 @@ impl KindsOfObjects for State {
     }
 }
 
-/// Returns the names at the place that a denial names. Slots are spelled by the kinds of their
-/// holders.
+/// Returns the names at the place of a denial. Slots are spelled by the kinds of their holders.
 ///
 /// # Errors
 ///
@@ -247,7 +246,7 @@ fn sharp_names(
     Ok(names)
 }
 
-// The names of two labels of which one has an edge that the other lacks.
+// The names of two labels, of which one has an edge that the other lacks.
 fn names_of_two(
     alloc: Global,
     table: &Table,

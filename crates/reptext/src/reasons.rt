@@ -1,4 +1,4 @@
-//! What a label may do to another, as JSON.
+//! The authority of a label on another, as JSON.
 ghost use Rattle.std.specs.Prelude.{◌≡◌, IfErr, IfOk, map};
 ghost use Rattle.serde_json.specs.View.{view};
 ghost use Rattle.base.specs.Refusals.{out_of_memory};
@@ -13,8 +13,8 @@ use serde_json::{Value, json};
 use std::alloc::{AllocError, Global};
 use table::Table;
 
-/// Returns what a label may do to another, as one JSON object on a line: how far that goes, and the edges of a
-/// reason for it.
+/// Returns what a label may do to another, as one JSON object on a line: how far it goes, and the
+/// edges of a reason.
 ///
 /// # Errors
 ///
@@ -62,7 +62,6 @@ fn why_value(
     }
 }
 
-// How far a label goes with another, and the edges of a reason.
 fn reason_value(
     alloc: Global,
     table: &Table,

@@ -1,4 +1,4 @@
-//! Which labels each label may act on, as the report of an acceptance shows it.
+//! The labels that each label may act on, in the report of an acceptance.
 ghost use Rattle.std.specs.List.{filter};
 ghost use Rattle.std.specs.Prelude.{[], ℕ, ◌++◌, ◌<◌, ◌↔◌, ◌∷◌, ◌≡◌, Bool, IfOk, OnOk, length, map, true};
 ghost use Rattle.serde_json.specs.{Data.string, View.{members_view, view}};
@@ -15,7 +15,7 @@ use serde_json::{Map, Value};
 use std::alloc::{AllocError, Global};
 use table::Table;
 
-/// A relation of labels that the report of an acceptance tells.
+/// A relation of labels in the report of an acceptance.
 #[derive(Clone, Copy)]
 pub(crate) enum Relation {
     Cut,
@@ -37,7 +37,7 @@ pub(crate) fn relation_value(
     sets_value(alloc, table, &sets)
 }
 
-/// For each label of the table, those that it is related to.
+/// For each label of the table, the labels that it is related to.
 fn sets_of(
     alloc: Global,
     table: &Table,
@@ -57,7 +57,6 @@ fn sets_of(
     Ok(sets)
 }
 
-/// The labels that a label is related to.
 fn related(policy: &Policy, relation: Relation, label: Label) -> Labels
     ensures { (other : ℕ) → (is_in result other ≡ true) ↔ relates relation (allows policy.now) label other }
 {
@@ -72,7 +71,7 @@ fn sets_value(alloc: Global, table: &Table, sets: &[Labels]) -> Result<Value, Al
     requires { length sets.now ≡ length table.now.labels }
     ensures { IfOk result (λ value. view value ≡ reports.relation_data table.now (relation_of sets.now)) }
 {
-    // That labels are few, a table tells with their number.
+    // The contract of `label_count` says that labels are few.
     let _few = table.label_count();
     let mut members = Map::new(alloc);
     for number in 0..sets.len() {
@@ -83,7 +82,7 @@ fn sets_value(alloc: Global, table: &Table, sets: &[Labels]) -> Result<Value, Al
     Ok(Value::Object(members))
 }
 
-/// Puts a label's member to those of other labels.
+/// Adds a label's member to those of other labels.
 fn put_label(
     alloc: Global,
     table: &Table,

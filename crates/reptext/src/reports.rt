@@ -17,7 +17,7 @@ use table::Table;
 use verdict::Denial;
 
 /// Returns the report of a text that isn't one of its format: the fault's number, the file, and the
-/// line that has it.
+/// line.
 ///
 /// # Errors
 ///
@@ -28,7 +28,7 @@ pub fn fault_report(alloc: Global, fault: u64, file: File, line: u64) -> Result<
     line_of(alloc, &fault_value(alloc, fault, file, line)?)
 }
 
-// The report of a denial that breaks this rule at a place with these names.
+// The report of a denial by this rule at a place with these names.
 #[tactic(auto, using(crate::proofs::Names::names_have_no_float))]
 fn denial_report(alloc: Global, rule: &str, place: &[String]) -> Result<Vec<u8>, AllocError>
     ensures { IfOk result (λ report.
@@ -37,8 +37,7 @@ fn denial_report(alloc: Global, rule: &str, place: &[String]) -> Result<Vec<u8>,
     line_of(alloc, &denial_value(alloc, rule, place)?)
 }
 
-/// Returns the report of a denial: the rule that is broken, and the names at the place that breaks
-/// it.
+/// Returns the report of a denial: the rule that is broken, and the names at the place.
 ///
 /// # Errors
 ///
@@ -52,7 +51,7 @@ pub fn denial_text(alloc: Global, table: &Table, denial: &Denial) -> Result<Vec<
 }
 
 /// Returns the report of an acceptance: how many slots of the table are filled, and for each label
-/// the labels on whose objects it may act, by removals and at all.
+/// the labels on whose objects it may act, by removals and in any way.
 ///
 /// # Errors
 ///
@@ -66,7 +65,7 @@ pub fn check_report(alloc: Global, table: &Table, policy: &Policy) -> Result<Vec
     line_of(alloc, &value)
 }
 
-/// Returns the report of an acceptance that says no more.
+/// Returns the report of an acceptance, without details.
 ///
 /// # Errors
 ///
@@ -119,7 +118,7 @@ pub fn illegal_report(alloc: Global, entry: usize) -> Result<Vec<u8>, AllocError
     line_of(alloc, &illegal_value(alloc, entry)?)
 }
 
-/// Returns the report of this number of claims that hold, and of what those on flows bound.
+/// Returns the report of this number of claims that hold, and what those on flows bound.
 ///
 /// # Errors
 ///

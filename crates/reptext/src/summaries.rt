@@ -15,8 +15,9 @@ use std::alloc::{AllocError, Global};
 use summary::{Row, changers, marks, others, programs, readers, rows_of, takers};
 use table::Table;
 
-/// Returns the summary of a table with this reach, as one JSON object on a line: who may change whom in any run,
-/// and the labels without a thread with those who change them, read them, and may only take from them.
+/// Returns the summary of a table with this reach, as one JSON object on a line: who may change
+/// whom in any run, and the labels without a thread with those who change them, read them, and may
+/// only take from them.
 ///
 /// # Errors
 ///
@@ -49,7 +50,7 @@ fn summary_value(alloc: Global, table: &Table, rows: &[Row]) -> Result<Value, Al
     json!(in alloc; {"cells": cells, "memory": memory, "programs": programs})
 }
 
-// The cells that are told, row by row.
+// The cells that have an entry, row by row.
 fn cells(alloc: Global, table: &Table, rows: &[Row]) -> Result<Vec<Value>, AllocError>
     ensures { IfOk result (λ cells. map view cells.items ≡ flat_map (cells_of table.now rows.now) rows.now) }
 {
@@ -60,7 +61,7 @@ fn cells(alloc: Global, table: &Table, rows: &[Row]) -> Result<Vec<Value>, Alloc
     Ok(cells)
 }
 
-// Adds the cells of a row that are told.
+// Adds the cells of a row that have an entry.
 #[tactic(auto, using(crate::proofs::Arrows::piece_more))]
 fn push_cells(
     alloc: Global,
@@ -78,7 +79,7 @@ fn push_cells(
     Ok(())
 }
 
-// Adds a cell, if it is told.
+// Adds a cell, if it has an entry.
 fn push_cell(
     alloc: Global,
     table: &Table,
@@ -151,7 +152,6 @@ fn region_value(
     json!(in alloc; {"changed_by": changed_by, "label": label, "read_by": read_by, "taken_by": taken_by})
 }
 
-// The names of labels.
 fn labels_value(alloc: Global, table: &Table, labels: &[Label]) -> Result<Value, AllocError>
     ensures { IfOk result (λ value. view value ≡ labels_data table.now labels.now) }
 {

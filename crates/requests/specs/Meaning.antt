@@ -1,4 +1,4 @@
--- What the words of a command line ask for: each command, with its words and options, and the request that they make (confine's own).
+-- The requests that command lines make: each command with its words and options, and what these ask for (confine's own).
 use Rattle.std.specs.{Borrow.Bor, Prelude.{ℕ, ◌&&◌, Bool, List, None, Option, Some, codes, if◌then◌else◌, is_some, nat_le}}
 use Rattle.std.specs.{Option.option_map_or, Prelude.option_and_then, Str.bytes_eq}
 use Rattle.words.specs.Number.{dec_of}
@@ -26,16 +26,16 @@ number_in least most word = do
   number ← dec_of word
   if nat_le least number && nat_le number most then Some number else None
 
--- which rights capabilities get by a word
+-- the rights that capabilities get by a word
 abbrev pub minting_of : List ℕ → Option Minting
 minting_of word =
     if bytes_eq word (codes "least") then Some minting.Least else if bytes_eq word (codes "all") then Some minting.All else None
 
--- what `check` writes
+-- the text that `check` writes
 abbrev pub on_accept_of : Words → OnAccept
 on_accept_of words = if words.cert then on_accept.Certificate else on_accept.Report
 
--- what `close` writes
+-- the text that `close` writes
 abbrev pub on_close_of : Words → OnClose
 on_close_of words = if words.missing then on_close.Missing else if words.surplus then on_close.Surplus else on_close.Policy
 
@@ -44,62 +44,62 @@ abbrev pub rules_of : List ℕ → Option Rules
 rules_of word =
     if bytes_eq word (codes "closed") then Some rules.Closed else if bytes_eq word (codes "sharp") then Some rules.Sharp else None
 
--- by which rules a policy is judged
+-- the rules by which a policy is judged
 abbrev pub set_of : Words → Option Rules
 set_of words = do
   word ← words.rules
   rules_of word.now
 
--- which labels `draw` draws
+-- the labels that `draw` draws
 abbrev pub picture_of : Words → Picture
 picture_of words = if words.all then picture.Labels else picture.Programs
 
--- what `show` looks for, and how long
+-- the run that `show` looks for, and with how many calls
 abbrev pub search_of : Words → Option Search
 search_of words = do
   word ← words.steps
   steps ← number_in 1 1000000 word.now
   Some (record { takes = words.take; steps = steps })
 
--- what `import` writes
+-- the text that `import` writes
 abbrev pub imported_of : Words → Imported
 imported_of words = if words.as_claims then imported.Claims else imported.Table
 
--- how `import` reads a description, and what it writes of it
+-- the rights with which `import` reads a description, and the text that it writes
 abbrev pub on_import_of : Words → Option OnImport
 on_import_of words = do
   rights ← words.rights
   minting ← minting_of rights.now
   Some (record { minting = minting; writes = imported_of words })
 
--- how reports are printed by a word
+-- the format of reports by a word
 abbrev pub format_of : List ℕ → Option Format
 format_of word =
     if bytes_eq word (codes "json") then Some format.Json
     else if bytes_eq word (codes "short") then Some format.Short else None
 
--- .. of a command that has its answer in two forms: with text too they are JSON
+-- the format of a command whose answer has two forms; as text, reports are JSON too
 abbrev pub format_beside : List ℕ → Option Format
 format_beside word = if bytes_eq word (codes "text") then Some format.Json else format_of word
 
--- .. of each command
+-- the format of each command by a word
 abbrev pub format_for : Verb → List ℕ → Option Format
 format_for verb.Why = format_beside
 format_for verb.Summary = format_beside
 format_for verb.Diff = format_beside
 format_for _ = format_of
 
--- in which form an answer is written: as text, but where the word is for JSON
+-- the form of an answer: text, unless the word is for JSON
 abbrev pub form_of : Words → Option Form
 form_of words = do
   word ← words.format
   Some (if bytes_eq word.now (codes "json") then form.Json else form.Text)
 
--- for how many seconds runs are looked for that sentences show, up to a day: 10, if the command has no word for it
+-- the number of seconds for which runs are searched that explain findings, up to a day; 10 without a word
 abbrev pub seconds_of : Words → Option ℕ
 seconds_of words = option_map_or (λ word. number_in 0 86400 word.now) words.seconds (Some 10)
 
--- how a command tells what it finds
+-- the manner in which a command reports its findings
 abbrev pub manner_of : Words → Option Manner
 manner_of words = do
   word ← words.format
@@ -107,7 +107,7 @@ manner_of words = do
   seconds ← seconds_of words
   Some (record { explains = words.explain; is_quiet = words.quiet; format = format; seconds = seconds })
 
--- a request that is done in turn
+-- the command line of a request that waits for nothing
 abbrev pub in_turn : Words → Request Name → Option CommandLine
 in_turn words told = do
   manner ← manner_of words
@@ -119,11 +119,11 @@ rights_of word = do
   minting ← minting_of word
   Some (taken.System (Some minting))
 
--- as what a system is read
+-- the form in which a system is given: as a table, or a description with its rights
 abbrev pub taken_of : Words → Option Taken
 taken_of words = option_map_or (λ word. rights_of word.now) words.rights (Some (taken.System None))
 
--- .. one of two systems
+-- the form in which either of two systems is given
 abbrev pub either_of : List ℕ → Option Taken
 either_of word = do
   minting ← minting_of word
@@ -132,14 +132,14 @@ either_of word = do
 abbrev pub taken_of_two : Words → Option Taken
 taken_of_two words = option_map_or (λ word. either_of word.now) words.rights (Some (taken.Either None))
 
--- .. of a system alone
+-- a command on a system alone
 abbrev pub of_system : Words → OfSystem → Option CommandLine
 of_system words what = do
   how ← taken_of words
   system ← words.system
   in_turn words (request.OfSystem what how system)
 
--- .. of a system and a policy
+-- a command on a system and a policy
 abbrev pub of_policy : Words → OfPolicy → Option CommandLine
 of_policy words what = do
   how ← taken_of words
@@ -147,7 +147,7 @@ of_policy words what = do
   policy ← words.policy
   in_turn words (request.OfPolicy what how system policy)
 
--- .. of a table, a policy and a third file
+-- a command on a table, a policy and a third file
 abbrev pub of_three : Words → OfThree → Option Name → Option CommandLine
 of_three words what file = do
   table ← words.system
@@ -155,13 +155,13 @@ of_three words what file = do
   third ← file
   in_turn words (request.OfThree what table policy third)
 
--- a policy is closed, if there is one; else one is made for the system
+-- a policy is closed, if there is one; else a policy is made for the system
 abbrev pub closing_of : Words → Rules → Option CommandLine
 closing_of words set =
     if is_some words.policy then of_policy words (by_policy.Close set (on_close_of words))
     else of_system words (asked.Start set (on_close_of words))
 
--- what threads of a label may do, by a policy, if there is one; else in runs of the table
+-- the authority of a label over another: by a policy if there is one, else in runs of the table
 abbrev pub why_one : Words → Form → Name → Name → Option CommandLine
 why_one words written actor object =
     if is_some words.policy then of_policy words (by_policy.Why written actor object) else of_system words (asked.Why written actor object)
@@ -173,7 +173,7 @@ is_everybody word = bytes_eq word (codes "*")
 abbrev pub usage_of : Words → Use
 usage_of words = if words.reads then usage.Reads else usage.Changes
 
--- .. in runs of the table, and in one form
+-- the users of a label, in runs of the table and in one form
 abbrev pub users_of : Words → Form → Name → Option CommandLine
 users_of words form.Text object = if is_some words.policy then None else of_system words (asked.Users (usage_of words) object)
 users_of words form.Json object = None
@@ -183,12 +183,12 @@ why_of words written actor object =
     if is_everybody actor.now then users_of words written object
     else if words.reads then None else why_one words written actor object
 
--- a drawing, by a policy, if there is one; else of the table
+-- a drawing: of a policy if there is one, else of the table
 abbrev pub drawing_of : Words → Option CommandLine
 drawing_of words =
     if is_some words.policy then of_policy words (by_policy.Draw (picture_of words)) else of_system words (asked.Draw (picture_of words))
 
--- the flows from a label to another, or between all programs
+-- the flows from one label to another, or between all programs
 abbrev pub flows_by : Words → Option Name → Option Name → Option CommandLine
 flows_by words (Some from) (Some to) = of_system words (asked.Flows from to)
 flows_by words None None = of_system words asked.AllFlows
@@ -239,7 +239,7 @@ check_of words = do
   policy ← words.policy
   in_turn words (request.Check (record { rules = set; workers = workers; on_accept = on_accept_of words }) table policy)
 
--- what each command asks for with these words; nothing, if it lacks one
+-- the command line of a command with these words; none if it lacks a word
 abbrev pub asked_by : Verb → Words → Option CommandLine
 asked_by verb.Import words = do
   on_import ← on_import_of words
@@ -276,7 +276,6 @@ asked_by verb.List words = of_system words asked.List
 abbrev pub command_line_of : Words → Option CommandLine
 command_line_of words = asked_by words.verb words
 
--- the names of the commands
 abbrev pub verb_name : Verb → List ℕ
 verb_name verb.Import = codes "import"
 verb_name verb.Check = codes "check"

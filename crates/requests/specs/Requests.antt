@@ -1,4 +1,4 @@
--- What a command line may ask for, and of which files (confine's own).
+-- Requests: what a command line may ask for, and with which files (confine's own).
 use Rattle.std.specs.{Borrow.Bor, Option.option_map_or, Prelude.{[], ℕ, ◌<◌, ◌≡◌, ◌≤◌, List, None, Option, Some}}
 use Rattle.forms.specs.declared.file.File.{File, File as file}
 use Rattle.commands.specs.declared.{choices.{OfPolicy.TheVariants.{Why as WhyAllowed}, OfSystem.TheVariants.{Flows, Show, Users, Why}}, end.Asked.{Asked, Asked as label}}
@@ -16,7 +16,7 @@ IsWithinLimits (request.OfTwo form taken old new) = Unit {0}
 IsWithinLimits (request.Check asked table policy) = (1 ≤ asked.workers) × (asked.workers ≤ 16)
 IsWithinLimits (request.OfThree asked table policy third) = Unit {0}
 
--- two requests ask the same, and this is so of each file of the one and that file of the other
+-- two requests ask the same, and their files correspond one by one
 abbrev pub OnEach : {N M : Type 0} → (N → M → Type 0) → Request N → Request M → Type 0
 OnEach R (request.OfDescription asked description) (request.OfDescription also d) = (asked ≡ also) × R description d
 OnEach R (request.OfSystem asked taken system) (request.OfSystem also how s) = (asked ≡ also) × (taken ≡ how) × R system s
@@ -27,7 +27,6 @@ OnEach R (request.Check asked table policy) (request.Check also t p) = (asked �
 OnEach R (request.OfThree asked table policy third) (request.OfThree also t p x) = (asked ≡ also) × R table t × R policy p × R third x
 OnEach R _ _ = ⊥
 
--- the names of the files of a run by workers
 abbrev pub names_of : SplitRun → Request (Bor (List ℕ))
 names_of run = request.OfThree (Run rules.Closed) run.table run.policy run.script
 
@@ -36,7 +35,7 @@ abbrev pub OnInTurn : CommandLine → (Request (Bor (List ℕ)) → Type 0) → 
 OnInTurn (InTurn invocation) P = P invocation.request
 OnInTurn (Split run) P = Unit {0}
 
--- the file of this kind, if a request has one; a system is a table or a description, and the third file of any kind
+-- the file of this kind, if a request has one; a system counts as a table and as a description, the third file as each other kind
 abbrev pub file_of : {N : Type 0} → Request N → File → Option N
 file_of (request.OfDescription asked description) file.Description = Some description
 file_of (request.OfSystem asked taken system) file.Table = Some system
@@ -57,11 +56,11 @@ file_of (request.OfThree asked table policy third) file.Policy = Some policy
 file_of (request.OfThree asked table policy third) _ = Some third
 file_of _ _ = None
 
--- the name of that file, or an empty one
+-- the name of the file of this kind, or an empty name
 abbrev pub file_name_of : Request (Bor (List ℕ)) → File → List ℕ
 file_name_of names kind = option_map_or (λ name. name.now) (file_of names kind) []
 
--- the label that a request asks about, or an empty one
+-- the label that a request asks about, or an empty word
 abbrev pub label_of : {N : Type 0} → Request N → Asked → List ℕ
 label_of (request.OfSystem (Why form actor object) taken system) label.Actor = actor.now
 label_of (request.OfSystem (Why form actor object) taken system) label.Object = object.now
@@ -74,7 +73,7 @@ label_of (request.OfPolicy (WhyAllowed form actor object) taken system policy) l
 label_of (request.OfPolicy (WhyAllowed form actor object) taken system policy) label.Object = object.now
 label_of _ _ = []
 
--- all workers that a check has have arrived
+-- all workers of a check have arrived
 abbrev pub HaveArrived : {N : Type 0} → (ℕ → Type 0) → Request N → Type 0
 HaveArrived arrived (request.Check asked table policy) = (worker : ℕ) → worker < asked.workers → arrived worker
 HaveArrived arrived _ = Unit {0}

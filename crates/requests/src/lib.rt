@@ -1,6 +1,6 @@
 //! What the program `confine` may be asked for, and which request the words of a command line make.
 //!
-//! `invocation` and `serving` stand on it. It knows no library for command lines, and no engine.
+//! The crate knows no library for command lines, and no engine.
 #![tactic(auto)]
 
 mod meaning;

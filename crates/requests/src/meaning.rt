@@ -1,4 +1,4 @@
-//! Which request the words of a command line make.
+//! The request that the words of a command line make.
 ghost use Rattle.std.specs.Prelude.{◌≡◌, ◌≢◌, ◌≤◌, IfNone, IfSome};
 ghost use Rattle.requests.specs.Requests.{IsWithinLimits, OnInTurn};
 ghost use Rattle.requests.specs.Meaning.{closing_of, command_line_of, diff_of, drawing_of, flows_of, form_of, format_beside, format_for, format_of};
@@ -57,7 +57,7 @@ impl Verb {
         }
     }
 
-    /// Returns how the command prints reports by this word, if it is one for that.
+    /// Returns the format of the command's reports by this word, if the word is one for it.
     pub fn format(self, word: &str) -> Option<Format>
         ensures { result ≡ format_for self word.now }
     {
@@ -150,7 +150,7 @@ impl<'a> Words<'a> {
         }
     }
 
-    // A command that waits for nothing.
+    // A request that waits for nothing.
     fn in_turn(self, request: Request<'a, &'a str>) -> Option<CommandLine<'a>>
         ensures meaning { result ≡ in_turn self.entry request.entry }
         ensures limits { IsWithinLimits request.entry → IfSome result (λ line. OnInTurn line IsWithinLimits) }
@@ -161,7 +161,7 @@ impl<'a> Words<'a> {
         }))
     }
 
-    // How the command tells what it finds.
+    // The manner in which the command reports its findings.
     fn manner(self) -> Option<Manner>
         ensures { result ≡ manner_of self.entry }
     {
@@ -173,7 +173,7 @@ impl<'a> Words<'a> {
         })
     }
 
-    // For how many seconds runs are looked for that sentences show.
+    // The number of seconds for which runs are searched that explain findings.
     fn seconds(self) -> Option<u64>
         ensures { result ≡ seconds_of self.entry }
     {
@@ -183,7 +183,7 @@ impl<'a> Words<'a> {
         }
     }
 
-    // In which form the answer is written.
+    // The form of the answer.
     fn form(self) -> Option<Form>
         ensures { result ≡ form_of self.entry }
     {
@@ -194,7 +194,7 @@ impl<'a> Words<'a> {
         }
     }
 
-    // What a policy is closed over, if there is one; else a policy for the table.
+    // A policy is closed, if there is one; else a policy is made for the table.
     fn close(self, rules: Rules) -> Option<CommandLine<'a>>
         ensures meaning { result ≡ closing_of self.entry rules }
         ensures limits { IfSome result (λ line. OnInTurn line IsWithinLimits) }
@@ -205,7 +205,7 @@ impl<'a> Words<'a> {
         }
     }
 
-    // What threads of a label may do, or of all labels.
+    // The authority of a label over another, or of all labels over it.
     fn why(self, form: Form, actor: &'a str, object: &'a str) -> Option<CommandLine<'a>>
         ensures meaning { result ≡ why_of self.entry form actor.entry object.entry }
         ensures limits { IfSome result (λ line. OnInTurn line IsWithinLimits) }
@@ -219,7 +219,7 @@ impl<'a> Words<'a> {
         }
     }
 
-    // Which labels use one, in runs of the table.
+    // The labels that use another, in runs of the table.
     fn users(self, form: Form, object: &'a str) -> Option<CommandLine<'a>>
         ensures meaning { result ≡ users_of self.entry form object.entry }
         ensures limits { IfSome result (λ line. OnInTurn line IsWithinLimits) }
@@ -233,14 +233,14 @@ impl<'a> Words<'a> {
         }
     }
 
-    // Which users `why` lists.
+    // The users that `why` lists.
     fn usage(self) -> Use
         ensures { result ≡ usage_of self.entry }
     {
         if self.reads { Use::Reads } else { Use::Changes }
     }
 
-    // What threads of a label may do, in runs of the table or by a policy.
+    // The authority of a label over another: by a policy if there is one, else in runs of the table.
     fn why_one(self, form: Form, actor: &'a str, object: &'a str) -> Option<CommandLine<'a>>
         ensures meaning { result ≡ why_one self.entry form actor.entry object.entry }
         ensures limits { IfSome result (λ line. OnInTurn line IsWithinLimits) }
@@ -270,7 +270,7 @@ impl<'a> Words<'a> {
         }
     }
 
-    // The flows from a label to another, or between all programs.
+    // The flows from one label to another, or between all programs.
     fn flows(self) -> Option<CommandLine<'a>>
         ensures meaning { result ≡ flows_of self.entry }
         ensures limits { IfSome result (λ line. OnInTurn line IsWithinLimits) }
@@ -282,7 +282,7 @@ impl<'a> Words<'a> {
         }
     }
 
-    // What changes from one system to another.
+    // The changes from one system to another.
     fn diff(self) -> Option<CommandLine<'a>>
         ensures meaning { result ≡ diff_of self.entry }
         ensures limits { IfSome result (λ line. OnInTurn line IsWithinLimits) }
@@ -295,7 +295,7 @@ impl<'a> Words<'a> {
         ))
     }
 
-    // A command of a system alone.
+    // A command on a system alone.
     fn of_system(self, asked: OfSystem<'a>) -> Option<CommandLine<'a>>
         ensures meaning { result ≡ of_system self.entry asked.entry }
         ensures limits { IfSome result (λ line. OnInTurn line IsWithinLimits) }
@@ -303,7 +303,7 @@ impl<'a> Words<'a> {
         self.in_turn(Request::OfSystem(asked, self.taken()?, self.system?))
     }
 
-    // A command of a system and a policy.
+    // A command on a system and a policy.
     fn of_policy(self, asked: OfPolicy<'a>) -> Option<CommandLine<'a>>
         ensures meaning { result ≡ of_policy self.entry asked.entry }
         ensures limits { IfSome result (λ line. OnInTurn line IsWithinLimits) }
@@ -311,7 +311,7 @@ impl<'a> Words<'a> {
         self.in_turn(Request::OfPolicy(asked, self.taken()?, self.system?, self.policy?))
     }
 
-    // A command of a table, a policy and a third file.
+    // A command on a table, a policy and a third file.
     fn of_three(self, asked: OfThree, third: Option<&'a str>) -> Option<CommandLine<'a>>
         ensures meaning { result ≡ of_three self.entry asked third.entry }
         ensures limits { IfSome result (λ line. OnInTurn line IsWithinLimits) }
@@ -319,7 +319,7 @@ impl<'a> Words<'a> {
         self.in_turn(Request::OfThree(asked, self.system?, self.policy?, third?))
     }
 
-    // As what a system is read.
+    // The form in which a system is given.
     fn taken(self) -> Option<Taken>
         ensures { result ≡ taken_of self.entry }
     {
@@ -329,7 +329,7 @@ impl<'a> Words<'a> {
         }
     }
 
-    // As what one of two systems is read.
+    // The form in which one of two systems is given.
     fn taken_of_two(self) -> Option<Taken>
         ensures { result ≡ taken_of_two self.entry }
     {
@@ -352,7 +352,7 @@ impl<'a> Words<'a> {
         }))
     }
 
-    // What `check` writes.
+    // The text that `check` writes.
     fn on_accept(self) -> OnAccept
         ensures { result ≡ on_accept_of self.entry }
     {
@@ -363,14 +363,14 @@ impl<'a> Words<'a> {
         }
     }
 
-    // By which rules a policy is judged.
+    // The rules by which a policy is judged.
     fn rules(self) -> Option<Rules>
         ensures { result ≡ set_of self.entry }
     {
         rules(self.rules?)
     }
 
-    // What `close` writes.
+    // The text that `close` writes.
     fn on_close(self) -> OnClose
         ensures { result ≡ on_close_of self.entry }
     {
@@ -383,7 +383,7 @@ impl<'a> Words<'a> {
         }
     }
 
-    // Which labels `draw` draws.
+    // The labels that `draw` draws.
     fn picture(self) -> Picture
         ensures { result ≡ picture_of self.entry }
     {
@@ -394,7 +394,7 @@ impl<'a> Words<'a> {
         }
     }
 
-    // What `show` looks for, and how long.
+    // The run that `show` looks for, and with how many calls.
     fn search(self) -> Option<Search>
         ensures { result ≡ search_of self.entry }
     {
@@ -404,7 +404,7 @@ impl<'a> Words<'a> {
         })
     }
 
-    // How `import` reads a description, and what it writes of it.
+    // The rights with which `import` reads a description, and the text that it writes.
     fn on_import(self) -> Option<OnImport>
         ensures { result ≡ on_import_of self.entry }
     {
@@ -414,7 +414,7 @@ impl<'a> Words<'a> {
         })
     }
 
-    // What `import` writes.
+    // The text that `import` writes.
     fn imported(self) -> Imported
         ensures { result ≡ imported_of self.entry }
     {
@@ -440,7 +440,7 @@ impl Format {
         }
     }
 
-    // The format of reports by this word, of a command that has its answer in two forms.
+    // The format of reports by this word, for a command whose answer has two forms.
     fn beside(word: &str) -> Option<Format>
         ensures { result ≡ format_beside word.now }
     {
@@ -465,7 +465,7 @@ fn rules(word: &str) -> Option<Rules>
     }
 }
 
-// Which rights capabilities get by this word.
+// The rights that capabilities get by this word.
 fn minting(word: &str) -> Option<Minting>
     ensures { result ≡ minting_of word.now }
 {

@@ -1,4 +1,4 @@
-//! What the program may be asked for: the commands, with what each is asked and the files that it has.
+//! Requests: the commands of the program, with their options and files.
 ghost use Rattle.std.specs.Prelude.{◌≡◌, option_copied};
 ghost use Rattle.requests.specs.Requests.{file_name_of, file_of, label_of, names_of};
 
@@ -39,26 +39,26 @@ impl<'a> SplitRun<'a> {
     }
 }
 
-/// A request, and how a person is told what it finds.
+/// A request, and the manner in which a person is told of findings.
 #[derive(Clone, Copy)]
 pub struct Invocation<'a> {
     pub request: Request<'a, &'a str>,
     pub manner: Manner,
 }
 
-/// How a person is told what a command finds.
+/// The manner in which a person is told of findings.
 #[derive(Clone, Copy)]
 pub struct Manner {
-    /// Whether `--explain` was given: reasons, runs and notes are then told too, on standard error.
+    /// Whether `--explain` was given: standard error then has reasons, runs and notes too.
     pub explains: bool,
-    /// Whether `--quiet` was given: sentences that weren't asked for are then left out, and notes.
+    /// Whether `--quiet` was given: standard error then lacks notes and sentences that weren't asked for.
     pub is_quiet: bool,
     pub format: Format,
-    /// For how many seconds runs are looked for that sentences on standard error show; 0 is no bound.
+    /// The number of seconds for which runs are searched that explain findings; 0 is no bound.
     pub seconds: u64,
 }
 
-/// How reports are printed on standard output.
+/// The format of reports on standard output.
 #[derive(Clone, Copy, PartialEq, Eq, Debug)]
 pub enum Format {
     /// As a JSON object.
@@ -67,14 +67,14 @@ pub enum Format {
     Short,
 }
 
-/// What a command does, and with which files: by their names, or as opening them gave them.
+/// A command with its files: by their names, or as opening them gave them.
 #[derive(Clone, Copy, Drop)]
 pub enum Request<'a, N> {
     /// Imports a description.
     OfDescription(OnImport, N),
-    /// A command of a system alone.
+    /// A command on a system alone.
     OfSystem(OfSystem<'a>, Taken, N),
-    /// A command of a system and a policy.
+    /// A command on a system and a policy.
     OfPolicy(OfPolicy<'a>, Taken, N, N),
     /// Reports whether claims hold of a system.
     OfClaims(Taken, N, N),
@@ -82,7 +82,7 @@ pub enum Request<'a, N> {
     OfTwo(Form, Taken, N, N),
     /// Checks a table against a policy.
     Check(Check, N, N),
-    /// A command of a table, a policy and a third file.
+    /// A command on a table, a policy and a third file.
     OfThree(OfThree, N, N, N),
 }
 
@@ -90,12 +90,12 @@ pub enum Request<'a, N> {
 #[derive(Clone, Copy)]
 pub struct Check {
     pub rules: Rules,
-    /// 1 to 16.
+    /// The number of workers, 1 to 16.
     pub workers: usize,
     pub on_accept: OnAccept,
 }
 
-/// A command of a table, a policy and a third file.
+/// A command on a table, a policy and a third file.
 #[derive(Clone, Copy)]
 pub enum OfThree {
     /// Checks the table against the policy by these rules, and a certificate against both.
@@ -107,8 +107,8 @@ pub enum OfThree {
 }
 
 impl<'a, N> Request<'a, N> {
-    /// Returns the file of this kind, if the command has it. A system counts as a table and as a description, and
-    /// a third file as one of each other kind.
+    /// Returns the file of this kind, if the command has it. A system counts as a table and as a
+    /// description, and a third file as one of each other kind.
     pub fn file(&self, file: File) -> Option<&N>
         ensures { option_copied result ≡ file_of self.now file }
     {

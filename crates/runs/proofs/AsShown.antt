@@ -1,4 +1,4 @@
--- How a change that is told apart is what a question asks.
+-- That a change between two states is as a question asks, if the tests of the states say so.
 use Rattle.std.proofs.Common.{[], ◌++◌, ◌∷◌, ◌≡◌, Bool, IsTrue, List, Some, false, refl, true}
 use Rattle.base.specs.declared.ids.ObjId.{ObjId}
 use Rattle.machine.specs.{declared.call.{Event.Event, Outcome.Outcome}, Authority.label_of, Layout.Layout, Machine.Machine, Step.Step}

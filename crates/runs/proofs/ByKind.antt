@@ -1,4 +1,4 @@
--- How an object's content lessens, by its kind.
+-- The lessening of an object's content, kind by kind: a thread released, a reply freed, a scheduling context unbound.
 use Rattle.std.proofs.Common.{◌≡◌, subst}
 use Rattle.machine.specs.declared.{object.{Context.Context, Object.{Object, Object as o}, Reply.Reply}, thread.RunState.RunState as state}
 use Rattle.machine.specs.declared.thread.Tcb.{Tcb}

@@ -1,4 +1,4 @@
--- Lists are the same where a test of their members finds each the same.
+-- Equality of lists, by a test of their members.
 use Rattle.std.proofs.Common.{[], ◌&&◌, ◌∷◌, ◌≡◌, Bool, IsTrue, List, false, refl, subst, true}
 use lib.Pointwise.{pointwise}
 use mathlib.Core.Bool.{false≢true}

@@ -1,4 +1,4 @@
--- A sight that was read part by part is one of the object.
+-- That a sight that is read part by part is one of the object.
 use Rattle.std.proofs.Common.{ℕ, ◌<◌, ◌∙◌, ◌≡◌, ◌≤◌, List, None, Option, Some, ap, arith, inl, inr, length, option_and_then, refl}
 use Rattle.std.proofs.{Common.{slice_get, subst, sym}, lemmas.{Bool.cases_lt, Option.slice_get_past}}
 use Rattle.base.specs.declared.ids.ObjId.{ObjId}

@@ -1,4 +1,4 @@
--- A short script leads out of a policy if it leads to a machine whose authority lies outside.
+-- That a short script leaves a policy if it leads to a machine whose authority lies outside.
 use Rattle.std.proofs.Common.{◌≤◌, IfSome, List, None, Option, Some, length}
 use Rattle.machine.specs.{declared.call.Event.Event, Layout.Layout, Machine.Machine}
 use Rattle.policy.specs.Domain.{EdgeTest}

@@ -1,4 +1,4 @@
--- Parts of lists, member by member.
+-- Parts of lists, which are some of their members in order: how a search for one goes on, member by member.
 use Rattle.std.proofs.Common.{[], ◌==◌, ◌∙◌, ◌∷◌, ◌↔◌, ◌≡◌, ◌≢◌, ◌⊎◌, Bool, IsTrue, List, inl, inr, length, refl, subst, sym, ap, arith}
 use Rattle.std.proofs.lemmas.Bool.{eqb-true}
 use Rattle.base.specs.declared.ids.ObjId.{ObjId}
@@ -35,7 +35,7 @@ without_first (IsPart.stayed {x = z} {part = p} {all = a} within) x part e =
     IsPart.left (subst (λ (q : List ObjId). IsPart q a) parts within)
 without_first (IsPart.left {x = z} {part = p} {all = a} within) x part e = IsPart.left (without_first within x part e)
 
--- the first of both is the same: it stays
+-- the first member of both lists is the same: it stays
 pub same_first : (x : ObjId) (part all : List ObjId) → IsPart (x ∷ part) (x ∷ all) → IsPart part all
 same_first x part all within =
     elim (inverted within x part refl x all refl) [
@@ -43,7 +43,7 @@ same_first x part all within =
       | inr later ↦ without_first later x part refl
     ]
 
--- the firsts are different: it left
+-- the first members differ: that of the whole isn't in the part
 pub other_first : (x y : ObjId) (part all : List ObjId) → x ≢ y → IsPart (x ∷ part) (y ∷ all) → IsPart (x ∷ part) all
 other_first x y part all apart within =
     elim (inverted within x part refl y all refl) [
@@ -51,7 +51,7 @@ other_first x y part all apart within =
       | inr later ↦ later
     ]
 
--- one member of the whole is passed by
+-- both lists go on without their common first member
 pub kept_on : (x : ObjId) (part all : List ObjId) → IsPart (x ∷ part) (x ∷ all) ↔ IsPart part all
 kept_on x part all = (same_first x part all, λ within. IsPart.stayed within)
 
@@ -70,7 +70,7 @@ step_on whole now later all x rest left is so on = (
   λ within. so.1 (subst (λ (q : List ObjId). IsPart now q) (sym is) ((on rest).1 within)),
 )
 
--- at the end of the whole nothing may be left
+-- the part is empty if the whole is
 pub ended_by :
     (whole all rest left : List ObjId) (r : Bool) → r ≡ (length rest == 0) → left ≡ [] → (IsPart whole all ↔ IsPart rest left)
     → IsTrue r ↔ IsPart whole all
@@ -81,7 +81,7 @@ ended_by whole all (x ∷ rest) left r e none so = (
   λ within. absurd (let no : x ∷ rest ≡ [] = no_part_of_nothing (so.0 within) none in cc),
 )
 
--- the first member of the part is this one
+-- this is the first member of the part
 pub led_by :
     (part : List ObjId) (first : ObjId) (rest : List ObjId) (thread : ObjId) (all : List ObjId) → part ≡ first ∷ rest
     → first ≡ thread → IsPart part (thread ∷ all) ↔ IsPart rest all
@@ -94,7 +94,7 @@ led_by part first rest thread all is same = (
       ((kept_on thread rest all).1 within),
 )
 
--- it is another
+-- another is the first member of the part
 pub not_led_by :
     (part : List ObjId) (first : ObjId) (rest : List ObjId) (thread : ObjId) (all : List ObjId) → part ≡ first ∷ rest
     → first ≢ thread → IsPart part (thread ∷ all) ↔ IsPart part all
@@ -105,7 +105,7 @@ not_led_by part first rest thread all is apart = (
   λ within. IsPart.left within,
 )
 
--- there is none
+-- the part has no first member
 pub led_by_none :
     (part : List ObjId) (thread : ObjId) (all : List ObjId) → length part ≡ 0 → IsPart part (thread ∷ all) ↔ IsPart part all
 led_by_none [] thread all none = nothing_kept thread all

@@ -1,10 +1,10 @@
--- The thread that waits first, and who waits after it left.
+-- The first thread of a queue, and the queue after it left.
 use Rattle.std.proofs.Common.{[], ℕ, ◌++◌, ◌<◌, ◌∙◌, ◌∷◌, ◌≡◌, List, None, Option, Some, ap, append_assoc, arith, length, refl, sym}
 use Rattle.base.specs.declared.ids.ObjId.{ObjId}
 use Rattle.machine.{specs.{Changes.{first_waiting, without_first}, Machine.{Machine, queue_of}}, proofs.Ids.at_itself}
 use Rattle.machine.proofs.LookUps.{queue_of-with_queue}
 
--- the queue has a first thread, and the others are left
+-- the queue has a first thread, and the others remain
 pub record Leaves (m : Machine) (id thread : ObjId) : Type 0 where
   pub rest : List ObjId
   pub was : queue_of m id ≡ Some (thread ∷ rest)
@@ -30,7 +30,7 @@ unfolding first_waiting
 nobody_waits m id [] first e = refl
 nobody_waits m id (head ∷ rest) first e = absurd (let no : Some head ≡ None = rw e at first in cc)
 
--- how many wait
+-- the number of threads that wait
 abbrev pub count : Option (List ObjId) → ℕ
 count None = 0
 count (Some threads) = length threads

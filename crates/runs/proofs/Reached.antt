@@ -1,4 +1,4 @@
--- Scripts that lead a step further, and that a script leads to one state.
+-- The machine to which a script leads: one step further, and that there is only one.
 use Rattle.std.proofs.Common.{[], ℕ, ◌++◌, ◌+◌, ◌<◌, ◌∙◌, ◌∷◌, ◌≡◌, ◌≢◌, All, List, ap, append_assoc, arith, drop, get_or, length, refl}
 use Rattle.std.proofs.{Common.{subst, suc, sym, take}, lemmas.List.{take-append-drop, take_more, Elements.All-push}}
 use Rattle.base.specs.{declared.refusal.Refusal.Refusal, Refusals.out_of_memory}
@@ -54,13 +54,13 @@ one_end first other (e ∷ es) (o ∷ os) (p ∷ ps) m n same ran went made also
     (subst (λ (x : Machine). Step x e p went.0) (sym same) went.1) (of_first p ps also))
     ran.2 went.2 (of_rest o os made) (of_rest p ps also)
 
--- what isn't refused is made
+-- an outcome that isn't a refusal is that of a call that was made
 pub made_unless : (outcome : Outcome) → ((refusal : Refusal) → outcome ≡ o.Refused refusal → ⊥) → IsMade outcome
 made_unless (o.Refused refusal) apart = λ _. apart refusal refl
 made_unless (o.Done answer) apart = λ refused. refused
 made_unless o.Blocked apart = λ refused. refused
 
--- a list around one of its members
+-- a list split at one of its members
 around : (script : List Event) (i : ℕ) (event : Event) → i < length script → event ≡ get_or script i event
     → script ≡ take i script ++ event ∷ drop (i + 1) script
 around script i event within same =

@@ -1,4 +1,4 @@
--- What two sights of an object say of how it differs.
+-- The difference between two sights of an object, as one of the object itself.
 use Rattle.std.proofs.Common.{ℕ, ◌<◌, ◌∙◌, ◌≡◌, List, None, Option, Some, ap, get_or, inl, inr, length, refl, subst, sym}
 use Rattle.std.proofs.lemmas.{List.same_lists, Option.slice_get-get_or}
 use Rattle.base.specs.declared.ids.ObjId.{ObjId}

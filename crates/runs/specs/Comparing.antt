@@ -1,4 +1,4 @@
--- What two sights of one object have in common: all of it, or less in the second than in the first (confine's own).
+-- Sights of one object compared: all parts the same, or less in the second than in the first (confine's own).
 use Rattle.std.specs.Prelude.{ℕ, ◌≡◌, ◌⊎◌, List, None, Option, Some}
 use Rattle.machine.specs.declared.{cap.Cap.Cap, object.{Context.Context, Reply.Reply}, thread.Tcb.Tcb}
 use Rattle.machine.specs.declared.object.ReplyState.TheVariants as reply
@@ -29,7 +29,7 @@ pub record IsLess (was is : Sight) : Type 0 where
   pub words : is.words.items ≡ was.words.items
   pub slots : LoseCaps was.slots.items is.slots.items
 
--- nothing is there afterwards, or less than before
+-- afterwards nothing is there, or less than before
 abbrev pub HaveLess : Option Sight → Option Sight → Type 0
 HaveLess _ None = Unit {0}
 HaveLess None (Some _) = ⊥

@@ -1,5 +1,5 @@
--- What a script of kernel calls shows of two labels: its last call is made by a thread of the one and changes an object of the
--- other (compare integrity in 'seL4 Enforces Integrity', section 4; that a run shows where it ends is confine's own).
+-- Scripts that show what a label may do: their last call is made by one of its threads and changes an object of another label (compare
+-- integrity in 'seL4 Enforces Integrity', section 4; showing it by a run is confine's own).
 use Rattle.std.specs.Prelude.{[], ℕ, ◌++◌, ◌∷◌, ◌≡◌, ◌≢◌, All, Bool, List, Some}
 use Rattle.base.specs.{declared.{ids.ObjId.ObjId, refusal.Refusal.Refusal}, Refusals.out_of_memory}
 use Rattle.machine.specs.{declared.call.{Event.Event, Outcome.{Outcome, TheVariants.Refused}}, Authority.label_of, Boot.IsBoot, Layout.Layout, Machine.Machine}
@@ -19,7 +19,7 @@ pub record IsReachedBy (t : Layout) (events : List Event) (m : Machine) : Type 0
   pub run : Run boot events outcomes m
   pub made : All IsMade outcomes
 
--- one of the events is refused where those before it lead, and not for want of memory
+-- one of the events is refused after those before it, and not for lack of memory
 pub record IsStopped (t : Layout) (events : List Event) : Type 0 where
   pub before : List Event
   pub event : Event
@@ -41,17 +41,17 @@ pub record IsChange (t : Layout) (m : Machine) (event : Event) (next : Machine) 
   pub labelled : IsLabelled t m next id object
   pub changed : ¬ (IsSame m next id)
 
--- the object only shrinks
+-- such an event only shrinks the object
 pub record IsLoss (t : Layout) (m : Machine) (event : Event) (next : Machine) (actor object : ℕ) (id : ObjId) : Type 0 where
   pub change : IsChange t m event next actor object id
   pub shrinks : Shrinks m next id
 
--- the object changes other than by shrinking
+-- such an event changes the object other than by shrinking it
 pub record IsGain (t : Layout) (m : Machine) (event : Event) (next : Machine) (actor object : ℕ) (id : ObjId) : Type 0 where
   pub change : IsChange t m event next actor object id
   pub grows : ¬ (Shrinks m next id)
 
--- the script leads from the table's boot state to a last event that changes an object of a label so
+-- the script leads from the table's boot state to a last event that changes an object in this way
 pub record EndsIn
     (t : Layout) (script : List Event) (Changes : Machine → Event → Machine → ObjId → Type 0)
     : Type 0 where
@@ -72,19 +72,19 @@ IsShown t script actor object = EndsIn t script (λ m last next id. IsGain t m l
 abbrev pub IsTaken : Layout → List Event → ℕ → ℕ → Type 0
 IsTaken t script actor object = EndsIn t script (λ m last next id. IsLoss t m last next actor object id)
 
--- an object shrinks, or changes in another way
+-- the object shrinks, or changes in another way
 abbrev pub GoesSo : Bool → Machine → Machine → ObjId → Type 0
 GoesSo Bool.true m next id = Shrinks m next id
 GoesSo Bool.false m next id = ¬ (Shrinks m next id)
 
--- an event is as a question asks
+-- an event is of the kind that a question asks for
 abbrev pub IsAsked : Layout → Question → Machine → Event → Machine → ObjId → Type 0
 IsAsked t question m event next id = by question.taking where
   by : Bool → Type 0
   by Bool.true = IsLoss t m event next question.actor question.object id
   by Bool.false = IsGain t m event next question.actor question.object id
 
--- a script answers a question: it shows that one label changes objects of the other, or that it takes from them
+-- a script answers a question: it shows that one label changes objects of the other, or takes from them
 abbrev pub Answers : Layout → Question → List Event → Type 0
 Answers t question script = by question.taking where
   by : Bool → Type 0

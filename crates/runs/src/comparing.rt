@@ -1,4 +1,4 @@
-//! How an object differs between two states.
+//! Objects compared between two states: whether one differs, and whether it shrank.
 ghost use Rattle.std.specs.Prelude.{◌↔◌, ◌∷◌, ◌≡◌, ◌⊎◌, IsTrue, List, None};
 ghost use Rattle.base.specs.declared.ids.ObjId.{ObjId as Id};
 ghost use Rattle.machine.specs.Machine.{Machine};
@@ -10,9 +10,9 @@ use crate::sight::Sight;
 use base::ObjId;
 use machine::Cap;
 
-/// Returns whether the object isn't the same in the second sight of it as in the first.
+/// Returns whether an object differs between its first sight and its second.
 ///
-/// That is its absence too: an object that was made or removed differs.
+/// An object that was made or removed differs, too.
 pub fn differs(was: &Option<Sight>, is: &Option<Sight>) -> bool
     ensures { (m next : Machine) (id : Id) → IsSeen m id was.now → IsSeen next id is.now
         → IsTrue result ↔ ¬ (IsSame m next id) }
@@ -22,7 +22,7 @@ pub fn differs(was: &Option<Sight>, is: &Option<Sight>) -> bool
 
 /// Returns whether the object shrank between the first sight of it and the second.
 ///
-/// It shrank if it is gone, or has at most lost capabilities, waiting threads and links.
+/// It shrank if it is removed, or has at most lost capabilities, waiting threads and links.
 pub fn shrinks(was: &Option<Sight>, is: &Option<Sight>) -> bool
     ensures { (m next : Machine) (id : Id) → IsSeen m id was.now → IsSeen next id is.now
         → IsTrue result ↔ Shrinks m next id }
@@ -30,7 +30,6 @@ pub fn shrinks(was: &Option<Sight>, is: &Option<Sight>) -> bool
     have_less(was, is)
 }
 
-// Whether two sights are the same.
 fn are_alike(was: &Option<Sight>, is: &Option<Sight>) -> bool
     ensures { IsTrue result ↔ AreAlike was.now is.now }
 {
@@ -41,7 +40,6 @@ fn are_alike(was: &Option<Sight>, is: &Option<Sight>) -> bool
     }
 }
 
-// Whether the parts of two sights are the same.
 fn is_alike(was: &Sight, is: &Sight) -> bool
     ensures { IsTrue result ↔ IsAlike was.now is.now }
 {
@@ -51,21 +49,18 @@ fn is_alike(was: &Sight, is: &Sight) -> bool
         && same_slots(&was.slots, &is.slots)
 }
 
-// Whether the same threads wait.
 fn same_threads(was: &[ObjId], is: &[ObjId]) -> bool
     ensures { IsTrue result ↔ (is.now ≡ was.now) }
 {
     is == was
 }
 
-// Whether the words are the same.
 fn same_words(was: &[u64], is: &[u64]) -> bool
     ensures { IsTrue result ↔ (is.now ≡ was.now) }
 {
     is == was
 }
 
-// Whether the slots hold the same.
 fn same_slots(was: &[Option<Cap>], is: &[Option<Cap>]) -> bool
     ensures { IsTrue result ↔ (is.now ≡ was.now) }
 {
@@ -80,14 +75,13 @@ fn same_slots(was: &[Option<Cap>], is: &[Option<Cap>]) -> bool
     true
 }
 
-// Whether two slots hold the same.
 fn same_held(was: &Option<Cap>, is: &Option<Cap>) -> bool
     ensures { IsTrue result ↔ (is.now ≡ was.now) }
 {
     is == was
 }
 
-// Whether nothing is there afterwards, or less than before.
+// Whether an object was removed, or has less than before.
 fn have_less(was: &Option<Sight>, is: &Option<Sight>) -> bool
     ensures { IsTrue result ↔ HaveLess was.now is.now }
 {
@@ -114,7 +108,7 @@ fn is_less(was: &Sight, is: &Sight) -> bool
     lose_caps(&was.slots, &is.slots)
 }
 
-// Whether the first list has some members of the second, in their order.
+// Whether the first list is some members of the second, in their order.
 fn is_part(part: &[ObjId], all: &[ObjId]) -> bool
     ensures { IsTrue result ↔ IsPart part.now all.now }
 {
@@ -125,7 +119,7 @@ fn is_part(part: &[ObjId], all: &[ObjId]) -> bool
     rest.is_empty()
 }
 
-// The members that are still to come after this one.
+// The members that are left after this one.
 fn rest_after(part: &[ObjId], thread: ObjId) -> &[ObjId]
     ensures { (all : List Id) → IsPart part.now (thread ∷ all) ↔ IsPart result.now all }
 {
@@ -141,7 +135,6 @@ fn rest_after(part: &[ObjId], thread: ObjId) -> &[ObjId]
     }
 }
 
-// Whether two threads are one.
 fn same_thread(one: ObjId, other: ObjId) -> bool
     ensures { IsTrue result ↔ (one ≡ other) }
 {

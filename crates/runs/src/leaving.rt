@@ -1,4 +1,4 @@
-//! Whether a script leads out of a policy: to a state whose authority lies outside of it.
+//! The test whether a script leads out of a policy, to a state whose authority lies outside it.
 ghost use Rattle.std.specs.Prelude.{◌≡◌, IfErr, IfOk, IfSome, IsTrue};
 ghost use Rattle.base.specs.Refusals.{plain};
 ghost use Rattle.policy.specs.Policy.{allows};
@@ -13,13 +13,13 @@ use std::alloc::Global;
 use table::Table;
 use verdict::{Denial, outside};
 
-/// The most calls that a run has which leaves a policy.
+/// The largest number of calls in a run that leaves a policy.
 pub const MOST_CALLS: usize = 8;
 
-/// Returns where the authority after a script first lies outside a policy.
+/// Returns the first place where the authority after a script lies outside a policy.
 ///
-/// The answer is `None` if it doesn't, if a call of the script is refused, or if the script has
-/// more than [`MOST_CALLS`] calls.
+/// The answer is `None` if there is no such place, if a call of the script is refused, or if the
+/// script has more than [`MOST_CALLS`] calls.
 ///
 /// # Errors
 ///
@@ -42,7 +42,7 @@ pub fn place_outside(
     }
 }
 
-/// Returns whether a script that isn't too long leaves a policy.
+/// Returns whether a script of at most [`MOST_CALLS`] calls leaves a policy.
 ///
 /// # Errors
 ///

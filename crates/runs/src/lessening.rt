@@ -1,4 +1,4 @@
-//! Whether the content of an object only lost links.
+//! The test whether the content of an object only lost links.
 ghost use Rattle.std.specs.Prelude.{◌↔◌, ◌≡◌, IsTrue};
 ghost use Rattle.machine.specs.declared.thread.{Inbox.TheVariants.Aborted, RunState.TheVariants.{Inactive, Ready}};
 ghost use Rattle.integrity.specs.Shrinks.{IsBlocked, Lessens, LosesLink, Stops};
@@ -10,7 +10,6 @@ use machine::{
     RunState, Sending, Tcb, Untyped,
 };
 
-// Whether a thread waits for something.
 fn is_blocked(state: &RunState) -> bool
     ensures { IsTrue result ↔ IsBlocked state.now }
 {
@@ -23,7 +22,6 @@ fn is_blocked(state: &RunState) -> bool
     }
 }
 
-// Whether two threads wait to send the same.
 fn same_sending(was: &Sending, is: &Sending) -> bool
     ensures { IsTrue result ↔ (is.now ≡ was.now) }
 {
@@ -36,21 +34,18 @@ fn same_sending(was: &Sending, is: &Sending) -> bool
         && is.capability == was.capability
 }
 
-// Whether two threads wait to receive the same.
 fn same_receiving(was: &Receiving, is: &Receiving) -> bool
     ensures { IsTrue result ↔ (is.now ≡ was.now) }
 {
     is == was
 }
 
-// Whether two threads wait for the same answer.
 fn same_calling(was: &Calling, is: &Calling) -> bool
     ensures { IsTrue result ↔ (is.now ≡ was.now) }
 {
     is == was
 }
 
-// Whether two states of a thread are the same.
 fn same_state(was: &RunState, is: &RunState) -> bool
     ensures { IsTrue result ↔ (is.now ≡ was.now) }
 {
@@ -65,7 +60,6 @@ fn same_state(was: &RunState, is: &RunState) -> bool
     }
 }
 
-// Whether a thread was given the same.
 fn same_inbox(was: &Inbox, is: &Inbox) -> bool
     ensures { IsTrue result ↔ (is.now ≡ was.now) }
 {
@@ -134,7 +128,6 @@ fn is_unbound(was: &Context, is: &Context) -> bool
     is.address == was.address && is.share == was.share && is.thread.is_none()
 }
 
-// Whether two threads are the same.
 fn same_thread(was: &Tcb, is: &Tcb) -> bool
     ensures { IsTrue result ↔ (is.now ≡ was.now) }
 {
@@ -144,42 +137,36 @@ fn same_thread(was: &Tcb, is: &Tcb) -> bool
         && is.context == was.context
 }
 
-// Whether two pieces of untyped memory are the same.
 fn same_memory(was: &Untyped, is: &Untyped) -> bool
     ensures { IsTrue result ↔ (is.now ≡ was.now) }
 {
     is == was
 }
 
-// Whether two CNodes are the same.
 fn same_node(was: &CNode, is: &CNode) -> bool
     ensures { IsTrue result ↔ (is.now ≡ was.now) }
 {
     is == was
 }
 
-// Whether two notifications are the same.
 fn same_notification(was: &Notification, is: &Notification) -> bool
     ensures { IsTrue result ↔ (is.now ≡ was.now) }
 {
     is == was
 }
 
-// Whether two replies are the same.
 fn same_reply(was: &Reply, is: &Reply) -> bool
     ensures { IsTrue result ↔ (is.now ≡ was.now) }
 {
     is == was
 }
 
-// Whether two scheduling contexts are the same.
 fn same_context(was: &Context, is: &Context) -> bool
     ensures { IsTrue result ↔ (is.now ≡ was.now) }
 {
     is == was
 }
 
-// Whether two controls are the same.
 fn same_control(was: &Control, is: &Control) -> bool
     ensures { IsTrue result ↔ (is.now ≡ was.now) }
 {

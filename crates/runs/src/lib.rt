@@ -1,10 +1,10 @@
 //! What a run shows: whether the last call of a script changes an object as a question asks, and
 //! whether a script leads out of a policy.
 //!
-//! A script's run begins in a table's boot state. What is shown of it is proved. Only `changes`,
-//! `answering` and `is_near` promise nothing: they are a first look, by which a search chooses.
+//! A script's run begins in a table's boot state. What is shown of a run is proved. Only `changes`,
+//! `answering` and `is_near` promise nothing: a search chooses by them what to show.
 //!
-//! `search`, `breaches` and `report` stand on it. It looks for no run, and knows no text.
+//! The crate looks for no run, and knows no text.
 #![tactic(auto)]
 
 mod comparing;

@@ -1,4 +1,4 @@
-//! Questions: what a search looks for.
+//! Questions, which a search for runs answers.
 use base::Label;
 
 /// The question whether a thread of one label can change an object of another.

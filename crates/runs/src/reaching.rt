@@ -1,4 +1,4 @@
-//! The state that a script leads to.
+//! The state to which a script leads.
 ghost use Rattle.std.specs.Prelude.{◌↔◌, ◌≡◌, IfErr, IfNone, IfOk, IfSome, IsTrue, List};
 ghost use Rattle.base.specs.Refusals.{out_of_memory, plain};
 ghost use Rattle.machine.specs.{declared.call.{Event.Event as Ev, Outcome.TheVariants.Refused}, Layout.Layout};
@@ -14,11 +14,11 @@ use table::Table;
 
 /// Returns the state to which a script leads from a table's boot state.
 ///
-/// The answer is `None` exactly where one of the script's calls is refused.
+/// The answer is `None` exactly if one of the script's calls is refused.
 ///
 /// # Errors
 ///
-/// 40 where memory is refused, to the boot or to one of the calls.
+/// 40 where memory is refused, to the boot or to a call.
 pub fn reach(alloc: Global, table: &Table, script: &[Event]) -> Result<Option<State>, Refusal>
     ensures stopped { IfOk result (λ answer. IfNone answer (IsStopped table.now script.now)) }
     ensures reached { IfOk result (λ answer. IfSome answer (IsReachedBy table.now script.now)) }

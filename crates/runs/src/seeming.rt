@@ -1,6 +1,6 @@
-//! What a call seems to have changed: a first look by which a search chooses what must be shown.
+//! The apparent effects of a call: a first look, by which a search chooses what must be shown.
 //!
-//! It promises nothing, since `showing` decides.
+//! The functions promise nothing, as `showing` decides.
 use crate::lessening::lessens;
 use crate::question::Question;
 use base::{Label, ObjId, SlotRef};
@@ -31,8 +31,8 @@ pub fn changes(alloc: Global, old: &State, new: &State) -> Result<Vec<ObjId>, Al
 
 /// Returns an object that a call of this thread seems to have changed as the question asks.
 ///
-/// It is of the question's label, and one of those that the call changed. There is none where the
-/// thread isn't the question's actor's.
+/// The object has the question's label, and is one of those that the call changed. There is none if
+/// the thread isn't the question's actor's.
 pub fn answering(
     table: &Table,
     old: &State,
@@ -103,7 +103,7 @@ fn seems_changed(old: &State, new: &State, id: ObjId) -> bool {
     false
 }
 
-// Whether a changed object seems to have lost something, and no more.
+// Whether a changed object seems only to have lost something.
 fn seems_less(old: &State, new: &State, id: ObjId) -> bool {
     let Some(is) = new.object(id) else {
         return true;
@@ -123,7 +123,7 @@ fn seems_less(old: &State, new: &State, id: ObjId) -> bool {
     true
 }
 
-// Whether a thread waits at an object that didn't wait there before.
+// Whether a thread waits at an object that didn't before.
 fn gains_waiting(old: &State, new: &State, id: ObjId) -> bool {
     for number in 0..new.next_id() {
         let thread = ObjId(number);
@@ -134,7 +134,7 @@ fn gains_waiting(old: &State, new: &State, id: ObjId) -> bool {
     false
 }
 
-// Where a thread waits in a queue.
+// The object at which a thread waits in a queue.
 fn waits_at(state: &State, thread: ObjId) -> Option<ObjId> {
     let Some(Object::Tcb(tcb)) = state.object(thread) else {
         return None;

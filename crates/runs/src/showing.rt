@@ -1,4 +1,4 @@
-//! Whether a script answers a question.
+//! The test whether a script answers a question.
 ghost use Rattle.std.specs.Prelude.{[], ◌++◌, ◌↔◌, ◌∷◌, ◌≡◌, IfErr, IfOk, IsTrue, Some};
 ghost use Rattle.base.specs.Refusals.{plain};
 ghost use Rattle.machine.specs.declared.call.Outcome.{Outcome as Ended};
@@ -20,7 +20,7 @@ use table::Table;
 
 /// Returns whether a script answers a question, by what its last call does to the object of this number.
 ///
-/// The script is the calls `before`, and then `last`. The answer is `false` too where one of the
+/// The script is the calls `before`, and then `last`. The answer is also `false` if one of the
 /// calls is refused.
 ///
 /// # Errors
@@ -49,7 +49,7 @@ pub fn shows(
     Ok(asked)
 }
 
-// Whether an event that is made in the first state, which the second state is too, is as a question asks.
+// Whether an event in the first state is as a question asks. The second state is the same state.
 fn is_asked(
     alloc: Global,
     table: &Table,

@@ -1,4 +1,4 @@
-//! Sights: all that there is of an object in a state.
+//! Sights of objects: all that a state has of an object.
 ghost use Rattle.std.specs.Prelude.{ℕ, ◌<◌, ◌≡◌, IfErr, IfOk, List, Some, length, slice_get};
 ghost use Rattle.base.specs.{declared.ids.ObjId.ObjId as Id, Refusals.plain};
 ghost use Rattle.machine.specs.{Machine.{cap_of, queue_of, words_of}, WellFormed.IsWellFormed};
@@ -9,18 +9,18 @@ use machine::{Cap, Object};
 use objects::State;
 use std::alloc::{AllocError, Global};
 
-/// A sight of an object: all that there is of it in a state.
+/// All that a state has of an object.
 #[derive(Debug, Drop)]
 pub struct Sight {
     pub content: Object,
-    /// Who waits at it, the first first.
+    /// The threads that wait at it, the first first.
     pub queue: Vec<ObjId>,
     pub words: Vec<u64>,
-    /// What each of its slots holds.
+    /// The content of each of its slots.
     pub slots: Vec<Option<Cap>>,
 }
 
-/// Returns all that there is of the object; `None` where it isn't there.
+/// Returns all that a state has of an object, or `None` if the object doesn't exist.
 ///
 /// The state is used up, since its queue is emptied to be read.
 ///
@@ -60,7 +60,7 @@ fn words(alloc: Global, state: &State, id: ObjId, count: u64) -> Result<Vec<u64>
     Ok(words)
 }
 
-// What the first `count` slots of an object hold.
+// The contents of the first `count` slots of an object.
 fn slots(
     alloc: Global,
     state: &State,
@@ -78,7 +78,7 @@ fn slots(
     Ok(slots)
 }
 
-// Who waits at an object that is there. Afterwards nobody does.
+// The threads that wait at an object that exists. Afterwards none waits there.
 fn queue(alloc: Global, state: &mut State, id: ObjId) -> Result<Vec<ObjId>, AllocError>
     ensures { IfOk result (λ queue. (threads : List Id) → queue_of state.old id ≡ Some threads
         → queue.items ≡ threads) }

@@ -1,4 +1,4 @@
-//! How a command ends whose devices fail: its message, its status, and what it has written by then.
+//! The ends of commands whose devices fail: their messages, their status, and what they have written by then.
 use crate::failing::{Given, Page};
 use crate::session::{Command, Ending, Files, ending_of};
 use report::{File, Form, Imported, OfSystem, OnAccept, Picture, Search};
@@ -107,7 +107,7 @@ const VERIFIED: &str = "{\"verdict\":\"accept\"}\n";
 
 const LEAST: &str = "confine-policy 1\nedge a context a\nedge a runs a\nend\n";
 
-/// A table of labels alone, and what changes from it to the table above, and back.
+/// A table with labels only; then the changes from it to the table above, and back.
 const LABELS: &str = "confine-table 1\nlabel a\nlabel b\nend\n";
 
 const ADDED: &str = "~ a label program\n~ b label program\n+ a b S\n";
@@ -116,7 +116,7 @@ const REMOVED: &str = "~ a program label\n~ b program label\n- a b S\n";
 
 const REASON: &str = "full\nedge a notify b\n";
 
-/// The summary of labels alone.
+/// The summary of a table with labels only.
 const NO_THREADS: &str = "no label has a thread\n";
 
 /// A run in which `a` changes an object of `b`.
@@ -124,7 +124,7 @@ const SHOWN: &str = "confine-script 1\n1 2 signal 0\nend\n";
 
 const UNSHOWN: &str = "{\"bound\":\"none\",\"run\":\"impossible\"}\n";
 
-/// The folded drawing of labels alone.
+/// The folded drawing of a table with labels only.
 const NO_PROGRAMS: &str =
     "digraph authority {\n  node [shape=box]\n  edge [fontsize=10]\n  nodesep=0.1\n  ranksep=0.4\n}\n";
 
@@ -152,7 +152,7 @@ const DESCRIPTION: &str = "\
 </system>
 ";
 
-/// The table that it becomes.
+/// The table of the description.
 const OF_A_DESCRIPTION: &str = "\
 confine-table 1
 label a
@@ -171,7 +171,7 @@ bind a_main a_time0
 end
 ";
 
-/// The objects of that table.
+/// The objects of the description's table.
 const LIST_OF_A_DESCRIPTION: &str = "\
 0 cnode a_space a
 1 tcb a_main a
@@ -181,7 +181,7 @@ const LIST_OF_A_DESCRIPTION: &str = "\
 5 frame r_frame r
 ";
 
-/// The claims that it makes.
+/// The claims that the description makes.
 const INTENDED: &str = "confine-claims 2\nnone a r\nend\n";
 
 const LEGAL: &str = "{\"entries\":3,\"state\":\"within\",\"verdict\":\"legal\"}\n";
@@ -192,7 +192,7 @@ const OUTSIDE: &str = "{\"entries\":3,\"place\":[\"ca.0\",\"reset\",\"b\"],\
 const DENIAL: &str =
     "{\"place\":[\"ca.0\",\"reset\",\"b\"],\"rule\":\"A1\",\"verdict\":\"deny\"}\n";
 
-/// That a certificate lacks its first line.
+/// The report of a certificate that lacks its first line.
 const NOT_THE_CERTIFICATE: &str = "{\"place\":[\"1\"],\"rule\":\"C1\",\"verdict\":\"deny\"}\n";
 
 const FAULTY_TABLE: &str = "{\"fault\":50,\"file\":\"table\",\"line\":1}\n";
@@ -256,7 +256,7 @@ const LIST_OF_DESCRIPTION: Command = Command::AskedOfDescription(OfSystem::List)
 /// The strongest claims.
 const ALL_CLAIMS: Command = Command::Asked(OfSystem::Strongest);
 
-/// The files that each command reads, with what is told where one can't be read.
+/// The files that each command reads, with the message if one can't be read.
 const MESSAGES: [(Command, File, &str); 31] = [
     (Command::Check(OnAccept::Report), File::Table, NO_TABLE),
     (Command::Check(OnAccept::Report), File::Policy, NO_POLICY),
@@ -322,22 +322,21 @@ fn files_for(command: Command) -> Files<'static> {
     }
 }
 
-/// A text that each file is faulty with, at line 1.
+/// A text with a fault at line 1, whichever file it is given as.
 fn faulty() -> Given<'static> {
     Given::text("end\n")
 }
 
-/// A file that isn't there.
 fn missing() -> Given<'static> {
     Given::text("").failing(0, ErrorKind::NotFound)
 }
 
-/// A policy that the system is denied by.
+/// A policy by which the system is denied.
 fn empty_policy() -> Given<'static> {
     Given::text("confine-policy 1\nend\n")
 }
 
-/// A policy that lacks an edge, by P6, and a table with little in it.
+/// A policy that lacks an edge, by P6, with a small table.
 fn to_close() -> Files<'static> {
     Files {
         table: Given::text("confine-table 1\nlabel a\nend\n"),
@@ -349,7 +348,7 @@ fn to_close() -> Files<'static> {
 /// A command's files, with the status and the answer.
 type Answered = (Files<'static>, u8, &'static str);
 
-/// Files of each kind of answer of `check` and `verify`.
+/// The files for each kind of answer of `check` and `verify`.
 fn answers_of_checks() -> [Answered; 8] {
     let report = files_for(Command::Check(OnAccept::Report));
     let certificate = files_for(Command::Check(OnAccept::Certificate));
@@ -375,7 +374,7 @@ fn answers_of_checks() -> [Answered; 8] {
     ]
 }
 
-/// Files of each kind of answer of `run`.
+/// The files for each kind of answer of `run`.
 fn answers_of_runs() -> [Answered; 5] {
     let files = files_for(Command::Run);
     [
@@ -387,7 +386,7 @@ fn answers_of_runs() -> [Answered; 5] {
     ]
 }
 
-/// Files of each kind of answer of `run --split`.
+/// The files for each kind of answer of `run --split`.
 fn answers_of_splits() -> [Answered; 3] {
     let files = files_for(Command::Split);
     [
@@ -397,7 +396,7 @@ fn answers_of_splits() -> [Answered; 3] {
     ]
 }
 
-/// Labels, and neither threads nor edges.
+/// The files with labels only, without threads and edges.
 fn labels_for(command: Command) -> Files<'static> {
     Files {
         table: Given::text(LABELS),
@@ -406,7 +405,7 @@ fn labels_for(command: Command) -> Files<'static> {
     }
 }
 
-/// Files of each kind of answer of the commands that say who may change whom.
+/// The files for each kind of answer of the commands on who may change whom.
 fn answers_on_changes() -> [Answered; 7] {
     let to_draw = files_for(DRAWN);
     let to_fold = labels_for(FOLDED);
@@ -421,7 +420,7 @@ fn answers_on_changes() -> [Answered; 7] {
     ]
 }
 
-/// Files of each kind of answer of `import`.
+/// The files for each kind of answer of `import`.
 fn answers_of_imports() -> [Answered; 3] {
     let files = files_for(Command::Import(Imported::Table));
     [
@@ -435,7 +434,7 @@ fn answers_of_imports() -> [Answered; 3] {
     ]
 }
 
-/// Files of each kind of answer of the other commands.
+/// The files for each kind of answer of the other commands.
 fn answers_of_others() -> [Answered; 6] {
     let to_replay = files_for(Command::Replay);
     let to_list = files_for(LIST_OF_OBJECTS);
@@ -449,7 +448,7 @@ fn answers_of_others() -> [Answered; 6] {
     ]
 }
 
-/// Files of each kind of answer of `claims`.
+/// The files for each kind of answer of `claims`.
 fn answers_of_claims() -> [Answered; 4] {
     let files = files_for(Command::Claims);
     [
@@ -460,7 +459,7 @@ fn answers_of_claims() -> [Answered; 4] {
     ]
 }
 
-/// Files of each kind of answer of `diff`.
+/// The files for each kind of answer of `diff`.
 fn answers_of_diffs() -> [Answered; 4] {
     let files = files_for(Command::Diff);
     let turned = labels_for(Command::Diff).with(File::New, Given::text(TABLE));
@@ -472,7 +471,7 @@ fn answers_of_diffs() -> [Answered; 4] {
     ]
 }
 
-/// Files of each kind of answer where a description is given in place of a table.
+/// The files for each kind of answer if a description is given in place of a table.
 fn answers_of_descriptions() -> [Answered; 2] {
     let files = files_for(LIST_OF_DESCRIPTION);
     [
@@ -489,8 +488,8 @@ fn answers_of_descriptions() -> [Answered; 2] {
     ]
 }
 
-/// The command says this on standard error, ends with this status, and wrote this text. A device failed, or
-/// was interrupted, after so many bytes.
+/// Asserts what the command says on standard error, its status and the text that it wrote, when a
+/// device failed, or was interrupted, after a number of bytes.
 fn ends<R: Abort>(
     rt: &R,
     ending: &Ending,
@@ -502,7 +501,7 @@ fn ends<R: Abort>(
     assert_eq!(rt; ending.end.status(), status, "after {after} bytes");
 }
 
-/// Carries out the command on the files, and sees how that ends.
+/// Does the command on the files, and asserts its end.
 fn command_ends<R: Abort + AllocGlobal + Threads + Wait + Sync>(
     rt: &R,
     files: Files<'_>,
@@ -540,20 +539,20 @@ fn each_file_is_parsed_before_the_next_is_read(rt: HostRuntime) -> Result<(), Fa
     Ok(())
 }
 
-/// Which files a command asks for bytes that can't read this one.
+/// The files that a command asks for bytes if this one can't be read.
 fn read_up_to(file: File) -> [bool; 3] {
     match file {
         File::Table => [true, false, false],
         File::Policy => [true, true, false],
         File::Certificate | File::Script | File::Log => [true, true, true],
-        // They come after the table alone.
+        // These files come after the table alone.
         File::Claims | File::New => [true, false, true],
-        // It is read alone.
+        // The description is read alone.
         File::Description => [false, false, true],
     }
 }
 
-/// A file that fails after so many bytes can't be read, and those after it aren't asked.
+/// Asserts that a file that fails after a number of bytes can't be read, and that files after it aren't asked.
 fn fails_after<R: Abort + AllocGlobal + Threads + Wait + Sync>(
     rt: &R,
     (command, file, message): (Command, File, &str),
@@ -592,7 +591,7 @@ fn a_read_that_fails_is_no_end_of_file(rt: HostRuntime) -> Result<(), Fail> {
     ] {
         for (command, file, message) in &MESSAGES {
             let files = files_for(*command);
-            // Nor is it a fault of what was read.
+            // A fault in what was read isn't reported either.
             for given in &[files.file(*file), faulty()] {
                 let files = files.with(*file, given.at_end(*kind));
                 command_ends(&rt, files, (Some(*message), 2, ""))?;
@@ -626,7 +625,7 @@ fn a_read_without_memory_blames_no_file(rt: HostRuntime) -> Result<(), Fail> {
     Ok(())
 }
 
-/// A page with room for so many bytes can't be written whole.
+/// Asserts that a page with room for a number of bytes can't be written whole.
 fn overflows<R: Abort + AllocGlobal + Threads + Wait + Sync>(
     rt: &R,
     files: Files<'_>,
@@ -645,7 +644,7 @@ fn overflows<R: Abort + AllocGlobal + Threads + Wait + Sync>(
     Ok(())
 }
 
-/// Whatever room a page has that is too small for the answer, the command can't write it.
+/// Asserts that the command can't write to a page without room for the whole answer.
 fn none_is_written<R: Abort + AllocGlobal + Threads + Wait + Sync>(
     rt: &R,
     answers: &[Answered],
@@ -707,7 +706,7 @@ fn a_comparison_that_cannot_be_written_is_no_answer(rt: HostRuntime) -> Result<(
     none_is_written(&rt, &answers_of_diffs())
 }
 
-/// How many bytes the files give a read, and the page takes a write, at most.
+/// The largest number of bytes in a read of a file and in a write to the page.
 const AMOUNTS: [(usize, usize); 9] = [
     (usize::MAX, usize::MAX),
     (1, usize::MAX),
@@ -720,14 +719,14 @@ const AMOUNTS: [(usize, usize); 9] = [
     (usize::MAX, 7),
 ];
 
-/// The commands give these answers, whatever the devices move.
+/// Asserts these answers of commands, however many bytes the devices move at a time.
 fn all_are_given<R: Abort + AllocGlobal + Threads + Wait + Sync>(
     rt: &R,
     answers: &[Answered],
 ) -> Result<(), Fail> {
     for (reads, writes) in &AMOUNTS {
         for (files, status, answer) in answers {
-            // There is room for the answer and no more.
+            // The page has room for exactly the answer.
             let page = Page {
                 most: *writes,
                 room: answer.len(),

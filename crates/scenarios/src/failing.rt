@@ -1,4 +1,4 @@
-//! Files that can't be read whole, and a page that can't be written whole.
+//! Files that can't be read to their ends, and a page that can't be written whole.
 use std::alloc::Global;
 use std::io::{self, ErrorKind, Read, Write};
 
@@ -11,7 +11,7 @@ pub struct Failure {
 
 /// A file as its reader gets it: a text, with a limit on the bytes of a read.
 ///
-/// Where it fails, it fails once: a reader that asks again is given the rest.
+/// It fails at most once: a reader that asks again is given the rest.
 #[derive(Clone, Copy)]
 pub struct Given<'a> {
     pub text: &'a str,
@@ -29,12 +29,12 @@ impl<'a> Given<'a> {
         }
     }
 
-    /// Returns the same file, which gives at most `most` bytes a read.
+    /// Returns the file with at most `most` bytes a read.
     pub fn at_most(self, most: usize) -> Given<'a> {
         Given { most, ..self }
     }
 
-    /// Returns the same file, with a failure of this kind after `after` bytes.
+    /// Returns the file with a failure of this kind after `after` bytes.
     pub fn failing(self, after: usize, kind: ErrorKind) -> Given<'a> {
         Given {
             failure: Some(Failure { after, kind }),
@@ -42,7 +42,7 @@ impl<'a> Given<'a> {
         }
     }
 
-    /// Returns the same file, with a failure of this kind in place of its end.
+    /// Returns the file with a failure of this kind in place of its end.
     pub fn at_end(self, kind: ErrorKind) -> Given<'a> {
         self.failing(self.text.len(), kind)
     }
@@ -89,10 +89,9 @@ impl Read for Reader<'_> {
     }
 }
 
-/// A page that is written to, with a limit on the bytes of a write, and with room for a number of
-/// bytes.
+/// A page that is written to, with a limit on the bytes of a write, and room for a number of bytes.
 ///
-/// Where it has no room it fails with this kind, or takes nothing.
+/// Without room, it fails with this kind, or takes nothing.
 #[derive(Drop)]
 pub struct Page {
     pub written: Vec<u8>,

@@ -1,4 +1,4 @@
-//! Workers that check side by side, and numbers of workers that there may not be.
+//! Workers that check at the same time, and numbers of workers that aren't allowed.
 use base::Refusal;
 use captext::{read_policy, read_table};
 use checker::{CheckError, Gate, Open};
@@ -67,7 +67,7 @@ pub struct Meeting {
 }
 
 impl Meeting {
-    /// Waits for the other one, for a while.
+    /// Waits for the other worker, for a while.
     pub fn wait(&self) {
         self.arrived.fetch_add(1, Ordering::SeqCst);
         for _ in 0..1_000_000u32 {
@@ -126,7 +126,7 @@ fn gate_check(rt: HostRuntime) {
     assert_eq!(rt; end, End::Status(0));
 }
 
-// Two threads, each on a core of its own, up to the cores of their contexts.
+// Two threads, each on a core of its own; the cores of their contexts follow.
 const TWO_THREADS: &str = "\
 confine-table 1
 label a
@@ -138,7 +138,7 @@ tcb tb b 0x2400 ready
 notification n b 0x3000
 ";
 
-// What they have, and what they run on.
+// The capabilities of the threads, and their bindings.
 const CAPS_AND_BINDINGS: &str = "\
 cap ca.0 n w 4
 cap cb.0 n r 0
@@ -175,8 +175,8 @@ fn texts_on(alloc: Global, signals: u64, polls: u64) -> Result<(String, String),
     Ok((table, script))
 }
 
-/// Splits the script of two threads on these cores over a gate at which workers 0 and 1 meet:
-/// whatever the cores' numbers, their workers are numbered so.
+/// Splits the script of two threads on these cores, at a gate where workers 0 and 1 meet: workers
+/// have these numbers on any cores.
 fn gate_split_on<R: Abort + AllocGlobal + Threads + Wait + Sync>(
     rt: &R,
     signals: u64,

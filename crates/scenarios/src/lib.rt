@@ -1,8 +1,7 @@
 //! Devices that fail or move few bytes at a time, commands over such devices, and workers that
 //! share work: what no text can say, so that it is no case.
 //!
-//! No crate stands on it: it has tests alone. It knows no command line, and no words of
-//! `--explain`.
+//! The crate has only tests. It knows no command line, and no words of `--explain`.
 #![tactic(auto)]
 
 #[cfg(test)]

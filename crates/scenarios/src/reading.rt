@@ -1,11 +1,10 @@
-//! Files that are read and pages that are written a few bytes at a time, with interruptions, up to
-//! a failure or a limit.
+//! Files and pages that move a few bytes at a time, with interruptions, up to a failure or a limit.
 use devices::{Bounded, ReadError, Sink, Source, Watched, open_result};
 use std::io::{self, ErrorKind, Read, Write};
 
 const TEXT: &[u8] = b"confine-script 1\nend\n";
 
-/// Gives a byte a call, is interrupted before each, and fails so after `good` of them.
+/// A file that gives a byte a call, is interrupted before each, and fails after `good` bytes.
 #[derive(Drop)]
 struct Drip {
     given: usize,
@@ -34,7 +33,7 @@ impl Read for Drip {
     }
 }
 
-/// Takes at most three bytes a call, is interrupted before each call, and has room for `room`.
+/// A page that takes at most three bytes a call, is interrupted before each call, and has room for `room` bytes.
 #[derive(Drop)]
 struct Narrow {
     taken: Vec<u8>,
@@ -63,7 +62,7 @@ impl Write for Narrow {
     }
 }
 
-/// Takes all, and can't pass it on.
+/// A page that takes everything but can't be flushed.
 #[derive(Drop)]
 struct Stuck;
 
@@ -128,7 +127,7 @@ fn reads_what_was_opened(rt: HostRuntime) {
     assert!(rt; matches!(none.read_whole(rt.alloc()), Err(ReadError::Failed)));
 }
 
-/// Gives as many bytes as it is asked for, and never ends.
+/// A file that gives as many bytes as it is asked for, and never ends.
 #[derive(Drop)]
 struct Endless;
 

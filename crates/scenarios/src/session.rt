@@ -1,4 +1,4 @@
-//! A command that is carried out over devices.
+//! A command that is done over devices.
 ghost use Rattle.std.specs.Prelude.{◌≡◌, false};
 
 use crate::failing::{Given, Page};
@@ -12,7 +12,7 @@ use std::sync::Wait;
 use std::test::Fail;
 use std::thread::Threads;
 
-/// The command that is asked of the files.
+/// The command that is done on the files.
 #[derive(Clone, Copy)]
 pub enum Command {
     Check(OnAccept),
@@ -21,18 +21,18 @@ pub enum Command {
     Split,
     Replay,
     Close,
-    /// What is asked of a system alone: a table.
+    /// A question about a system alone, given as a table.
     Asked(OfSystem<'static>),
-    /// The same, of a description, whose capabilities have the least rights.
+    /// A question about a system alone, given as a description with the least rights.
     AskedOfDescription(OfSystem<'static>),
     Claims,
-    /// What changes from one table to another.
+    /// The changes from one table to another.
     Diff,
     Import(Imported),
 }
 
 /// A command and its files. The third is the script of a run, the log of a replay, a certificate,
-/// claims, a new system or a description, where the command reads one.
+/// claims, a new system or a description, if the command reads one.
 #[derive(Clone, Copy)]
 pub struct Files<'a> {
     pub command: Command,
@@ -56,7 +56,7 @@ impl<'a> Files<'a> {
         }
     }
 
-    /// Returns the same files, with another in the place of one.
+    /// Returns the files with another in the place of one.
     pub fn with(self, file: File, given: Given<'a>) -> Files<'a> {
         match file {
             File::Table => Files {
@@ -79,7 +79,7 @@ impl<'a> Files<'a> {
         }
     }
 
-    /// Returns the same files, each of which gives at most `most` bytes a read.
+    /// Returns the files, each of which gives at most `most` bytes a read.
     pub fn at_most(self, most: usize) -> Files<'a> {
         Files {
             table: self.table.at_most(most),
@@ -109,7 +109,7 @@ fn with_least(imported: Imported) -> OnImport {
     }
 }
 
-/// Carries out a command over these devices.
+/// Does a command over these devices.
 fn carry_out<R, T, P, S, O>(
     rt: &R,
     command: Command,

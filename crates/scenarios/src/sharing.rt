@@ -1,5 +1,5 @@
-//! Work that is dealt to several workers: the plain map, memory that is refused, and workers that
-//! are at work at the same time.
+//! Work that is dealt to several workers: a plain map, refused memory, and workers that are busy at
+//! the same time.
 ghost use Rattle.std.specs.Prelude.{◌*◌};
 
 use crate::gate::Meeting;
@@ -7,7 +7,7 @@ use base::Refusal;
 use deal::{Open, Work, shares};
 use std::test::Fail;
 
-// Twice the item.
+// Work that doubles an item.
 struct Twice;
 
 impl Work<u32> for Twice {
@@ -20,7 +20,7 @@ impl Work<u32> for Twice {
     }
 }
 
-// Memory is refused at one item.
+// Work for which memory is refused at one item.
 #[derive(Drop)]
 struct RefusedAt(u32);
 
@@ -37,7 +37,7 @@ impl Work<u32> for RefusedAt {
     }
 }
 
-// A work that holds each item until the other one is begun too.
+// Work that holds each item until the other one is begun too.
 impl Work<u32> for Meeting {
     type Out = u64;
 

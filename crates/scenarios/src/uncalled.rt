@@ -1,5 +1,5 @@
-//! Calls that the kernel's crates offer and confine itself never makes: they are tried on the boot
-//! state of a small table.
+//! Calls of the kernel's crates that confine itself never makes, on the boot state of a small
+//! table.
 use base::{ObjId, Refusal, SlotRef};
 use captext::read_table;
 use cspace::{lookup, lookup_target};
@@ -10,8 +10,8 @@ use std::alloc::Global;
 use std::process::Abort;
 use std::test::Fail;
 
-/// The thread 1 finds slots 0 to 3 of the CNode 0 at the addresses 0 to 3. Those of slots 2 and 3 are
-/// derived from that of slot 1.
+/// The thread 1 finds slots 0 to 3 of the CNode 0 at the addresses 0 to 3. The capabilities in
+/// slots 2 and 3 are derived from that in slot 1.
 const TABLE: &str = "\
 confine-table 1
 label a

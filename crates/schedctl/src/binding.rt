@@ -1,4 +1,4 @@
-//! The calls Bind and Unbind, on a thread and the scheduling context that it runs on.
+//! The calls Bind and Unbind, which link a thread to the scheduling context that it runs on, or cut the link.
 ghost use Rattle.std.specs.Prelude.{◌≡◌};
 ghost use Rattle.machine.specs.{Machine.object_of, Makes.Makes, Step.Bind.{bind_of, thread_on, unbind_of, unlinked}};
 ghost use Rattle.machine.specs.{Step.Bind.without_thread, WellFormed.IsWellFormed};
@@ -20,7 +20,7 @@ fn thread_on(state: &State, id: ObjId) -> Option<ObjId>
     }
 }
 
-/// Refuses where a link is there.
+/// Refuses if there is a link.
 fn unlinked(link: Option<ObjId>) -> Result<(), Cause>
     ensures { result ≡ unlinked link }
 {
@@ -39,7 +39,7 @@ fn unbind_thread(state: &mut State, thread: Option<ObjId>)
     }
 }
 
-// Does what the row of a bind says.
+// The whole row of a bind.
 #[tactic(auto, unfolding(machine::specs::Step::Bind::bind_of))]
 fn make_bind(state: &mut State, caller: ObjId, context: u64, thread: u64) -> Result<Made, Cause>
     ensures { Makes state.old state.new result (bind_of state.old caller context thread) }
@@ -52,7 +52,7 @@ fn make_bind(state: &mut State, caller: ObjId, context: u64, thread: u64) -> Res
     Ok(Made::Done(Answer::Nothing))
 }
 
-/// Has a thread run on a scheduling context (seL4 manual, seL4_SchedContext_Bind).
+/// Makes a thread run on a scheduling context (seL4 manual, seL4_SchedContext_Bind).
 ///
 /// The thread is at the address `thread`, and the context at the address `context`. The context
 /// needn't be configured yet.
@@ -71,7 +71,7 @@ pub fn bind(state: &mut State, caller: ObjId, context: u64, thread: u64) -> Resu
     make_bind(state, caller, context, thread)
 }
 
-// Does what the row of an unbind says.
+// The whole row of an unbind.
 #[tactic(auto, unfolding(machine::specs::Step::Bind::unbind_of))]
 fn make_unbind(state: &mut State, caller: ObjId, address: u64) -> Result<Made, Cause>
     ensures { Makes state.old state.new result (unbind_of state.old caller address) }
@@ -84,7 +84,7 @@ fn make_unbind(state: &mut State, caller: ObjId, address: u64) -> Result<Made, C
 
 /// Unbinds the thread that runs on the scheduling context at an address (seL4 manual, seL4_SchedContext_Unbind).
 ///
-/// Where none does, nothing changes.
+/// If none does, nothing changes.
 ///
 /// # Errors
 ///

@@ -9,7 +9,7 @@ use machine::{Answer, Context, Made, Object, ObjectKind, Share};
 use objects::State;
 use steps::calls_keep_machines_well_formed;
 
-/// Refuses a budget below 1 or past its period, and a period past [`MAX_PERIOD`].
+/// Refuses a budget below 1 or above its period, and a period above [`MAX_PERIOD`].
 fn in_limits(budget: u64, period: u64) -> Result<(), Cause>
     ensures { result ≡ in_limits budget period }
 {
@@ -30,7 +30,7 @@ fn core(state: &State, id: ObjId) -> CoreNo
     }
 }
 
-/// Gives a scheduling context a share of a core. Does nothing where there is none of that number.
+/// Gives a scheduling context a share of a core. Does nothing if there is none of that number.
 #[tactic(auto, unfolding(machine::specs::Step::Configure::with_share))]
 fn give_share(state: &mut State, id: ObjId, share: Share)
     ensures { state.new ≡ with_share state.old id share }
@@ -44,7 +44,7 @@ fn give_share(state: &mut State, id: ObjId, share: Share)
     }
 }
 
-// Does what the row of a configuring says.
+// The whole row of a configuring.
 #[tactic(auto, unfolding(machine::specs::Step::Configure::configure_of))]
 fn make_configure(
     state: &mut State,
@@ -71,7 +71,7 @@ fn make_configure(
 /// Gives a scheduling context a budget and a period on a core (seL4 manual, seL4_SchedControl_ConfigureFlags).
 ///
 /// The context is at the address `address`. The core is that of the control at the address
-/// `control`. Budget and period are in microseconds. What the context had before is lost; the
+/// `control`. Budget and period are in microseconds. They replace what the context had before; the
 /// thread that runs on it stays.
 ///
 /// # Errors

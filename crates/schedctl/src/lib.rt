@@ -1,10 +1,10 @@
 //! Scheduling contexts: calls that configure, bind and unbind them, and how one passes between threads.
 //!
 //! Each call does its whole row of the kernel's step, from the row's first condition on, or leaves
-//! the state as it was; [`part`] and [`hand_over`] are changes that calls of other crates make. No
+//! the state as it was. [`part`] and [`hand_over`] are changes that calls of other crates make. No
 //! memory is taken.
 //!
-//! `replies`, `finalising`, `transfer` and `kernel` stand on it. It knows no policy.
+//! The crate knows no policy.
 #![tactic(auto)]
 
 mod binding;

@@ -1,4 +1,4 @@
-//! The links between threads and the contexts that they run on.
+//! The links between threads and the scheduling contexts that they run on.
 ghost use Rattle.std.specs.Prelude.{◌≡◌, ◌≢◌, None, Some};
 ghost use Rattle.machine.specs.{Machine.object_of, Releasing.{with_idle_context, with_unbound}};
 ghost use Rattle.machine.specs.{Step.Bind.{context_under, with_bound, with_handed}, WellFormed.{IsWellFormed, kind_of}};
@@ -18,7 +18,7 @@ pub fn context_under(state: &State, thread: ObjId) -> Option<ObjId>
     }
 }
 
-// Takes its thread from a scheduling context. Does nothing where there is none of that number.
+// Takes the thread of a scheduling context from it. Does nothing if there is no context of that number.
 #[tactic(auto, unfolding(machine::specs::Releasing::with_idle_context))]
 fn idle(state: &mut State, id: ObjId)
     ensures { state.new ≡ with_idle_context state.old id }
@@ -51,7 +51,7 @@ fn cut(state: &mut State, thread: ObjId)
 
 /// Takes its scheduling context from a thread, and the thread from the context.
 ///
-/// Does nothing where there is no such thread, or it has no context.
+/// Does nothing if there is no such thread, or it has no context.
 pub fn part(state: &mut State, thread: ObjId)
     ensures unbound { state.new ≡ with_unbound state.old thread }
     ensures well_formed { IsWellFormed state.old → IsWellFormed state.new }
@@ -59,8 +59,8 @@ pub fn part(state: &mut State, thread: ObjId)
     cut(state, thread);
 }
 
-/// Has a thread run on a scheduling context. Whatever ran on the context before, or the thread ran on,
-/// isn't changed: neither may be bound. Does nothing where one of them isn't there.
+/// Makes a thread run on a scheduling context, neither of which may be linked yet. Does nothing if
+/// one of them doesn't exist.
 #[tactic(auto, unfolding(machine::specs::Step::Bind::with_bound))]
 pub(crate) fn bind_to(state: &mut State, id: ObjId, thread: ObjId)
     ensures { state.new ≡ with_bound state.old id thread }
@@ -92,9 +92,9 @@ fn rebind(state: &mut State, from: ObjId, to: ObjId)
     }
 }
 
-/// Has the thread `to`, which runs on nothing, run on the scheduling context of `from`, which then runs on nothing.
+/// Makes the thread `to`, which runs on nothing, run on the scheduling context of `from`, which then runs on nothing.
 ///
-/// Who waits, and for what, stays as it was, and so does the context's share.
+/// The context's share stays as it was, and so do the run states of threads.
 pub fn hand_over(state: &mut State, from: ObjId, to: ObjId)
     requires runs { context_under (object_of state.old from) ≢ None }
     requires thread { kind_of state.old to ≡ Some kind.Tcb }

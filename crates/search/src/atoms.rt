@@ -1,4 +1,4 @@
-//! Atoms: the single facts of a state by which a search finds what is new in it.
+//! Atoms, which are single facts of a state: a search finds by them what is new.
 use base::{ObjId, SlotRef};
 use bitflags::Flags;
 use labels::label_of;
@@ -48,7 +48,7 @@ enum Aspect {
     Free,
     Named,
     Answering,
-    /// Objects were made of untyped memory, or none any more.
+    /// Objects were made of untyped memory, or there are none any more.
     Used,
     Unused,
     /// A context is configured.
@@ -62,11 +62,11 @@ enum Name {
     Nothing,
     /// An object of the table.
     Declared(u64),
-    /// An object that was made: those of a kind and of a label of this number aren't told apart.
+    /// An object that was made. Objects of the same kind and label aren't distinguished.
     Made(Option<ObjectKind>, Option<u16>),
 }
 
-/// A single fact of a state: of which objects it is, and with which rights.
+/// A single fact of a state, on one or two objects and with rights.
 #[derive(Clone, Copy, PartialEq, Eq, PartialOrd, Ord, Debug)]
 struct Atom {
     aspect: Aspect,
@@ -88,7 +88,7 @@ struct Two {
 pub enum News {
     /// An atom that no earlier state had.
     Atom,
-    /// Two atoms that no earlier state had both.
+    /// Two atoms that no earlier state had together.
     Two,
 }
 
@@ -137,9 +137,9 @@ impl<'a> Known<'a> {
         Ok(known)
     }
 
-    /// Notes the atoms of those objects of a state that a call changed, and returns whether it is new.
+    /// Notes the atoms of the objects that a call changed, and returns whether the state is new.
     ///
-    /// Of the other objects those in which the state may differ from the boot state are `earlier`.
+    /// `earlier` are the other objects in which the state may differ from the boot state.
     ///
     /// # Errors
     ///
@@ -164,7 +164,7 @@ impl<'a> Known<'a> {
         Ok(is_new || self.twos.len() != known)
     }
 
-    // The number of an atom, which is known then.
+    // The number of an atom, which gets one if it is new.
     fn number(&mut self, atom: &Atom) -> Result<usize, AllocError> {
         let number = self.atoms.len();
         match self.atoms.insert(*atom, number)? {
@@ -176,7 +176,7 @@ impl<'a> Known<'a> {
         }
     }
 
-    // The numbers of those atoms of some objects that the boot state doesn't have.
+    // The numbers of the atoms of some objects that the boot state doesn't have.
     fn numbers(
         &mut self,
         alloc: Global,
@@ -197,7 +197,7 @@ impl<'a> Known<'a> {
         Ok(numbers)
     }
 
-    // Notes each atom of some numbers with each of others.
+    // Notes each pair of an atom of some numbers and one of others.
     fn note_twos(&mut self, numbers: &[usize], others: &[usize]) -> Result<(), AllocError> {
         for one in numbers {
             for other in others {
@@ -233,7 +233,7 @@ impl<'a> Known<'a> {
         }
     }
 
-    // Lists the atoms that threads alone have.
+    // Lists the atoms that only threads have.
     fn list_thread(
         &self,
         state: &State,
@@ -316,7 +316,7 @@ fn push(
     Ok(())
 }
 
-// The one slot of an object that is empty, if all others are filled.
+// The only empty slot of an object, if all others are filled.
 fn only_gap(state: &State, id: ObjId, object: &Object) -> Option<u64> {
     let mut gap = None;
     for index in 0..object.slot_count() {
@@ -331,7 +331,7 @@ fn only_gap(state: &State, id: ObjId, object: &Object) -> Option<u64> {
     gap
 }
 
-// What an object's content says, and of which other object.
+// The fact that an object's content gives, and the other object in it.
 fn content_of(object: &Object) -> (Aspect, Option<ObjId>) {
     match object {
         Object::Tcb(thread) => waits(&thread.state),
@@ -348,7 +348,7 @@ fn content_of(object: &Object) -> (Aspect, Option<ObjId>) {
     }
 }
 
-// The kind of a thread's state, and the object that it waits at or through.
+// The fact that a thread's run state gives, and the object that it waits at or through.
 fn waits(state: &RunState) -> (Aspect, Option<ObjId>) {
     match state {
         RunState::Inactive => (Aspect::Inactive, None),
@@ -366,7 +366,7 @@ fn waits(state: &RunState) -> (Aspect, Option<ObjId>) {
     }
 }
 
-// What a thread was given.
+// The fact that a thread's inbox gives.
 fn given(inbox: &Inbox) -> Option<Aspect> {
     match inbox {
         Inbox::Empty => None,

@@ -1,4 +1,4 @@
-//! The search for a run that leaves a policy: one that ends in a state whose authority lies outside of it.
+//! The search for a run that leaves a policy, which is one that ends in a state whose authority lies outside the policy.
 ghost use Rattle.std.specs.Prelude.{◌≡◌, ◌≤◌, IfErr, IfOk, IfSome};
 ghost use Rattle.base.specs.Refusals.{plain};
 ghost use Rattle.machine.specs.WellFormed.{IsWellFormed};
@@ -18,7 +18,7 @@ use runs::{MOST_CALLS, leaves, lies_outside, makes, reach};
 use std::alloc::{AllocError, Global};
 use table::Table;
 
-/// The scripts after which calls are tried, in this order, and what the search has seen.
+/// The scripts after which calls are tried, in this order, and what was seen so far.
 #[derive(Drop)]
 struct Queue<'a> {
     known: Known<'a>,
@@ -27,8 +27,8 @@ struct Queue<'a> {
 
 /// Searches for a run of at most [`MOST_CALLS`] calls that leaves a policy, and tries at most `steps` calls.
 ///
-/// A run that is found starts in the table's boot state, no call of it is refused, and its last state lies
-/// outside the policy. That none is found says nothing.
+/// A run that is found starts in the table's boot state, has no refused call, and ends in a state
+/// outside the policy. If none is found, there may be one all the same.
 ///
 /// # Errors
 ///
@@ -92,8 +92,8 @@ fn script_at(
     }
 }
 
-// Tries calls of all threads after a script, at most `most` of them, and keeps the scripts that lead to
-// something new.
+// Tries calls of all threads after a script, at most `most` of them, and keeps the scripts that
+// lead to something new.
 fn try_after(
     alloc: Global,
     table: &Table,
@@ -169,8 +169,8 @@ fn try_all(
     Ok(unfound(tried))
 }
 
-// Tries a call in a copy of the origin's state, which afterwards is one again: the script with the call, if it
-// leaves the policy. It is kept if it leads to something new, and may have a further call.
+// Tries a call in a copy of the origin's state, which is restored afterwards. Returns the script with the call, if
+// it leaves the policy. The script is kept if it leads to something new and may have a further call.
 fn try_one(
     alloc: Global,
     table: &Table,
@@ -201,8 +201,8 @@ fn try_one(
     Ok(found)
 }
 
-// Judges a call that leads from the origin's state to another: the script with the call, if it leaves the policy.
-// It is kept if it leads to something new, and may have a further call.
+// Judges a call that leads from the origin's state to another. Returns the script with the call, if it leaves the
+// policy. The script is kept if it leads to something new and may have a further call.
 fn judge(
     alloc: Global,
     table: &Table,
@@ -218,7 +218,7 @@ fn judge(
     ensures refused { IfErr result (λ refusal. refusal ≡ plain 40) }
 {
     let longer = longer(alloc, origin.script, last)?;
-    // The state is but a first look: what counts is where the whole script leads.
+    // The state is only a first look: the whole script decides.
     if lies_outside(table, policy, to) && leaves(alloc, table, policy, &longer)? {
         return Ok(Some(longer));
     }

@@ -15,7 +15,7 @@ use runs::{Question, answering, is_near, makes, reach, shows};
 use std::alloc::{AllocError, Global};
 use table::Table;
 
-/// The most calls that are tried of those that the edges of a reason name.
+/// The largest number of calls that are tried because the edges of a reason name them.
 const MOST_NAMED: u64 = 5_000;
 
 /// The number of scripts after which no more are kept.
@@ -30,16 +30,16 @@ pub struct Found {
     pub steps: u64,
 }
 
-/// The scripts that lead to states from which a search continues, and what it has seen.
+/// The scripts that lead to states from which a search continues, and what was seen so far.
 #[derive(Drop)]
 struct Front<'a> {
     known: Known<'a>,
     kept: Vec<Kept>,
     /// The number of kept scripts after which the actor's calls were tried.
     own: usize,
-    /// The number of those before which the others' calls were tried after each.
+    /// The number of kept scripts before which the others' calls were tried after each.
     others: usize,
-    /// The number of those before which they were tried after each that is near.
+    /// The number of kept scripts before which the others' calls were tried after each that is near.
     near: usize,
 }
 
@@ -57,8 +57,8 @@ struct Kept {
 
 /// Searches for a script that answers a question, and tries at most `steps` calls.
 ///
-/// The calls that the edges of `reason` name are tried first: it is why the question's actor may do
-/// something to the object. A script that is found answers the question. That none is found says nothing.
+/// The calls that the edges of `reason` name are tried first: it says why the question's actor may do something to
+/// the object. A script that is found answers the question. If none is found, there may be one all the same.
 ///
 /// # Errors
 ///
@@ -86,7 +86,7 @@ pub fn find(
     })
 }
 
-// Searches with at most a number of calls, whatever they are.
+// Searches with at most a number of calls, without a reason.
 fn find_unnamed(
     alloc: Global,
     table: &Table,
@@ -133,7 +133,7 @@ pub fn unfound(steps: u64) -> Found
     }
 }
 
-// Searches with at most a number of calls of such a breadth.
+// Searches with at most a number of calls of one breadth.
 fn pass(
     alloc: Global,
     table: &Table,
@@ -182,7 +182,7 @@ fn pass(
     Ok(unfound(spent))
 }
 
-// What is new to a search of such a breadth.
+// The news that a search of this breadth looks for.
 fn news_of(breadth: Breadth) -> News {
     match breadth {
         Breadth::Narrow => News::Atom,
@@ -199,7 +199,7 @@ fn callers(actor: Label, own: bool) -> Callers {
     }
 }
 
-// A search that continues from the boot state alone.
+// A search that has only the boot state to continue from.
 fn begin<'a>(alloc: Global, table: &'a Table, news: News) -> Result<Option<Front<'a>>, Refusal>
     ensures refused { IfErr result (λ refusal. refusal ≡ plain 40) }
 {
@@ -223,8 +223,8 @@ fn begin<'a>(alloc: Global, table: &'a Table, news: News) -> Result<Option<Front
     }))
 }
 
-// The number of the script to continue from, and whether the actor's calls are tried after it. Its calls come
-// first: two turns of three are theirs. Every other turn of the others is for a script that is near.
+// The number of the script to continue from, and whether the actor's calls are tried after it. The actor's calls have
+// two turns of three. Every other turn of the others is for a script that is near.
 fn next(front: &mut Front<'_>, turn: usize) -> Option<(usize, bool)> {
     let count = front.kept.len();
     if front.own < count && (turn % 3 != 2 || front.others >= front.own) {
@@ -245,8 +245,8 @@ fn next(front: &mut Front<'_>, turn: usize) -> Option<(usize, bool)> {
     Some((number, false))
 }
 
-// The number of the first kept script, of those between two numbers, after which the others' calls weren't tried;
-// of those that are near, or of all.
+// The number of the first kept script between two numbers after which the others' calls weren't
+// tried: of those that are near, or of all.
 fn open_from(kept: &[Kept], from: usize, to: usize, near: bool) -> Option<usize>
     ensures { IfSome result (λ number. number < to) }
 {
@@ -282,7 +282,7 @@ fn kept_at(
     Ok((script, changed))
 }
 
-/// Returns the same script.
+/// Returns a copy of a script.
 ///
 /// # Errors
 ///
@@ -293,8 +293,8 @@ pub fn copied(alloc: Global, script: &[Event]) -> Result<Vec<Event>, AllocError>
     Ok(events)
 }
 
-// Tries the calls after the kept script of a number, at most `most` of them, and keeps the scripts that lead
-// to something new.
+// Tries the calls after the kept script of a number, at most `most` of them, and keeps the scripts
+// that lead to something new.
 fn follow(
     alloc: Global,
     table: &Table,
@@ -365,8 +365,8 @@ fn try_all(
     Ok(unfound(tried))
 }
 
-// Tries a call in a copy of the origin's state, which afterwards is one again: the script with the call, where
-// that answers the question. It is kept if it leads to something new.
+// Tries a call in a copy of the origin's state, which is restored afterwards. Returns the script
+// with the call, if it answers the question. The script is kept if it leads to something new.
 fn try_one(
     alloc: Global,
     table: &Table,
@@ -398,8 +398,8 @@ fn try_one(
     Ok(answer)
 }
 
-// Judges a call that leads from the origin's state to another: the script with the call, where that answers the
-// question. It is kept if it leads to something new.
+// Judges a call that leads from the origin's state to another. Returns the script with the call, if
+// it answers the question. The script is kept if it leads to something new.
 fn judge(
     alloc: Global,
     table: &Table,

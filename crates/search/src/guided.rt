@@ -1,9 +1,9 @@
-//! What the edges of a reason name: whose calls, at which objects, a search tries first.
+//! The edges of a reason: a search tries first the calls that they name.
 use base::{Edge, Kind, Label};
 use policy::Why;
 use std::alloc::Global;
 
-/// Returns the edges of a reason: there are none where a label may do nothing to another.
+/// Returns the edges of a reason; there are none if a label may do nothing to another.
 pub fn edges_of(alloc: Global, why: Why) -> Vec<Edge> {
     match why {
         Why::Full(edges) | Why::Take(edges) => edges,
@@ -13,7 +13,7 @@ pub fn edges_of(alloc: Global, why: Why) -> Vec<Edge> {
 
 /// Returns whether an edge of a reason gives a label authority of a kind over another.
 ///
-/// No edge names a label that isn't there.
+/// No edge names an absent label.
 pub fn names(reason: &[Edge], from: Option<Label>, kind: Kind, to: Option<Label>) -> bool {
     for edge in reason {
         if Some(edge.from) == from && edge.kind == kind && Some(edge.to) == to {
@@ -43,7 +43,7 @@ pub fn has(reason: &[Edge], kind: Kind) -> bool {
     false
 }
 
-/// Returns whether an edge of a reason is a label's.
+/// Returns whether an edge of a reason starts at a label.
 pub fn is_of(reason: &[Edge], from: Option<Label>) -> bool {
     for edge in reason {
         if Some(edge.from) == from {

@@ -3,8 +3,8 @@
 //! The first are scripts whose last call, by a thread of the one label, changes an object of the
 //! other. Each script that is found is shown to be such a run.
 //!
-//! What the edges of a reason name is tried first. A call that is tried costs what it can touch, not the size of
-//! the system. It knows no text, and what a run shows only by `runs`.
+//! The calls that the edges of a reason name are tried first. A call costs what it can touch, not the size of the
+//! system. The crate knows no text, and decides what a run shows only by `runs`.
 #![tactic(auto)]
 
 mod atoms;

@@ -1,4 +1,4 @@
-//! The state in which calls are tried, one after another, and how a call is taken back.
+//! The state in which calls are tried one after another, and the undoing of each call.
 ghost use Rattle.std.specs.Prelude.{◌≡◌, IfErr};
 ghost use Rattle.base.specs.Refusals.{plain};
 ghost use Rattle.machine.specs.WellFormed.{IsWellFormed};
@@ -20,9 +20,9 @@ pub struct Origin<'a> {
     pub state: &'a State,
 }
 
-/// Makes a state to which a call led the origin's state again.
+/// Restores the origin's state after a call.
 ///
-/// A call that takes the first back leads there, or else the script does.
+/// A call that undoes the first leads there; if there is none, the script does.
 ///
 /// # Errors
 ///

@@ -1,10 +1,10 @@
-//! What a thread finds in its capability space, and by which addresses.
+//! The capability space of a thread: what it finds there, and by which addresses.
 use base::{ObjId, SlotRef};
 use machine::{CNode, Cap, Detail, Guard, Object, SlotAddress};
 use objects::State;
 use std::alloc::{AllocError, Global};
 
-/// The number of CNodes, on different ways, that a space is searched for.
+/// The largest number of CNodes, by different paths, in the search of a space.
 const MOST_NODES: usize = 64;
 
 /// A capability that a thread finds at an address.
@@ -14,7 +14,7 @@ pub struct Entry {
     pub cap: Cap,
 }
 
-/// A filled slot as a thread's calls name it.
+/// A filled slot, as a thread's calls name it.
 #[derive(Clone, Copy, PartialEq, Eq, Debug)]
 pub struct Place {
     pub slot: SlotAddress,
@@ -22,7 +22,7 @@ pub struct Place {
     pub cap: Cap,
 }
 
-/// An empty slot, the lowest of a CNode, as a thread's calls name it.
+/// An empty slot, the lowest of its CNode, as a thread's calls name it.
 #[derive(Clone, Copy, PartialEq, Eq, Debug)]
 pub struct Gap {
     pub slot: SlotAddress,
@@ -32,7 +32,7 @@ pub struct Gap {
 /// The capabilities, slots and gaps that a thread finds in its capability space.
 #[derive(Drop)]
 pub struct Space {
-    /// One for each object and rights.
+    /// One entry for each object and rights.
     pub entries: Vec<Entry>,
     pub places: Vec<Place>,
     pub gaps: Vec<Gap>,
@@ -43,7 +43,7 @@ pub struct Space {
 struct Way {
     node: ObjId,
     guard: Guard,
-    /// The address so far, and how many bits of it are still to come.
+    /// The address so far, and the number of bits that are left.
     prefix: u64,
     left: u32,
 }
@@ -85,7 +85,7 @@ pub fn space_of(alloc: Global, state: &State, thread: ObjId) -> Result<Space, Al
     Ok(space)
 }
 
-// Goes through the slots of a CNode on the way.
+// Visits the slots of a CNode on a path.
 fn visit(
     state: &State,
     way: &Way,
@@ -116,7 +116,7 @@ fn visit(
     Ok(())
 }
 
-// Notes the capability in a slot on the way, or the CNode that it leads to.
+// Notes the capability in a slot on a path, or the CNode to which it leads.
 fn pass(
     cap: &Cap,
     address: u64,
@@ -197,7 +197,7 @@ fn name_of(entry: &Entry, guard: Guard, node: &CNode, index: u64) -> SlotAddress
     }
 }
 
-// A word with further bits behind it.
+// A word followed by further bits.
 fn joined(word: u64, bits: u32, further: u64) -> u64 {
     word.checked_shl(bits).unwrap_or(0) | further
 }

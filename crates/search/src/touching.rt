@@ -1,5 +1,5 @@
-//! Which objects a call can change, so that only these are compared; what it seems to have changed of them; and which call
-//! takes it back.
+//! The objects that a call can change, so that only these are compared; what it seems to have
+//! changed; and the call that undoes it.
 use base::{ObjId, SlotRef};
 use cspace::find_cap;
 use machine::{Call, Event, Object, ReplyState, RunState, SlotAddress};
@@ -11,8 +11,8 @@ const MOST_FOLLOWED: usize = 16;
 
 /// Returns the objects that a call can change, from the state in which it is made to the next.
 ///
-/// These are the caller, the objects that its addresses lead to, those that hang together with them, and what is made.
-/// A call that removes capabilities can change all objects.
+/// These are the caller, the objects that its addresses lead to, those linked with them, and new
+/// objects. A call that removes capabilities can change all objects.
 ///
 /// # Errors
 ///
@@ -40,7 +40,7 @@ pub fn touched(
     Ok(ids)
 }
 
-/// Returns those among some objects that seem to differ between two states, and those at which threads of them wait.
+/// Returns the objects of a list that seem to differ between two states, and those at which threads of the list wait.
 ///
 /// # Errors
 ///
@@ -91,7 +91,7 @@ fn seems_changed(old: &State, new: &State, id: ObjId) -> bool {
     }
 }
 
-// Whether one of the slots of an object holds something else.
+// Whether a slot of an object has other contents.
 fn holds_other(old: &State, new: &State, id: ObjId, count: u64) -> bool {
     for index in 0..count {
         let slot = SlotRef { holder: id, index };
@@ -102,7 +102,7 @@ fn holds_other(old: &State, new: &State, id: ObjId, count: u64) -> bool {
     false
 }
 
-/// Returns a call that may lead back to the state before a call.
+/// Returns a call that may undo a call.
 pub fn reverse(old: &State, event: &Event) -> Option<Event> {
     let call = match event.call {
         Call::Copy { to, .. } | Call::Mint { to, .. } => Call::Delete { slot: to },
@@ -148,7 +148,6 @@ fn push(ids: &mut Vec<ObjId>, id: ObjId) -> Result<(), AllocError> {
     Ok(())
 }
 
-// Adds an object, if there is one.
 fn push_if(ids: &mut Vec<ObjId>, id: Option<ObjId>) -> Result<(), AllocError> {
     match id {
         Some(id) => push(ids, id),

@@ -1,4 +1,4 @@
-//! Which calls a search tries in a state: one row for each kind of call.
+//! The calls that a search tries in a state: one row for each kind of call.
 use crate::guided::{has, is_of, joins, names};
 use crate::spaces::{Entry, Gap, Place, Space, space_of};
 use base::{CoreNo, Edge, Kind, Label, ObjId, Rights, SlotRef};
@@ -36,7 +36,7 @@ pub enum Callers {
     NotOf(Label),
 }
 
-/// Which calls of a thread are tried.
+/// The calls of a thread that are tried.
 #[derive(Clone, Copy, PartialEq, Eq, Debug)]
 pub enum Breadth {
     /// Those at objects that the edges of a reason name.
@@ -76,12 +76,12 @@ impl Scene<'_, '_, '_> {
         }
     }
 
-    // Whether capabilities are lent along with messages.
+    // Whether capabilities are sent with messages.
     fn passes_caps(&self) -> bool {
         self.breadth != Breadth::Named || has(self.reason, Kind::Grant)
     }
 
-    // Whether calls are tried that empty a place.
+    // Whether calls are tried that empty a slot.
     fn empties(&self, place: &Place) -> bool {
         if self.allows(Kind::Control, place.at.holder) {
             return true;
@@ -200,7 +200,7 @@ fn add(calls: &mut Vec<Call>, call: Call) -> Result<(), AllocError> {
     Ok(())
 }
 
-// Lists the calls that empty the places of CNodes that are full, or of those that aren't.
+// Lists the calls that empty slots: of CNodes that are full, or of all others.
 fn list_removals(
     scene: &Scene<'_, '_, '_>,
     space: &Space,
@@ -248,7 +248,7 @@ fn list_fillings(
     Ok(())
 }
 
-// Whether a CNode holds a capability like the one in a place.
+// Whether a CNode holds a capability like the one in a slot.
 fn holds(state: &State, node: ObjId, place: &Place) -> bool {
     let Some(object) = state.object(node) else {
         return false;
@@ -469,7 +469,7 @@ fn list_sends(
     )
 }
 
-// Lists the receives at an address with a reply or none, and with slots for a capability or without.
+// Lists the receives at an address, with a reply or none, and with slots for a capability or none.
 fn list_receives(
     space: &Space,
     address: u64,
@@ -573,7 +573,7 @@ fn list_makings(
     Ok(())
 }
 
-// Whether an object of a kind often leads further where it is made.
+// Whether a new object of a kind often leads further.
 fn leads_further(kind: ObjectKind) -> bool {
     matches!(
         kind,
@@ -596,7 +596,7 @@ fn is_made(scene: &Scene<'_, '_, '_>, memory: ObjId, kind: ObjectKind) -> bool {
     false
 }
 
-// Lists the calls that fill a gap from a place, with all rights and with fewer.
+// Lists the calls that fill a gap from a slot, with all rights and with fewer.
 fn list_copies(gap: &Gap, place: &Place, calls: &mut Vec<Call>) -> Result<(), AllocError> {
     let to = gap.slot;
     let from = place.slot;
@@ -620,7 +620,7 @@ fn list_copies(gap: &Gap, place: &Place, calls: &mut Vec<Call>) -> Result<(), Al
     }
 }
 
-// Lists the copy of a place to a gap.
+// Lists the copy of a slot to a gap.
 fn list_copy(
     gap: &Gap,
     place: &Place,

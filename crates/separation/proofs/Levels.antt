@@ -1,4 +1,4 @@
--- One level more or less of the domains in which one stands, and one call more.
+-- The domains around a domain, one level more or less; and the domains that run on another's time, with one call more.
 use Rattle.std.{specs.Option.option_map_or, proofs.Common.{[], ℕ, ◌+◌, ◌-◌, ◌<◌, ◌∷◌, ◌==◌, ◌||◌, ◌∙◌, ◌≡◌, ◌≤◌, Bool, None, Some, add-one, ap}}
 use Rattle.std.proofs.{Common.{arith, eq-eqb, false, refl, suc, sym, true, zero}, lemmas.Bool.Decides.nat_tests}
 use Rattle.microkit.specs.Description.{Description}
@@ -34,7 +34,7 @@ within_here d outer zero n here = eq-eqb n outer here
 within_here d outer (suc levels) n here =
     ap (λ b. b || option_map_or (is_within d outer levels) (parent_of d n) false) (eq-eqb n outer here)
 
--- any other is within a domain as its parent is
+-- another domain is within an outer one if its parent is
 pub within_else : (d : Description) (outer levels n parent : ℕ) → (n ≡ outer → ⊥) → 1 ≤ levels → Some parent ≡ parent_of d n
     → is_within d outer (levels - 1) parent ≡ is_within d outer levels n
 within_else d outer levels n parent other some is =

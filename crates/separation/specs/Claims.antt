@@ -1,4 +1,4 @@
--- The claims that a description makes: each label that has a thread leaves alone what it isn't joined to (confine's own).
+-- The claims that a description makes: a label with a thread leaves alone each label that it isn't joined to (confine's own).
 use Rattle.std.specs.{List.{flat_map, range_with_len}, Option.option_map_or, Prelude.{[], ℕ, ◌&&◌, ◌++◌, ◌==◌, Bool, List, None, Option}}
 use Rattle.std.specs.Prelude.{Some, codes, false, filter, length, map, not, option_and_then, slice_get, unwrap_or}
 use Rattle.microkit.specs.{declared.{description.User.User, labels.Subject.Subject}, Description.Description}
@@ -7,7 +7,7 @@ use Rattle.microkit.specs.declared.labels.Subject.TheVariants as subject
 use Rattle.importing.specs.Groups.{labelled_of}
 use Rattle.separation.specs.{declared.claims.Pair.Pair, Joined.is_joined, Lending.all_runners}
 
--- what has a label, as a user, which has threads
+-- the user behind a label, if it has threads
 unfoldable pub user_of : Subject → Option User
 user_of (subject.Domain n) = Some (user.Domain n)
 user_of (subject.Machine n) = Some (user.Machine n)
@@ -22,7 +22,7 @@ is_apart d runners subjects one object =
 abbrev pub pair_of : ℕ → ℕ → Pair
 pair_of actor object = record { actor = actor; object = object }
 
--- the labels that the label of a user is kept apart from
+-- the labels from which the label of a user is kept apart
 abbrev pub pairs_with : Description → List (List ℕ) → List Subject → ℕ → User → List Pair
 pairs_with d runners subjects actor one =
     map (pair_of actor)
@@ -42,11 +42,10 @@ abbrev pub pairs_of : Description → List (List ℕ) → List Subject → List 
 pairs_of d runners subjects =
     flat_map (pairs_at d runners subjects) (range_with_len 0 (length subjects))
 
--- the name of the label of this number
 abbrev pub name_at : List (List ℕ) → ℕ → List ℕ
 name_at names number = unwrap_or (slice_get names number) []
 
--- the line of a claim, where these are the names of the labels
+-- the line of a claim, with the names of the labels
 abbrev pub claim_line : List (List ℕ) → Pair → List ℕ
 claim_line names pair =
     codes "none " ++ (name_at names pair.actor ++ (codes " " ++ (name_at names pair.object ++ codes "\n")))
@@ -62,6 +61,6 @@ text_of names pairs = codes "confine-claims 2\n" ++ (lines_of names pairs ++ cod
 abbrev pub all_pairs : Description → List Pair
 all_pairs d = pairs_of d (all_runners d) (labelled_of d)
 
--- the text of the claims of a description, whose labels have these names
+-- the text of the claims of a description, with these names of labels
 abbrev pub claims_text : List (List ℕ) → Description → List ℕ
 claims_text names d = text_of names (all_pairs d)

@@ -17,10 +17,10 @@ pub(crate) struct Pair {
     pub object: usize,
 }
 
-/// Returns the text of the claims that a description makes, whose labels have these names.
+/// Returns the text of the claims that a description makes, with these names of labels.
 ///
-/// It has a claim `none A B` for each label A of a domain or of a virtual machine, and each label B that A
-/// isn't joined to.
+/// It has a claim `none A B` for each label A of a domain or a virtual machine, and each label B to
+/// which A isn't joined.
 ///
 /// # Errors
 ///
@@ -46,7 +46,7 @@ fn all_pairs(alloc: Global, description: &Description) -> Result<Vec<Pair>, Allo
     pairs_of(alloc, description, &runners, &subjects)
 }
 
-// The text of these claims.
+// The text of claims.
 fn text_of(alloc: Global, names: &[Vec<u8>], pairs: &[Pair]) -> Result<Vec<u8>, AllocError>
     ensures { IfOk result (λ text. text.items ≡ text_of (bytes_of names.now) pairs.now) }
 {
@@ -86,7 +86,7 @@ fn is_apart(
     }
 }
 
-// The labels that the label of a user is kept apart from.
+// The labels from which the label of a user is kept apart.
 fn pairs_with(
     alloc: Global,
     description: &Description,
@@ -126,7 +126,7 @@ fn pairs_at(
     }
 }
 
-// All pairs of labels that are kept apart.
+// All pairs of labels that are kept apart, by the subjects of labels.
 #[tactic(auto, using(importing::proofs::Numbers::flat_more))]
 fn pairs_of(
     alloc: Global,
@@ -145,7 +145,6 @@ fn pairs_of(
     Ok(pairs)
 }
 
-// The name of the label of this number.
 #[tactic(auto, using(importing::proofs::Items::get_seen))]
 fn name_at(names: &[Vec<u8>], number: usize) -> &[u8]
     ensures { result.now ≡ name_at (bytes_of names.now) number }

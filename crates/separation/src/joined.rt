@@ -1,4 +1,4 @@
-//! Which labels a description joins to the label of a domain or of a virtual machine.
+//! The labels that a description joins to the label of a domain or a virtual machine.
 ghost use Rattle.std.specs.{List.list_any, Prelude.{[], ◌≡◌, slice_get, unwrap_or}};
 ghost use Rattle.microkit.specs.{LabelView.bytes_of, View.description_of};
 ghost use Rattle.separation.specs.Joined.{channel_calls, channel_joins, end_calls, end_joins, end_reaches, end_takes};
@@ -7,7 +7,7 @@ ghost use Rattle.separation.specs.Joined.{is_joined, is_kin, map_joins, may_wait
 use crate::users::{acts_for, controls, is_child_of, may_answer};
 use microkit::{Channel, Description, End, Map, Subject, User};
 
-// Whether a user may call a domain by an end, or what stands in it may.
+// Whether a user, or one inside it, may call a domain by an end.
 #[tactic(auto, unfolding(crate::specs::Joined::end_calls))]
 fn end_calls(description: &Description, one: User, domain: usize, end: &End, far: &End) -> bool
     ensures { result ≡ end_calls (description_of description.now) one domain end.now far.now }
@@ -26,7 +26,7 @@ fn channel_calls(description: &Description, one: User, domain: usize, channel: &
         || end_calls(description, one, domain, second, first)
 }
 
-// Whether a user may call a domain by a channel, or what stands in it may.
+// Whether a user, or one inside it, may call a domain by a channel.
 fn calls(description: &Description, one: User, domain: usize) -> bool
     ensures { result
         ≡ list_any (channel_calls (description_of description.now) one domain) description.now.channels.items }
@@ -47,7 +47,7 @@ fn may_wait(description: &Description, one: User, domain: usize) -> bool
         || calls(description, one, domain)
 }
 
-// Whether one may notify the other, or call it, or answer it.
+// Whether a user may notify another, call it, or answer it.
 #[tactic(auto, unfolding(crate::specs::Joined::end_reaches))]
 fn end_reaches(description: &Description, one: User, other: User, end: &End, far: &End) -> bool
     ensures { result ≡ end_reaches (description_of description.now) one other end.now far.now }
@@ -62,7 +62,7 @@ fn end_reaches(description: &Description, one: User, other: User, end: &End, far
             && acts_for(description, other, there))
 }
 
-// Whether one may take away from what stands in it where the other may wait.
+// Whether a user may take away from one inside it where the other may wait.
 #[tactic(auto, unfolding(crate::specs::Joined::end_takes))]
 fn end_takes(description: &Description, one: User, other: User, end: &End, far: &End) -> bool
     ensures { result ≡ end_takes (description_of description.now) one other end.now far.now }
@@ -133,7 +133,7 @@ fn has_map(description: &Description, one: User, region: usize) -> bool
         .any(|map| map_joins(description, one, region, map))
 }
 
-// Whether a user is among those who may run on a time, or one of them stands in it.
+// Whether a user, or one inside it, is among those that may run on a time.
 #[tactic(auto, unfolding(crate::specs::Joined::runs_on))]
 fn runs_on(description: &Description, one: User, runners: &[usize]) -> bool
     ensures { result ≡ runs_on (description_of description.now) one runners.now }
@@ -143,7 +143,7 @@ fn runs_on(description: &Description, one: User, runners: &[usize]) -> bool
         .any(|domain| acts_for(description, one, User::Domain(*domain)))
 }
 
-// Who may run on the time of the domain of this number.
+// The domains that may run on the time of the domain of this number.
 #[tactic(auto, using(importing::proofs::Items::get_seen))]
 fn runners_at(runners: &[Vec<usize>], number: usize) -> &[usize]
     ensures { result.now ≡ unwrap_or (slice_get (bytes_of runners.now) number) [] }
@@ -154,8 +154,8 @@ fn runners_at(runners: &[Vec<usize>], number: usize) -> &[usize]
     }
 }
 
-/// Returns whether a user is joined to what has a label, where these may run on the time of each
-/// domain.
+/// Returns whether a user is joined to the subject of a label, given who may run on the time of
+/// each domain.
 #[tactic(auto, unfolding(crate::specs::Joined::is_joined))]
 pub(crate) fn is_joined(
     description: &Description,

@@ -1,4 +1,4 @@
-//! On whose time a domain may run: its own, and that of all who call it, through calls in between.
+//! The domains on whose time a domain may run: its own, and those that call it directly or through others.
 ghost use Rattle.std.specs.{List.{list_any, range_with_len}, Prelude.{[], ◌∷◌, ◌≡◌, IfOk, filter}};
 ghost use Rattle.microkit.specs.{LabelView.bytes_of, View.description_of};
 ghost use Rattle.separation.specs.Lending.{all_runners, channel_lends, end_lends, is_among, is_lent, runners_by};
@@ -45,7 +45,7 @@ fn is_called(channels: &[Channel], runners: &[usize], domain: usize) -> bool
         .any(|channel| channel_lends(runners, domain, channel))
 }
 
-// Those of the first so many domains that are among these, or are called by one of these.
+// The domains below a number that are among these, or are called by one of them.
 fn lent_below(
     alloc: Global,
     channels: &[Channel],
@@ -76,7 +76,7 @@ fn with_called(
     )
 }
 
-// Who may run on the time of a domain.
+// The domains that may run on the time of a domain.
 fn runners_of(
     alloc: Global,
     description: &Description,
@@ -91,7 +91,7 @@ fn runners_of(
     Ok(runners)
 }
 
-/// Returns for each domain who may run on its time.
+/// Returns for each domain the domains that may run on its time.
 #[tactic(auto, using(crate::proofs::Lines::shown_more, crate::proofs::Items::seen_more))]
 pub(crate) fn all_runners(
     alloc: Global,

@@ -1,6 +1,6 @@
 //! Which labels a description of a system joins, and the claims that keep all others apart.
 //!
-//! `report` stands on it. It knows no table, no policy and no verdict.
+//! The crate knows no table, no policy and no verdict.
 #![tactic(auto)]
 
 mod claims;

@@ -1,4 +1,4 @@
-//! Domains and virtual machines, and which of them stand in which.
+//! Users, which are domains and virtual machines, and which of them are inside which.
 ghost use Rattle.std.specs.Prelude.{◌==◌, ◌≡◌};
 ghost use Rattle.importing.specs.Maps.{is_user};
 ghost use Rattle.microkit.specs.View.{description_of};
@@ -18,7 +18,7 @@ fn is_user(one: User, other: User) -> bool
     }
 }
 
-// The domain of a user: for a virtual machine the one in which it stands.
+// The domain of a user; for a virtual machine, the domain around it.
 #[tactic(auto, using(importing::proofs::Items::get_seen), unfolding(crate::specs::Users::home_of))]
 fn home_of(description: &Description, user: User) -> usize
     ensures { result ≡ home_of (description_of description.now) user }
@@ -32,7 +32,7 @@ fn home_of(description: &Description, user: User) -> usize
     }
 }
 
-// The domain in which a domain stands, if it is a child.
+// The domain around a domain, if that is a child.
 #[tactic(auto, using(importing::proofs::Items::get_seen), unfolding(crate::specs::Users::parent_of))]
 fn parent_of(description: &Description, domain: usize) -> Option<usize>
     ensures { result ≡ parent_of (description_of description.now) domain }
@@ -46,7 +46,7 @@ fn parent_of(description: &Description, domain: usize) -> Option<usize>
     }
 }
 
-// The domain in which a user stands, if it stands in one.
+// The domain around a user, if there is one.
 #[tactic(auto, unfolding(crate::specs::Users::parent_of_user))]
 fn parent_of_user(description: &Description, user: User) -> Option<usize>
     ensures { result ≡ parent_of_user (description_of description.now) user }
@@ -68,7 +68,7 @@ pub(crate) fn is_child_of(description: &Description, domain: usize, one: User) -
     }
 }
 
-// Whether a domain is another one, or stands in it, at most so many levels below.
+// Whether a domain is another one, or at most this number of levels inside it.
 #[tactic(auto, using(crate::proofs::Levels::within_last, crate::proofs::Levels::within_top))]
 fn is_within(description: &Description, outer: usize, levels: usize, domain: usize) -> bool
     ensures { result ≡ is_within (description_of description.now) outer levels domain }
@@ -81,7 +81,7 @@ fn is_within(description: &Description, outer: usize, levels: usize, domain: usi
     }
 }
 
-// The outermost domain in which one stands, at most so many levels above.
+// The outermost domain around a domain, at most this number of levels up.
 #[tactic(auto, using(crate::proofs::Levels::top_last, crate::proofs::Levels::top_top, crate::proofs::Levels::top_more))]
 fn top_of(description: &Description, levels: usize, domain: usize) -> usize
     ensures { result ≡ top_of (description_of description.now) levels domain }
@@ -103,7 +103,7 @@ fn family_of(description: &Description, user: User) -> usize
     )
 }
 
-// Whether a user stands in a domain, or is it.
+// Whether a user is a domain, or is inside it.
 #[tactic(auto, using(importing::proofs::Items::length_seen), unfolding(crate::specs::Users::acts_for))]
 fn stands_in(description: &Description, outer: usize, one: User) -> bool
     ensures { result ≡ acts_for (description_of description.now) (user.Domain outer) one }
@@ -112,7 +112,7 @@ fn stands_in(description: &Description, outer: usize, one: User) -> bool
     is_within(description, outer, levels, home_of(description, one))
 }
 
-/// Returns whether a user may do all that another one may do.
+/// Returns whether a user may do all that another may do.
 #[tactic(auto, unfolding(crate::specs::Users::acts_for))]
 pub(crate) fn acts_for(description: &Description, one: User, other: User) -> bool
     ensures { result ≡ acts_for (description_of description.now) one other }
@@ -123,7 +123,7 @@ pub(crate) fn acts_for(description: &Description, one: User, other: User) -> boo
     }
 }
 
-/// Returns whether a user holds the thread of another one, or of one in which that one stands.
+/// Returns whether a user holds the thread of another, or of one around that.
 #[tactic(auto, unfolding(crate::specs::Users::controls))]
 pub(crate) fn controls(description: &Description, one: User, other: User) -> bool
     ensures { result ≡ controls (description_of description.now) one other }

@@ -1,4 +1,4 @@
--- What is done with files that were opened by the names that a request gives (confine's own).
+-- The service of a request on files that are opened by their names (confine's own).
 use Rattle.std.specs.{declared.io.Error.Error, Borrow.Bor, Global.Vec, Prelude.{[], ℕ, ◌≡◌, ◌⊎◌, List, Option, Result, Some, false}}
 use Rattle.devices.specs.{declared.{opened.Unopened.Unopened, watched.Watched.Watched}, Opened.{bytes_left, opened}, Watched.device_of}
 use Rattle.devices.specs.Watched.{failed_of, is_flushed_of}
@@ -9,19 +9,19 @@ use Rattle.requests.specs.declared.request.OfThree.{OfThree, TheVariants.{Replay
 use Rattle.requests.specs.{declared.request.Request.{Request, Request as request}, Requests.OnEach}
 use Rattle.either.specs.declared.Either.{Either}
 
--- what is written to, before and after
+-- an output, before and after
 abbrev pub written : {W : Type 0} → (W → Option (List ℕ)) → Watched W → Watched W → Output (Watched W)
 written contents old new = output (λ o. contents (device_of o)) failed_of is_flushed_of old new
 
--- a file as opening it gave it
+-- a file, or the error of opening it
 abbrev pub Opened : Type 0 → Type 0
 Opened F = Watched (Either F Unopened)
 
--- such a file, before and after
+-- an opened file, before and after
 abbrev pub read : {F : Type 0} → (F → Option (List ℕ)) → Opened F → Opened F → Input (Opened F)
 read remaining old new = input (bytes_left remaining) failed_of old new
 
--- a file was opened by this name, and that gave this
+-- a file was opened by this name, with this result
 pub record IsOpenedBy {F : Type 0} (opens : List ℕ → Result F Error → Type 0) (name : List ℕ) (file : Watched (Either F Unopened)) : Type 0 where
   pub given : Result F Error
   pub by_name : opens name given
@@ -35,13 +35,13 @@ AreOpenedBy opens = OnEach (λ name file. IsOpenedBy opens name.now file)
 abbrev pub AreSound : {F : Type 0} → Request (Opened F) → Type 0
 AreSound files = OnEach (λ file also. failed_of file ≡ false) files files
 
--- what is asked of a table, a policy and a third file was done
+-- a command on a table, a policy and a third file was done
 abbrev pub ServesThree : {T P S O : Type 0} → OfThree → Input T → Input P → Input S → Output O → End → Type 0
 ServesThree (Verify set) = IsVerifiedWith set
 ServesThree (Run set) = IsRun set
 ServesThree Replay = IsReplayed
 
--- what was asked for was done on these files, of which those are left, and on what is written to
+-- a request was done on these files, which became those, and on this output
 abbrev pub Serves : {F O : Type 0} → (F → Option (List ℕ)) → Output O → Request (Opened F) → Request (Opened F) → End → Type 0
 Serves remaining out (request.OfDescription asked description) (request.OfDescription also d) end =
     IsImported asked (read remaining description d) out end
@@ -59,13 +59,13 @@ Serves remaining out (request.OfThree asked table policy third) (request.OfThree
     ServesThree asked (read remaining table t) (read remaining policy p) (read remaining third x) out end
 Serves remaining out _ _ end = ⊥
 
--- a script was run by workers on these files, of which those are left
+-- a script was run by workers on these files, which became those
 abbrev pub RunsSplit : {F O : Type 0} → (F → Option (List ℕ)) → Output O → Request (Opened F) → Request (Opened F) → End → Type 0
 RunsSplit remaining out (request.OfThree asked table policy third) (request.OfThree also t p x) end =
     IsRunSplit (read remaining table t) (read remaining policy p) (read remaining third x) out end
 RunsSplit remaining out _ _ end = ⊥
 
--- a request's files were opened by their names, it was done, which left these of them, and this is the exit status of how that ended
+-- a request's files were opened by their names, the request was done on them, and this is the exit status of its end
 pub record IsServed
     {F : Type 0} (opens : List ℕ → Result F Error → Type 0) (does : Request (Opened F) → Request (Opened F) → End → Type 0)
     (names : Request (Bor (List ℕ))) (left : Request (Opened F)) (status : ℕ) : Type 0 where
@@ -79,8 +79,8 @@ pub record IsServed
 abbrev pub written_here : Watched (Vec ℕ) → Watched (Vec ℕ) → Output (Watched (Vec ℕ))
 written_here = written (λ bytes. Some bytes.items)
 
--- the same where the answer is kept in memory, and lines on it are written in its place: the exit status is that of how the request
--- ended, or 2, as where the lines can't be written
+-- a request was done with its answer kept in memory, and lines written in place of the answer: the exit status is that of the request's
+-- end, or 2 if the lines can't be written
 pub record IsServedInShort
     {F : Type 0} (opens : List ℕ → Result F Error → Type 0)
     (does : Output (Watched (Vec ℕ)) → Request (Opened F) → Request (Opened F) → End → Type 0)

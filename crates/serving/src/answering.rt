@@ -1,4 +1,4 @@
-//! A request is done on files that are opened by their names, and how that ends is told.
+//! The answer to a request: files are opened by their names, an engine does the request, and its end is reported.
 ghost use Rattle.std.specs.{Fn.FnReturnsAt, Prelude.{◌≡◌, ◌≤◌, false}};
 ghost use Rattle.devices.specs.Watched.{failed_of};
 ghost use Rattle.commands.specs.Ends.{status_of};
@@ -16,10 +16,10 @@ use std::rt::Clock;
 use std::sync::Wait;
 use std::thread::Threads;
 
-/// Does what is asked for, and returns the exit status and the files.
+/// Does a request, and returns the exit status and the files.
 ///
-/// `opener` opens the files by their names. The answer is written to `out`. If a system is accepted,
-/// all workers that were asked for have arrived at the gate.
+/// `opener` opens the files by their names. The answer is written to `out`. If a system is
+/// accepted, all requested workers have arrived at the gate.
 pub fn answer<'a, R, F, O, G, W>(
     rt: &R,
     invocation: Invocation<'a>,
@@ -49,8 +49,8 @@ where
     (status, files)
 }
 
-/// Does what is asked for, as [`answer`] does, and writes to `out` a line for each finding in place
-/// of a report.
+/// Does a request, as [`answer`] does, and writes to `out` a line for each finding in place of a
+/// report.
 pub fn answer_short<'a, R, F, O, G, W>(
     rt: &R,
     invocation: Invocation<'a>,
@@ -82,10 +82,10 @@ where
     (status, files)
 }
 
-/// Runs a script by a worker for each core, as [`answer`] does what is asked for.
+/// Runs a script by a worker for each core, as [`answer`] does a request.
 ///
-/// What it promises holds if it returns: the workers wait for each other's calls. So it is apart from
-/// all else, which always returns.
+/// What it promises holds if it returns: the workers wait for each other's calls. So it is apart
+/// from all other requests, which always return.
 pub fn answer_split<'a, R, F, O, W>(
     rt: &R,
     run: SplitRun<'a>,
@@ -166,7 +166,7 @@ where
 
 /// Says on standard error why there is no answer, if there is none, and returns the exit status.
 ///
-/// That standard error can't be written to changes nothing.
+/// Nothing changes if standard error can't be written to.
 pub fn tell<R: Eprint>(rt: &R, end: End) -> u8
     ensures { result ≡ status_of end }
 {

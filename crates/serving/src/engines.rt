@@ -1,4 +1,4 @@
-//! The engine that a request asks for is called, on files that are open.
+//! The call of the engine that does a request, on files that are open.
 ghost use Rattle.std.specs.Prelude.{◌≡◌, ◌≤◌, false};
 ghost use Rattle.devices.specs.Watched.{failed_of};
 ghost use Rattle.commands.specs.{Commands.{input, output}, Ends.status_of};
@@ -14,7 +14,7 @@ use requests::{OfThree, Request};
 use std::io::{Read, Write};
 use std::thread::Threads;
 
-/// Does what was asked for, on these files; gives them back.
+/// Does a request on these files, and returns them.
 pub(crate) fn serve<'a, R, F, G, L, W>(
     rt: &R,
     files: Request<'a, Opened<F>>,
@@ -87,7 +87,7 @@ where
     }
 }
 
-/// Does what is asked of a table, a policy and a third file.
+/// Does a command on a table, a policy and a third file.
 fn serve_three<R, T, P, S, L, O>(
     rt: &R,
     asked: OfThree,

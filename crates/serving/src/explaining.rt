@@ -1,4 +1,4 @@
-//! What a person is told on standard error: the sentences on what a command finds, and with `--explain` the reasons, runs and notes.
+//! The text for a person on standard error: sentences on findings, and with `--explain` the reasons, runs and notes.
 use crate::opening::Opened;
 use crate::sheets::{Sourced, minting_of};
 use crate::swapped::{Swapped, is_description};
@@ -38,20 +38,20 @@ use std::time::Instant;
 use table::Table;
 use verdict::{Denial, judge_by};
 
-/// What an answer on a policy is worth.
+/// The warning on an answer by a policy alone.
 const BY_POLICY_ALONE: &str =
     "confine: this is what the policy allows: each label counts as one whose threads make calls, \
 so the answer says nothing about runs";
 
-/// What is said of a denial by P1 to P8 of a policy that the sharp rules accept.
+/// The note on a denial by P1 to P8 of a policy that the sharp rules accept.
 const NEEDLESSLY_STRICT: &str =
     "no run leaves the policy, so the rule is stricter than this system needs: `check --rules sharp` accepts it.";
 
-/// For how many of the broken claims on pairs of labels, the first ones, a run is searched.
+/// The number of broken claims on pairs of labels, from the first, for which a run is searched.
 const SEARCHES: usize = 10;
 
-/// Tells a person on standard error what a command finds. That standard error can't be written to, or that memory is
-/// refused to a sentence, changes nothing.
+/// Tells a person on standard error what a command finds. Nothing changes if standard error can't
+/// be written to, or memory is refused to a sentence.
 #[derive(Drop)]
 pub struct Explainer<'a, R> {
     rt: &'a R,
@@ -59,7 +59,7 @@ pub struct Explainer<'a, R> {
 }
 
 impl<'a, R: AllocGlobal + Clock + Eprint> Explainer<'a, R> {
-    /// Returns what explains this invocation, with the runtime to do so.
+    /// Returns an explainer of this invocation, with the runtime that it uses.
     pub fn new(rt: &'a R, invocation: Invocation<'a>) -> Explainer<'a, R> {
         Explainer { rt, invocation }
     }
@@ -70,7 +70,7 @@ impl<'a, R: AllocGlobal + Clock + Eprint> Explainer<'a, R> {
         manner.explains || !manner.is_quiet
     }
 
-    /// Returns whether the sentence on a finding or a fault is told here. With `--format short` it is in the answer.
+    /// Returns whether sentences on findings and faults are told here. With `--format short` they are in the answer.
     fn tells_findings(&self) -> bool {
         self.tells() && self.invocation.manner.format != Format::Short
     }
@@ -94,7 +94,7 @@ impl<'a, R: AllocGlobal + Clock + Eprint> Explainer<'a, R> {
         }
     }
 
-    /// Tells what an answer on a policy is worth, if that was asked for, whether or not anything is to be explained.
+    /// Warns on an answer by a policy alone, whether or not anything is to be explained.
     fn warn(&self) {
         if let Request::OfPolicy(OfPolicy::Why { .. } | OfPolicy::Draw(_), _, _, _) = self
             .invocation
@@ -104,8 +104,8 @@ impl<'a, R: AllocGlobal + Clock + Eprint> Explainer<'a, R> {
         }
     }
 
-    /// Tells what the table of a description that is imported doesn't show: all of it, if that is to be explained, or
-    /// how much.
+    /// Tells what the table of an imported description doesn't show: all of it if that is to be
+    /// explained, or else how much.
     fn tell_left_out(&self, described: &Described) {
         let alloc = self.rt.alloc();
         if self.invocation.manner.is_quiet {
@@ -186,7 +186,7 @@ impl<'a, R: AllocGlobal + Clock + Eprint> Explainer<'a, R> {
         }
     }
 
-    /// Tells what is found wrong, and, if that was asked for, the reasons and runs.
+    /// Tells what is wrong and, if that was asked for, the reasons and runs.
     fn tell_finding(&self, leave: &(impl Threads + Sync), files: Files<'_>, finding: &Finding) {
         match (finding, files) {
             (Finding::Broken(broken), Files::Claims(given, lines)) => {
@@ -206,7 +206,7 @@ impl<'a, R: AllocGlobal + Clock + Eprint> Explainer<'a, R> {
         }
     }
 
-    /// Tells which claims don't hold, and, if that was asked for, the reasons and runs.
+    /// Tells which claims don't hold and, if that was asked for, the reasons and runs.
     fn tell_broken(
         &self,
         given: &Given,
@@ -236,7 +236,7 @@ impl<'a, R: AllocGlobal + Clock + Eprint> Explainer<'a, R> {
         self.tell_runs(reach, judged, broken);
     }
 
-    /// Tells a run for each of the first broken claims on a pair of labels, as it is found, as long as there is time.
+    /// Tells a run for each of the first broken claims on a pair of labels, as it is found, while there is time.
     fn tell_runs(&self, reach: &Reach<'_>, judged: &Judged<'_>, broken: &[Broken]) {
         let alloc = self.rt.alloc();
         let begun = Instant::now(self.rt);
@@ -257,7 +257,7 @@ impl<'a, R: AllocGlobal + Clock + Eprint> Explainer<'a, R> {
         }
     }
 
-    /// Tells for how many broken claims no run was looked for, and why, after a number of searches.
+    /// Tells the number of broken claims for which no run was searched after a number of searches, and why.
     fn tell_unsearched(&self, claims: &str, left: usize, searched: usize) {
         let alloc = self.rt.alloc();
         let seconds = self.invocation.manner.seconds;
@@ -274,7 +274,7 @@ impl<'a, R: AllocGlobal + Clock + Eprint> Explainer<'a, R> {
         });
     }
 
-    /// Returns whether the time is over for which runs are looked for. If there is no clock, it isn't.
+    /// Returns whether the time for searches is over. Without a clock it never is.
     fn is_late(&self, begun: &io::Result<Instant>) -> bool {
         let seconds = self.invocation.manner.seconds;
         match begun {
@@ -286,8 +286,8 @@ impl<'a, R: AllocGlobal + Clock + Eprint> Explainer<'a, R> {
         }
     }
 
-    /// Returns the sentence on what is found wrong, without a line feed. For claims it returns a line for each that
-    /// doesn't hold.
+    /// Returns the sentence on what is wrong, without a line feed. For claims it returns a line for
+    /// each that doesn't hold.
     pub fn sentence_on(&self, files: Files<'_>, finding: &Finding) -> Result<String, Refusal> {
         let alloc = self.rt.alloc();
         match (finding, files) {
@@ -309,7 +309,7 @@ impl<'a, R: AllocGlobal + Clock + Eprint> Explainer<'a, R> {
                 Finding::Denied(denial),
                 Files::Certificate(table, policy) | Files::Script(table, policy, _),
             ) => self.denied_told(self.sheet_of(table), policy, denial),
-            // Nothing else is found of such files.
+            // No other finding has such files.
             _ => Ok(String::new(alloc)),
         }
     }
@@ -399,8 +399,8 @@ impl<'a, R: AllocGlobal + Clock + Eprint> Explainer<'a, R> {
         }
     }
 
-    /// Tells a run that leaves the policy, if `check` denies it by a rule on policies; or that there is none, if the sharp
-    /// rules accept it.
+    /// Tells a run that leaves the policy, if `check` denies it by a rule on policies; or that
+    /// there is none, if the sharp rules accept it.
     fn tell_escape(
         &self,
         leave: &(impl Threads + Sync),
@@ -420,7 +420,7 @@ impl<'a, R: AllocGlobal + Clock + Eprint> Explainer<'a, R> {
         }
     }
 
-    /// The names of the files that a denial is on, beside the table's.
+    /// The names of the files of a denial, beside the table's.
     fn names(&self) -> Names<'a> {
         let request = self.invocation.request;
         Names {
@@ -430,7 +430,7 @@ impl<'a, R: AllocGlobal + Clock + Eprint> Explainer<'a, R> {
     }
 
     /// The sentence on an entry of a log that is no step, and what the kernel answers there, unless
-    /// that would take more memory than there is.
+    /// memory for that is refused.
     fn illegal_told(
         &self,
         table: &Table,
@@ -439,7 +439,7 @@ impl<'a, R: AllocGlobal + Clock + Eprint> Explainer<'a, R> {
     ) -> Result<String, AllocError> {
         let alloc = self.rt.alloc();
         let name = self.invocation.request.name_of(File::Log);
-        // Entries are told from 1 on.
+        // Entries are counted from 1.
         let at = entry.wrapping_sub(1);
         let came = answer_at(alloc, table, log, at);
         if let (Some((event, told)), Ok(Some(came))) = (log.get(at), came) {
@@ -449,8 +449,8 @@ impl<'a, R: AllocGlobal + Clock + Eprint> Explainer<'a, R> {
         format!(in alloc; "{name}: entry {entry} is not a step of the system")
     }
 
-    /// Tells why calls are refused: those of a script by its lines, and those that workers made by
-    /// the lines of the log.
+    /// Tells why calls are refused: those of a script by its lines, those that workers made by the
+    /// lines of the log.
     fn tell_refusals(&self, table: &Table, events: &[Event], made: &Made) {
         match made {
             Made::InTurn(outcomes) => {
@@ -485,7 +485,7 @@ impl<'a, R: AllocGlobal + Clock + Eprint> Explainer<'a, R> {
         }
     }
 
-    /// Returns notes on memory that claims which hold don't speak of.
+    /// Returns notes on memory, of which the claims that hold say nothing.
     fn shared_memory_told(&self, given: &Given, lines: &ClaimLines) -> Result<String, Refusal> {
         let alloc = self.rt.alloc();
         let system = self.sourced(given)?;
@@ -493,7 +493,7 @@ impl<'a, R: AllocGlobal + Clock + Eprint> Explainer<'a, R> {
         Ok(explain_shared_memory(alloc, &reach, &self.judged(system.sheet(), lines))?)
     }
 
-    /// Returns notes on what flows between labels of which claims that hold say that the one changes nothing of the other.
+    /// Returns notes on flows between labels of which claims that hold say that the one changes nothing of the other.
     fn flows_beside_told(&self, given: &Given, lines: &ClaimLines) -> Result<String, Refusal> {
         let alloc = self.rt.alloc();
         let system = self.sourced(given)?;
@@ -501,7 +501,7 @@ impl<'a, R: AllocGlobal + Clock + Eprint> Explainer<'a, R> {
         explain_flows_beside(alloc, &reach, &self.judged(system.sheet(), lines))
     }
 
-    /// Tells more of a system that isn't wrong.
+    /// Tells more of a system that has no fault.
     fn tell_of_system(
         &self,
         leave: &(impl Threads + Sync),
@@ -546,8 +546,8 @@ impl<'a, R: AllocGlobal + Clock + Eprint> Explainer<'a, R> {
         self.tell_lines(explain_closing(leave, alloc, rules, sheet, policy));
     }
 
-    /// Returns where the edges of a reason come from, by the reach of the table. If there is no reason, notes on devices
-    /// follow.
+    /// Returns where the edges of a reason come from, by the reach of the table. Without a reason,
+    /// notes on devices follow.
     fn why_told(&self, sheet: Sheet<'_>, actor: &str, object: &str) -> Result<String, Refusal> {
         let alloc = self.rt.alloc();
         let reach = Reach::of(alloc, sheet.table)?;
@@ -581,7 +581,7 @@ impl<'a, R: AllocGlobal + Clock + Eprint> Explainer<'a, R> {
         Ok(String::new(alloc))
     }
 
-    /// Returns where the edges come from by which labels use one, by the reach of the table.
+    /// Returns where the edges come from by which labels use another, by the reach of the table.
     fn users_told(&self, sheet: Sheet<'_>, usage: Use, object: &str) -> Result<String, Refusal> {
         let alloc = self.rt.alloc();
         let reach = Reach::of(alloc, sheet.table)?;
@@ -591,14 +591,14 @@ impl<'a, R: AllocGlobal + Clock + Eprint> Explainer<'a, R> {
         }
     }
 
-    /// Returns by which edges the flows of a chain go, and where these come from.
+    /// Returns the edges by which the flows of a chain go, and where they come from.
     fn flows_told(&self, sheet: Sheet<'_>, from: &str, to: &str) -> Result<String, Refusal> {
         let alloc = self.rt.alloc();
         let reach = Reach::of(alloc, sheet.table)?;
         explain_flows(alloc, sheet, &reach, from, to)
     }
 
-    /// Tells what may not be meant in an accepted system, and whom each label may change.
+    /// Tells what may be unintended in an accepted system, and whom each label may change.
     fn tell_accepted(&self, sheet: Sheet<'_>, policy: &Policy) {
         let alloc = self.rt.alloc();
         if let Ok(reach) = Reach::of(alloc, sheet.table) {
@@ -618,7 +618,7 @@ impl<'a, R: AllocGlobal + Clock + Eprint> Explainer<'a, R> {
         explain_surplus(alloc, table_file, policy_file, self.rules(), table, policy)
     }
 
-    /// Tells more of a system and a policy that aren't wrong.
+    /// Tells more of a system and a policy that have no fault.
     fn tell_of_policy(
         &self,
         leave: &(impl Threads + Sync),
@@ -638,7 +638,7 @@ impl<'a, R: AllocGlobal + Clock + Eprint> Explainer<'a, R> {
         }
     }
 
-    /// Tells more of what isn't wrong.
+    /// Tells more of what has no fault.
     fn tell_more(&self, leave: &(impl Threads + Sync), files: Files<'_>, answer: &Answer) {
         match (self.invocation.request, files) {
             (Request::OfSystem(asked, _, _), Files::System(given)) => {
@@ -679,8 +679,8 @@ impl<'a, R: AllocGlobal + Clock + Eprint> Explainer<'a, R> {
         }
     }
 
-    /// Tells by what the new system adds to the old one, and runs that show it, each as it is found, as long as there is
-    /// time.
+    /// Tells by which edges the new system adds to the old one, and runs that show it, each as it is found,
+    /// while there is time.
     fn tell_compared(&self, old: &Given, new: &Given) -> Result<(), Refusal> {
         let alloc = self.rt.alloc();
         let request = self.invocation.request;
@@ -737,8 +737,8 @@ impl<R: AllocGlobal + Clock + Eprint + Threads + Sync> Listener for Explainer<'_
     }
 }
 
-/// A handle that may start threads because the runtime may. It holds nothing, so that threads can
-/// share it whatever the runtime is: a method of a [`Listener`] can't ask that they can share that.
+/// A handle that may start threads because the runtime may. It holds nothing, so threads can share it whatever the
+/// runtime is: a method of a [`Listener`] can't require that the runtime can be shared.
 #[derive(Clone, Copy)]
 struct Leave<R> {
     of: PhantomData<R>,
@@ -746,7 +746,7 @@ struct Leave<R> {
 
 impl<R: Threads> Threads for Leave<R> {}
 
-/// Why a file can't be read, as the system has it.
+/// The reason why a file can't be read, as the system reports it.
 #[derive(Clone, Copy)]
 struct Unread(ErrorKind);
 
@@ -765,7 +765,7 @@ impl fmt::Display for Unread {
     }
 }
 
-/// Whether a policy is accepted by the sharp rules. If memory is refused to that, it counts as not accepted.
+/// Whether the sharp rules accept a policy. It counts as not accepted if memory is refused to the test.
 fn is_sharp(
     leave: &(impl Threads + Sync),
     alloc: Global,
@@ -776,8 +776,8 @@ fn is_sharp(
     matches!(&answer, Ok(Ok(())))
 }
 
-/// The description of which a question is asked, if it is asked of one, and the file that it is in. Of two systems it
-/// is the new one's.
+/// The description that a question is about, if any, and its file. Of two systems it is the new
+/// one's.
 fn described_of(files: Files<'_>) -> Option<(File, &Described)> {
     let (file, given) = match files {
         Files::System(given)
@@ -793,7 +793,7 @@ fn described_of(files: Files<'_>) -> Option<(File, &Described)> {
     }
 }
 
-/// How many notes there are on what a table doesn't show, and how many of them are on regions that devices may write.
+/// The number of notes on what a table doesn't show, and how many of them are on regions that devices may write.
 #[derive(Clone, Copy)]
 struct Counted {
     notes: usize,
@@ -813,7 +813,7 @@ impl fmt::Display for Counted {
     }
 }
 
-/// The object that an event has call, as the table has it.
+/// The object that an event names as the caller, by the table.
 fn caller_of<'a>(table: &'a Table, event: &Event) -> Caller<'a> {
     Caller {
         id: event.thread,

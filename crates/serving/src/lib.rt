@@ -1,6 +1,6 @@
 //! A request is done, and a person is told what it finds.
 //!
-//! `confine` stands on it. It knows no command line, and no code of the kernel.
+//! The crate knows no command line, and no code of the kernel.
 #![tactic(auto)]
 
 mod answering;

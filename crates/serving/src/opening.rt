@@ -1,4 +1,4 @@
-//! How the files of a request are opened.
+//! The opening of a request's files.
 ghost use Rattle.std.specs.{Fn.FnReturnsAt, Prelude.{◌≡◌, IfOk, Some, false}};
 ghost use Rattle.devices.specs.{Bounded.bytes_allowed, Watched.failed_of};
 ghost use Rattle.requests.specs.Requests.{IsWithinLimits};
@@ -11,14 +11,14 @@ use requests::Request;
 use std::fs::{self, Files};
 use std::io;
 
-/// How many bytes of a file are read at most, 1 GiB. No text within the limits is longer, but for
+/// The largest number of bytes read of a file, 1 GiB. No text within the limits is longer, except
 /// certificates that aren't right.
 pub const MOST_BYTES: u64 = 1 << 30;
 
 /// The name that stands for standard input.
 const STANDARD_INPUT: &str = "-";
 
-/// What a command reads from: a file, or standard input.
+/// A command's input: a file, or standard input.
 pub type FileOrInput<R> = Either<<R as Files>::File, <R as Input>::Reader>;
 
 /// Opens a file, or standard input if the path is `-`. At most [`MOST_BYTES`] of it are read.
@@ -38,10 +38,10 @@ pub fn open<R: Files + Input>(rt: &R, path: &str) -> io::Result<Bounded<FileOrIn
     }
 }
 
-/// A file that a request names, as opening it gave it.
+/// A file that a request names, or the error of opening it.
 pub type Opened<F> = Watched<Either<F, Unopened>>;
 
-/// Opens the file of this name. If that fails, reading the file gives the error.
+/// Opens the file of this name. If that fails, reading the file reports the error.
 pub(crate) fn open_by<F, O: Fn(&str) -> io::Result<F>>(opener: &O, name: &str) -> Opened<F>
     requires { O.IsAlwaysCallable opener.now }
     ensures opened { IsOpenedBy (FnReturnsAt O.Fn opener.now) name.now result }

@@ -1,4 +1,4 @@
-//! A system with what its table comes from.
+//! Systems with what their tables come from.
 use importing::{Minting, Origins, origins_of};
 use report::{Given, Taken};
 use requests::Request;
@@ -14,7 +14,7 @@ pub(crate) struct Sourced<'a> {
 }
 
 impl<'a> Sourced<'a> {
-    /// Returns the system that a request is on.
+    /// Returns the system that a request is about.
     ///
     /// # Errors
     ///
@@ -53,7 +53,7 @@ impl<'a> Sourced<'a> {
     }
 }
 
-/// Returns which rights a request gives the capabilities of a description.
+/// Returns the rights that a request gives to the capabilities of a description.
 pub(crate) fn minting_of(request: &Request<'_, &str>) -> Option<Minting> {
     match *request {
         Request::OfDescription(asked, _) => Some(asked.minting),

@@ -1,4 +1,4 @@
-//! What `--format short` prints on standard output: a line for each finding, or that there is none.
+//! The lines that `--format short` prints on standard output: one for each finding, or one that says that there is none.
 ghost use Rattle.std.specs.Prelude.{◌≡◌, ◌⊎◌, false};
 ghost use Rattle.devices.specs.Watched.{failed_of};
 ghost use Rattle.commands.specs.Ends.{status_of};
@@ -15,7 +15,7 @@ use std::rt::Clock;
 use std::thread::Threads;
 use table::Table;
 
-/// Hears what a command finds, and keeps a line for each finding. An [`Explainer`] hears all of it too.
+/// Hears what a command finds, and keeps a line for each finding. An [`Explainer`] hears it too.
 #[derive(Drop)]
 pub struct Shortener<'a, R> {
     explainer: Explainer<'a, R>,
@@ -24,19 +24,19 @@ pub struct Shortener<'a, R> {
     printed: Printed,
 }
 
-/// What is printed.
+/// The text that is printed.
 #[derive(Drop)]
 enum Printed {
-    /// The answer, which is no report.
+    /// The answer, if it isn't a report.
     Answer,
     /// These lines, in place of a report.
     Lines(String),
-    /// Nothing, since memory was refused to the lines.
+    /// Nothing, as memory was refused to the lines.
     Nothing,
 }
 
 impl Printed {
-    /// Returns what is printed if a sentence, or several lines, are to be.
+    /// Returns a sentence or lines as printed text.
     fn of<E: Drop>(told: Result<String, E>) -> Printed {
         match told {
             Ok(lines) => Printed::Lines(lines),
@@ -60,7 +60,7 @@ impl<'a, R: AllocGlobal + Clock + Eprint> Shortener<'a, R> {
         self.explainer.hear_end(end, files);
     }
 
-    /// Writes the lines, or the answer that was kept in memory in place of its output. Returns how that ends.
+    /// Writes the lines, or the answer that was kept in memory in place of its output. Returns how writing ends.
     pub(crate) fn write<W: Write>(&self, end: End, kept: &[u8], out: &mut Watched<W>) -> End
         requires { failed_of out.old ≡ false }
         ensures { (status_of result ≡ status_of end) ⊎ (status_of result ≡ 2) }
@@ -68,7 +68,7 @@ impl<'a, R: AllocGlobal + Clock + Eprint> Shortener<'a, R> {
         let text = match (end, &self.printed) {
             (End::Status(_), Printed::Answer) => kept,
             (End::Status(_), Printed::Lines(lines)) => lines.as_bytes(),
-            // Nothing but memory is refused to what is kept.
+            // Only memory is refused to kept text.
             (End::Status(_), Printed::Nothing) | (End::CannotWrite, _) => return End::NoMemory,
             _ => return end,
         };
@@ -78,7 +78,7 @@ impl<'a, R: AllocGlobal + Clock + Eprint> Shortener<'a, R> {
         }
     }
 
-    /// Returns the line on what is found wrong, or several lines.
+    /// Returns the line on what is wrong, or several lines.
     fn finding_lines(&self, files: Files<'_>, finding: &Finding) -> Result<String, Refusal> {
         let alloc = self.alloc;
         let sentence = self.explainer.sentence_on(files, finding)?;
@@ -88,7 +88,7 @@ impl<'a, R: AllocGlobal + Clock + Eprint> Shortener<'a, R> {
         }
     }
 
-    /// Returns the line that says that nothing is found wrong, if the answer is a report.
+    /// Returns the line that says that nothing is wrong, if the answer is a report.
     fn accepted_line(&self, files: Files<'_>) -> Option<Result<String, AllocError>> {
         let alloc = self.alloc;
         match (self.request, files) {
@@ -117,7 +117,7 @@ impl<'a, R: AllocGlobal + Clock + Eprint> Shortener<'a, R> {
     }
 }
 
-/// Returns the line that says that the claims of a file hold, and what those on flows bound.
+/// Returns the line that says that the claims of a file hold, and what claims on flows bound.
 fn holding_line(
     alloc: Global,
     file: &str,
@@ -136,7 +136,7 @@ fn holding_line(
     }
 }
 
-/// Returns whether one of these claims bounds what calls return.
+/// Returns whether a claim bounds what calls return.
 fn bounds_calls(table: &Table, lines: &[Option<Claim>]) -> bool {
     kept_of(table) == Kept::Calls
         && lines

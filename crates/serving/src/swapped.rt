@@ -1,10 +1,10 @@
-//! The sentences on a table where a description is read, and on a description where a table is.
+//! The sentences on a table in place of a description, and on a description in place of a table.
 use explain::Pasted;
 use report::File;
 use requests::{OfThree, Request};
 use std::fmt;
 
-/// A text that another command takes.
+/// A text that another command reads.
 #[derive(Clone, Copy)]
 pub(crate) enum Swapped<'a> {
     /// A table that is imported, in the file of this name.
@@ -14,7 +14,7 @@ pub(crate) enum Swapped<'a> {
 }
 
 impl<'a> Swapped<'a> {
-    /// Returns what the text of a file is, if that is a table where a description is read, or the other way round.
+    /// Returns the kind of a file's text, if it is a table in place of a description, or the other way round.
     pub(crate) fn of(
         request: &Request<'a, &'a str>,
         file: File,
@@ -53,7 +53,7 @@ impl fmt::Display for Swapped<'_> {
     }
 }
 
-/// The name of a command that takes a table, and no description.
+/// The name of a command that takes a table, but no description.
 fn table_command(request: &Request<'_, &str>) -> Option<&'static str> {
     match *request {
         Request::Check(_, _, _) => Some("check"),
@@ -64,7 +64,7 @@ fn table_command(request: &Request<'_, &str>) -> Option<&'static str> {
     }
 }
 
-/// Whether a text begins as a table does.
+/// Whether a text begins like a table.
 fn is_table(text: &[u8]) -> bool {
     text.starts_with(b"confine-table ")
 }

@@ -1,4 +1,4 @@
--- What the sharp rules ask for: every sharply closed policy has it, and a policy that has all of it is sharply closed.
+-- The edges that the sharp rules ask for: every sharply closed policy has them, and a policy that has all of them is sharply closed.
 use Rattle.std.proofs.Common.{ℕ, ◌<◌, ◌∙◌, ◌≡◌, false, inl, inr, refl, sym, true}
 use Rattle.base.specs.declared.kind.Kind.{Kind, Kind as kinds}
 use Rattle.base.specs.declared.kind.Kind.TheVariants.{Call, Context, Control, Derive, Grant, Receive, Reply, Runs, Space}
@@ -9,7 +9,7 @@ use Rattle.sharp.specs.Asked.{DerivesSharply, HoldsSharply, IsAskedAmong, IsShar
 use Rattle.sharp.specs.Asked.{bound, caller, controlled, derived, finds, granted, grants, lent, put, puts, server, shared}
 use mathlib.Core.Bool.{false≢true}
 
--- what holds in a policy holds in every greater one
+-- what a policy asks for, every greater policy asks for
 module _ (one other : EdgeTest) (Keeps : Keepers) (within : IsWithin one other) where
   in_domain : (a x : ℕ) → IsInDomain one a x → IsInDomain other a x
   in_domain a x (inl space) = inl (within a Space x space)
@@ -41,7 +41,7 @@ module _ (one other : EdgeTest) (Keeps : Keepers) (within : IsWithin one other) 
     owns = within h.owner Context h.context h.owns;
   }
 
--- what is asked for by the edges of one policy, a sharply closed policy has that has these edges
+-- a sharply closed policy has all that the edges of a smaller policy ask for
 module _ (one other : EdgeTest) (Keeps : Keepers) (within : IsWithin one other) (closed : IsSharplyClosed other Keeps) where
   has_shared : (giver from : ℕ) (kind : Kind) (to : ℕ) → SharesSharply other Keeps giver from → is_structural kind ≡ false
       → other giver kind to ≡ true → other from kind to ≡ true
@@ -81,7 +81,7 @@ module _ (one other : EdgeTest) (Keeps : Keepers) (within : IsWithin one other) 
   has_sharply_asked from kinds.Holds to h = has_held from to h
   has_sharply_asked from kind to h = has_given from kind to h
 
--- control and sharing give no edge that says what may be derived, run or held
+-- control and sharing give no derive, runs or holds edges
 not_given : (test : EdgeTest) (Keeps : Keepers) (Shares : ℕ → Type 0) (from : ℕ) (kind : Kind) (to : ℕ) → is_structural kind ≡ true
     → (kind ≡ Space → ⊥) → IsSharplyGiven test Keeps Shares from kind to → ⊥
 not_given test Keeps Shares from kind to structural other (shared giver h is_use has) = false≢true (sym is_use ∙ structural)
@@ -97,7 +97,7 @@ asked_if_given test Keeps Shares from Runs to h = absurd (not_given test Keeps S
 asked_if_given test Keeps Shares from kinds.Holds to h = absurd (not_given test Keeps Shares from kinds.Holds to refl (λ e. cc) h)
 asked_if_given test Keeps Shares from kind to h = h
 
--- what is asked for of a label with which some share is asked for if more do
+-- an edge that is asked for stays so if more labels share with its label
 module _ (test : EdgeTest) (Keeps : Keepers) (Shares More : ℕ → Type 0) (more : (giver : ℕ) → Shares giver → More giver) where
   given_among : (from : ℕ) (kind : Kind) (to : ℕ) → IsSharplyGiven test Keeps Shares from kind to → IsSharplyGiven test Keeps More from kind to
   given_among from kind to (shared giver h of_use has) = shared giver (more giver h) of_use has
@@ -138,7 +138,7 @@ closed_if_sharply_settled test Keeps settled = record {
       → test from kind to ≡ true
   given from kind to h = settled from kind to (asked_if_given test Keeps (λ giver. SharesSharply test Keeps giver from) from kind to h)
 
--- what is asked for starts at a label of an edge
+-- edges that are asked for begin at a label of an edge
 module _ (test : EdgeTest) (Keeps : Keepers) (n : ℕ) (joins : (from : ℕ) (kind : Kind) (to : ℕ) → test from kind to ≡ true → (from < n) × (to < n)) where
   domain_joins : (a x : ℕ) → IsInDomain test a x → (a < n) × (x < n)
   domain_joins a x (inl e) = joins a Space x e

@@ -1,4 +1,4 @@
--- The sets of labels to which the sharp rules ask for edges, as the rows put them together.
+-- The sets of labels to which the sharp rules ask for edges, as the search computes them.
 use Rattle.std.proofs.Common.{ℕ, ◌&&◌, ◌==◌, ◌↔◌, ◌∙◌, ◌≡◌, ◌⊎◌, Bool, false, inl, inr, refl, subst, sym, true}
 use Rattle.base.specs.declared.kind.Kind.{Kind, Kind as kinds, TheVariants.{Call, Context, Control, Derive, Grant, Receive, Reply, Runs}}
 use Rattle.base.specs.{declared.labels.Labels.Labels, Kinds.is_structural, Labels.is_in}
@@ -16,7 +16,7 @@ IsOnly one label = (other : ℕ) → is_in one other ≡ (other == label)
 abbrev pub IsIntersection : Labels → Labels → Labels → Type 0
 IsIntersection one other common = (label : ℕ) → is_in common label ≡ (is_in one label && is_in other label)
 
--- why an edge is asked for, as unions and intersections of sets have it
+-- the reasons for an edge, as unions and intersections of sets
 
 abbrev Gives : EdgeTest → Labels → Labels → ℕ → Kind → ℕ → Type 0
 Gives test keeping sharing from kind to =
@@ -51,7 +51,7 @@ module _ (test : EdgeTest) (kind : Kind) (label : ℕ) (one sources : Labels) (o
       (λ w. subst (λ to. test a kind to ≡ true) w.1 w.2) (λ e. (label, refl, e))
 
 module _ (test : EdgeTest) (keeping : Labels) where
-  -- who may put capabilities into the CNodes of a label
+  -- the labels that may put capabilities into the CNodes of a label
   pub putters_told : (label : ℕ) (one sources common : Labels) → IsOnly one label → IsReaching test Control one sources
       → IsIntersection sources keeping common → Holds common (λ a. MayPut test (Told (is_in keeping)) a label)
   putters_told label one sources common only reaching meets a = told_as (is_in common a)
@@ -59,7 +59,7 @@ module _ (test : EdgeTest) (keeping : Labels) where
       (itself_tells (is_in keeping a)) (meets a))
       (λ w. record { keeps = w.1; controls = w.0 }) (λ h. (h.controls, h.keeps))
 
-  -- what control and sharing give
+  -- the edges that control and sharing give
   pub given_told : (sharing : Labels) (from : ℕ) (kind : Kind) (controls shares all : Labels) → is_structural kind ≡ false
       → Holds controls (λ to. (is_in keeping from ≡ true) × ControlGives test from kind to) → IsReached test sharing kind shares
       → IsUnion controls shares all → Holds all (IsSharplyGiven test (Told (is_in keeping)) (Told (is_in sharing)) from kind)
@@ -75,7 +75,7 @@ module _ (test : EdgeTest) (keeping : Labels) where
         from_given (controlled keeps h) = inl (keeps, h)
         from_given (shared giver h is_use has) = inr (giver, h, has)
 
-  -- where capabilities may come to be derived
+  -- the labels that may come to derive from a label
   pub derived_told : (parent : ℕ) (having putting row further reached all : Labels)
       → Holds having (λ b. MayHave test parent b)
       → IsIntersection having keeping putting → IsRow test parent Derive row → IsReached test row Derive further
@@ -99,7 +99,7 @@ module _ (test : EdgeTest) (keeping : Labels) where
         from_derives (derived middle first second) = inr (middle, first, second)
 
 module _ (test : EdgeTest) where
-  -- who finds a label's capabilities, or may be granted them
+  -- the labels that find a label's capabilities, or may be granted them
   pub holders_told : (label : ℕ) (finding endpoints takers all : Labels) → Holds finding (λ a. IsInDomain test a label)
       → IsReached test finding Grant endpoints → IsReaching test Receive endpoints takers → IsUnion finding takers all
       → Holds all (λ b. MayHave test label b)
@@ -115,7 +115,7 @@ module _ (test : EdgeTest) where
             (λ w. (w.1.0, w.1.1, record { endpoint = w.0; grants = w.1.2; receives = w.2 }))
             (λ h. (h.2.endpoint, (h.0, h.1, h.2.grants), h.2.receives))
 
-  -- what a label may run on
+  -- the contexts that a label may run on
   pub run_told : (label : ℕ) (one controlling contexts lends all : Labels) → IsOnly one label → IsReaching test Control one controlling
       → IsReached test controlling Context contexts → Holds lends (IsLentSharply test label) → IsUnion contexts lends all
       → Holds all (RunsSharply test label)
@@ -131,7 +131,7 @@ module _ (test : EdgeTest) where
         from_runs (bound a binds controls) = inl (a, controls, binds)
         from_runs (lent h) = inr h
 
-  -- what a label may be lent that has a reply and may idle
+  -- the contexts that may be lent to a label that has a reply and may be idle
   pub lent_told : (label reply : ℕ) (endpoints callers lends : Labels) → test label Reply reply ≡ true → MayIdle test label
       → IsRow test label Receive endpoints → IsReaching test Call endpoints callers → IsReached test callers Runs lends
       → Holds lends (IsLentSharply test label)
@@ -152,7 +152,7 @@ module _ (test : EdgeTest) where
         calls a = source_tells test Call (λ endpoint. test label Receive endpoint ≡ true) endpoints (row_tells test Receive label endpoints in_endpoints) a
             (is_in callers a) (in_callers a)
 
-  -- what a reply may hold
+  -- the labels that a reply may hold
   pub held_told : (reply : ℕ) (one naming endpoints receiving servers callers all : Labels) → IsOnly one reply → IsReaching test Reply one naming
       → IsReached test naming Receive endpoints → IsReaching test Receive endpoints receiving → IsIntersection receiving naming servers
       → IsReaching test Call endpoints callers → IsUnion servers callers all → Holds all (HoldsSharply test reply)
@@ -180,13 +180,13 @@ module _ (test : EdgeTest) where
         from_holds (caller b endpoint h calls) = inr (endpoint, (b, h.names, h.receives), calls)
 
 module _ (test : EdgeTest) (Keeps : Keepers) (Shares : ℕ → Type 0) (from : ℕ) where
-  -- what is asked for and isn't in the row is missing
+  -- the labels missing are those asked for that aren't in the row
   pub missing_told : (kind : Kind) (asked row lacks : Labels) → IsRow test from kind row → IsDifference asked row lacks
       → Holds asked (IsAskedAmong test Keeps Shares from kind) → Holds lacks (IsMissingAmong test Keeps Shares from kind)
   missing_told kind asked row lacks in_row differ in_asked =
       lacking_told test from kind (IsAskedAmong test Keeps Shares from kind) asked row lacks in_row differ in_asked
 
-  -- what is given of the other kinds is what is asked for
+  -- for other kinds than derive, runs and holds, the edges that are given are those that are asked for
   pub given_asked : (kind : Kind) (asked : Labels) → (kind ≡ Derive → ⊥) → (kind ≡ Runs → ⊥) → (kind ≡ kinds.Holds → ⊥)
       → Holds asked (IsSharplyGiven test Keeps Shares from kind) → Holds asked (IsAskedAmong test Keeps Shares from kind)
   given_asked Derive asked no_derive no_runs no_holds in_asked = absurd (no_derive refl)
@@ -194,7 +194,7 @@ module _ (test : EdgeTest) (Keeps : Keepers) (Shares : ℕ → Type 0) (from : �
   given_asked kinds.Holds asked no_derive no_runs no_holds in_asked = absurd (no_holds refl)
   given_asked kind asked no_derive no_runs no_holds in_asked = in_asked
 
-  -- where nothing is missing, what is asked for is there
+  -- all that is asked for is there if nothing is missing
   pub settled_if_none : (kind : Kind) (lacks : Labels) → Holds lacks (IsMissingAmong test Keeps Shares from kind)
       → ((to : ℕ) → is_in lacks to ≡ false) → IsSettledAmong test Keeps Shares from kind
   settled_if_none kind lacks in_lacks none to asked = by (test from kind to) refl where

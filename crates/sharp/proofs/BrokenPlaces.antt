@@ -1,4 +1,4 @@
--- What the places of each sharp rule are made of, and where each place is among the rules and their labels.
+-- The places of each sharp rule, label by label and kind by kind, and their order.
 use Rattle.std.{specs.Option.option_map, proofs.Common.{[], ℕ, ◌↔◌, ◌∷◌, ◌≡◌, ◌⊎◌, IfNone, IfSome, List, Option, arith, false, inl}}
 use Rattle.std.proofs.Common.{inr, refl, sym, true}
 use Rattle.base.specs.{declared.{kind.Kind.{Kind, TheVariants.{Control, Derive, Runs, Space}}, labels.Labels.Labels}, Kinds.{is_structural, kind_number}}
@@ -19,7 +19,7 @@ module _ (test : EdgeTest) (Keeps : Keepers) where
   abbrev pub AreTold : (ℕ → SharpBroken) → Labels → Type 0
   AreTold make labels = (label : ℕ) → (is_in labels label ≡ true) ↔ IsSharplyBrokenAt test Keeps (make label)
 
-  -- what is found in the set of the labels at which a rule is broken
+  -- the first place under a beginning is at the least label of the set of labels at which the rule is broken
   abbrev pub FindsInSet : List ℕ → (ℕ → SharpBroken) → Type 0
   FindsInSet beginning make =
       (labels : Labels) → AreTold make labels → (found : Option ℕ) → IfSome found (IsLeastIn labels) → IfNone found (IsNobody labels)
@@ -30,7 +30,7 @@ module _ (test : EdgeTest) (Keeps : Keepers) where
       → IsMade sharp_place (IsSharplyBrokenAt test Keeps) beginning make (after (kind_number kind)) → FindsInSet beginning make
   found_after beginning kind make made = found_in_set made (last_decides (kind_number kind))
 
-  -- the rules whose places are the labels of a set
+  -- the rules whose places are labels of a set: S4 to S8
 
   pub domain_found : (parent : ℕ) → FindsInSet (s4 ∷ parent ∷ []) (broken.DomainLacks parent)
   domain_found parent = found_after (s4 ∷ parent ∷ []) Derive (broken.DomainLacks parent) (record { of = of; placed = λ child. refl }) where
@@ -62,7 +62,7 @@ module _ (test : EdgeTest) (Keeps : Keepers) where
     of (broken.LentLacks b context) h = (context, λ i. broken.LentLacks (sym h.0.1.0 i) context)
     of _ h = absurd (omega (arith, h.0.0))
 
-  -- the rules whose places are the labels of a set for each kind
+  -- the rules whose places are labels of a set for each kind: S1 to S3
 
   pub subject_kinds :
       (subject other : ℕ) → Searches sharp_place (IsSharplyBrokenAt test Keeps) (s1 ∷ subject ∷ other ∷ []) all_kinds of_kind

@@ -1,4 +1,4 @@
--- The sets of labels at which the sharp rules S2 and S4 to S8 are broken, as the search puts them together.
+-- The sets of labels at which the sharp rules S2 and S4 to S8 are broken, as the search computes them.
 use Rattle.std.proofs.Common.{ℕ, ◌↔◌, ◌≡◌, ◌⊎◌, inl, inr, true}
 use Rattle.base.specs.declared.{kind.Kind.{Kind, TheVariants.{Context, Control, Derive, Grant, Receive, Runs}}, labels.Labels.Labels}
 use Rattle.base.specs.declared.kind.Kind.TheVariants as kinds

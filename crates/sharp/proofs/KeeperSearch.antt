@@ -1,4 +1,4 @@
--- The search for the labels that keep capabilities for CNodes; and that more edges make no fewer keepers.
+-- The search for the keepers, which are the labels that keep capabilities for CNodes; and that more edges make no fewer keepers.
 use Rattle.std.proofs.Common.{ℕ, ◌&&◌, ◌↔◌, ◌∙◌, ◌≡◌, ◌⊎◌, Bool, false, inl, inr, not, refl, sym, true}
 use Rattle.std.proofs.lemmas.Bool.{and_parts, false≢true}
 use Rattle.base.specs.{declared.{kind.Kind.TheVariants.{Control, Space}, labels.Labels.Labels}, Labels.is_in}
@@ -6,7 +6,7 @@ use Rattle.policy.specs.{Closing.IsWithin, Domain.EdgeTest, Sharp.{KeeperTest, T
 use Rattle.policy.proofs.{Gathering.{either, source_tells, target_tells, told_as}, RuleSets.{IsDifference, IsReached, IsReaching, IsUnion}}
 use Rattle.sharp.specs.Keeping.{FindsThere, IsBeside, IsHanded, KeepsFrom, KeepsFrom.{finds, handed, held}}
 
--- a keeper of a policy is one of every greater policy
+-- a keeper of a policy is a keeper of every greater policy
 pub keeps_grow :
     (one other : EdgeTest) (holds : KeeperTest) → IsWithin one other → (a : ℕ) → KeepsFrom one holds a → KeepsFrom other holds a
 keeps_grow one other holds within a (held is) = held is
@@ -21,7 +21,7 @@ lacking a false e = ((and_parts a true e).0, refl)
 remains : (a b : Bool) → a ≡ true → b ≡ false → (a && not b) ≡ true
 remains a b has missing = rw (has, missing) refl
 
--- who keeps by a step from those that keep
+-- the labels that keep by one step from those that keep
 pub beside_told :
     (test : EdgeTest) (keeping finding reached joined more : Labels) → IsReaching test Space keeping finding
     → IsReached test keeping Control reached → IsUnion finding reached joined → IsDifference joined keeping more
@@ -49,7 +49,7 @@ beside_told test keeping finding reached joined more in_finding in_reached both 
   back : IsBeside test (is_in keeping) a → is_in more a ≡ true
   back h = differ a ∙ remains (is_in joined a) (is_in keeping a) (one_of.1 h.joined) h.missing
 
--- those that keep by a step from keepers are keepers
+-- labels that keep by one step from keepers are keepers
 pub beside_keeps :
     (test : EdgeTest) (holds keeps : KeeperTest) → ((a : ℕ) → keeps a ≡ true → KeepsFrom test holds a) → (a : ℕ)
     → IsBeside test keeps a → KeepsFrom test holds a
@@ -58,7 +58,7 @@ beside_keeps test holds keeps are a h = by h.joined where
   by (inl one) = finds (are one.keeper one.is_keeper) one.finds
   by (inr one) = handed (are one.keeper one.is_keeper) one.controls
 
--- where no step leads on, all keepers are found
+-- all keepers are found if no step leads on
 module _ (test : EdgeTest) (holds keeps : KeeperTest) (has : (a : ℕ) → holds a ≡ true → keeps a ≡ true) (none : (a : ℕ) → IsBeside test keeps a → ⊥) where
   there : (a : ℕ) → FindsThere test keeps a ⊎ IsHanded test keeps a → (b : Bool) → keeps a ≡ b → keeps a ≡ true
   there a step true is = is

@@ -1,8 +1,8 @@
--- Sets of labels that grow: fewer labels are missing after each label that is new.
+-- Sets of labels that grow: each new label leaves fewer labels missing.
 use Rattle.std.proofs.Common.{ℕ, ◌<◌, ◌∙◌, ◌≡◌, ◌≤◌, Bool, ap, arith, cond, false, inl, inr, refl, suc, sym, true, zero}
 use Rattle.std.proofs.lemmas.Bool.{cases_order, false≢true}
 
--- how many labels below a number are missing
+-- the number of labels below a number that are missing
 pub missing_below : (ℕ → Bool) → ℕ → ℕ
 missing_below has zero = 0
 missing_below has (suc n) = cond (has n) (missing_below has n) (suc (missing_below has n))
@@ -30,7 +30,7 @@ module _ (old new : ℕ → Bool) (grows : (a : ℕ) → old a ≡ true → new 
   here false true lacks has x y most = omega arith
   here false false lacks has x y most = absurd (false≢true has)
 
-  -- a label that was missing is there
+  -- a missing label is added
   pub fewer_missing : (a : ℕ) → old a ≡ false → new a ≡ true → (n : ℕ) → a < n → missing_below new n < missing_below old n
   unfolding missing_below
   fewer_missing a lacks has zero below = absurd (omega (arith, below))

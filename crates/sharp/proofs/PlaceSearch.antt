@@ -1,4 +1,4 @@
--- The search for the first place, label by label and kind by kind, and within the labels of a set.
+-- The search for the first place, by labels, by kinds, and within a set of labels.
 use Rattle.std.{specs.Option.option_map, proofs.Common.{[], ℕ, ◌++◌, ◌<◌, ◌↔◌, ◌∷◌, ◌≡◌, IfNone, IfSome, List, None, Option, Some, arith, inl}}
 use Rattle.std.proofs.Common.{inr, length, true}
 use Rattle.std.proofs.lemmas.{List.FromFn.length-range_with_len, Option.slice_get_within}
@@ -8,19 +8,19 @@ use Rattle.policy.proofs.{Cells.not_both, KindNumbers.{all_kinds, kind_stands, n
 use Rattle.policy.proofs.Places.{IsMade, Searches, decided, least_here, least_made, none_at_all, none_made}
 use Rattle.policy.proofs.Sweep.{numbers, stands, stands_alone}
 
--- what a label adds to a beginning, and what a kind does
+-- the number that a label adds to a place, and the one that a kind adds
 abbrev pub one_label : ℕ → List ℕ
 one_label label = label ∷ []
 
 abbrev pub of_kind : Kind → List ℕ
 of_kind kind = kind_number kind ∷ []
 
--- nothing is found under the labels below a number
+-- no place under the labels below a number
 abbrev pub NoneBelow : {X : Type 0} → (X → List ℕ) → (X → Type 0) → List ℕ → ℕ → Type 0
 NoneBelow place P beginning n = (label : ℕ) → label < n → IsNone (IsUnder place P (beginning ++ one_label label))
 
 module _ {X : Type 0} {place : X → List ℕ} {P : X → Type 0} {beginning : List ℕ} where
-  -- each place under the beginning goes on with a label below a number
+  -- each place under the beginning continues with a label below a number
   pub labels_search :
       (n : ℕ) → ((x : X) → IsUnder place P beginning x → (label : ℕ) × (label < n) × Begins (beginning ++ one_label label) (place x))
       → Searches place P beginning (numbers n) one_label
@@ -32,7 +32,7 @@ module _ {X : Type 0} {place : X → List ℕ} {P : X → Type 0} {beginning : L
         inl (omega (arith, lt, one, other));
   }
 
-  -- each goes on with a kind
+  -- each place under the beginning continues with a kind
   pub kinds_search :
       ((x : X) → IsUnder place P beginning x → (kind : Kind) × Begins (beginning ++ of_kind kind) (place x))
       → Searches place P beginning all_kinds of_kind
@@ -60,7 +60,7 @@ module _ {X : Type 0} {place : X → List ℕ} {P : X → Type 0} {beginning : L
         least_here search label label (stands n label below)
         (λ k other lt at. let same = stands_alone n k other at in none other (omega (arith, same, lt)))
 
--- the least label of a set of those at which there is a place
+-- the least label of a set at which there is a place
 module _
     {X : Type 0} {place : X → List ℕ} {P : X → Type 0} {beginning : List ℕ} {make : ℕ → X} {adds : ℕ → List ℕ}
     (made : IsMade place P beginning make adds) (lower : (one other : ℕ) → ComesBefore (adds one) (adds other) → one < other)
@@ -79,11 +79,11 @@ module _
   found_in_set None least nobody = none_of_set nobody
   found_in_set (Some label) least nobody = least_of_set label least
 
--- of places that differ in a label alone, that of the lower label comes first
+-- of two places that differ only in a label, the one with the lesser label comes first
 pub label_decides : (one other : ℕ) → ComesBefore (one_label one) (one_label other) → one < other
 label_decides one other before = grind (arith, before)
 
--- also after the same number
+-- the places after the same number
 abbrev pub after : ℕ → ℕ → List ℕ
 after number label = number ∷ label ∷ []
 

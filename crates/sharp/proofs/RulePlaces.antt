@@ -1,4 +1,4 @@
--- Where each place at which a sharp rule is broken is among the rules, and among the labels.
+-- The order of the places at which sharp rules are broken: by rule, and then by label.
 use Rattle.std.proofs.Common.{[], ℕ, ◌+◌, ◌-◌, ◌<◌, ◌∷◌, ◌≡◌, List, None, Option, Some, ap, arith, inl, refl, slice_get, suc, sym, true, zero}
 use Rattle.std.proofs.lemmas.Option.{same_Some}
 use Rattle.base.specs.declared.kind.Kind.{Kind, Kind as kinds, TheVariants.{Control, Derive, Grant, Receive}}
@@ -59,7 +59,7 @@ module _ (test : EdgeTest) (Keeps : Keepers) where
         inl (omega (arith, lt, one, other));
   }
 
-  -- what is least under no beginning is least of all
+  -- the first place under the empty beginning is the first of all
   pub of_all : (found : Option SharpBroken) → FindsSharply test Keeps [] found → FindsLeast sharp_place (IsSharplyBrokenAt test Keeps) found
   of_all None none = λ x broken. none x (tt, broken)
   of_all (Some x) least = record { has = least.has.1; first = λ other broken. least.first other (tt, broken) }
@@ -87,7 +87,7 @@ module _ (test : EdgeTest) (Keeps : Keepers) where
     starts (broken.ReplyLacks r c) h = (r, sharply_asked_starts test Keeps n joins r kinds.Holds c h, (refl, (refl, tt)))
     starts (broken.LentLacks b s) h = (b, (joins b Receive h.endpoint h.serves.receives).0, (refl, (refl, tt)))
 
-    -- a rule's places, label by label
+    -- the places of a rule, label by label
     pub of_labels : (r : Rule) → Searches sharp_place (IsSharplyBrokenAt test Keeps) (of_rule r) (numbers n) one_label
     of_labels r = labels_search n covers where
       goes_on : (place : List ℕ) (one other label : ℕ) → Begins (other ∷ []) place → Begins (one ∷ label ∷ []) place → Begins (other ∷ label ∷ []) place

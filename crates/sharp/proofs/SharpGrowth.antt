@@ -1,4 +1,4 @@
--- Policies that grow to be sharply closed: steps of growth make one, and a policy that grows no more is the least one.
+-- Policies that grow until they are sharply closed: the policy that grows no more is the least sharply closed one.
 use Rattle.std.proofs.Common.{ℕ, ◌<◌, ◌↔◌, ◌∙◌, ◌≡◌, Bool, List, false, inl, inr, refl, subst, sym, true}
 use Rattle.base.specs.declared.{edge.Edge.Edge, kind.Kind.Kind, labels.Labels.Labels}
 use Rattle.base.specs.declared.label.TheConstants.Label as Label
@@ -12,18 +12,18 @@ use Rattle.sharp.proofs.{AskedRules.{asked_among, has_sharply_asked}, KeeperSear
 use mathlib.Core.Bool.{false≢true}
 
 module _ (keeping : Labels) (old middle new : List Edge) (before : Bool) (first : GrowsSharply keeping old middle before) where
-  -- a step that adds edges, after others
+  -- steps of growth, the last of which adds edges
   pub grows_more : GrowsSharply keeping middle new true → GrowsSharply keeping old new true
   grows_more second = record {
     grows = closing.grows_more old middle new before first.grows second.grows;
     forced = λ other closed within. second.forced other closed (first.forced other closed within);
   }
 
-  -- a step that adds none
+  -- steps of growth, the last of which adds none
   pub grows_no_more : GrowsSharply keeping middle new false → GrowsSharply keeping old new before
   grows_no_more second = subst (λ edges. GrowsSharply keeping old edges before) (sym (second.grows.same refl)) first
 
--- what is missing at a label is added
+-- the edges that are missing at a label are added
 pub grows_by_join :
     (keeping sharing : Labels) (old new : List Edge) (from : ℕ) (kind : Kind) (lacks : Labels) (first : ℕ)
     → ((giver : ℕ) → is_in sharing giver ≡ true → SharesSharply (allows old) (Told (is_in keeping)) giver from)
@@ -47,7 +47,7 @@ grows_by_join keeping sharing old new from kind lacks first share missing joins 
         share from kind end (missing end among).asked))
   ]
 
--- where nothing is missing, nothing is added
+-- nothing is added if nothing is missing
 pub grows_by_none : (keeping : Labels) (old : List Edge) → GrowsSharply keeping old old false
 grows_by_none keeping old = record {
   grows = record {
@@ -59,7 +59,7 @@ grows_by_none keeping old = record {
   forced = λ other closed within. within;
 }
 
--- what the keepers of a policy force is in each sharply closed policy that is greater
+-- the edges that a policy's keepers force are in each greater policy that is sharply closed
 pub forced_by_keepers :
     (keeping : Labels) (holds : KeeperTest) (old new : List Edge) (changed : Bool)
     → ((a : ℕ) → (is_in keeping a ≡ true) ↔ KeepsFrom (allows old) holds a) → GrowsSharply keeping old new changed
@@ -69,7 +69,7 @@ forced_by_keepers keeping holds old new changed keep grows other closed within =
     (fewer_keepers other (KeepsFrom other holds) (Told (is_in keeping)) (λ a is. keeps_grow (allows old) other holds within a ((keep a).0 is)) closed)
     within
 
--- a policy that is sharply closed where its keepers keep
+-- a policy that grows no more is sharply closed for its own keepers
 pub closed_for_keepers :
     (keeping : Labels) (holds : KeeperTest) (old new : List Edge)
     → ((a : ℕ) → (is_in keeping a ≡ true) ↔ KeepsFrom (allows old) holds a) → new ≡ old
@@ -78,7 +78,7 @@ closed_for_keepers keeping holds old new keep same closed =
     fewer_keepers (allows new) (Told (is_in keeping)) (KeepsFrom (allows new) holds)
     (λ a is. (keep a).1 (subst (λ edges. KeepsFrom (allows edges) holds a) same is)) closed
 
--- the least sharply closed policy of edges is that of the same edges in another list
+-- two lists of the same edges have the same least sharply closed policy
 pub least_of_same :
     (one other policy : List Edge) (holds : KeeperTest) → ((from : ℕ) (kind : Kind) (to : ℕ) → allows one from kind to ≡ allows other from kind to)
     → IsLeastSharp other holds policy → IsLeastSharp one holds policy

@@ -1,4 +1,4 @@
--- A policy is sharply closed exactly if no sharp rule is broken anywhere.
+-- That a policy is sharply closed exactly if no sharp rule is broken at any place.
 use Rattle.std.proofs.Common.{ℕ, ◌≡◌, Bool, true}
 use Rattle.std.proofs.lemmas.Bool.{true_from_ne_false}
 use Rattle.base.specs.declared.kind.Kind.{Kind, Kind as kinds, TheVariants.{Derive}}
@@ -23,7 +23,7 @@ module _ (test : EdgeTest) (Keeps : Keepers) (closed : IsSharplyClosed test Keep
   has_held reply thread (server endpoint serves) = closed.holds_servers thread reply endpoint serves
   has_held reply thread (caller b endpoint serves calls) = closed.holds_callers b reply endpoint thread serves calls
 
-  -- what the rules ask for is there
+  -- the edge is there if a rule asks for it
   has_asked_at : (place : SharpBroken) → SharplyAsks test Keeps place → has_edge test (sharp_edge_at place) ≡ true
   has_asked_at (broken.SubjectLacks subject other kind target) = has_use subject other kind target
   has_asked_at (broken.ControlLacks subject kind object) = λ h. closed.keepers_have_all subject kind object h.keeps h.gives
@@ -38,7 +38,7 @@ module _ (test : EdgeTest) (Keeps : Keepers) (closed : IsSharplyClosed test Keep
   pub unbroken : IsUnbroken test Keeps
   unbroken place h = not_both (has_asked_at place h.asked) h.missing
 
--- what isn't missing is there
+-- an edge that isn't missing is there
 there : {Asked : Type 0} {edge : Bool} → Asked → ¬ IsLacking Asked edge → edge ≡ true
 there {edge = edge} asked none = true_from_ne_false edge (λ missing. none (record { asked = asked; missing = missing }))
 

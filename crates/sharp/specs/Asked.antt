@@ -4,20 +4,20 @@ use Rattle.base.specs.declared.kind.Kind.{Kind, TheVariants.{Call, Context, Cont
 use Rattle.base.specs.Kinds.{is_structural}
 use Rattle.policy.specs.{Closed.{ControlGives, IsLacking, MayBeGranted}, Domain.{EdgeTest, IsInDomain}, Sharp.{Keepers, MayIdle, MayPut, MayServe}}
 
--- what the giver may do, the taker may do too: it finds the giver's capabilities or has them put into its CNodes (S1), or it keeps,
--- and may be granted them (S3)
+-- all that the giver may do, the taker may do: it finds the giver's capabilities or has them put into its CNodes (S1), or it keeps and may
+-- be granted them (S3)
 pub data SharesSharply (test : EdgeTest) (Keeps : Keepers) (giver taker : ℕ) : Type 0 where
   finds : IsInDomain test taker giver → SharesSharply test Keeps giver taker
   puts : MayPut test Keeps giver taker → SharesSharply test Keeps giver taker
   grants : Keeps taker → MayBeGranted test giver taker → SharesSharply test Keeps giver taker
 
--- an edge that its label has from one that shares with it, or has by control, as a keeper (S2)
+-- an edge that a label has from one that shares with it, or has by control as a keeper (S2)
 pub data IsSharplyGiven (test : EdgeTest) (Keeps : Keepers) (Shares : ℕ → Type 0) (from : ℕ) (kind : Kind) (to : ℕ) : Type 0 where
   shared : (giver : ℕ) → Shares giver → is_structural kind ≡ false → test giver kind to ≡ true
       → IsSharplyGiven test Keeps Shares from kind to
   controlled : Keeps from → ControlGives test from kind to → IsSharplyGiven test Keeps Shares from kind to
 
--- a keeper that controls the child finds capabilities of the parent (S4), or is granted them (S5); or two derive edges lead there (S5)
+-- a keeper that controls the child finds capabilities of the parent (S4) or is granted them (S5); or two derive edges lead there (S5)
 pub data DerivesSharply (test : EdgeTest) (Keeps : Keepers) (parent child : ℕ) : Type 0 where
   put : (a : ℕ) → IsInDomain test a parent → MayPut test Keeps a child → DerivesSharply test Keeps parent child
   granted : (giver taker : ℕ) → MayBeGranted test giver taker → IsInDomain test giver parent → MayPut test Keeps taker child
@@ -25,7 +25,7 @@ pub data DerivesSharply (test : EdgeTest) (Keeps : Keepers) (parent child : ℕ)
   derived : (middle : ℕ) → test parent Derive middle ≡ true → test middle Derive child ≡ true
       → DerivesSharply test Keeps parent child
 
--- a label may be lent a context while it waits without one: it may receive with a reply where one calls that runs on the context
+-- a label may be lent a context: it may idle, and may receive with a reply where a label calls that runs on the context
 pub record IsLentSharply (test : EdgeTest) (b context : ℕ) : Type 0 where
   pub idles : MayIdle test b
   pub reply : ℕ
@@ -45,18 +45,18 @@ pub data HoldsSharply (test : EdgeTest) (reply thread : ℕ) : Type 0 where
   server : (endpoint : ℕ) → MayServe test thread reply endpoint → HoldsSharply test reply thread
   caller : (b endpoint : ℕ) → MayServe test b reply endpoint → test thread Call endpoint ≡ true → HoldsSharply test reply thread
 
--- an edge that is asked for by the rules that ask for edges of its kind, of a label with which some share
+-- an edge that the rules on its kind ask for, of a label with which some share
 abbrev pub IsAskedAmong : EdgeTest → Keepers → (ℕ → Type 0) → ℕ → Kind → ℕ → Type 0
 IsAskedAmong test Keeps Shares from Derive to = DerivesSharply test Keeps from to
 IsAskedAmong test Keeps Shares from Runs to = RunsSharply test from to
 IsAskedAmong test Keeps Shares from Holds to = HoldsSharply test from to
 IsAskedAmong test Keeps Shares from kind to = IsSharplyGiven test Keeps Shares from kind to
 
--- an edge that sharply closed policies have if they have the edges of this one
+-- an edge that a sharply closed policy has if it has the edges of this one
 abbrev pub IsSharplyAsked : EdgeTest → Keepers → ℕ → Kind → ℕ → Type 0
 IsSharplyAsked test Keeps from kind to = IsAskedAmong test Keeps (λ giver. SharesSharply test Keeps giver from) from kind to
 
--- an edge that is asked for and isn't there
+-- an edge that is asked for and missing
 abbrev pub IsMissingAmong : EdgeTest → Keepers → (ℕ → Type 0) → ℕ → Kind → ℕ → Type 0
 IsMissingAmong test Keeps Shares from kind to = IsLacking (IsAskedAmong test Keeps Shares from kind to) (test from kind to)
 

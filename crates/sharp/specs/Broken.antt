@@ -1,5 +1,5 @@
--- Where the sharp rules (`Sharp` of policies) are broken: a rule asks for an edge there, and it is missing. In which order these
--- places come (the rules, their places and their order are confine's own).
+-- The places where sharp rules (`Sharp` of policies) are broken: a rule asks there for an edge that is missing; and the order of places
+-- (rules, places and order are confine's own).
 use Rattle.std.specs.Prelude.{[], ℕ, ◌∷◌, ◌≡◌, Bool, List, Option, codes, false, true}
 use Rattle.base.specs.{declared.{edge.Edge.Edge, kind.Kind.{Kind, TheVariants.{Context, Control, Derive, Runs}}}, Kinds.{is_structural, kind_number}}
 use Rattle.base.specs.declared.kind.Kind.TheVariants as kinds
@@ -33,7 +33,7 @@ s7 = 7
 abbrev pub s8 : ℕ
 s8 = 8
 
--- S1: the other label has an edge of use. The subject finds its capabilities with that label, or that label may put its own into the
+-- S1: the other label has an edge of use, and the subject finds its capabilities with that label, or that label may put its own into the
 -- subject's CNodes
 pub data UsesSharply (test : EdgeTest) (Keeps : Keepers) (subject other : ℕ) (kind : Kind) (target : ℕ) : Type 0 where
   rises : ShareUse test subject other kind → test other kind target ≡ true → UsesSharply test Keeps subject other kind target
@@ -69,7 +69,7 @@ pub record MayBeBound (test : EdgeTest) (subject context : ℕ) : Type 0 where
   pub binds : test binder Context context ≡ true
   pub controls : test binder Control subject ≡ true
 
--- what has to be so at a place for its rule to ask for an edge there
+-- the condition on which a rule asks for an edge at a place
 abbrev pub SharplyAsks : EdgeTest → Keepers → SharpBroken → Type 0
 SharplyAsks test Keeps (broken.SubjectLacks subject other kind target) = UsesSharply test Keeps subject other kind target
 SharplyAsks test Keeps (broken.ControlLacks subject kind object) = ControlGivesKeeper test Keeps subject kind object
@@ -80,7 +80,7 @@ SharplyAsks test Keeps (broken.ContextLacks subject context) = MayBeBound test s
 SharplyAsks test Keeps (broken.ReplyLacks reply thread) = HoldsSharply test reply thread
 SharplyAsks test Keeps (broken.LentLacks borrower context) = IsLentSharply test borrower context
 
--- the edge that it asks for
+-- the edge that the rule asks for at a place
 abbrev pub sharp_edge_at : SharpBroken → Edge
 sharp_edge_at (broken.SubjectLacks subject other kind target) = edge_of subject kind target
 sharp_edge_at (broken.ControlLacks subject kind object) = edge_of subject kind object
@@ -91,11 +91,10 @@ sharp_edge_at (broken.ContextLacks subject context) = edge_of subject Runs conte
 sharp_edge_at (broken.ReplyLacks reply thread) = edge_of reply kinds.Holds thread
 sharp_edge_at (broken.LentLacks borrower context) = edge_of borrower Runs context
 
--- whether an edge is there
 abbrev pub has_edge : EdgeTest → Edge → Bool
 has_edge test edge = test edge.from edge.kind edge.to
 
--- a policy breaks a rule at a place, where some labels keep: the edge that is asked for is missing
+-- a policy breaks a rule at a place, for these keepers: the edge that is asked for is missing
 abbrev pub IsSharplyBrokenAt : EdgeTest → Keepers → SharpBroken → Type 0
 IsSharplyBrokenAt test Keeps place = IsLacking (SharplyAsks test Keeps place) (has_edge test (sharp_edge_at place))
 
@@ -110,11 +109,10 @@ sharp_place (broken.ContextLacks subject context) = s6 ∷ subject ∷ kind_numb
 sharp_place (broken.ReplyLacks reply thread) = s7 ∷ reply ∷ kind_number kinds.Holds ∷ thread ∷ []
 sharp_place (broken.LentLacks borrower context) = s8 ∷ borrower ∷ kind_number Runs ∷ context ∷ []
 
--- the broken rule at the first place that begins with these numbers
+-- the broken rule at the first place that begins with these numbers, if there is one
 abbrev pub FindsSharply : EdgeTest → Keepers → List ℕ → Option SharpBroken → Type 0
 FindsSharply test Keeps beginning found = FindsLeast sharp_place (IsUnder sharp_place (IsSharplyBrokenAt test Keeps) beginning) found
 
--- the name of the rule
 abbrev pub sharp_rule : SharpBroken → List ℕ
 sharp_rule (broken.SubjectLacks _ _ _ _) = codes "S1"
 sharp_rule (broken.ControlLacks _ _ _) = codes "S2"

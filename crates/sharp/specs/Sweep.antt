@@ -1,4 +1,4 @@
--- The numbers of the sharp rules, for the search (confine's own).
+-- The numbers by which the search takes the sharp rules in order (confine's own).
 use Rattle.std.specs.Prelude.{ℕ}
 use Rattle.sharp.specs.{declared.broken.Rule.{Rule, Rule as rule}, Broken.{s1, s2, s3, s4, s5, s6, s7, s8}}
 

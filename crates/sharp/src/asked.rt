@@ -1,4 +1,4 @@
-//! The labels to which the sharp rules ask for an edge of a kind, from a label.
+//! The labels to which the sharp rules ask for an edge of a kind from a label.
 ghost use Rattle.std.specs.Prelude.{ℕ, ◌↔◌, ◌≡◌, ◌⊎◌, true};
 ghost use Rattle.base.specs.Labels.{is_in};
 ghost use Rattle.policy.specs.{Closed.{ControlGives, MayBeGranted}, Domain.IsInDomain, Policy.allows};
@@ -9,7 +9,7 @@ ghost use Rattle.sharp.specs.Asked.{RunsSharply, SharesSharply};
 use base::{Kind, Label, Labels};
 use policy::{DOMAIN, Policy, is_given_by_control, subjects};
 
-/// The labels to which the edge of this kind is missing, from a label, if these share with it.
+/// The labels to which a label lacks the edge of this kind, if these labels share with it.
 pub(crate) fn missing(
     policy: &Policy,
     keeping: Labels,
@@ -61,7 +61,7 @@ fn granters(policy: &Policy, keeping: Labels, taker: Label) -> Labels
     }
 }
 
-// The labels to which the label is given the edge of this kind, by control or by these, which share with it.
+// The labels to which a label is given the edge of this kind, by control or by the labels that share with it.
 fn given(policy: &Policy, keeping: Labels, from: Label, kind: Kind, sharing: Labels) -> Labels
     ensures { (to : ℕ) → (is_in result to ≡ true)
         ↔ IsSharplyGiven (allows policy.now) (Told (is_in keeping)) (Told (is_in sharing)) from kind to }
@@ -73,7 +73,7 @@ fn given(policy: &Policy, keeping: Labels, from: Label, kind: Kind, sharing: Lab
     controlled.union(policy.targets(sharing, &[kind]))
 }
 
-/// The labels to which control gives the label the edge of this kind, if it keeps capabilities.
+/// The labels to which control gives a label the edge of this kind, if the label keeps capabilities.
 pub(crate) fn controlled(policy: &Policy, keeping: Labels, from: Label, kind: Kind) -> Labels
     ensures { (to : ℕ) → (is_in result to ≡ true)
         ↔ ((is_in keeping from ≡ true) × ControlGives (allows policy.now) from kind to) }
@@ -85,7 +85,7 @@ pub(crate) fn controlled(policy: &Policy, keeping: Labels, from: Label, kind: Ki
     }
 }
 
-// The labels that may come to derive from a label, where capabilities are put or derived further.
+// The labels that may come to derive from a label: capabilities are put there, or derived further.
 fn derived(policy: &Policy, keeping: Labels, parent: Label) -> Labels
     ensures { (child : ℕ) → (is_in result child ≡ true)
         ↔ DerivesSharply (allows policy.now) (Told (is_in keeping)) parent child }
@@ -96,7 +96,7 @@ fn derived(policy: &Policy, keeping: Labels, parent: Label) -> Labels
     policy.targets(putting, &[Kind::Control]).union(further)
 }
 
-// The labels that find capabilities of a label, and those that may be granted these.
+// The labels that find capabilities of a label, and those that may be granted them.
 fn holders(policy: &Policy, label: Label) -> Labels
     ensures { (b : ℕ) → (is_in result b ≡ true)
         ↔ (IsInDomain (allows policy.now) b label
@@ -127,7 +127,7 @@ pub(crate) fn lent(policy: &Policy, label: Label) -> Labels
     policy.targets(callers, &[Kind::Runs])
 }
 
-/// The labels that a reply may hold: those that may receive with it, and those that may call there.
+/// The labels that a reply may hold: those that may receive with it, and those that may call where such a label receives.
 pub(crate) fn held(policy: &Policy, reply: Label) -> Labels
     ensures { (thread : ℕ) → (is_in result thread ≡ true) ↔ HoldsSharply (allows policy.now) reply thread }
 {

@@ -1,4 +1,4 @@
-//! The first sharp rule that a policy breaks, and where.
+//! The first sharp rule that a policy breaks, and where it is broken.
 mod rules;
 
 ghost use Rattle.std.specs.Prelude.{[], ◌<◌, ◌↔◌, ◌∷◌, ◌≡◌, IsTrue};
@@ -16,8 +16,8 @@ use rules::{
 
 /// A sharp rule that a policy breaks, and where, given which labels keep capabilities for CNodes.
 ///
-/// Each names the edge that is missing. They are ordered by rule, and then by what they name, from left to
-/// right.
+/// Each names the edge that is missing. They are ordered by rule, and then by what they name, from
+/// left to right.
 #[derive(Clone, Copy, PartialEq, Eq, Debug)]
 pub enum SharpBroken {
     /// S1: `subject` lacks the edge of this kind to `target` that `other` has. Either `other` is in the
@@ -165,7 +165,7 @@ impl Rule {
         }
     }
 
-    // The first place where it is broken.
+    // The first place where the rule is broken.
     fn first_broken(self, policy: &Policy, keeping: Labels) -> Option<SharpBroken>
         ensures { FindsSharply (allows policy.now) (Told (is_in keeping)) (rule_number self ∷ []) result }
     {
@@ -186,10 +186,10 @@ fn label(number: u16) -> Label
     Label::new(number).unwrap()
 }
 
-/// Returns the first sharp rule that a policy breaks where these labels keep capabilities for CNodes, and
-/// the first place where it does.
+/// Returns the first sharp rule that a policy breaks, and the first place where it does, if these
+/// labels keep capabilities for CNodes.
 ///
-/// It takes no memory.
+/// The call takes no memory.
 pub fn first_broken(policy: &Policy, keeping: Labels) -> Option<SharpBroken>
     ensures { FindsLeast sharp_place (IsSharplyBrokenAt (allows policy.now) (Told (is_in keeping))) result }
 {
@@ -201,7 +201,7 @@ pub fn first_broken(policy: &Policy, keeping: Labels) -> Option<SharpBroken>
     None
 }
 
-/// Returns whether a policy is sharply closed where these labels keep capabilities for CNodes.
+/// Returns whether a policy is sharply closed, if these labels keep capabilities for CNodes.
 pub fn is_sharply_closed(policy: &Policy, keeping: Labels) -> bool
     ensures { IsTrue result ↔ IsSharplyClosed (allows policy.now) (Told (is_in keeping)) }
 {

@@ -1,4 +1,4 @@
-//! The least sharply closed policy that has the edges of a policy, and some more.
+//! The closing of a policy: the least sharply closed policy that has its edges and some more.
 ghost use Rattle.std.specs.Prelude.{ℕ, ◌++◌, ◌≡◌, IfErr, IfOk, OnOk, false, true};
 ghost use Rattle.base.specs.{declared.kind.Kind.Kind, Labels.is_in, Refusals.out_of_memory};
 ghost use Rattle.policy.specs.{Policy.allows, Sharp.{IsSharplyClosed, Told}};
@@ -10,10 +10,10 @@ use base::{Edge, Kind, Label, Labels, Refusal};
 use policy::Policy;
 use std::alloc::Global;
 
-/// Returns the least sharply closed policy that has the edges of a policy, and these.
+/// Returns the least sharply closed policy that has the edges of a policy and these edges.
 ///
-/// The labels of `held` hold capabilities for CNodes at boot, and a policy's keepers are those that
-/// [`keepers`] gives by it. Every sharply closed policy that has these edges has all edges of the result.
+/// The labels of `held` hold capabilities for CNodes at boot, and a policy's keepers are the result
+/// of [`keepers`]. Every sharply closed policy that has these edges has all edges of the result.
 ///
 /// # Errors
 ///
@@ -34,7 +34,7 @@ pub fn close_sharply(
     Ok(closed)
 }
 
-// Adds the edges that sharply closed policies have, until none is missing.
+// Adds missing edges of sharply closed policies, until none is missing.
 fn settle(policy: &mut Policy, held: Labels) -> Result<(), Refusal>
     ensures least { OnOk result (IsLeastSharp policy.old (is_in held) policy.new) }
     ensures memory { IfErr result (λ refusal. refusal ≡ out_of_memory) }
@@ -47,7 +47,7 @@ fn settle(policy: &mut Policy, held: Labels) -> Result<(), Refusal>
     Ok(())
 }
 
-// Adds what is missing at each label, where these keep. Whether anything was.
+// Adds the edges that are missing at each label, for these keepers. Returns whether there were any.
 fn settle_labels(policy: &mut Policy, keeping: Labels) -> Result<bool, Refusal>
     ensures grows { IfOk result (λ changed. GrowsSharply keeping policy.old policy.new changed) }
     ensures settled { IfOk result
@@ -65,7 +65,7 @@ fn settle_labels(policy: &mut Policy, keeping: Labels) -> Result<bool, Refusal>
     Ok(changed)
 }
 
-// Adds what is missing at a label. Whether anything was.
+// Adds the edges that are missing at a label. Returns whether there were any.
 fn settle_label(policy: &mut Policy, keeping: Labels, from: Label) -> Result<bool, Refusal>
     ensures grows { IfOk result (λ changed. GrowsSharply keeping policy.old policy.new changed) }
     ensures settled { IfOk result (λ changed.
@@ -82,7 +82,7 @@ fn settle_label(policy: &mut Policy, keeping: Labels, from: Label) -> Result<boo
     Ok(changed)
 }
 
-// Adds the edges of this kind that are missing at a label, if these share with it. Whether any was.
+// Adds the edges of this kind that are missing at a label, with which these labels share. Returns whether there were any.
 fn settle_row(
     policy: &mut Policy,
     keeping: Labels,

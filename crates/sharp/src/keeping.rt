@@ -1,4 +1,4 @@
-//! Which labels keep capabilities for CNodes.
+//! The search for the labels that keep capabilities for CNodes.
 ghost use Rattle.std.specs.Prelude.{ℕ, ◌↔◌, ◌≡◌, true};
 ghost use Rattle.base.specs.Labels.{is_in};
 ghost use Rattle.policy.specs.Policy.{allows};
@@ -9,8 +9,8 @@ use policy::Policy;
 
 /// Returns the labels that keep capabilities for CNodes by a policy, if the labels of `held` hold some at boot.
 ///
-/// The labels of `held` keep them. So does each label with the edge `space` to a label that keeps them,
-/// and each label to which such a label has the edge `control`. No other label does.
+/// The labels of `held` keep them. So does each label with an edge `space` to a label that keeps
+/// them, and each label to which such a label has an edge `control`. No other label does.
 pub fn keepers(policy: &Policy, held: Labels) -> Labels
     ensures { (a : ℕ) → (is_in result a ≡ true) ↔ KeepsFrom (allows policy.now) (is_in held) a }
 {
@@ -25,7 +25,7 @@ pub fn keepers(policy: &Policy, held: Labels) -> Labels
     keeping
 }
 
-// The labels that keep because these do, and aren't among them.
+// The labels that keep by one step from these, without these.
 fn beside(policy: &Policy, keeping: Labels) -> Labels
     ensures { (a : ℕ) → (is_in result a ≡ true) ↔ IsBeside (allows policy.now) (is_in keeping) a }
 {

@@ -1,7 +1,7 @@
 //! Sharply closed policies: which labels keep capabilities for CNodes, the first sharp rule that a policy breaks, and the least sharply
 //! closed policy that has some edges.
 //!
-//! `reach` stands on it. It knows no objects, no table and no text.
+//! The crate knows no objects, no table and no text.
 #![tactic(auto)]
 
 mod asked;

@@ -1,4 +1,4 @@
-//! Whether objects fit, 55, and slots and guards are within limits, 54.
+//! The tests whether objects fit (fault 55), and whether slots and guards are within limits (fault 54).
 use crate::declared::{Declared, Row, Rows, Sought, power, radix_of};
 use crate::names::holder_of;
 use forms::{Form, decimal, hexadecimal};
@@ -6,17 +6,17 @@ use forms::{Form, decimal, hexadecimal};
 /// An object of a kind that doesn't fit.
 #[derive(Clone, Copy)]
 pub(crate) enum KindFlaw<'a> {
-    /// A slot that its holder hasn't.
+    /// A slot that its holder doesn't have.
     Slot(&'a str, Form),
-    /// A root that is no CNode's.
+    /// A root that isn't a CNode's capability.
     Root(&'a str, Form),
-    /// What follows a capability's object isn't what its kind takes.
+    /// Terms after a capability's object that aren't those of its kind.
     Terms(&'a str, Form),
     /// Rights that the kind of the object doesn't have.
     Rights(&'a str, Form),
     NoThread(&'a str, Form),
     NoContext(&'a str, Form),
-    /// A slot that another line of a certificate takes, and its holder's form.
+    /// A slot that another kind of line in a certificate takes, and its holder's form.
     SlotOf(&'a str, Form),
 }
 
@@ -25,7 +25,7 @@ pub(crate) enum KindFlaw<'a> {
 pub(crate) enum SlotFlaw<'a> {
     /// The index, the holder's name, and how many slots it has.
     Index(u64, &'a str, u64),
-    /// How many bits guard and radix have.
+    /// The number of bits of guard and radix.
     Bits(u64),
     /// A guard's value and its size.
     Guard(&'a str, u64),
@@ -56,7 +56,7 @@ pub(crate) fn kind_flaw<'a>(
     }
 }
 
-// Whether an object is of the form that is wanted.
+// Whether an object is of the wanted form.
 fn pair_flaw<'a>(declared: Declared<'_>, name: &'a str, wanted: Form) -> Option<KindFlaw<'a>> {
     let form = declared.object(name)?.form;
     if form == wanted {
@@ -77,7 +77,7 @@ fn holder_flaw<'a>(declared: Declared<'_>, slot: &'a str) -> Option<KindFlaw<'a>
     }
 }
 
-// Whether a slot of a certificate's line is there, and of the holder that the line takes.
+// Whether a slot of a certificate's line exists and has a holder of the line's form.
 fn certified_flaw<'a>(declared: Declared<'_>, slot: &'a str, wanted: Form) -> Option<KindFlaw<'a>> {
     let form = declared.object(holder_of(slot))?.form;
     if let Some(flaw) = holder_flaw(declared, slot) {
@@ -90,7 +90,7 @@ fn certified_flaw<'a>(declared: Declared<'_>, slot: &'a str, wanted: Form) -> Op
     }
 }
 
-// Whether a capability fits its slot, and what it says its object.
+// Whether a capability fits its slot, and its terms fit its object.
 fn cap_flaw<'a>(declared: Declared<'_>, row: Row<'a>) -> Option<KindFlaw<'a>> {
     let (slot, name) = (row.word(1), row.word(2));
     let form = declared.object(name)?.form;
@@ -122,7 +122,7 @@ fn is_rights(word: &str) -> bool {
     }
 }
 
-/// Which slot or guard of a line is past a limit.
+/// The slot or guard of a line that is past a limit.
 pub(crate) fn slot_flaw<'a>(
     declared: Declared<'_>,
     form: Form,

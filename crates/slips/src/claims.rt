@@ -1,29 +1,29 @@
-//! Which condition a line of claims doesn't meet.
+//! The condition that a line of claims doesn't meet.
 use crate::declared::{Declared, Row};
 use crate::flaws::Flaw;
 use crate::names::known_flaw;
 use forms::{Form, Lines, WordFlaw, shape_flaw, text_of};
 
-/// What is wrong with a line whose first word is one of a claim.
+/// The flaw of a line that begins with the word of a claim.
 #[derive(Clone, Copy)]
 pub(crate) enum ClaimFlaw<'a> {
-    /// The label that stands in both places.
+    /// A label in both places.
     Itself(&'a str),
     /// `*` in place of a label.
     Others,
     /// `*` in place of both ends.
     OthersTwice,
-    /// The first label of `only`, `within` or `readers` among the others.
+    /// The first label of `only`, `within` or `readers`, which is also among the others.
     Among(&'a str),
-    /// An end of `through` among the labels that follow.
+    /// An end of `through`, which is also among the labels that follow.
     End(&'a str),
-    /// A label that `only`, `within`, `readers` or `through` has twice.
+    /// A label that is twice in `only`, `within`, `readers` or `through`.
     LabelTwice(&'a str),
     /// The line that has the same claim.
     Twice(u64),
 }
 
-/// Which condition a line of a claim's form doesn't meet, in the order of the reader's tests.
+/// The condition that a line of a claim doesn't meet, in the order of the reader's tests.
 pub(crate) fn claim_flaw<'a>(
     text: &[u8],
     declared: Option<Declared<'a>>,
@@ -38,7 +38,7 @@ pub(crate) fn claim_flaw<'a>(
     }
 }
 
-// Of the form, and of labels that must differ: 50.
+// Flaws of the form, and equal labels that must differ: fault 50.
 fn syntax_flaw<'a>(form: Form, row: Row<'a>) -> Option<Flaw<'a>> {
     match shape_flaw(form, row.text) {
         Some(WordFlaw::Name("*", _)) => return Some(Flaw::Claim(ClaimFlaw::Others)),
@@ -54,7 +54,7 @@ fn syntax_flaw<'a>(form: Form, row: Row<'a>) -> Option<Flaw<'a>> {
     }))
 }
 
-// The end of a line of `through` that is among the labels that follow.
+// The end of a line of `through` that is also among the labels that follow.
 fn end_among<'a>(row: Row<'a>) -> &'a str {
     let first = row.word(1);
     if row.text.split(' ').skip(3).any(|label| label == first) {
@@ -64,12 +64,12 @@ fn end_among<'a>(row: Row<'a>) -> &'a str {
     }
 }
 
-// Of names: 51.
+// Flaws of names: fault 51.
 fn unknown_flaw<'a>(declared: Option<Declared<'a>>, form: Form, row: Row<'a>) -> Option<Flaw<'a>> {
     Some(Flaw::Known(known_flaw(declared?, form, row)?))
 }
 
-// Of what is given twice: 52.
+// Repetitions: fault 52.
 fn twice_flaw<'a>(text: &[u8], form: Form, row: Row<'a>) -> Option<Flaw<'a>> {
     let twice = match form {
         form if has_list(form) => label_twice(row.text),
@@ -89,7 +89,7 @@ pub(crate) fn has_list(form: Form) -> bool {
     )
 }
 
-// The first label of a line that stands before in it.
+// The first label of a line that was in it before.
 fn label_twice(line: &str) -> Option<&str> {
     let mut before = 0usize;
     for label in line.split(' ').skip(1) {
@@ -106,7 +106,7 @@ fn label_twice(line: &str) -> Option<&str> {
     None
 }
 
-// The first line that has the same claim: it is spelled as this one, but that `apart` is `through` without
+// The first line with the same claim. It is spelled the same; only `apart` equals `through` without
 // other labels.
 fn same_line(text: &[u8], row: Row<'_>) -> Option<u64> {
     let mut lines = Lines::new(text);

@@ -1,26 +1,26 @@
-//! What a table declares, by its lines or as a value.
+//! The declarations of a table, by its lines or as a value.
 use forms::{File, Form, Lines, decimal, form_of, has_word, hexadecimal, text_of, word};
 use machine::ObjectKind;
 use table::Table;
 
-/// What declares the names of a line.
+/// The source of the names of a line.
 #[derive(Clone, Copy)]
 pub(crate) enum Declared<'a> {
-    /// The lines of its own text.
+    /// The lines of the line's own text.
     Rows(Rows<'a>),
     /// A table that was read.
     Table(&'a Table),
 }
 
-/// The lines of a table, or those of them that stand above one.
+/// The lines of a table, or those above a line.
 #[derive(Clone, Copy)]
 pub(crate) struct Rows<'a> {
     pub text: &'a [u8],
-    /// The number of the line above which they stand.
+    /// The number of the line above which they are.
     pub end: u64,
 }
 
-/// What a line is sought for.
+/// The property by which a line is searched.
 #[derive(Clone, Copy)]
 pub(crate) enum Sought<'a> {
     Label(&'a str),
@@ -33,7 +33,7 @@ pub(crate) enum Sought<'a> {
     CapFor(&'a str),
     /// The parent of the slot.
     Child(&'a str),
-    /// What a context is bound to.
+    /// The binding of a context.
     Bound(&'a str),
     /// The control of a core.
     Control(&'a str),
@@ -52,12 +52,12 @@ pub(crate) struct Row<'a> {
 #[derive(Clone, Copy)]
 pub(crate) struct Object {
     pub form: Form,
-    /// How many slots it has.
+    /// The number of its slots.
     pub slots: u64,
 }
 
 impl<'a> Row<'a> {
-    /// Returns the word of this number; an empty one, if there is none.
+    /// Returns the word of this number, or an empty one.
     pub fn word(self, number: u64) -> &'a str {
         match word(self.text, number) {
             Some(word) => word,
@@ -68,7 +68,7 @@ impl<'a> Row<'a> {
 
 impl Declared<'_> {
     /// Returns the number of the line that declares the label of this name, if there is one. Labels
-    /// stand first.
+    /// come first.
     pub fn label(self, name: &str) -> Option<u64> {
         match self {
             Declared::Rows(rows) => Some(rows.row(Sought::Label(name))?.line),
@@ -76,7 +76,7 @@ impl Declared<'_> {
         }
     }
 
-    /// Returns the object of this name, if there is one: objects follow the labels.
+    /// Returns the object of this name, if there is one. Objects follow the labels.
     pub fn object(self, name: &str) -> Option<Object> {
         match self {
             Declared::Rows(rows) => rows.object(name),
@@ -116,12 +116,12 @@ fn form_of_kind(kind: ObjectKind) -> Form {
 }
 
 impl<'a> Rows<'a> {
-    /// Returns whether the table is one of the second version.
+    /// Returns whether the table is of the second version.
     pub fn is_later(self) -> bool {
         File::Table.is_later(self.text)
     }
 
-    /// Returns the first line that is sought, if there is one.
+    /// Returns the first line with this property, if there is one.
     pub fn row(self, sought: Sought<'_>) -> Option<Row<'a>> {
         let mut lines = Lines::new(self.text);
         for line in 1..self.end {
@@ -133,7 +133,7 @@ impl<'a> Rows<'a> {
         None
     }
 
-    /// Returns how many lines are sought.
+    /// Returns the number of lines with this property.
     pub fn count(self, sought: Sought<'_>) -> u64 {
         let mut count = 0u64;
         let mut lines = Lines::new(self.text);
@@ -157,14 +157,14 @@ impl<'a> Rows<'a> {
         })
     }
 
-    /// Returns the number of the object of this name, if there is one: objects follow the labels.
+    /// Returns the number of the object of this name, if there is one. Objects follow the labels.
     pub fn number_of(self, name: &str) -> Option<u64> {
         let row = self.row(Sought::Object(name))?;
         let labels = self.count(Sought::Form(Form::Label));
         Some(row.line.saturating_sub(labels).saturating_sub(2))
     }
 
-    /// Returns how many slots the objects have.
+    /// Returns the number of slots of all objects.
     pub fn slots(self) -> u64 {
         let mut count = 0u64;
         let mut lines = Lines::new(self.text);
@@ -178,7 +178,7 @@ impl<'a> Rows<'a> {
     }
 }
 
-/// How many slots a line's object has, if it declares one.
+/// The number of slots of a line's object; 0 if it declares none.
 pub(crate) fn slots_of(line: &str) -> u64 {
     match form_of(File::Table, line) {
         Some(Form::CNode) => match radix_of(line) {
@@ -195,7 +195,7 @@ pub(crate) fn radix_of(line: &str) -> Option<u64> {
     decimal(word(line, 4)?)
 }
 
-/// 2 to this power, or a number that is larger than all that are compared with it.
+/// 2 to this power, or a number larger than all that are compared with it.
 pub(crate) fn power(exponent: u64) -> u64 {
     let mut power = 1u64;
     for _ in 0..exponent {

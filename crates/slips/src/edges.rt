@@ -1,4 +1,4 @@
-//! Whether the edges of a policy rise: 50.
+//! The test whether the edges of a policy rise (fault 50).
 use crate::declared::Row;
 use forms::kind_number;
 use table::Table;
@@ -20,7 +20,7 @@ pub(crate) struct Numbered<'a> {
     pub number: u64,
 }
 
-/// Whether an edge is above the one before.
+/// The flaw of an edge that doesn't come after the one before.
 pub(crate) fn edge_flaw<'a>(table: &Table, row: Row<'a>, before: Row<'a>) -> Option<EdgeFlaw<'a>> {
     let line = before.line;
     let (here, last) = (
@@ -44,7 +44,7 @@ pub(crate) fn edge_flaw<'a>(table: &Table, row: Row<'a>, before: Row<'a>) -> Opt
     fallen(here, last, EdgeFlaw::Labels(here, last, line))
 }
 
-// The flaw, where the number of a line's word is lower than that of the line before.
+// The flaw, if the number of a line's word is lower than that of the line before.
 fn fallen<'a>(here: Numbered<'a>, last: Numbered<'a>, flaw: EdgeFlaw<'a>) -> Option<EdgeFlaw<'a>> {
     if here.number < last.number {
         Some(flaw)

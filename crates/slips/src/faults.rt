@@ -1,4 +1,4 @@
-//! The sentence on a fault of a file: which line has it, and which condition the line doesn't meet.
+//! The sentence on a fault of a file: the line that has it, and the condition that this line doesn't meet.
 use crate::caps::{kind_flaw, slot_flaw};
 use crate::claims::claim_flaw;
 use crate::declared::{Declared, Row, Rows};
@@ -22,11 +22,11 @@ use words::Fault;
 
 /// Says which line of a file has a fault, and which condition the line doesn't meet.
 ///
-/// `text` is all of the file called `name`, and the line is found in it. `system` is the name of the system's file. `table` is the table by which any other file
-/// was read. For a table it doesn't matter. The faults of a description are explained by the crate `remarks`, since it
-/// is XML: here no condition of its lines is known.
+/// `text` is the whole text of the file called `name`, and `system` the name of the system's file. `table` is the table by which
+/// any other file was read; it isn't used for a table. The faults of a description, which is XML, are explained by the crate
+/// `remarks`: no condition of its lines is known here.
 ///
-/// Where memory was refused that is said, and no line.
+/// If memory was refused, the sentence says so and names no line.
 ///
 /// # Errors
 ///
@@ -66,7 +66,7 @@ pub fn explain_fault(
     }
 }
 
-// What declares the names of a line: of a table's those above it, or all once the text has ended.
+// The source of the names of a line: for a table the lines above it, or all lines once the text has ended.
 fn declared<'a>(
     file: File,
     text: &'a [u8],
@@ -123,7 +123,7 @@ fn flaw_of<'a>(
     }
 }
 
-// Of the form and the order of lines: 50.
+// Flaws of the form and of the order of lines: fault 50.
 fn syntax_flaw<'a>(
     file: File,
     declared: Option<Declared<'a>>,
@@ -156,8 +156,8 @@ fn syntax_flaw<'a>(
     })
 }
 
-// Of what a line's words mean: 51 to 56. In an event that is a number past its limit. Without a table nothing is
-// said of a name.
+// Flaws of what a line's words mean: faults 51 to 56; for an event, a number past its limit.
+// Without a table nothing is said of names.
 fn meaning_flaw<'a>(
     declared: Option<Declared<'a>>,
     number: u64,

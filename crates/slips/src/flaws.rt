@@ -1,4 +1,4 @@
-//! What is said of a line that doesn't meet a condition.
+//! The sentences on lines that don't meet a condition.
 use crate::caps::{KindFlaw, SlotFlaw};
 use crate::claims::ClaimFlaw;
 use crate::declared::Declared;
@@ -15,7 +15,7 @@ use std::fmt::{self, Display};
 /// The condition that a line doesn't meet.
 #[derive(Clone, Copy)]
 pub(crate) enum Flaw<'a> {
-    /// The text ends before it.
+    /// The text ends before this line.
     NoLine(File, u64),
     Layout(File, LayoutFlaw<'a>),
     Word(Form, WordFlaw<'a>),
@@ -31,7 +31,7 @@ pub(crate) enum Flaw<'a> {
     Slot(SlotFlaw<'a>),
     Kind(KindFlaw<'a>),
     Tree(TreeFlaw<'a>),
-    /// None of these.
+    /// Another condition of the form.
     Other(Form),
 }
 
@@ -127,7 +127,7 @@ impl fmt::Display for OrderFlaw<'_> {
     }
 }
 
-/// The numbers of two objects, where they differ; else that a root has an index too.
+/// The numbers of two objects, if they differ; else that a root has an index too.
 #[derive(Clone, Copy)]
 struct Numbers<'a> {
     here: Ranked<'a>,
@@ -166,7 +166,7 @@ impl fmt::Display for EdgeFlaw<'_> {
     }
 }
 
-// The numbers of two words, of which the second stands in this line.
+// The numbers of two words, the second of which is in this line.
 fn write_numbers<W: fmt::Write>(
     f: &mut fmt::Formatter<W>,
     here: Numbered<'_>,
@@ -233,7 +233,7 @@ impl fmt::Display for KnownFlaw<'_> {
     }
 }
 
-// That there is no such label or object.
+// The sentence on an unknown label or object.
 fn write_unknown<W: fmt::Write>(
     f: &mut fmt::Formatter<W>,
     what: &str,
@@ -316,7 +316,7 @@ impl fmt::Display for LimitFlaw {
     }
 }
 
-// What is past a limit, where its number isn't told.
+// The limit that is passed, without the number.
 fn past_limit(flaw: LimitFlaw) -> &'static str {
     match flaw {
         LimitFlaw::End => "the object ends past 2^48",
@@ -352,7 +352,7 @@ impl fmt::Display for SlotFlaw<'_> {
     }
 }
 
-/// What an object of a form is.
+/// The noun for an object of a form.
 pub(crate) fn noun(form: Form) -> &'static str {
     match form {
         Form::Untyped => "untyped memory",
@@ -367,7 +367,7 @@ pub(crate) fn noun(form: Form) -> &'static str {
     }
 }
 
-// What a capability's line has after the object of a form.
+// The terms after an object of a form in a capability's line.
 fn terms(form: Form) -> &'static str {
     match form {
         Form::CNode => ": write its guard's size and value after its name, such as `62 0x0`",
@@ -378,7 +378,7 @@ fn terms(form: Form) -> &'static str {
     }
 }
 
-// Which slots an object of a form has.
+// The slots that an object of a form has.
 fn slots(form: Form) -> &'static str {
     match form {
         Form::CNode => "whose slots have an index",
@@ -417,7 +417,7 @@ impl fmt::Display for KindFlaw<'_> {
     }
 }
 
-// What stands in the other line of a certificate, and what the slot of a holder of this form is.
+// The content of the other line of a certificate, and the slot of a holder of this form.
 fn of_another_line(form: Form) -> (&'static str, &'static str) {
     match form {
         Form::CNode => ("a `space` line takes a thread's root", "a CNode's slot"),

@@ -1,6 +1,6 @@
 //! Words on a faulty line: which condition it doesn't meet.
 //!
-//! `serving` stands on it. It knows no policy and no verdict.
+//! The crate knows no policy and no verdict.
 #![tactic(auto)]
 
 mod caps;

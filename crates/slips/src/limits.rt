@@ -1,4 +1,4 @@
-//! Whether numbers are within limits: 54.
+//! The test whether numbers are within limits (fault 54).
 use crate::declared::{Row, Rows, Sought, address_of, slots_of};
 use crate::memory::size_of;
 use forms::{Form, decimal};
@@ -14,18 +14,18 @@ pub(crate) enum LimitFlaw {
     Share(u64, u64),
     Period(u64),
     End,
-    /// Of a table of the first version.
+    /// Too many labels in a table of the first version.
     Labels,
-    /// Of one of the second.
+    /// Too many labels in a table of the second version.
     LaterLabels,
     Objects,
     Threads,
-    /// How many slots there would be.
+    /// The number of slots with this object.
     Slots(u64),
     Events,
 }
 
-/// What is past its limit in a line that tells an event.
+/// The number in an event's line that is past its limit.
 pub(crate) fn event_flaw(row: Row<'_>) -> Option<LimitFlaw> {
     match core_flaw(decimal(row.word(0))?) {
         Some(flaw) => Some(flaw),
@@ -33,7 +33,7 @@ pub(crate) fn event_flaw(row: Row<'_>) -> Option<LimitFlaw> {
     }
 }
 
-/// What is past its limit in a line that declares a label or an object.
+/// The limit that a line passes which declares a label or an object.
 pub(crate) fn limit_flaw(rows: Rows<'_>, form: Form, row: Row<'_>) -> Option<LimitFlaw> {
     match form {
         Form::Label if rows.is_later() => Some(LimitFlaw::LaterLabels),
@@ -53,7 +53,7 @@ fn core_flaw(core: u64) -> Option<LimitFlaw> {
     }
 }
 
-// What is past a limit of the object's kind.
+// The limit of the object's kind that a line passes.
 fn own_flaw(form: Form, row: Row<'_>) -> Option<LimitFlaw> {
     match form {
         Form::CNode => {
@@ -95,7 +95,7 @@ fn share_flaw(row: Row<'_>) -> Option<LimitFlaw> {
     None
 }
 
-// What is past a limit of all objects together.
+// The limit of all objects together that a line passes.
 fn object_flaw(rows: Rows<'_>, form: Form, row: Row<'_>) -> Option<LimitFlaw> {
     if let (Some(address), Some(size)) = (address_of(row.text), size_of(form, row.text)) {
         if address.saturating_add(size) > 0x1_0000_0000_0000 {

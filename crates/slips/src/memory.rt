@@ -1,11 +1,11 @@
-//! Whether an object lies where it may: 53.
+//! The test whether an object may lie at its address (fault 53).
 use crate::declared::{Row, Rows, address_of, power, radix_of};
 use forms::{File, Form, Lines, form_of, text_of};
 
-/// An object that lies where it may not.
+/// An object that may not lie at its address.
 #[derive(Clone, Copy)]
 pub(crate) enum PlacedFlaw<'a> {
-    /// The address, and what it is no multiple of.
+    /// The address, and the number of which it is no multiple.
     Misaligned(u64, u64),
     /// It shares bytes with an earlier object: its name, line and range.
     Meets(Row<'a>, Range),
@@ -18,7 +18,7 @@ pub(crate) struct Range {
     pub last: u64,
 }
 
-/// Why an object doesn't lie where it may.
+/// The reason why an object may not lie at its address.
 pub(crate) fn placed_flaw<'a>(rows: Rows<'a>, form: Form, row: Row<'_>) -> Option<PlacedFlaw<'a>> {
     let range = range_of(form, row.text)?;
     let size = size_of(form, row.text)?;

@@ -1,4 +1,4 @@
-//! What is said of a policy that `confine close` mends: which command does, and what it dropped.
+//! The words on a policy that `confine close` mends: which command does, and what it dropped.
 use crate::flaws::Flaw;
 use crate::names::KnownFlaw;
 use base::Kind;
@@ -7,7 +7,7 @@ use std::alloc::{AllocError, Global};
 use std::fmt;
 use table::Table;
 
-/// How the flaw of a line is mended, if it is one of a policy that `confine close` mends.
+/// The way to mend the flaw of a line, if `confine close` mends it.
 #[derive(Clone, Copy)]
 pub(crate) struct Mending<'a> {
     pub file: File,
@@ -22,7 +22,7 @@ impl fmt::Display for Mending<'_> {
         let (system, policy) = (self.system, self.policy);
         let (stop, what) = match (self.file, self.flaw) {
             (File::Policy, Flaw::Edge(_)) => (".", "mends it"),
-            // Behind a question.
+            // After a question.
             (File::Policy, Flaw::Known(KnownFlaw::NearLabel(..))) => ("", "drops the line"),
             (File::Policy, Flaw::Known(_)) => (".", "drops the line"),
             _ => return Ok(()),

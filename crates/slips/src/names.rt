@@ -1,4 +1,4 @@
-//! Whether names are known, 51, and new, 52.
+//! The tests whether names are known (fault 51) and new (fault 52).
 use crate::claims::has_list;
 use crate::declared::{Declared, Row, Rows, Sought};
 use forms::Form;
@@ -9,7 +9,7 @@ pub(crate) enum KnownFlaw<'a> {
     NoLabel(&'a str, Declared<'a>),
     /// A name that no label has, and the nearest one that a label has.
     NearLabel(&'a str, Declared<'a>, &'a str),
-    /// An object's name where a label's is wanted. Its line isn't told: the table may be one of a description.
+    /// An object's name in place of a label's. Its line isn't named: the table may be one of a description.
     ObjectForLabel(&'a str),
     NoObject(&'a str, Declared<'a>),
     /// A name that no object has, and the nearest one that an object has.
@@ -17,7 +17,7 @@ pub(crate) enum KnownFlaw<'a> {
     LabelForObject(&'a str, u64),
 }
 
-/// Something that is given twice, and the line that has it first.
+/// A repetition, with the line that has it first.
 #[derive(Clone, Copy)]
 pub(crate) enum TwiceFlaw<'a> {
     Label(&'a str, u64),
@@ -51,7 +51,7 @@ pub(crate) fn known_flaw<'a>(
     None
 }
 
-// What the words after the first of a line name: L a label, O an object.
+// The names after the first word of a line: L for a label, O for an object.
 fn roles(form: Form) -> &'static str {
     match form {
         Form::Cap | Form::Child | Form::Bind => "OO",
@@ -64,7 +64,7 @@ fn roles(form: Form) -> &'static str {
     }
 }
 
-// Of a line that has labels alone behind its first word.
+// The flaw of a line with only labels after its first word.
 fn labels_flaw<'a>(declared: Declared<'a>, line: &'a str) -> Option<KnownFlaw<'a>> {
     for name in line.split(' ').skip(1) {
         let flaw = label_flaw(declared, name);
@@ -75,7 +75,7 @@ fn labels_flaw<'a>(declared: Declared<'a>, line: &'a str) -> Option<KnownFlaw<'a
     None
 }
 
-// `*` stands for all other labels.
+// The flaw of a label's name; `*` stands for all other labels.
 fn label_flaw<'a>(declared: Declared<'a>, name: &'a str) -> Option<KnownFlaw<'a>> {
     if name == "*" || declared.label(name).is_some() {
         return None;
@@ -86,7 +86,7 @@ fn label_flaw<'a>(declared: Declared<'a>, name: &'a str) -> Option<KnownFlaw<'a>
     }
 }
 
-// Of a slot its holder's name.
+// The flaw of an object's name, or of a slot's holder.
 fn object_flaw<'a>(declared: Declared<'a>, word: &'a str) -> Option<KnownFlaw<'a>> {
     let name = holder_of(word);
     if declared.object(name).is_some() {
@@ -106,7 +106,7 @@ pub(crate) fn holder_of(word: &str) -> &str {
     }
 }
 
-/// What a line of a table gives a second time.
+/// The repetition in a line of a table.
 pub(crate) fn twice_flaw<'a>(rows: Rows<'_>, form: Form, row: Row<'a>) -> Option<TwiceFlaw<'a>> {
     let (one, two) = (row.word(1), row.word(2));
     match form {

@@ -1,4 +1,4 @@
-//! The nearest name in place of one that isn't known.
+//! The nearest known name to an unknown one.
 use crate::declared::{Declared, Row, Rows};
 use crate::flaws::Flaw;
 use crate::names::KnownFlaw;

@@ -1,9 +1,9 @@
-//! Words in an event that stand in place of a number: 50.
+//! Words of an event in place of numbers (fault 50).
 use crate::declared::{Declared, Row};
 use crate::flaws::Flaw;
 use forms::{File, Form, LayoutFlaw, NumberFlaw, WordFlaw, call_named};
 
-/// What stands in an event in place of a number.
+/// The word of an event in place of a number.
 #[derive(Clone, Copy)]
 pub(crate) enum EventFlaw<'a> {
     /// No number of a core.
@@ -18,7 +18,7 @@ pub(crate) enum EventFlaw<'a> {
     Operand(&'a str),
 }
 
-/// What is wrong with a word of an event, and more of it where it stands in place of a number.
+/// The flaw of a word of an event, with more detail if it is in place of a number.
 pub(crate) fn event_word_flaw<'a>(
     file: File,
     declared: Option<Declared<'a>>,
@@ -37,7 +37,7 @@ pub(crate) fn event_word_flaw<'a>(
     }
 }
 
-// What the first word that isn't a number stands in place of, if more can be said of it.
+// The flaw of the first word that isn't a number, by its place, if more can be said of it.
 fn number_flaw<'a>(
     file: File,
     declared: Option<Declared<'a>>,

@@ -1,8 +1,8 @@
-//! Whether lines rise: 50.
+//! The test whether lines rise (fault 50).
 use crate::declared::{Row, Rows};
 use forms::{File, Form, Lines, decimal, form_of, text_of};
 
-/// A line that doesn't come after an earlier one: what is compared, and the number of that line.
+/// A line that doesn't come after an earlier one: what is compared, and the number of the earlier line.
 #[derive(Clone, Copy)]
 pub(crate) struct OrderFlaw<'a> {
     pub what: &'static str,
@@ -21,7 +21,7 @@ pub(crate) struct Ranked<'a> {
     pub index: u64,
 }
 
-/// Whether a line of a table is above the last one of its form.
+/// The flaw of a line of a table that isn't above the last one of its form.
 pub(crate) fn order_flaw<'a>(rows: Rows<'a>, form: Form, row: Row<'a>) -> Option<OrderFlaw<'a>> {
     let at = match form {
         Form::Cap | Form::Bind => 1,
@@ -42,7 +42,7 @@ pub(crate) fn order_flaw<'a>(rows: Rows<'a>, form: Form, row: Row<'a>) -> Option
     })
 }
 
-// By what lines of the form rise.
+// The word for that by which lines of the form rise.
 fn what_rises(form: Form) -> &'static str {
     match form {
         Form::Bind => "threads",
@@ -63,7 +63,7 @@ fn last_row<'a>(rows: Rows<'a>, form: Form) -> Option<Row<'a>> {
     last
 }
 
-// By what a slot or an object is compared.
+// The rank of a slot or an object.
 fn rank_of<'a>(rows: Rows<'_>, word: &'a str) -> Option<Ranked<'a>> {
     let (name, index) = match word.split_once('.') {
         Some((name, "root")) => (name, 0),

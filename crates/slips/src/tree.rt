@@ -1,4 +1,4 @@
-//! Whether a pair of the derivation tree keeps its rules: 56.
+//! The test whether a pair of the derivation tree keeps its rules (fault 56).
 use crate::declared::{Row, Rows, Sought};
 use forms::{Form, decimal, right_number};
 
@@ -10,7 +10,7 @@ pub(crate) enum TreeFlaw<'a> {
     Objects(&'a str, &'a str),
     /// The capability for untyped memory, as parent or child.
     Untyped(&'a str),
-    /// The parent, its own parent, and the line that says so.
+    /// The parent, its own parent, and the line of that pair.
     Copied(&'a str, &'a str, u64),
     /// The badges of the parent and of the child.
     Badges(u64, u64),
@@ -18,7 +18,7 @@ pub(crate) enum TreeFlaw<'a> {
     Right(char),
 }
 
-/// Which rule a `child` line of a whole table breaks.
+/// The rule that a `child` line of a whole table breaks.
 pub(crate) fn tree_flaw<'a>(rows: Rows<'a>, row: Row<'a>) -> Option<TreeFlaw<'a>> {
     let (one, two) = (row.word(1), row.word(2));
     let Some(parent) = rows.row(Sought::Cap(one)) else {
@@ -43,7 +43,7 @@ pub(crate) fn tree_flaw<'a>(rows: Rows<'a>, row: Row<'a>) -> Option<TreeFlaw<'a>
     right_flaw(rows, parent, child)
 }
 
-// Whether a parent isn't original: its badge is that of its own parent.
+// The flaw of a parent that isn't original: its badge is that of its own parent.
 fn copied_flaw<'a>(rows: Rows<'a>, parent: Row<'a>) -> Option<TreeFlaw<'a>> {
     let pair = rows.row(Sought::Child(parent.word(1)))?;
     let source = rows.row(Sought::Cap(pair.word(1)))?;
@@ -53,7 +53,7 @@ fn copied_flaw<'a>(rows: Rows<'a>, parent: Row<'a>) -> Option<TreeFlaw<'a>> {
     Some(TreeFlaw::Copied(parent.word(1), pair.word(1), pair.line))
 }
 
-// The badge of a capability; of a kind without badges it is 0.
+// The badge of a capability; 0 for a kind without badges.
 fn badge_of(rows: Rows<'_>, cap: Row<'_>) -> u64 {
     match rows.object(cap.word(2)) {
         Some(object) if matches!(object.form, Form::Endpoint | Form::Notification) => {

@@ -1,4 +1,4 @@
-//! What an object of an imported table belongs to.
+//! The domains, virtual machines and regions that the objects of an imported table belong to.
 use crate::naming::{domain_name, machine_name, region_name};
 use importing::{Form, Piece};
 use microkit::Description;
@@ -6,7 +6,7 @@ use std::fmt;
 
 /// An object of the table of a description, by the element that it belongs to.
 ///
-/// It is written as words for a person: the notification of `plugin`.
+/// The words for a person are, for example: the notification of `plugin`.
 #[derive(Clone, Copy)]
 pub struct Belonging<'a> {
     pub(crate) description: &'a Description,
@@ -39,7 +39,7 @@ impl fmt::Display for Belonging<'_> {
     }
 }
 
-// What a domain calls an object of its own.
+// The words for an object of a domain's own.
 fn part_words(form: Form) -> &'static str {
     match form {
         Form::Main => "the thread",

@@ -1,4 +1,4 @@
-//! What the element is that a capability of an imported table comes from.
+//! The elements of a description that the capabilities of an imported table come from.
 use crate::naming::{UserName, domain_name, machine_name, region_name};
 use crate::remedies::{Remedy, remedy_of};
 use base::{Kind, Rights};
@@ -9,7 +9,7 @@ use std::fmt;
 
 /// An element of a description, by what it gives to a domain or a virtual machine.
 ///
-/// It is written as words for a person: `plugin` maps `plugin_in` (rw).
+/// The words for a person are, for example: `plugin` maps `plugin_in` (rw).
 #[derive(Clone, Copy)]
 pub struct Element<'a> {
     pub(crate) description: &'a Description,
@@ -37,23 +37,23 @@ pub(crate) enum Gift {
         other: usize,
         id: u64,
     },
-    /// What a parent and its child have for each other.
+    /// The capabilities that a parent and its child have for each other.
     Child {
         child: usize,
         parent: usize,
     },
-    /// What a virtual machine and its domain have for each other.
+    /// The capabilities that a virtual machine and its domain have for each other.
     Processor(usize),
     /// The root of the thread of a virtual processor.
     ProcessorRoot(usize),
-    /// What a domain has for its own objects.
+    /// The capabilities that a domain has for its own objects.
     Own {
         domain: usize,
         part: OwnPart,
     },
 }
 
-/// What a domain has for itself.
+/// A domain's own object.
 #[derive(Clone, Copy)]
 pub(crate) enum OwnPart {
     Endpoint,
@@ -80,13 +80,13 @@ impl<'a> Element<'a> {
 
     /// Returns what to change in the description so that it no longer gives authority of this kind.
     ///
-    /// `None` says that the element gives no such authority, or only to a domain over itself.
+    /// It is `None` if the element gives no such authority, or only to a domain over itself.
     pub fn remedy(self, kind: Kind) -> Option<Remedy<'a>> {
         remedy_of(self, kind)
     }
 }
 
-// What a capability gives, by who has it, where, and for what.
+// The gift of a capability, by its holder, slot and object.
 fn gift_of(description: &Description, grant: &Grant) -> Option<Gift> {
     let (holder, target) = (grant.holder.number, grant.target.number);
     match (grant.holder.form, grant.target.form) {
@@ -236,7 +236,7 @@ fn tell_processor<W: fmt::Write>(
     }
 }
 
-// What a domain does with what is its own.
+// The words for what a domain does with its own objects.
 fn own_words(part: OwnPart) -> &'static str {
     match part {
         OwnPart::Endpoint => "receives calls",

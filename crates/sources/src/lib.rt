@@ -1,6 +1,6 @@
 //! Words to a person: the line that each part of a table comes from, and the element of a description.
 //!
-//! It knows no policy and no verdict.
+//! The crate knows no policy and no verdict.
 #![tactic(auto)]
 
 mod belongings;

@@ -30,7 +30,7 @@ pub(crate) fn region_name<'a>(description: &'a Description, number: usize) -> Sh
     Shown { bytes }
 }
 
-/// Who maps a region, as `plugin` or as the virtual machine `guest`, with the name in quotes.
+/// The user that maps a region, as `plugin` or as the virtual machine `guest`, with the name in quotes.
 #[derive(Clone, Copy)]
 pub(crate) struct UserName<'a> {
     pub description: &'a Description,

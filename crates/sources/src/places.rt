@@ -1,7 +1,7 @@
-//! How a line of a file is named in a sentence.
+//! The words for a line of a file in a sentence.
 use std::fmt;
 
-/// A line of a file before a sentence on it, as `table:12: `. Nothing, if there is no such line.
+/// The words for a line before a sentence on it, as `table:12: `; empty if there is no such line.
 #[derive(Clone, Copy)]
 pub struct Start<'a> {
     pub file: &'a str,
@@ -18,7 +18,7 @@ impl fmt::Display for Start<'_> {
     }
 }
 
-/// A line of a file behind words on it, as ` at table:12`. Nothing, if there is no such line.
+/// The words for a line after a phrase on it, as ` at table:12`; empty if there is no such line.
 #[derive(Clone, Copy)]
 pub struct At<'a> {
     pub file: &'a str,

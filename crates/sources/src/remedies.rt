@@ -1,4 +1,4 @@
-//! What to change in a description so that an element no longer gives an authority.
+//! The changes of a description by which an element no longer gives an authority.
 use crate::elements::{Element, Gift};
 use crate::naming::{UserName, domain_name, machine_name, region_name};
 use base::{Kind, Rights};
@@ -13,10 +13,10 @@ pub struct Remedy<'a> {
     change: Change,
 }
 
-/// What to change.
+/// The element to change.
 #[derive(Clone, Copy)]
 enum Change {
-    /// A map, so that it gives less, or nothing.
+    /// A map, which is to give less, or nothing.
     Map {
         user: User,
         region: usize,
@@ -32,14 +32,14 @@ enum Change {
     Machine(usize),
 }
 
-/// What becomes of a map.
+/// The change of a map.
 #[derive(Clone, Copy)]
 enum MapChange {
     ReadOnly,
     Gone,
 }
 
-/// Returns what to change so that an element gives no authority of a kind, if it gives some over others.
+/// Returns the change by which an element gives no authority of a kind, if it gives some over others.
 pub(crate) fn remedy_of<'a>(element: Element<'a>, kind: Kind) -> Option<Remedy<'a>> {
     let description = element.description;
     let change = change_of(description, element.gift, kind)?;
@@ -93,8 +93,8 @@ fn is_of_endpoint(kind: Kind) -> bool {
     )
 }
 
-// Whether a parent has authority of this kind over what is in it, by the thread, or that over the parent, by the
-// endpoint for faults.
+// Whether authority of this kind is a parent's over what is in it, by the thread; or that over the
+// parent, by the endpoint for faults.
 fn is_of_inner(kind: Kind) -> bool {
     is_of_endpoint(kind) || matches!(kind, Kind::Control)
 }
@@ -129,7 +129,7 @@ impl fmt::Display for Remedy<'_> {
     }
 }
 
-// How a map is changed, or each one by which the user has the authority.
+// The change of a map, or of each one by which the user has the authority.
 fn tell_map<W: fmt::Write>(
     f: &mut fmt::Formatter<W>,
     description: &Description,
@@ -153,7 +153,7 @@ fn tell_map<W: fmt::Write>(
     }
 }
 
-/// The maps that are to be changed: the map, or each map of the region by the user.
+/// The maps to change: one map, or each map of the region by the user.
 #[derive(Clone, Copy)]
 struct Maps<'a> {
     description: &'a Description,
@@ -163,7 +163,7 @@ struct Maps<'a> {
 }
 
 impl Maps<'_> {
-    // How many maps give the authority.
+    // The number of maps that give the authority.
     fn count(&self) -> usize {
         self.description
             .maps
@@ -204,7 +204,7 @@ fn is_same(one: User, other: User) -> bool {
     }
 }
 
-// Who may call is said at an end, or by the server and the priorities.
+// The change of who may call: at an end, or by the server and the priorities.
 fn tell_call<W: fmt::Write>(
     f: &mut fmt::Formatter<W>,
     description: &Description,

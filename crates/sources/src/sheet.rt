@@ -1,4 +1,4 @@
-//! Which line each part of a table comes from: a line of its text, or of the description that it was made of.
+//! The line that each part of a table comes from: a line of its text, or of the description that it was made of.
 use crate::belongings::Belonging;
 use crate::elements::Element;
 use base::{Label, ObjId, SlotRef};
@@ -6,8 +6,8 @@ use importing::{Grant, Origins, piece_line};
 use microkit::Description;
 use table::Table;
 
-/// A table as a person has it: the name of its file, and, if it was made of a description, what each part of it comes
-/// from.
+/// A table as a person has it: its file's name, and, if it was made of a description, what each
+/// part comes from.
 ///
 /// Lines count from 1. They are lines of the table's text, or of the description's.
 #[derive(Clone, Copy)]
@@ -17,7 +17,7 @@ pub struct Sheet<'a> {
     pub made: Option<Made<'a>>,
 }
 
-/// What a table was made of.
+/// The source of a table.
 #[derive(Clone, Copy)]
 pub struct Made<'a> {
     pub description: &'a Description,
@@ -26,7 +26,7 @@ pub struct Made<'a> {
 }
 
 impl<'a> Sheet<'a> {
-    /// Returns the line of a label in the table's text, or of the domain, virtual machine or region that it is for.
+    /// Returns the line of a label in the table's text, or of the domain, virtual machine or region that has it.
     pub fn line_of_label(self, label: Label) -> Option<usize> {
         match self.made {
             Some(made) => made.line_of_object(first_object(self.table, label)?),
@@ -53,7 +53,7 @@ impl<'a> Sheet<'a> {
 
     /// Returns the line that fills a slot in the table's text, or of the element that its capability comes from.
     ///
-    /// `None` says that the slot is empty.
+    /// It is `None` if the slot is empty.
     pub fn line_of_slot(self, slot: SlotRef) -> Option<usize> {
         let place = place_of_slot(self.table, slot)?;
         match self.made {
@@ -64,7 +64,7 @@ impl<'a> Sheet<'a> {
 
     /// Returns the line of a child in the derivation tree, in the table's text.
     ///
-    /// `None` says that the slot is no child, as in each table that was made of a description.
+    /// It is `None` if the slot is no child, as in each table that was made of a description.
     pub fn line_of_child(self, child: SlotRef) -> Option<usize> {
         let table = self.table;
         let place = table.pairs().iter().position(|pair| pair.child == child)?;
@@ -79,7 +79,7 @@ impl<'a> Sheet<'a> {
 
     /// Returns the line that binds a thread in the table's text, or of the domain or virtual processor of the thread.
     ///
-    /// `None` says that the thread isn't bound.
+    /// It is `None` if the thread isn't bound.
     pub fn line_of_binding(self, thread: ObjId) -> Option<usize> {
         let table = self.table;
         let place = table
@@ -97,7 +97,7 @@ impl<'a> Sheet<'a> {
 
     /// Returns the element of the description that the capability in a slot comes from.
     ///
-    /// `None` says that the slot is empty, or that the table wasn't made of a description.
+    /// It is `None` if the slot is empty, or the table wasn't made of a description.
     pub fn element_at(self, slot: SlotRef) -> Option<Element<'a>> {
         let made = self.made?;
         let place = place_of_slot(self.table, slot)?;
@@ -106,7 +106,7 @@ impl<'a> Sheet<'a> {
 
     /// Returns what an object belongs to in the description.
     ///
-    /// `None` says that there is no such object, or that the table wasn't made of a description.
+    /// It is `None` if there is no such object, or the table wasn't made of a description.
     pub fn belonging(self, id: ObjId) -> Option<Belonging<'a>> {
         let made = self.made?;
         let piece = *made.origins.pieces.get(id.0 as usize)?;
@@ -142,12 +142,12 @@ fn place_of_slot(table: &Table, slot: SlotRef) -> Option<usize> {
     table.caps().iter().position(|filled| filled.slot == slot)
 }
 
-// How many lines of labels and objects come after a table's header.
+// The number of lines of labels and objects after a table's header.
 fn before_caps(table: &Table) -> usize {
     table.label_count().saturating_add(table.object_count())
 }
 
-// The line before which a text has its header, a number of other lines, and a number of the same kind.
+// The line that follows a text's header, a number of other lines, and a number of lines of the same kind.
 fn line_after(before: usize, place: usize) -> usize {
     before.saturating_add(place).saturating_add(2)
 }

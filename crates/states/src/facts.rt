@@ -1,4 +1,4 @@
-//! How a state is told, by the names that a table gives: a line for the next number, for each object and
+//! The text of a state, by the names of a table: a line for the next number, for each object and
 //! for each of its slots.
 use base::{ObjId, SlotRef};
 use machine::{
@@ -9,7 +9,7 @@ use objects::State;
 use std::alloc::AllocError;
 use table::Table;
 
-/// Tells these words, and then an object by its name in the table. One that was made later is `#` and its number.
+/// Writes these words and the name of an object in the table. An object that was made later is `#` and its number.
 fn tell_name(text: &mut String, words: &str, table: &Table, id: ObjId) -> Result<(), AllocError> {
     text.push_str(words)?;
     match table.object_name(id) {
@@ -18,7 +18,7 @@ fn tell_name(text: &mut String, words: &str, table: &Table, id: ObjId) -> Result
     }
 }
 
-/// Tells these words, and then a slot as tables spell it.
+/// Writes these words and a slot, spelled as in tables.
 fn tell_place(
     text: &mut String,
     words: &str,
@@ -35,8 +35,7 @@ fn tell_place(
 
 /// Writes the facts of a state to a text.
 ///
-/// To tell who waits at an object, it takes the threads from the object's queue. So the queues are
-/// empty afterwards.
+/// The queues are empty afterwards: threads are taken from them to be listed.
 ///
 /// # Errors
 ///
@@ -50,7 +49,7 @@ pub fn tell_state(text: &mut String, table: &Table, state: &mut State) -> Result
     Ok(())
 }
 
-/// Tells an object and its slots.
+/// Writes an object and its slots.
 fn tell_object(
     text: &mut String,
     table: &Table,
@@ -73,7 +72,7 @@ fn tell_object(
     Ok(())
 }
 
-/// Tells what an object is, but for its queue and its slots.
+/// Writes an object without its queue and its slots.
 fn tell_content(text: &mut String, table: &Table, object: &Object) -> Result<(), AllocError> {
     match object {
         Object::Untyped(memory) => tell_untyped(text, memory),
@@ -191,7 +190,7 @@ fn tell_sending(text: &mut String, table: &Table, sending: &Sending) -> Result<(
     }
 }
 
-/// Tells the words of a message, with a space before each.
+/// Writes the words of a message, with a space before each.
 fn tell_words(text: &mut String, words: &[u64; 4]) -> Result<(), AllocError> {
     for word in words {
         write!(text, " {word}")?;
@@ -236,7 +235,7 @@ fn tell_message(text: &mut String, message: &Message) -> Result<(), AllocError> 
     write!(text, " {}", u8::from(message.capability))
 }
 
-/// Tells who waits at an object, first in first out, and takes them from its queue.
+/// Writes the threads that wait at an object, first in first out, and takes them from its queue.
 fn tell_queue(
     text: &mut String,
     table: &Table,
@@ -256,7 +255,7 @@ fn tell_queue(
     Ok(())
 }
 
-/// Tells a slot: its capability, and where that stands in the derivation tree.
+/// Writes a slot: its capability, and where that is in the derivation tree.
 fn tell_slot(
     text: &mut String,
     table: &Table,

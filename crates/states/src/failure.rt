@@ -1,10 +1,10 @@
-//! Why no state is told.
+//! The reasons why no state is printed.
 use std::alloc::{AllocError, AllocFailed};
 use std::io;
 use thiserror::Error;
 use words::Fault;
 
-/// The reason why no state is told.
+/// The reason why no state is printed.
 #[derive(Clone, Copy, Debug, PartialEq, Eq, Error)]
 pub enum Failure {
     #[error("it is called by TABLE SCRIPT [EVENTS], two files and how many events are run")]

@@ -2,7 +2,7 @@
 //! state of a table: the number that the next object gets, and each object and each slot, a line
 //! for each.
 //!
-//! No crate stands on it. It knows no policy and no verdict.
+//! The crate knows no policy and no verdict.
 #![tactic(auto)]
 
 mod facts;
@@ -29,7 +29,7 @@ fn main(rt: HostRuntime) -> io::Result<ExitCode> {
     }
 }
 
-/// What the command line asks for.
+/// The answer to the command line.
 fn answer<R: Files + AllocGlobal + Env>(rt: &R) -> Result<String, Failure> {
     let words = arguments(rt)?;
     match words.as_slice() {
@@ -39,12 +39,12 @@ fn answer<R: Files + AllocGlobal + Env>(rt: &R) -> Result<String, Failure> {
     }
 }
 
-/// The words of the command line, of which the first is the program's name.
+/// The words of the command line; the first is the program's name.
 fn arguments<R: Env + AllocGlobal>(rt: &R) -> io::Result<Vec<String>> {
     Ok(env::args(rt)?.collect(rt.alloc())?)
 }
 
-/// As many events as this word says.
+/// The number of events that this word says.
 fn first(count: &str) -> Result<Asked, Failure> {
     match count.parse() {
         Ok(count) => Ok(Asked::First(count)),

@@ -1,4 +1,4 @@
-//! The states of a system in which runs end, as text.
+//! The states in which runs of a system end, as text.
 ghost use Rattle.machine.specs.WellFormed.{IsWellFormed};
 
 use crate::facts::tell_state;
@@ -15,7 +15,7 @@ use table::Table;
 #[derive(Clone, Copy)]
 pub enum Asked {
     All,
-    /// The first of them, as many as this.
+    /// The first events, of this number.
     First(usize),
 }
 
@@ -68,7 +68,7 @@ fn after_events(alloc: Global, table: &Table, events: &[Event]) -> Result<String
     }
 }
 
-/// Runs the events in a state, and tells what they leave.
+/// Runs the events in a state, and returns the text of the state after them.
 fn after_run(
     alloc: Global,
     table: &Table,

@@ -1,4 +1,4 @@
--- Who is admitted: a thread that is there and ready.
+-- That an admitted caller is a thread of the machine and ready.
 use Rattle.std.{specs.Prelude.{Ok, Option, Some}, proofs.Common.{ℕ, ◌≡◌, Bool, arith, false, refl, true}}
 use Rattle.base.specs.declared.ids.ObjId.{ObjId}
 use Rattle.machine.specs.declared.{object.{Object.{Object, Object as o}, Share.Share}, thread.RunState.{RunState, RunState as state}}

@@ -1,4 +1,4 @@
--- What is known of a capability that arrives with a message: the slots between which it travels, and what changes by it.
+-- A capability that arrives with a message: the slots between which it is copied, and what changes.
 use Rattle.std.{specs.Prelude.{Err, None, Ok, Option, Result, Some}, proofs.Common.{ℕ, ◌≡◌, ◌≢◌, ap, refl, subst, sym, true}}
 use Rattle.base.specs.declared.{ids.ObjId.ObjId, refusal.Cause.Cause}
 use Rattle.machine.specs.declared.{object.ObjectKind.ObjectKind as kind, slot_address.{Ends.Ends, SlotAddress.SlotAddress}}
@@ -9,7 +9,7 @@ use Rattle.machine.proofs.SlotChanges.{SameObjects}
 use Rattle.steps.proofs.{Conditions.{both_done, same_ok}, Copies.is_copyable, FillsFormed.{fills_formed, node_takes}, Finding.FindsCap}
 use Rattle.steps.proofs.{Finding.{finds_cap, is_permitted}, LedSlots.led_slot, SlotRows.{LeadsTo, is_vacant, target_leads, with_copy_fills}}
 
--- a message's capability arrives: the sender may grant and has it, and the receiver has an empty slot for it
+-- a capability arrives: the sender has it and may grant, and the receiver has an empty slot for it
 pub record Arrives (m : Machine) (sender : ObjId) (sending : Sending) (receiver : ObjId) (slot : Option SlotAddress) (ends : Ends)
     : Type 0 where
   pub granted : sending.grant ≡ true
@@ -59,7 +59,7 @@ pub arrival_fills :
 arrival_fills m sender sending receiver slot ends formed done =
     with_copy_fills m ends.target ends.source ends.held ends.held.detail formed done.vacant
 
--- a machine in which a capability arrives, or none does, stays well formed, and nothing but slots differs
+-- a machine stays well formed whether or not a capability arrives, and nothing but slots differs
 module _ (m : Machine) (sender : ObjId) (sending : Sending) (receiver : ObjId) (slot : Option SlotAddress)
     (formed : IsWellFormed m) where
   ends_formed : (ends : Ends) → Arrives m sender sending receiver slot ends → IsWellFormed (with_arrival m (Ok ends))

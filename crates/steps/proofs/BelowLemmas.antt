@@ -1,4 +1,4 @@
--- The test whether a slot descends from another decides it.
+-- That the test whether a slot descends from another decides it.
 use Rattle.std.specs.{Bool.Decides, FinMap.{contains_key-keys, keys}, List.list_any, Prelude.{◌||◌, None, Option, Some, is_some}}
 use Rattle.std.proofs.{Common.{◌∙◌, ◌≡◌, Bool, List, ap, false, not, refl, sym, true}, lemmas.Bool.false≢true}
 use Rattle.base.specs.declared.ids.SlotRef.{SlotRef}
@@ -37,7 +37,7 @@ module _ (m : Machine) (above : SlotRef) where
     by_parent None e = absurd (false≢true (sym (rw e refl) ∙ is))
     by_parent (Some parent) e = by_tie parent e (same_slot parent above) refl (sym (rw e refl) ∙ is)
 
-  -- a slot whose parent is the one, or below it, doesn't stay among the others
+  -- a slot whose parent is `above` or below it doesn't stay among the others
   is_out : (slot : SlotRef) → has_parent_below m above others slot ≡ true → is_child_beside m others slot ≡ true
   is_out slot falls = by_parent (parent_of m slot) refl where
     by_place : (parent : SlotRef) → (stays_in : Bool) → list_any (same_slot slot) others ≡ stays_in → not stays_in ≡ true

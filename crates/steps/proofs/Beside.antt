@@ -1,5 +1,5 @@
--- What is beside a thread that leaves its queue and its reply: other threads, endpoints and free replies stay as they were, and
--- the reply that it named is free. The same of the thread that a reply holds, where that is halted.
+-- The objects beside a thread that leaves its queue and its reply, or that a reply holds and that is halted: other threads, endpoints
+-- and free replies stay as they were, and its reply becomes free.
 use Rattle.std.{specs.Prelude.{None, Option, Some}, proofs.Common.{◌∙◌, ◌≡◌, ◌≢◌, ◌⊎◌, ap, inl, inr, refl, subst, sym}}
 use Rattle.base.specs.declared.ids.ObjId.{ObjId}
 use Rattle.machine.specs.declared.object.{Endpoint.Endpoint, Object.{Object, Object as o}, Reply.Reply, ReplyState.ReplyState}
@@ -16,7 +16,6 @@ module _ (m : Machine) (thread : ObjId) (tcb : Tcb) (change : Tcb → Tcb) (link
   released : IsReleased m thread (change tcb) (with_released m thread change)
   released = released_is m thread tcb change links there
 
-  -- the thread itself
   pub leaver_now : IsThread (with_released m thread change) thread (change tcb)
   leaver_now = released_thread m (with_released m thread change) thread (change tcb) released
 
@@ -47,7 +46,7 @@ module _ (m : Machine) (thread : ObjId) (tcb : Tcb) (change : Tcb → Tcb) (link
             (λ none. none),
       )
 
-  -- the reply that it named as a receiver
+  -- the reply that the thread named as a receiver
   pub named_free : (id : ObjId) → IsReceivingWith tcb.state id → IsFree (with_released m thread change) id
   named_free id names =
       let w = links.receiver_reply thread id tcb there names in
@@ -56,7 +55,7 @@ module _ (m : Machine) (thread : ObjId) (tcb : Tcb) (change : Tcb → Tcb) (link
         reply_freed m (with_released m thread change) thread (change tcb) released id holding (no_reply id holding w.1) w.1 refl,
       )
 
--- the thread that a reply holds is there, names the reply, and is halted
+-- the thread that a reply holds exists, names the reply, and is halted
 pub record HolderLeaves (m : Machine) (id : ObjId) : Type 0 where
   pub thread : ObjId
   pub tcb : Tcb
@@ -82,7 +81,7 @@ nobody_halted :
 unfolding with_holder_halted
 nobody_halted m id holding there is = rw (there, is) refl
 
--- where a reply holds nobody, nothing changes
+-- nothing changes if a reply holds nobody
 pub holder_leaves : (m : Machine) (id : ObjId) → LinksAgree m → (with_holder_halted m id ≡ m) ⊎ HolderLeaves m id
 unfolding with_holder_halted
 holder_leaves m id links = by_content (object_of m id) refl where
@@ -118,7 +117,7 @@ holder_leaves m id links = by_content (object_of m id) refl where
   by_content None e = inl (rw e refl)
   by_content (Some _) e = inl (rw e refl)
 
--- beside the thread that a reply held
+-- objects other than the thread that a reply held
 
 pub holder_endpoint_stays :
     (m : Machine) (id : ObjId) → LinksAgree m → (q : ObjId) (endpoint : Endpoint) → object_of m q ≡ Some (o.Endpoint endpoint)
@@ -145,7 +144,7 @@ holder_other_stays m id links other its e differs = by_holder (holder_leaves m i
       (subst (λ (t : Tcb). Names t.state id) (one_thread m h.thread h.tcb its h.there (ap (object_of m) (sym same) ∙ e)) h.names))
       e
 
--- the same of the reply that a receiver names, if it names one
+-- the reply that a receiver names, if any, is freed: the machine stays well formed
 
 pub ended_formed : (m : Machine) (named : Option ObjId) → IsWellFormed m → IsWellFormed (with_reply_ended m named)
 ended_formed m None formed = formed

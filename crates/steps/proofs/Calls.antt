@@ -1,4 +1,4 @@
--- What is known of a step that was made: its caller was admitted, its call did what its row says, and the machine stays well formed.
+-- That a step that was made has an admitted caller, that its call did what its row says, and that the machine stays well formed.
 use Rattle.std.{specs.Prelude.{Bool, Err, None, Ok, Result, Some, option_map}, proofs.Common.{[], ℕ, ◌∙◌, ◌∷◌, ◌≡◌, ◌≢◌, ◌⊎◌, List, ap}}
 use Rattle.std.proofs.Common.{inl, inr, refl, subst, sym}
 use Rattle.base.specs.declared.{ids.{ObjId.ObjId, SlotRef.SlotRef}, refusal.Cause.Cause}
@@ -100,7 +100,7 @@ removal_formed m caller address chosen next formed done = by_case done.after whe
   by_case (inl none) = subst IsWellFormed (sym none.1) formed
   by_case (inr some) = subst IsWellFormed (sym some.2) (removed_formed m (chosen done.slot) formed)
 
--- what a call did, row by row
+-- what a call did, by its row
 abbrev pub CallDone : Machine → ObjId → Call → Machine → Type 0
 CallDone m caller (call.Signal address) next = SignalDone m caller address next
 CallDone m caller (call.Poll address) next = PollDone m caller address next
@@ -159,7 +159,7 @@ call_done m caller (call.Configure control context budget period) made next form
 call_done m caller (call.Bind context thread) made next formed = bind_done m caller context thread made next
 call_done m caller (call.Unbind context) made next formed = unbind_done m caller context made next
 
--- an event was made: by a caller, whose call was done
+-- an event was made: its caller was admitted, and its call was done
 pub record EventDone (m : Machine) (event : Event) (next : Machine) : Type 0 where
   pub caller : IsCaller m event.thread
   pub done : CallDone m event.thread event.call next
@@ -219,7 +219,7 @@ call_formed m caller (call.Configure control context budget period) next formed 
 call_formed m caller (call.Bind context thread) next formed is = bind_formed m caller context thread next formed
 call_formed m caller (call.Unbind context) next formed is = unbind_formed m caller context next formed
 
--- so does a call's code that does what its row says
+-- the code of a call keeps a machine well formed if it does what the call's row says
 pub makes_formed :
     (m next : Machine) (caller : ObjId) (which : Call) (result : Result Made Cause) → IsWellFormed m
     → (ChangesCaller which → IsCaller m caller) → Makes m next result (call_of m caller which) → IsWellFormed next

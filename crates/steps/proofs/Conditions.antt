@@ -1,4 +1,4 @@
--- What is known where conditions in order were all met.
+-- That conditions tested one after another were all met, if the last result is a value.
 use Rattle.std.{specs.Prelude.{Err, Ok, Result}, proofs.Common.{◌≡◌, refl}}
 use Rattle.base.specs.declared.refusal.Cause.{Cause}
 use Rattle.machine.specs.Refusing.{◌>>=◌}
@@ -6,7 +6,6 @@ use Rattle.machine.specs.Refusing.{◌>>=◌}
 pub same_ok : {A : Type 0} {a b : A} → ◌≡◌ {A = Result A Cause} (Ok a) (Ok b) → a ≡ b
 same_ok e = cc
 
--- what follows a condition came about where the condition held
 pub both_done :
     {A B : Type 0} (r : Result A Cause) (then_do : A → Result B Cause) (b : B) → ◌>>=◌ r then_do ≡ Ok b
     → (a : A) × (r ≡ Ok a) × (then_do a ≡ Ok b)

@@ -1,5 +1,5 @@
--- Where only shares, words of notifications, and the links between threads and scheduling contexts change, queues and replies stay
--- linked at both ends, and the machine is well formed if those links agree.
+-- That queues and replies stay linked at both ends if only shares, words of notifications and the links between threads and contexts
+-- change.
 use Rattle.std.{specs.Prelude.{None, Some, option_map}, proofs.Common.{◌∙◌, ◌≡◌, ap, refl, subst, sym}}
 use Rattle.base.specs.declared.ids.ObjId.{ObjId}
 use Rattle.machine.specs.declared.{object.{Context.Context, Object.{Object, Object as o}, Reply.Reply}, thread.{RunState.RunState, Tcb.Tcb}}
@@ -8,14 +8,14 @@ use Rattle.machine.{specs.WellFormed.{IsThread, IsWellFormed, LinksAgree, WaitsA
 use Rattle.machine.proofs.LookUps.{queue_of-with_object}
 use Rattle.steps.proofs.Outlines.{Steady, object_steady, outline, same_kinds, shown_kept, shown_there, steady_formed, steady_steady}
 
--- an object without the link between a thread and its scheduling context, without a share, and without a notification's word
+-- an object without its link to a thread or context, its share and its notification's word
 abbrev pub loosened : Object → Object
 loosened (o.Tcb tcb) = o.Tcb (record tcb { context = None })
 loosened (o.Context context) = o.Context (record context { share = None; thread = None })
 loosened (o.Notification notification) = o.Notification (record notification { pending = None })
 loosened object = object
 
--- nothing but these changes
+-- nothing but these parts changes
 pub record OnlyBinds (m next : Machine) : Type 0 where
   pub steady : Steady m next
   pub objects : (q : ObjId) → option_map loosened (object_of next q) ≡ option_map loosened (object_of m q)
@@ -57,7 +57,7 @@ pub record BindsAgree (m : Machine) : Type 0 where
       (id thread : ObjId) (context : Context) → object_of m id ≡ Some (o.Context context) → context.thread ≡ Some thread
       → (tcb : Tcb) × IsThread m thread tcb × (tcb.context ≡ Some id)
 
--- what is a thread or a reply without such links is one with them
+-- what is a thread or a reply without these parts is one with them
 tcb_of :
     (object : Object) (tcb : Tcb) → loosened object ≡ loosened (o.Tcb tcb)
     → (old : Tcb) × (object ≡ o.Tcb old) × (old.state ≡ tcb.state)

@@ -1,5 +1,5 @@
--- What a configure, a bind and an unbind do that are made: a scheduling context gets a share of a core, a thread runs on one, or
--- on none.
+-- The effect of a configure, bind or unbind that isn't refused: a scheduling context gets a share of a core, or a thread runs on a context
+-- or on none.
 use Rattle.std.{specs.Prelude.{None, Ok, Option, Some}, proofs.Common.{ℕ, ◌≡◌, ap, refl, sym}}
 use Rattle.base.specs.declared.ids.ObjId.{ObjId}
 use Rattle.machine.specs.{declared.{call.Made.Made, cap.Detail.Detail as d, object.Share.Share}, Machine.{Machine, object_of}}

@@ -1,5 +1,5 @@
--- A configure, a bind and an unbind keep a well-formed machine well formed: a scheduling context's share changes, or the link of
--- a thread and a scheduling context that agree on it before and after.
+-- That configure, bind and unbind keep a machine well formed: a context's share changes, or a link on which thread and context agree before
+-- and after.
 use Rattle.std.{specs.Prelude.{None, Option, Some}, proofs.Common.{ℕ, ◌∙◌, ◌≡◌, ◌≢◌, ◌⊎◌, ap, inl, inr, refl, subst, sym}}
 use Rattle.std.proofs.lemmas.Option.{none-some, same_Some}
 use Rattle.base.specs.declared.ids.ObjId.{ObjId}
@@ -10,8 +10,6 @@ use Rattle.machine.{specs.{Step.Configure.with_share, WellFormed.{IsThread, IsWe
 use Rattle.machine.proofs.{LookUps.object_of-with_object, RemovalTable.one_thread}
 use Rattle.steps.proofs.{ContextLinks.{binds_binds, binds_formed, object_binds}, ContextRow.{BindDone, ConfigureDone, UnbindDone}}
 use Rattle.steps.proofs.{SetObject.{SetsObject, other_after, other_before, set_elsewhere, set_there}, Threads.with_tcb_there}
-
--- changes of what is there
 
 context_is :
     (m : Machine) (id : ObjId) (old new : Context) → object_of m id ≡ Some (o.Context old)
@@ -25,7 +23,7 @@ one_context :
 one_context m id one other is there =
     let same : Some (o.Context one) ≡ Some (o.Context other) = sym is ∙ there in cc
 
--- another content of a context that runs the same thread
+-- a context that runs the same thread with other contents
 same_runs :
     (m next : Machine) (id : ObjId) (old new : Context) → object_of m id ≡ Some (o.Context old)
     → object_of next id ≡ Some (o.Context new) → new.thread ≡ old.thread
@@ -42,7 +40,7 @@ same_runs m next id old new was is same elsewhere q thread context e runs = by_i
   )
   by_id (inr apart) = (context, elsewhere q apart ∙ e, runs)
 
--- a scheduling context gets a share
+-- a scheduling context gets a share: the machine stays well formed
 
 pub share_is :
     (m : Machine) (id : ObjId) (context : Context) (share : Share) → object_of m id ≡ Some (o.Context context)
@@ -92,7 +90,7 @@ with_share_formed m id share formed = by_content (object_of m id) refl where
   by_content None e = rw e formed
   by_content (Some _) e = rw e formed
 
--- a thread gets a link to a scheduling context or none, and the context one back
+-- a thread gets a link to a scheduling context or to none, and the context the link back
 module _ (m : Machine) (thread id : ObjId) (tcb : Tcb) (context : Context) (link back : Option ObjId)
     (there : IsThread m thread tcb) (its : object_of m id ≡ Some (o.Context context)) where
   abbrev new : Tcb
@@ -133,13 +131,13 @@ module _ (m : Machine) (thread id : ObjId) (tcb : Tcb) (context : Context) (link
       set_elsewhere halfway linked id (o.Context now) sets_context thread (λ same. apart (sym same))
       ∙ set_there m halfway thread (o.Tcb new) sets_thread
 
-  -- what is neither is as it was
+  -- other objects are as they were
   elsewhere : (q : ObjId) → q ≢ thread → q ≢ id → object_of linked q ≡ object_of m q
   elsewhere q not_thread not_id =
       set_elsewhere halfway linked id (o.Context now) sets_context q not_id
       ∙ set_elsewhere m halfway thread (o.Tcb new) sets_thread q not_thread
 
-  -- where neither was linked to another, and they agree now
+  -- the machine stays well formed if neither was linked to another, and they agree now
   module _ (formed : IsWellFormed m) (alone : (q : ObjId) → context.thread ≡ Some q → q ≡ thread)
       (single : (q : ObjId) → tcb.context ≡ Some q → q ≡ id)
       (forth : (q : ObjId) → link ≡ Some q → (q ≡ id) × (back ≡ Some thread))
@@ -188,7 +186,7 @@ module _ (m : Machine) (thread id : ObjId) (tcb : Tcb) (context : Context) (link
           context_thread = λ p q c e runs. context_thread_now p q c e runs (one_or_two p id);
         }) formed
 
--- a thread comes to run on a scheduling context, if neither is linked yet
+-- a thread gets a scheduling context, if neither is linked yet
 
 pub bound_is :
     (m : Machine) (id thread : ObjId) (context : Context) (tcb : Tcb) → object_of m id ≡ Some (o.Context context)
@@ -220,7 +218,7 @@ with_bound_formed m id thread formed unbound free = by_contents (object_of m id)
   by_contents (Some (o.Context context)) (Some _) e f = rw (e, f) formed
   by_contents (Some _) other e f = rw e formed
 
--- a thread's link to its scheduling context goes at both ends
+-- the link of a thread and its scheduling context is removed at both ends
 
 pub unbound_is :
     (m : Machine) (id thread : ObjId) (context : Context) (tcb : Tcb) → object_of m id ≡ Some (o.Context context)
@@ -249,9 +247,9 @@ with_unbound_formed m thread formed = by_content (object_of m thread) refl where
   by_content None e = rw e formed
   by_content (Some _) e = rw e formed
 
--- a thread's scheduling context goes over to a thread that has none
+-- a thread's scheduling context passes to a thread that has none
 
--- the context has no thread then, and the other thread none either
+-- between, the context has no thread and neither thread a context
 module _ (m : Machine) (from id to : ObjId) (tcb : Tcb) (context : Context) (there : IsThread m from tcb)
     (runs : tcb.context ≡ Some id) (its : object_of m id ≡ Some (o.Context context))
     (free : context_under (object_of m to) ≡ None) where
@@ -301,13 +299,13 @@ module _ (m : Machine) (from id to : ObjId) (tcb : Tcb) (context : Context) (the
     handed_whole : with_handed m from to ≡ linked between to id other idle (Some id) (Some to) stays its_between
     handed_whole = handed_is ∙ bound_is between id to idle other its_between stays
 
-    -- the other thread runs on it
+    -- the other thread runs on the context
     pub handed_there : IsThread (with_handed m from to) to (record other { context = Some id })
     handed_there =
         ap (λ (n : Machine). object_of n to) handed_whole
         ∙ there_now between to id other idle (Some id) (Some to) stays its_between
 
-    -- and the one that had it on nothing
+    -- the thread that had the context runs on none
     pub handed_from : IsThread (with_handed m from to) from (record tcb { context = None })
     handed_from =
         ap (λ (n : Machine). object_of n from) handed_whole
@@ -316,7 +314,7 @@ module _ (m : Machine) (from id to : ObjId) (tcb : Tcb) (context : Context) (the
         ∙ ap (λ (n : Machine). object_of n from) between_is
         ∙ there_now m from id tcb context None None there its
 
-    -- what is neither runs on what it ran on
+    -- other threads run on what they ran on
     pub handed_other :
         (q : ObjId) → q ≢ from → q ≢ to → context_under (object_of (with_handed m from to) q) ≡ context_under (object_of m q)
     handed_other q not_from not_to = by_id (one_or_two q id) where
@@ -352,7 +350,7 @@ with_handed_formed m from to formed free = by_content (object_of m from) refl wh
   by_content None e = rw e formed
   by_content (Some _) e = rw e formed
 
--- the rows
+-- the three calls
 
 pub configure_formed :
     (m : Machine) (caller : ObjId) (control address budget period : ℕ) (next : Machine) → IsWellFormed m

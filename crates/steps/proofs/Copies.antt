@@ -1,4 +1,4 @@
--- What a copy and a mint put into a slot: a capability of the same kind, not untyped, with rights that the source has too.
+-- That copy and mint put a capability of the same kind into a slot, not for untyped memory and with no right that the source lacks.
 use Rattle.std.{specs.{Int.{Bits.and_self, RustNames.bit_and}, Prelude.{Ok, Option, Some, nat_le}}, proofs.Common.{ℕ, ◌%◌, ◌+◌, ◌==◌, ◌^◌}}
 use Rattle.std.proofs.{Common.{◌∙◌, ◌≡◌, ◌≢◌, Bool, ap, arith, false, refl, subst, sym, true}, lemmas.Nat.and_assoc}
 use Rattle.base.specs.declared.rights.Rights.{Rights}
@@ -20,7 +20,7 @@ kinds_alike d.Context d.Context narrow = refl
 kinds_alike d.Control d.Control narrow = refl
 kinds_alike _ _ narrow = absurd narrow
 
--- a bit of both is one of the first
+-- a bit of both numbers is one of the first
 in_first : (one other bit : ℕ) → bit_and (bit_and one other) bit ≡ bit → bit_and one bit ≡ bit
 in_first one other bit e =
     sym (ap (bit_and one) e) ∙ sym (and_assoc bit one (bit_and one other))

@@ -1,5 +1,4 @@
--- What the rows of messages have in common: the endpoint or the reply that was found by a capability, and who waits first at an
--- endpoint.
+-- The common part of the calls on endpoints and replies: the object that a capability leads to, and who waits first at an endpoint.
 use Rattle.std.{specs.Prelude.{Contains, None, Ok, Option, Result, Some}, proofs.Common.{[], ℕ, ◌∙◌, ◌∷◌, ◌≡◌, Bool, List, ap, arith, refl}}
 use Rattle.std.proofs.{Common.{subst, sym, true}, lemmas.Option.{none-some, same_Some}}
 use Rattle.base.specs.declared.{ids.ObjId.ObjId, refusal.Cause.Cause}
@@ -12,7 +11,7 @@ use Rattle.machine.proofs.Queues.{first_in}
 use Rattle.machine.specs.declared.thread.RunState.TheVariants as state
 use Rattle.steps.proofs.{Conditions.both_done, Finding.{FindsObject, finds, found_kind, is_permitted}, FoundObjects.endpoint_of_kind}
 
--- an endpoint that is found, by a capability with a right
+-- an endpoint is found by a capability with a right
 pub record IsEndOpen (m : Machine) (caller : ObjId) (address : ℕ) (allows : Badged → Bool) : Type 0 where
   pub id : ObjId
   pub end : Badged
@@ -35,7 +34,7 @@ pub record IsSender (m : Machine) (id sender : ObjId) (sending : Sending) : Type
   pub state : tcb.state ≡ state.Sending sending
   pub at : sending.endpoint ≡ id
 
--- where a row went past its conditions, an endpoint is open, and what follows them came about
+-- a call that passed its conditions found an open endpoint, and did what follows them
 pub opens_end :
     {B : Type 0} (m : Machine) (caller : ObjId) (address : ℕ) (allows : Badged → Bool) (then_do : ObjId × Badged → Result B Cause)
     (b : B)
@@ -61,8 +60,6 @@ opens_end m caller address allows then_do b formed e =
       },
       right.2,
     )
-
--- who waits first
 
 none_first : (m : Machine) (id : ObjId) → queue_of m id ≡ None → first_at m id ≡ None
 unfolding first_at first_waiting
@@ -115,7 +112,7 @@ sends_first m id first tcb sender sending there waits e = by_state tcb.state ref
       }
   by_state _ is = absurd (none-some (sender, sending) (ap (λ r. sender_in (Some (first, r))) (sym is) ∙ e))
 
--- who waits first to receive, and to send, waits there
+-- the first thread that waits to receive, or to send, waits at the endpoint
 module _ (m : Machine) (id : ObjId) (formed : IsWellFormed m) where
   pub receiver_first :
       (receiver : ObjId) (receiving : Receiving) → receiver_in (first_at m id) ≡ Some (receiver, receiving)
@@ -140,19 +137,19 @@ module _ (m : Machine) (id : ObjId) (formed : IsWellFormed m) where
         sends_first m id first w.0 sender sending w.2 w.3
         (ap sender_in (sym (head_first m id first others w.0 q w.2)) ∙ e)
 
--- who waits at an endpoint and doesn't receive sends
+-- a thread that waits at an endpoint and doesn't receive sends
 sends_so :
     (first : ObjId) (run : RunState) → WaitsAtKind run kind.Endpoint → receiver_in (Some (first, run)) ≡ None → IsSending run
 sends_so first (state.Sending s) fits e = tt
 sends_so first (state.Receiving r) fits e = absurd (none-some (first, r) (sym e))
 sends_so first _ fits e = absurd fits
 
--- who waits first and isn't found to send doesn't
+-- the first thread that waits doesn't send if it isn't found to
 sends_not : (first : ObjId) (run : RunState) → sender_in (Some (first, run)) ≡ None → ¬ (IsSending run)
 sends_not first (state.Sending s) e sends = none-some (first, s) (sym e)
 sends_not first _ e sends = absurd sends
 
--- where nobody waits to receive at an endpoint, all who wait there send; where nobody waits to send, none does
+-- all who wait at an endpoint send if nobody receives there, and the other way round
 module _ (m : Machine) (id : ObjId) (formed : IsWellFormed m) (is : kind_of m id ≡ Some kind.Endpoint) where
   pub no_receiver : (sending : Sending) → receiver_in (first_at m id) ≡ None → IsAlike m id (state.Sending sending)
   no_receiver sending e threads other tcb q within there = (λ _. tt, λ _. by_list threads q within) where

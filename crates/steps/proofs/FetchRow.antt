@@ -1,4 +1,4 @@
--- What a fetch does that is made: the caller's inbox becomes empty.
+-- The effect of a fetch that isn't refused: it emptied the caller's inbox.
 use Rattle.std.{specs.Prelude.Ok, proofs.Common.{◌≡◌, ap, sym}}
 use Rattle.base.specs.declared.ids.ObjId.{ObjId}
 use Rattle.machine.specs.{declared.call.Made.Made, Machine.{Machine, object_of}, Step.Fetch.{emptied, fetch_of, fetched_in}}

@@ -1,4 +1,4 @@
--- What slots hold and whose children they are, where an empty one gets a capability, under a filled one or under none.
+-- The slots and the derivation tree after an empty slot gets a capability, as a child or without a parent.
 use Rattle.std.{specs.Prelude.{None, Option, Some, if◌then◌else◌}, proofs.Common.{◌∙◌, ◌≡◌, ◌≢◌, ◌⊎◌, Bool, ap, false, inl, inr, refl, sym}}
 use Rattle.std.proofs.Common.{true}
 use Rattle.base.specs.declared.ids.SlotRef.{SlotRef}
@@ -23,7 +23,7 @@ module _ {m next : Machine} {slot : SlotRef} {above : Option SlotRef} {new : Cap
   pub not_filled : (q : SlotRef) → (cap : Cap) × (cap_of m q ≡ Some cap) → q ≢ slot
   not_filled q was is = let none : None ≡ Some was.0 = sym fills.empty ∙ ap (cap_of m) (sym is) ∙ was.1 in cc
 
-  -- what was there is there
+  -- capabilities and parents are still there
 
   pub cap_stays : (q : SlotRef) (cap : Cap) → cap_of m q ≡ Some cap → cap_of next q ≡ Some cap
   cap_stays q cap e = fills.caps q ∙ by_tie (same_slot q slot) refl where
@@ -41,7 +41,7 @@ module _ {m next : Machine} {slot : SlotRef} {above : Option SlotRef} {new : Cap
   descent_stays (child e) = child (parent_stays _ _ e)
   descent_stays (further e rest) = further (parent_stays _ _ e) (descent_stays rest)
 
-  -- what is there was there, or is new
+  -- each capability and each parent was there, or is the new one
 
   pub cap_was : (q : SlotRef) (cap : Cap) → cap_of next q ≡ Some cap → ((q ≡ slot) × (cap ≡ new)) ⊎ (cap_of m q ≡ Some cap)
   cap_was q cap e = by_tie (same_slot q slot) refl (sym (fills.caps q) ∙ e) where
@@ -51,7 +51,7 @@ module _ {m next : Machine} {slot : SlotRef} {above : Option SlotRef} {new : Cap
     by_tie true is same = inl (one_slot q slot is, cc)
     by_tie false is same = inr same
 
-  -- so what another slot holds was there
+  -- another slot holds what it held
   pub old_cap : (q : SlotRef) (cap : Cap) → q ≢ slot → cap_of next q ≡ Some cap → cap_of m q ≡ Some cap
   old_cap q cap apart e = by_case (cap_was q cap e) where
     by_case : ((q ≡ slot) × (cap ≡ new)) ⊎ (cap_of m q ≡ Some cap) → cap_of m q ≡ Some cap
@@ -75,7 +75,7 @@ module _ {m next : Machine} {slot : SlotRef} {above : Option SlotRef} {new : Cap
     by_case (inl is) = (new, ap (cap_of next) is.0 ∙ cap_here)
     by_case (inr was) = let w = fills.fits.child_filled q parent was in (w.0, cap_stays q w.0 w.1)
 
-  -- a parent was filled before
+  -- each parent was filled before
   pub parent_filled : (q parent : SlotRef) → parent_of next q ≡ Some parent → (cap : Cap) × (cap_of m parent ≡ Some cap)
   parent_filled q parent e = by_case (parent_was q parent e) where
     by_case :

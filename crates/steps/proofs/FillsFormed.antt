@@ -1,4 +1,4 @@
--- A machine stays well formed where an empty slot gets a copy of a capability.
+-- That a machine stays well formed when an empty slot gets a copy of a capability.
 use Rattle.std.{specs.Prelude.{None, Some, if◌then◌else◌, option_map}, proofs.Common.{◌<◌, ◌∙◌, ◌≡◌, ◌≢◌, ◌⊎◌, Bool, ap, arith, false, inl}}
 use Rattle.std.proofs.{Common.{inr, refl, subst, sym, true}, lemmas.Option.same_Some}
 use Rattle.base.specs.declared.ids.{ObjId.ObjId, SlotRef.SlotRef}
@@ -11,14 +11,14 @@ use Rattle.steps.proofs.{FilledSlots.{not_filled, old_cap, parent_filled, parent
 use Rattle.steps.proofs.SameObjects.{KeepsDescent, Kin, OneCap, kin_same, kinds_same, links_same, numbers_same, parts_same}
 use Rattle.steps.proofs.SlotRows.{Derives}
 
--- a slot is there, and takes what a capability says: a root slot, if that is a CNode's
+-- a slot exists and may hold a capability; a root slot may hold only a CNode's
 pub record Takes (m : Machine) (slot : SlotRef) (detail : Detail) : Type 0 where
   pub object : Object
   pub there : object_of m slot.holder ≡ Some object
   pub within : slot.index < slot_count object
   pub root : kind_of_object object ≡ kind.Tcb → kind_of_detail detail ≡ kind.CNode
 
--- a CNode's slots take all
+-- a CNode's slots may hold any capability
 pub node_takes : (m : Machine) (slot : SlotRef) (detail : Detail) → InNode m slot → Takes m slot detail
 node_takes m slot detail node =
     record { object = o.CNode node.0; there = node.1; within = node.2; root = λ other. absurd (grind (arith, other)) }
@@ -27,7 +27,7 @@ module _ (m next : Machine) (slot source : SlotRef) (held new : Cap) (formed : I
     (fills : Fills m slot new (parent_of_copy m source held) next) (takes : Takes m slot new.detail)
     (empty : cap_of m slot ≡ None) (full : cap_of m source ≡ Some held) (of : new.object ≡ held.object)
     (alike : kind_of_detail new.detail ≡ kind_of_detail held.detail) (typed : kind_of_detail held.detail ≢ kind.Untyped) where
-  -- the copy comes under its source, or under the source's parent
+  -- the copy is a child of its source, or of its source's parent
   copy_under :
       (parent : SlotRef) → parent_of_copy m source held ≡ Some parent → (source ≡ parent) ⊎ (parent_of m source ≡ Some parent)
   copy_under parent e = by_original held.original e where
@@ -52,7 +52,7 @@ module _ (m next : Machine) (slot source : SlotRef) (held new : Cap) (formed : I
       by_copy parent (inl same) = (held, ap (cap_of m) (sym same) ∙ full)
       by_copy parent (inr was) = formed.slots.parent_filled source parent was
 
-  -- the copy descends from what its source descends from
+  -- the copy descends from each slot from which its source descends
   copy_descends : (above : SlotRef) → Descends m source above → Descends next slot above
   copy_descends above d = by_original held.original refl d where
     under_it :
@@ -144,7 +144,7 @@ module _ (m next : Machine) (slot source : SlotRef) (held new : Cap) (formed : I
         kin = kin_now;
       }
 
-  -- the copy is for no untyped memory
+  -- the copy isn't for untyped memory
   not_new : (cap : Cap) → cap ≡ new → kind_of m cap.object ≢ Some kind.Untyped
   not_new cap is untyped =
       let two : Some (kind_of_detail new.detail) ≡ Some kind.Untyped =

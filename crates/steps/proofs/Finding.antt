@@ -1,4 +1,4 @@
--- What a call found at an address: the capability in the slot where the lookup ends.
+-- The capability that a call finds at an address: its slot, where the lookup ends, and its object, which is of a kind.
 use Rattle.std.{specs.Prelude.{None, Ok, Option, Some}, proofs.Common.{ℕ, ◌∙◌, ◌≡◌, Bool, ap, false, refl, sym, true}}
 use Rattle.base.specs.declared.ids.{ObjId.ObjId, SlotRef.SlotRef}
 use Rattle.machine.specs.declared.{cap.{Cap.Cap, Detail.{Detail, Detail as d}, Guard.Guard}, object.ObjectKind.ObjectKind}
@@ -33,7 +33,7 @@ finds_cap m caller address slot held e =
           sym (ap (cap_of m) at) ∙ held_there (cap_of m (looked.0).0) filled.0 filled.1 ∙ ap (λ p. Some p.1) same;
     }
 
--- the address leads to a capability of this object, which says this
+-- an address leads to a capability for this object, with this detail
 pub record FindsObject (m : Machine) (caller : ObjId) (address : ℕ) (id : ObjId) (says : Detail) : Type 0 where
   pub slot : SlotRef
   pub held : Cap
@@ -45,7 +45,7 @@ abbrev guard_in : Detail → Guard
 guard_in (d.CNode guard) = guard
 guard_in _ = record { size = 0; value = 0 }
 
--- what a capability says, where it is to an object of a kind
+-- the detail of a capability, if it is for an object of the kind
 abbrev pub as_kind : ObjectKind → Detail → Detail
 as_kind kind.Untyped detail = d.Untyped
 as_kind kind.CNode detail = d.CNode (guard_in detail)
@@ -69,7 +69,7 @@ is_of kind.Frame (d.Frame rights) u e = refl
 is_of kind.Control d.Control u e = refl
 is_of _ _ u e = cc
 
--- what a call found is to an object of the kind that it wants
+-- the capability that a call found is for an object of the kind that the call wants
 module _ (wanted : ObjectKind) (m : Machine) (caller : ObjId) (address : ℕ) (found : SlotRef × Cap)
     (e : find wanted m caller address ≡ Ok found) where
   pub found_there : FindsCap m caller address found.0 found.1 × (found.1.detail ≡ as_kind wanted found.1.detail)
@@ -85,7 +85,7 @@ module _ (wanted : ObjectKind) (m : Machine) (caller : ObjId) (address : ℕ) (f
   abbrev pub finds : FindsObject m caller address found.1.object (as_kind wanted found.1.detail)
   finds = record { slot = found.0; held = found.1; finds = found_there.0; object = refl; detail = found_there.1 }
 
--- the object is of the kind that the capability says
+-- the object is of the kind that its capability says
 pub found_kind :
     {m : Machine} {caller : ObjId} {address : ℕ} {id : ObjId} {says : Detail} → IsWellFormed m
     → FindsObject m caller address id says → kind_of m id ≡ Some (kind_of_detail says)

@@ -1,4 +1,4 @@
--- The object of a kind that a call found.
+-- The object that a call found, by its kind.
 use Rattle.std.{specs.Prelude.{Option, Some, option_map}, proofs.Common.{◌≡◌, refl}}
 use Rattle.machine.specs.declared.object.{Context.Context, Endpoint.Endpoint, Notification.Notification, Object.{Object, Object as o}}
 use Rattle.machine.specs.{declared.{object.Reply.Reply, thread.Tcb.Tcb}, Objects.kind_of_object}

@@ -1,4 +1,4 @@
--- Queues, replies and contexts stay linked at both ends where a thread that is idle comes to wait at an object, or for an answer.
+-- That queues, replies and contexts stay linked at both ends when an idle thread begins to wait at an object, or for an answer.
 use Rattle.std.{specs.Prelude.{AllPairs, Contains, Some}, proofs.Common.{[], ℕ, ◌++◌, ◌∙◌, ◌∷◌, ◌≡◌, ◌≢◌, ◌⊎◌, List, ap, get_or, inl, inr}}
 use Rattle.std.proofs.{Common.{refl, subst, sym}, lemmas.List.Elements.{Contains-append_left, Contains-get_or, Contains-push}}
 use Rattle.std.proofs.lemmas.{List.{Elements.Contains-push_cases, Quantifiers.all_pairs_push}, Option.same_Some}
@@ -13,7 +13,7 @@ use Rattle.machine.specs.declared.object.ReplyState.TheVariants as reply
 use Rattle.machine.specs.declared.thread.RunState.TheVariants as state
 use Rattle.steps.proofs.{Joins.{IsJoined, hold_for, names_or_not, waits_or_not}, Outlines.{Steady, same_kinds}}
 
--- where a run state waits, it waits as goes with the kind of the object, and as the others there do
+-- a run state fits the kind of the object where it waits, and the others who wait there
 pub record FitsIn (m : Machine) (run : RunState) : Type 0 where
   pub kind :
       (q : ObjId) → WaitsAt run q → (at : ObjectKind) × (kind_of m q ≡ Some at) × WaitsAtKind run at
@@ -28,7 +28,7 @@ module _ (m next : Machine) (thread : ObjId) (old new : Tcb) (links : LinksAgree
   is_old : (q : ObjId) (tcb : Tcb) → q ≡ thread → IsThread m q tcb → tcb ≡ old
   is_old q tcb here e = one_thread m thread tcb old (ap (object_of m) (sym here) ∙ e) was
 
-  -- what isn't the thread, and no free reply, is as it was
+  -- other objects that aren't free replies are as they were
   object_now :
       (q : ObjId) (object : Object) → q ≢ thread → ((address : ℕ) → object ≢ o.Reply (record { address = address; state = reply.Free }))
       → object_of m q ≡ Some object → object_of next q ≡ Some object
@@ -39,7 +39,7 @@ module _ (m next : Machine) (thread : ObjId) (old new : Tcb) (links : LinksAgree
         absurd (held w.0 (same_Some object (o.Reply (record { address = w.0; state = reply.Free })) (sym e ∙ w.1)))
     by_name (inr none) = joined.others q apart none ∙ e
 
-  -- it was so, or is the reply that the thread names
+  -- an object was so, or is the reply that the thread names
   object_was :
       (q : ObjId) (object : Object) → q ≢ thread → object_of next q ≡ Some object
       → (object_of m q ≡ Some object)
@@ -86,7 +86,7 @@ module _ (m next : Machine) (thread : ObjId) (old new : Tcb) (links : LinksAgree
       let one : Some (o.Tcb new) ≡ Some (o.Context context) = sym joined.there ∙ ap (object_of next) (sym here) ∙ e in cc)
       (λ holding same. cc) e
 
-  -- who is in a queue was in it, and is another thread, or is the thread, which waits there
+  -- a thread in a queue was in it, or is the one that now waits there
   member_was :
       (q : ObjId) (threads : List ObjId) (other : ObjId) → queue_of next q ≡ Some threads → Contains threads other
       → ((all : List ObjId) × (queue_of m q ≡ Some all) × Contains all other × (other ≢ thread))
@@ -112,7 +112,7 @@ module _ (m next : Machine) (thread : ObjId) (old new : Tcb) (links : LinksAgree
         let at : queue_of m q ≡ Some threads = sym (joined.queues.elsewhere q none) ∙ e in
         inl (threads, at, within, idle_in_none m links thread old was idle q threads other at within)
 
-  -- who was in a queue is in it
+  -- who was in a queue still is
   member_now :
       (q : ObjId) (all : List ObjId) (other : ObjId) → queue_of m q ≡ Some all → Contains all other
       → (threads : List ObjId) × (queue_of next q ≡ Some threads) × Contains threads other
@@ -169,7 +169,7 @@ module _ (m next : Machine) (thread : ObjId) (old new : Tcb) (links : LinksAgree
         (λ k d less. idle_in_none m links thread old was idle q w.0 (get_or w.0 k d) w.1 (Contains-get_or w.0 k d less)))
     by_case (inr none) = links.once q threads (sym (joined.queues.elsewhere q none) ∙ e)
 
-  -- two that are in one queue of an endpoint
+  -- all threads in an endpoint's queue send if one does
   one_way_now :
       (q a b : ObjId) (threads : List ObjId) (one two : Tcb) → queue_of next q ≡ Some threads → Contains threads a
       → Contains threads b → IsThread next a one → IsThread next b two → IsSending one.state
@@ -195,7 +195,7 @@ module _ (m next : Machine) (thread : ObjId) (old new : Tcb) (links : LinksAgree
         by_case (inr here) (inr also) =
             subst (λ (t : Tcb). IsSending t.state) (is_new a one here.0 is_a ∙ sym (is_new b two also.0 is_b)) sends
 
-  -- the reply that a run state names
+  -- the reply that a run state names holds the thread
 
   receiving_held :
       (run : RunState) (id : ObjId) → IsReceivingWith run id → Names run id × (hold_for run thread ≡ reply.Waiting thread)
@@ -221,7 +221,7 @@ module _ (m next : Machine) (thread : ObjId) (old new : Tcb) (links : LinksAgree
   held_called (state.Called calling) id other names e = (names, cc)
   held_called _ id other names e = absurd names
 
-  -- a run state and a reply are linked, if they were before for others and are for the thread
+  -- run states and replies stay linked if they were for other threads and are for this one
   module _ (Is : RunState → ObjId → Type 0) (hold : ObjId → ReplyState) (holds : (other : ObjId) → IsHolding (hold other) other)
       (own : (run : RunState) (id : ObjId) → Is run id → Names run id × (hold_for run thread ≡ hold thread))
       (back : (run : RunState) (id other : ObjId) → Names run id → hold other ≡ hold_for run thread → Is run id × (other ≡ thread)) where

@@ -1,5 +1,5 @@
--- What changes where a thread that is idle comes to wait at an object, or for an answer through a reply, read off the machine as
--- it was: the thread is in a run state, is last in the queue where that waits, and is held by the reply that it names.
+-- A thread that begins to wait at an object, or for an answer: it is in a run state, is last in the queue where it waits, and is held by
+-- the reply that it names.
 use Rattle.std.{specs.Prelude.{None, Option, Some, is_some, length, option_map}, proofs.Common.{[], ℕ, ◌++◌, ◌∙◌, ◌∷◌, ◌≡◌, ◌≢◌, ◌⊎◌, List}}
 use Rattle.std.proofs.{Common.{ap, inl, inr, refl, subst, sym}, lemmas.Option.{none-some, same_Some}}
 use Rattle.base.specs.declared.ids.ObjId.{ObjId}
@@ -16,13 +16,13 @@ use Rattle.machine.specs.declared.thread.RunState.TheVariants as state
 use Rattle.steps.proofs.{Outlines.{Steady, outline}, Releases.{rest_caps, rest_parents, rest_words}, SetObject.{SetsObject, set_elsewhere}}
 use Rattle.steps.proofs.SetObject.{set_there}
 
--- how the reply that a run state names holds the thread
+-- the state of the reply that a run state names, which holds the thread
 abbrev pub hold_for : RunState → ObjId → ReplyState
 hold_for (state.Receiving _) thread = reply.Waiting thread
 hold_for (state.Called _) thread = reply.Called thread
 hold_for _ thread = reply.Free
 
--- a thread is last in the queue where a run state waits
+-- a thread is the last in the queue where its run state waits
 pub record JoinsQueue (m : Machine) (thread : ObjId) (run : RunState) (next : Machine) : Type 0 where
   pub joins :
       (q : ObjId) → WaitsAt run q
@@ -72,7 +72,7 @@ names_one (state.Receiving receiving) a b p q = same_Some a b (sym p ∙ q)
 names_one (state.Called calling) a b p q = sym p ∙ q
 names_one _ a b p q = absurd p
 
--- a thread that names no reply
+-- a thread that names no reply begins to wait
 pub joined_alone :
     (m next : Machine) (thread : ObjId) (new : Tcb) → SetsObject m thread (o.Tcb new) next → JoinsQueue m thread new.state next
     → SameRest m next → ((q : ObjId) → ¬ (Names new.state q)) → IsJoined m thread new next
@@ -85,7 +85,7 @@ joined_alone m next thread new sets queues rest none =
       rest = rest;
     }
 
--- a thread that names a reply, which then holds it
+-- a thread that names a reply begins to wait, and the reply holds it
 module _ (m mid : Machine) (thread id : ObjId) (old new : Tcb) (address : ℕ) (was : IsThread m thread old)
     (free : object_of m id ≡ Some (o.Reply (record { address = address; state = reply.Free })))
     (sets : SetsObject m thread (o.Tcb new) mid) (queues : JoinsQueue m thread new.state mid) (rest : SameRest m mid)
@@ -127,7 +127,7 @@ module _ (m mid : Machine) (thread id : ObjId) (old new : Tcb) (address : ℕ) (
         rest = rest_along m mid next rest (rest-with_object mid id held);
       }
 
--- a thread comes to wait at an object
+-- a thread begins to wait at an object
 
 module _ (m : Machine) (thread id : ObjId) (threads : List ObjId) (tcb : Tcb) (run : RunState) (there : IsThread m thread tcb)
     (waited : queue_of m id ≡ Some threads) (waits : WaitsAt run id) where
@@ -173,7 +173,7 @@ module _ (m : Machine) (thread id : ObjId) (threads : List ObjId) (tcb : Tcb) (r
       subst (λ (n : Machine). IsJoined m thread new n) (sym blocked_is)
       (joined_alone m after thread new blocked_sets blocked_queues blocked_rest none)
 
-  -- and the reply that it names waits with it
+  -- a thread begins to wait at an object with the reply that it names
   pub blocked_with :
       (named : ObjId) (address : ℕ) → object_of m named ≡ Some (o.Reply (record { address = address; state = reply.Free }))
       → Names run named → IsJoined m thread new (with_holding (with_blocked m thread id run) named (hold_for run thread))
@@ -207,7 +207,7 @@ awaiting_joins m caller threads tcb receiving there waited free = by_reply recei
       let w = free id e in
       blocked_with m caller receiving.endpoint threads tcb (state.Receiving receiving) there waited refl id w.0 w.1 e
 
--- a thread comes to wait for an answer
+-- a thread begins to wait for an answer
 module _ (m : Machine) (thread : ObjId) (calling : Calling) (tcb : Tcb) (address : ℕ) (there : IsThread m thread tcb)
     (free : object_of m calling.reply ≡ Some (o.Reply (record { address = address; state = reply.Free }))) where
   abbrev called : Tcb

@@ -1,5 +1,5 @@
--- Queues, replies and contexts stay linked at both ends where threads leave their queues and their replies, threads lose their contexts,
--- and objects go.
+-- That queues, replies and contexts stay linked at both ends when threads leave their queues and replies, lose their contexts, or are
+-- removed with other objects.
 use Rattle.std.{specs.Prelude.{All, AllPairs, Contains, None, Option, Some, filter, if◌then◌else◌, option_map}, proofs.Common.{[], ◌∷◌}}
 use Rattle.std.proofs.{Common.{◌∙◌, ◌≡◌, ◌≢◌, Bool, List, ap, cond, false, not, refl, subst, sym, true}}
 use Rattle.std.proofs.lemmas.List.Elements.{All-cons, All-contains, All-contains_itself, All-filter, All-nil, All-weaker, filter_passes}
@@ -14,7 +14,7 @@ use Rattle.machine.specs.WellFormed.{IsReceivingWith, IsSending, IsThread, Links
 use Rattle.machine.proofs.{HeldThreads.{calling_names, receiving_names}, Idle.{idle_called, idle_receives, idle_waits}, Leaving.Names}
 use Rattle.machine.proofs.{Queues.{first_in, other_in}, RoundLemmas.not_passes}
 
--- who is in a part of a list is in the list, and in the part if it passes
+-- the members of a filtered list are those of the list that pass
 
 pub in_whole : (p : ObjId → Bool) (xs : List ObjId) (x : ObjId) → Contains (filter p xs) x → Contains xs x
 in_whole p xs x there = All-contains (Contains xs) (filter p xs) x (All-filter p (Contains xs) xs (All-contains_itself xs)) there
@@ -33,7 +33,7 @@ all_kept p (x ∷ xs) =
 into_part : (p : ObjId → Bool) (xs : List ObjId) (x : ObjId) → Contains xs x → p x ≡ true → Contains (filter p xs) x
 into_part p xs x there = All-contains (λ y. p y ≡ true → Contains (filter p xs) y) xs x (all_kept p xs) there
 
--- which objects go, which threads leave their queue and their reply, which lose their context, and what each becomes
+-- which objects are removed, which threads leave their queue and reply or lose their context, and what each thread becomes
 pub record Leavers : Type 0 where
   pub goes : ObjId → Bool
   pub leaves : ObjId → Bool
@@ -46,11 +46,11 @@ object_left who id (o.Reply holding) = o.Reply (record holding { state = reply_b
 object_left who id (o.Context context) = o.Context (record context { thread = link_after who.unbinds context.thread })
 object_left who id object = object
 
--- those of a queue who leave no queue
+-- the members of a queue who don't leave it
 abbrev pub queue_left : Leavers → List ObjId → List ObjId
 queue_left who threads = filter (λ thread. not (who.leaves thread)) threads
 
--- a thread that doesn't go is idle if it leaves, and loses its context where either of both goes
+-- a thread that stays is idle if it leaves, and loses its context if either of the two is removed
 pub record Becomes (who : Leavers) (thread : ObjId) (tcb : Tcb) : Type 0 where
   pub stays : who.leaves thread ≡ false → (who.becomes thread tcb).state ≡ tcb.state
   pub idle : who.leaves thread ≡ true → IsIdle (who.becomes thread tcb).state
@@ -60,14 +60,14 @@ pub record AreReleased (old : Machine) (who : Leavers) (now : Machine) : Type 0 
   pub objects : (id : ObjId) → object_of now id ≡ (if who.goes id then None else option_map (object_left who id) (object_of old id))
   pub queues : (id : ObjId) → queue_of now id ≡ (if who.goes id then None else option_map (queue_left who) (queue_of old id))
   pub becomes : (thread : ObjId) (tcb : Tcb) → IsThread old thread tcb → who.goes thread ≡ false → Becomes who thread tcb
-  -- nothing is linked to an object that goes
+  -- nothing is linked to an object that is removed
   pub goes : (thread : ObjId) → who.goes thread ≡ true → (who.leaves thread ≡ true) × (who.unbinds thread ≡ true)
   pub waits :
       (thread id : ObjId) (tcb : Tcb) → IsThread old thread tcb → WaitsAt tcb.state id → who.goes id ≡ true → who.leaves thread ≡ true
   pub names :
       (thread id : ObjId) (tcb : Tcb) → IsThread old thread tcb → Names tcb.state id → who.goes id ≡ true → who.leaves thread ≡ true
 
--- what is there was there, and doesn't go
+-- an object that is there was there, and isn't removed
 left_was :
     {A B : Type 0} (becomes : A → B) (goes : Bool) (was : Option A) (now : B) → cond goes None (option_map becomes was) ≡ Some now
     → (old : A) × (was ≡ Some old) × (goes ≡ false) × (becomes old ≡ now)
@@ -88,7 +88,7 @@ own_was : (lost : Bool) (link : Option ObjId) (id : ObjId) → cond lost None li
 own_was true link id e = absurd (none-some id e)
 own_was false link id e = (refl, e)
 
--- a link to what doesn't go is as it was
+-- a link to an object that stays is as it was
 
 pub link_itself : (link : Option ObjId) → link_after (λ _. false) link ≡ link
 link_itself None = refl
@@ -105,7 +105,7 @@ module _ (goes : ObjId → Bool) where
   link_now : (link : Option ObjId) (id : ObjId) → link ≡ Some id → goes id ≡ false → link_after goes link ≡ Some id
   link_now link id e stays = ap (link_after goes) e ∙ ap (λ b. cond b None (Some id)) stays
 
--- a reply that holds one that doesn't leave is as it was
+-- a reply that holds a thread that doesn't leave is as it was
 module _ (leaves : ObjId → Bool) (thread : ObjId) where
   by_test :
       (run : ReplyState) (held : ObjId) (b : Bool) → leaves held ≡ b → (IsHolding run thread → held ≡ thread)
@@ -161,7 +161,7 @@ module _ (old now : Machine) (who : Leavers) (have : AreReleased old who now) wh
     by_kind (o.Context was) there stays same = cc
     by_kind _ there stays same = cc
 
-  -- who is blocked was so, and doesn't leave
+  -- a blocked thread was blocked, and doesn't leave
   blocked_was :
       (P : RunState → Type 0) → ((run : RunState) → IsIdle run → ¬ (P run)) → (thread : ObjId) (tcb : Tcb) → IsThread now thread tcb
       → P tcb.state → (was : Tcb) × IsThread old thread was × P was.state × (who.leaves thread ≡ false)
@@ -177,7 +177,7 @@ module _ (old now : Machine) (who : Leavers) (have : AreReleased old who now) wh
         by_test was becomes true left at = absurd (blocked (who.becomes thread was).state (becomes.idle left) at)
         by_test was becomes false stays at = (subst P (becomes.stays stays) at, stays)
 
-  -- who doesn't leave is in the run state that it was in
+  -- a thread that doesn't leave keeps its run state
   still :
       (P : RunState → Type 0) (thread : ObjId) (was : Tcb) → IsThread old thread was → P was.state → who.leaves thread ≡ false
       → (tcb : Tcb) × IsThread now thread tcb × P tcb.state

@@ -1,4 +1,4 @@
--- A lookup ends at a slot of a CNode.
+-- That a lookup ends at a slot of a CNode.
 use Rattle.std.{specs.Prelude.{Err, IsTrue, None, Ok, Option, Result, Some}, proofs.Common.{[], ℕ, ◌*◌, ◌+◌, ◌<◌, ◌^◌, ◌∙◌, ◌∷◌, ◌≡◌, Bool}}
 use Rattle.std.proofs.{Common.{List, ap, arith, false, length, refl, subst, suc, sym, true, zero}, Math.Nat.pow-succ', lemmas.Bool.lt-ltb}
 use Rattle.base.specs.declared.{ids.{ObjId.ObjId, SlotRef.SlotRef}, refusal.LookupFailure.{LookupFailure, TheVariants.DepthMismatch}}
@@ -17,7 +17,7 @@ IsNode m level = (node : CNode) × (object_of m level.node ≡ Some (o.CNode nod
 abbrev pub InNode : Machine → SlotRef → Type 0
 InNode m slot = (node : CNode) × (object_of m slot.holder ≡ Some (o.CNode node)) × (slot.index < slot_count (o.CNode node))
 
--- it is there
+-- a CNode's slot exists
 pub node_slot : (m : Machine) (slot : SlotRef) → InNode m slot → IsTrue (has_slot m slot)
 node_slot m slot within = rw within.1 (lt-ltb slot.index (slot_count (o.CNode within.0)) within.2)
 
@@ -48,7 +48,7 @@ pub node_at : (m : Machine) (slot : SlotRef) (level : Level) → level_at m slot
 unfolding level_at
 node_at m slot level e = node_of_cap m (cap_of m slot) level e
 
--- a string of so many bits is a number below their power of two
+-- a string of bits is a number below the power of two of its length
 number_below : (before : ℕ) (string : List Bool) → number_from before string < (before + 1) * 2 ^ length string
 number_below before [] = omega (arith)
 number_below before (true ∷ string) =
@@ -58,7 +58,7 @@ number_below before (false ∷ string) =
     subst (λ n. number_from (before * 2) string < (before + 1) * n) (sym (pow-succ' 2 (length string)))
     (omega (arith, number_below (before * 2) string))
 
--- what is split off has its length
+-- the part that is split off has the length asked for
 split_length :
     (size : ℕ) (string : List Bool) (parts : List Bool × List Bool) → split size string ≡ Some parts → length parts.0 ≡ size
 split_length zero string parts e = let same : ([], string) ≡ parts = cc in sym (ap (λ (p : List Bool × List Bool). length p.0) same)

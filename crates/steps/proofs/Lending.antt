@@ -1,4 +1,4 @@
--- What a call lends and an answer gives back: whose the context is, and who has none.
+-- Loans of scheduling contexts: what a call lends and an answer gives back, and which thread has the context.
 use Rattle.std.{specs.Prelude.{None, Option, Some, if◌then◌else◌}, proofs.Common.{◌∙◌, ◌≡◌, ◌⊎◌, Bool, ap, false, inl, inr, refl, subst}}
 use Rattle.std.proofs.{Common.{sym, true}, lemmas.{Bool.{and_parts, false≢true}, Option.{none-some, same_Some}}}
 use Rattle.base.specs.declared.ids.ObjId.{ObjId}
@@ -7,7 +7,7 @@ use Rattle.machine.specs.{Machine.same_id, Step.{Bind.{context_under, with_hande
 use Rattle.machine.{specs.{Step.{Reply.with_returned, Send.{loan_made, loan}}, WellFormed.{IsThread, IsWellFormed}}, proofs.LookUps.one_id}
 use Rattle.steps.proofs.ContextsFormed.{handed_there, with_handed_formed}
 
--- a caller lends to a receiver what it runs on, and the receiver runs on nothing
+-- a caller lends its context to a receiver that has none
 pub record Lends (m : Machine) (caller receiver : ObjId) (lent : Lent) : Type 0 where
   pub runs : context_under (object_of m caller) ≡ Some lent.context
   pub free : context_under (object_of m receiver) ≡ None
@@ -28,7 +28,7 @@ lends m caller receiver lent e =
     let w = loan_is (context_under (object_of m caller)) (context_under (object_of m receiver)) receiver lent e in
     record { runs = w.0; free = w.1; borrower = w.2 }
 
--- a thread that answers runs on what the called thread lent to it, and the called thread on nothing
+-- a thread that answers runs on the context that the called thread lent to it, and the called thread on none
 pub record GivesBack (m : Machine) (invoker called : ObjId) : Type 0 where
   pub context : ObjId
   pub runs : context_under (object_of m invoker) ≡ Some context
@@ -53,7 +53,7 @@ gives_back_is m invoker called e =
     on_loan invoker (context_under (object_of m invoker)) (loan_in (object_of m called)) (context_under (object_of m called)) e in
     record { context = w.0; runs = w.1; lent = w.2; free = w.3 }
 
--- what runs on a context is a thread
+-- a thread runs on a context
 runs_on :
     (content : Option Object) (id : ObjId) → context_under content ≡ Some id
     → (tcb : Tcb) × (content ≡ Some (o.Tcb tcb)) × (tcb.context ≡ Some id)
@@ -82,7 +82,7 @@ returned_formed m invoker called formed = by_case (returned_or_same m invoker ca
   by_case (inl w) = subst IsWellFormed (sym w.1) (with_handed_formed m invoker called formed (w.0).free)
   by_case (inr same) = subst IsWellFormed (sym same) formed
 
--- the called thread is as it was but for what it runs on
+-- the called thread is as it was, but for its context
 pub returned_there :
     (m : Machine) (invoker called : ObjId) (tcb : Tcb) → IsWellFormed m → IsThread m called tcb
     → (link : Option ObjId) × IsThread (with_returned m invoker called) called (record tcb { context = link })

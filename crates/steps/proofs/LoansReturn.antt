@@ -1,4 +1,4 @@
--- A call and the answer to it, with nothing between them, leave each thread on what it ran on: what the call lent comes back.
+-- That a call and the answer right after it leave each thread on its context: the answer returns what the call lent.
 use Rattle.std.{specs.Prelude.{None, Option, Some, if◌then◌else◌, option_map}, proofs.Common.{ℕ, ◌∙◌, ◌≡◌, ◌≢◌, ◌⊎◌, Bool, List, ap, false}}
 use Rattle.std.proofs.{Common.{inl, inr, refl, subst, sym, true}, lemmas.{Bool.and_from, Option.{none-some, same_Some}}}
 use Rattle.base.specs.declared.ids.ObjId.{ObjId}
@@ -32,7 +32,7 @@ released_under m thread tcb change formed there same q =
           same ∙ ap context_under (sym there) ∙ ap (λ (p : ObjId). context_under (object_of m p)) (sym (one_id q thread e))
       by_tie false e = freed_under thread (object_of m q)
 
--- so does one that comes to wait for an answer
+-- a thread that begins to wait for an answer keeps its context
 module _ (m : Machine) (thread id : ObjId) (lent : Option Lent) (tcb : Tcb) (formed : IsWellFormed m) (there : IsThread m thread tcb)
     (free : IsFree m id) where
   abbrev waiting : Machine
@@ -109,7 +109,7 @@ module _ (m : Machine) (caller receiver id : ObjId) (tcb its : Tcb) (words : Lis
     by_case (inl w) = absurd (none-some _ (sym (ap loan_in next_caller ∙ e) ∙ (w.0).lent))
     by_case (inr same) = ap (λ (n : Machine). context_under (object_of n q)) (same ∙ next_is) ∙ lending_under q
 
-  -- what is lent goes there and back
+  -- what is lent is given back
   module _ (lent : Lent) (loans : loan_made m caller receiver ≡ Some lent) where
     made_loan : Lends m caller receiver lent
     made_loan = lends m caller receiver lent loans

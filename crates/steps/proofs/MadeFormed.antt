@@ -1,4 +1,4 @@
--- A machine stays well formed where an object is made at the end of what is in use of untyped memory.
+-- That a machine stays well formed when an object is made at the watermark of untyped memory.
 use Rattle.std.{specs.Prelude.{AllPairs, Contains, None, Some, option_map, replicate}, proofs.Common.{[], ℕ, ◌<◌, ◌∙◌, ◌≡◌, ◌≢◌, ◌≤◌, ◌⊎◌}}
 use Rattle.std.proofs.{Common.{List, ap, arith, inl, inr, length, subst, sym, true}, lemmas.{List.length-replicate, Option.same_Some}}
 use Rattle.base.specs.declared.ids.{ObjId.ObjId, SlotRef.SlotRef}
@@ -14,8 +14,8 @@ use Rattle.machine.proofs.ObjectMade.{marked}
 use Rattle.steps.proofs.FilledSlots.{FillsUnder, cap_here, cap_stays, cap_was, child_filled, descent_stays, no_cycle, not_filled, old_cap}
 use Rattle.steps.proofs.{FilledSlots.{parent_filled, parent_here, parent_was}, LedSlots.InNode, SameObjects.Kin}
 
--- an object can be made so: from memory that is there with a capability, in which nothing with a higher number lies past the
--- object's address, and into an empty slot of a CNode
+-- an object can be made: the memory exists with a capability, nothing with a higher number lies past the object's address, and the slot is
+-- an empty one of a CNode
 pub record CanMake (m : Machine) (source : Source) (mark : ℕ) (object : Object) (detail : Detail) (slot : SlotRef) : Type 0 where
   pub was : ℕ
   pub there : object_of m source.id ≡ Some (o.Untyped (marked source.memory was))
@@ -43,7 +43,7 @@ module _ (m next : Machine) (source : Source) (mark : ℕ) (object : Object) (de
   abbrev new : Cap
   new = record { object = number; detail = detail; original = true }
 
-  -- an object that is there has a lower number
+  -- each other object has a lower number
   earlier : (q : ObjId) (old : Object) → object_of m q ≡ Some old → q ≢ number
   earlier q old e is =
       let less : q.0 < m.next = formed.numbers.below_next q old e in
@@ -64,7 +64,7 @@ module _ (m next : Machine) (source : Source) (mark : ℕ) (object : Object) (de
   memory_was : (old : Object) → object_of m source.id ≡ Some old → old ≡ o.Untyped (marked source.memory can.was)
   memory_was old e = let same : Some old ≡ Some (o.Untyped (marked source.memory can.was)) = sym e ∙ can.there in cc
 
-  -- what was there is there, but for the watermark
+  -- each object is still there, but for the watermark
   after : (q : ObjId) (old : Object) → object_of m q ≡ Some old → (now : Object) × (object_of next q ≡ Some now) × IsLike now old
   after q old e = by_id (one_or_two q source.id) where
     by_id : (q ≡ source.id) ⊎ (q ≢ source.id) → (now : Object) × (object_of next q ≡ Some now) × IsLike now old
@@ -77,7 +77,7 @@ module _ (m next : Machine) (source : Source) (mark : ℕ) (object : Object) (de
         )
     by_id (inr apart) = (old, elsewhere q (earlier q old e) apart ∙ e, like_itself old)
 
-  -- what is there is new, or was there
+  -- each object is the new one, or was there
   pub before :
       (q : ObjId) (now : Object) → object_of next q ≡ Some now
       → ((q ≡ number) × (now ≡ object)) ⊎ ((old : Object) × (object_of m q ≡ Some old) × IsLike now old)
@@ -116,7 +116,7 @@ module _ (m next : Machine) (source : Source) (mark : ℕ) (object : Object) (de
       ap (option_map kind_of_object) there
       ∙ ap (λ k. Some k) (sym now.2.kind) ∙ sym (ap (option_map kind_of_object) now.1) ∙ e
 
-  -- slots
+  -- the slots
 
   pub fills : FillsUnder m slot (Some source.slot) new next
   fills =
@@ -234,7 +234,7 @@ module _ (m next : Machine) (source : Source) (mark : ℕ) (object : Object) (de
         kin = kin_now;
       }
 
-  -- parts
+  -- queues and words
 
   queue_stays : (q : ObjId) (threads : List ObjId) → queue_of m q ≡ Some threads → queue_of next q ≡ Some threads
   queue_stays q threads e =
@@ -303,7 +303,7 @@ module _ (m next : Machine) (source : Source) (mark : ℕ) (object : Object) (de
   parts_made : PartsFit next
   parts_made = record { queue = queue_now; words = words_now; queue_of_object = queued_object; words_of_object = worded_object }
 
-  -- links
+  -- the links
 
   pub linked_stays :
       (q : ObjId) (other : Object) → ((u : Untyped) → other ≢ o.Untyped u) → object_of m q ≡ Some other
@@ -329,7 +329,7 @@ module _ (m next : Machine) (source : Source) (mark : ℕ) (object : Object) (de
         absurd (typed (marked source.memory mark) cc)
     by_id (inr fresh) (inr apart) = inr (sym (elsewhere q fresh apart) ∙ e)
 
-  -- a thread with links was there
+  -- a thread with links isn't the new object
   thread_was : (q : ObjId) (tcb : Tcb) → IsThread next q tcb → ¬ (IsUnlinked (o.Tcb tcb)) → IsThread m q tcb
   thread_was q tcb e linked = by_case (linked_was q (o.Tcb tcb) (λ u same. cc) e) where
     by_case : IsUnlinked (o.Tcb tcb) ⊎ IsThread m q tcb → IsThread m q tcb
@@ -371,7 +371,7 @@ module _ (m next : Machine) (source : Source) (mark : ℕ) (object : Object) (de
     by_case (inl is) = nobody_twice threads is.1
     by_case (inr was) = formed.links.once q threads was
 
-  -- who is in a queue was there
+  -- who is in a queue isn't the new object
   waiter_was :
       (q a : ObjId) (threads : List ObjId) (tcb : Tcb) → queue_of m q ≡ Some threads → Contains threads a → IsThread next a tcb
       → IsThread m a tcb
@@ -392,7 +392,7 @@ module _ (m next : Machine) (source : Source) (mark : ℕ) (object : Object) (de
         formed.links.one_way q a b threads first second was in_a in_b (waiter_was q a threads first was in_a is_a)
         (waiter_was q b threads second was in_b is_b) sends (kind_was q there.0 kind.Endpoint there.1 at)
 
-  -- a reply or a context with a link was there
+  -- a reply or a context with a link isn't the new object
 
   reply_was :
       (q : ObjId) (answers : Object) → ((u : Untyped) → answers ≢ o.Untyped u) → ¬ (IsUnlinked answers)
@@ -439,9 +439,9 @@ module _ (m next : Machine) (source : Source) (mark : ℕ) (object : Object) (de
             (w.0, thread_stays thread w.0 w.1, w.2);
       }
 
-  -- numbers and ranges
+  -- the numbers and ranges
 
-  -- of what has a higher number than the memory, nothing meets the new object
+  -- no object with a higher number than the memory meets the new object
   beyond : (q : ObjId) (other : Object) → object_of m q ≡ Some other → source.id.0 < q.0 → ¬ (Meets other object)
   beyond q other e later meets =
       let within : Meets (o.Untyped source.memory) other =
@@ -449,23 +449,23 @@ module _ (m next : Machine) (source : Source) (mark : ℕ) (object : Object) (de
       let apart : end_of other ≤ address_of object = can.free q other e later within in
       omega (arith, apart, meets.1)
 
-  -- what has a lower number and meets the new object meets the memory
+  -- an object with a lower number that meets the new object meets the memory
   around : (other : Object) → Meets other object → Meets other (o.Untyped (marked source.memory can.was))
   around other meets = (omega (arith, can.high, can.within, meets.0), omega (arith, can.low, meets.1))
 
-  -- a capability that was there is for an object that was there
+  -- each old capability is for an old object
   names_old : (q : SlotRef) (cap : Cap) → cap_of m q ≡ Some cap → cap.object ≢ number
   names_old q cap e =
       let was = of_kind m cap.object (kind_of_detail cap.detail) (formed.slots.object q cap e) in earlier cap.object was.0 was.1
 
-  -- a capability for an object that was there was there
+  -- each capability for an old object is an old one
   cap_for_old : (q : SlotRef) (cap : Cap) → cap.object ≢ number → cap_of next q ≡ Some cap → cap_of m q ≡ Some cap
   cap_for_old q cap old e = by_case (cap_was fills q cap e) where
     by_case : ((q ≡ slot) × (cap ≡ new)) ⊎ (cap_of m q ≡ Some cap) → cap_of m q ≡ Some cap
     by_case (inl is) = absurd (old (ap (λ (c : Cap). c.object) is.1))
     by_case (inr was) = was
 
-  -- and one for the new object is the new one
+  -- each capability for the new object is the new one
   cap_for_new : (q : SlotRef) (cap : Cap) → cap.object ≡ number → cap_of next q ≡ Some cap → q ≡ slot
   cap_for_new q cap is e = by_case (cap_was fills q cap e) where
     by_case : ((q ≡ slot) × (cap ≡ new)) ⊎ (cap_of m q ≡ Some cap) → q ≡ slot
@@ -574,7 +574,7 @@ module _ (m next : Machine) (source : Source) (mark : ℕ) (object : Object) (de
             let end_below : end_of second ≤ w.0.watermark = omega (arith, ends, below) in
             (w.0, w.1, w.2, is ∙ w.3, cap_stays fills w.1 w.2 w.4, w.5, two.lies w.0 w.6, end_below)
 
-  -- of two objects that meet, the first was there, and the second was there or is new
+  -- the first of two objects that meet was there, and the second was there or is new
   abbrev Pair : ObjId → ObjId → Object → Object → Type 0
   Pair low high first second =
       (a : Object) × (object_of m low ≡ Some a) × IsLike first a
@@ -617,7 +617,7 @@ module _ (m next : Machine) (source : Source) (mark : ℕ) (object : Object) (de
         (holds_new low first e below (new_meets first second is.1 meets))
     by_second (inr was) = holds_old low high first second pair.0 was.0 less e pair.1 was.1 pair.2 was.2 meets
 
-  -- the memory's capability descends from that of the memory that it lies in, or is it
+  -- the memory's capability descends from that of the memory around it, or is that capability
   new_descends :
       (low : ObjId) (first : Object) (above : SlotRef) (over : Cap) → object_of m low ≡ Some first → Meets first object
       → cap_of m above ≡ Some over → over.object ≡ low → Descends next slot above

@@ -1,4 +1,4 @@
--- A thread that is released, or waits, or calls through a reply keeps a well-formed machine well formed.
+-- That a machine stays well formed when a thread is released, halted, or begins to wait at an object or for an answer.
 use Rattle.std.{specs.Prelude.{None, Option, Some, option_map}, proofs.Common.{ℕ, ◌∙◌, ◌≡◌, List, ap, refl, subst, sym}}
 use Rattle.std.proofs.lemmas.Option.{none-some}
 use Rattle.base.specs.declared.ids.ObjId.{ObjId}
@@ -28,7 +28,7 @@ released_formed m thread tcb change formed there address runs idle =
     steady_formed m next steady
     (links_released m next thread (change tcb) released tcb there runs idle formed.links) formed
 
--- whatever there is of that number
+-- the release of any object of that number
 released_any :
     (m : Machine) (thread : ObjId) (change : Tcb → Tcb) → IsWellFormed m
     → ((tcb : Tcb) → ((change tcb).address ≡ tcb.address) × ((change tcb).context ≡ tcb.context) × IsIdle (change tcb).state)
@@ -56,7 +56,7 @@ aborted_formed m thread formed = released_any m thread aborted formed (λ tcb. (
 pub suspended_formed : (m : Machine) (thread : ObjId) → IsWellFormed m → IsWellFormed (with_suspended m thread)
 suspended_formed m thread formed = released_any m thread suspended formed (λ tcb. (refl, refl, tt))
 
--- the thread that a reply holds is halted
+-- the thread that a reply holds is halted: the machine stays well formed
 
 pub holder_halted_formed : (m : Machine) (id : ObjId) → IsWellFormed m → IsWellFormed (with_holder_halted m id)
 unfolding with_holder_halted
@@ -73,7 +73,7 @@ holder_halted_formed m id formed = by_object (object_of m id) refl where
   by_object None e = rw e formed
   by_object (Some _) e = rw e formed
 
--- which frees the reply
+-- halting the thread that a reply holds frees the reply
 freed_by_halt :
     (m : Machine) (id thread : ObjId) (holding : Reply) (tcb : Tcb) → IsWellFormed m → object_of m id ≡ Some (o.Reply holding)
     → IsHolding holding.state thread → IsThread m thread tcb → IsFree (with_halted m thread) id
@@ -99,7 +99,7 @@ holder_halted_free m id holding formed there = by_state holding.state there wher
       rw e (freed_by_halt m id thread (record { address = holding.address; state = reply.Called thread }) w.0 formed e refl w.1)
   by_state reply.Free e = rw e (holding.address, e)
 
--- a thread that is idle has an empty inbox
+-- an idle thread's inbox is emptied
 emptied_there :
     (m : Machine) (thread : ObjId) (tcb : Tcb) → IsThread m thread tcb
     → emptied m thread ≡ with_tcb m thread (record tcb { inbox = inbox.Empty })
@@ -121,7 +121,7 @@ emptied_formed m thread tcb formed there idle =
     subst IsWellFormed (emptied_is m thread tcb there idle)
     (released_formed m thread tcb (λ t. record t { inbox = inbox.Empty }) formed there refl refl idle)
 
--- a thread that is idle comes to wait
+-- an idle thread begins to wait: the machine stays well formed
 
 joined_formed :
     (m next : Machine) (thread : ObjId) (tcb : Tcb) (run : RunState) → IsWellFormed m → IsThread m thread tcb → IsIdle tcb.state
@@ -131,7 +131,7 @@ joined_formed m next thread tcb run formed there idle joined fits =
     let steady = joined_steady m next thread tcb new joined there refl in
     steady_formed m next steady (links_joined m next thread tcb new formed.links there refl idle joined steady fits) formed
 
--- the queue of an object that is there
+-- an object that exists has a queue
 queue_at :
     (m : Machine) (id : ObjId) (at : ObjectKind) → IsWellFormed m → kind_of m id ≡ Some at
     → (threads : List ObjId) × (queue_of m id ≡ Some threads)
@@ -142,7 +142,7 @@ queue_at m id at formed is = by_object (object_of m id) refl is where
   by_object None e same = absurd (none-some at same)
   by_object (Some object) e same = formed.parts.queue id object e
 
--- where a run state waits at one object
+-- a run state fits the object where it waits
 fits_at :
     (m : Machine) (id : ObjId) (run : RunState) (at : ObjectKind) → kind_of m id ≡ Some at → WaitsAt run id → WaitsAtKind run at
     → IsAlike m id run → FitsIn m run

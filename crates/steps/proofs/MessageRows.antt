@@ -1,4 +1,4 @@
--- What sends, calls, receives, replies and fetches do keeps a machine well formed, and so are the machines between.
+-- That send, call, receive, reply and fetch keep a machine well formed, and that the machines between are well formed too.
 use Rattle.std.{specs.Prelude.{None, Option, Some, if◌then◌else◌, is_ok, option_map}, proofs.Common.{ℕ, ◌∙◌, ◌≡◌, ◌≢◌, Bool, List, ap}}
 use Rattle.std.proofs.{Common.{false, inl, inr, refl, subst, sym, true}, lemmas.Option.none-some}
 use Rattle.base.specs.declared.ids.ObjId.{ObjId}
@@ -22,7 +22,7 @@ use Rattle.steps.proofs.{ReplyRow.ReplyDone, SendRow.{EndpointCallDone, SendDone
 pub caller_idle : (m : Machine) (caller : ObjId) (is : IsCaller m caller) → IsIdle is.thread.state
 caller_idle m caller is = subst IsIdle (sym is.ready) tt
 
--- a thread that is halted is there and waits for nothing, and a reply that was free is free
+-- a halted thread is there and waits for nothing, and a free reply stays free
 pub halted_between :
     (m : Machine) (thread : ObjId) (tcb : Tcb) → IsWellFormed m → IsThread m thread tcb
     → IsWellFormed (with_halted m thread) × IsThread (with_halted m thread) thread (halted tcb) × IsIdle (halted tcb).state
@@ -34,7 +34,7 @@ halted_between m thread tcb formed there = (
   free_stays m thread tcb halted formed.links there,
 )
 
--- it comes to wait for an answer through that reply, with what it lends
+-- a halted thread begins to wait for an answer through that reply, with what it lends
 module _ (m : Machine) (thread id : ObjId) (lent : Option Lent) (tcb : Tcb) (formed : IsWellFormed m)
     (there : IsThread m thread tcb) (free : IsFree m id) where
   abbrev calling : Calling
@@ -59,11 +59,11 @@ module _ (m : Machine) (thread id : ObjId) (lent : Option Lent) (tcb : Tcb) (for
   pub waits_joins : IsJoined stopped thread (record tcb { state = state.Called calling }) waits
   waits_joins = called_joins stopped thread calling (halted tcb) stopped_free.0 stopped_there stopped_free.1
 
-  -- it has the context that it had
+  -- the thread keeps its context
   pub waits_there : IsThread waits thread (record tcb { state = state.Called calling })
   waits_there = waits_joins.there
 
-  -- and another thread is as it was
+  -- each other thread is as it was
   pub waits_other : (other : ObjId) (its : Tcb) → other ≢ thread → IsThread m other its → IsThread waits other its
   waits_other other its apart e =
       let stays = other_stays m thread tcb halted formed.links there other its apart e in
@@ -74,17 +74,17 @@ module _ (m : Machine) (thread id : ObjId) (lent : Option Lent) (tcb : Tcb) (for
       cc)
       ∙ stays
 
--- a thread whose call was delivered
+-- the call of a thread was delivered
 pub linked_formed :
     (m : Machine) (thread : ObjId) (tcb : Tcb) (through : Option ObjId) → IsWellFormed m → IsThread m thread tcb
     → ((id : ObjId) → through ≡ Some id → IsFree m id) → IsWellFormed (linked m thread through)
 linked_formed m thread tcb None formed there free = (halted_between m thread tcb formed there).0
 linked_formed m thread tcb (Some id) formed there free = waits_formed m thread id None tcb formed there (free id refl)
 
--- one that lends to the receiver what it runs on
+-- the call of a thread was delivered, and the thread lends its context to the receiver
 module _ (m : Machine) (caller receiver : ObjId) (tcb its : Tcb) (formed : IsWellFormed m) (there : IsThread m caller tcb)
     (receives : IsThread m receiver its) (apart : caller ≢ receiver) where
-  -- it waits for its answer, and what it lends is still its own
+  -- the thread waits for its answer, and still has its context
   abbrev pub lending : ObjId → Machine
   lending id = with_called (with_halted m caller) caller (record { reply = id; lent = loan_made m caller receiver })
 
@@ -133,7 +133,7 @@ answers_through sending named id e = by_leave sending.can_reply refl where
   by_leave true is = sym (ap (λ (b : Bool). if b then named else None) is) ∙ e
   by_leave false is = absurd (none-some id (sym (ap (λ (b : Bool). if b then named else None) is) ∙ e))
 
--- a thread whose message was delivered
+-- the message of a thread was delivered
 pub sent_formed :
     (m : Machine) (sender : ObjId) (tcb : Tcb) (sending : Sending) (named : Option ObjId) → IsWellFormed m
     → IsThread m sender tcb → ((id : ObjId) → named ≡ Some id → IsFree m id) → IsWellFormed (sent m sender sending named)
@@ -177,7 +177,7 @@ module _ (m : Machine) (sender : ObjId) (sending : Sending) (id receiver : ObjId
       subst (λ (n : Machine). IsThread n receiver (given message is.tcb)) (sym delivered_is)
       (leaver_now mid receiver is.tcb (given message) arrived_formed.links arrived_there)
 
-  -- another thread is as it was
+  -- each other thread is as it was
   pub delivered_other :
       (other : ObjId) (its : Tcb) → other ≢ receiver → IsThread m other its
       → IsThread (delivered m sender sending receiver receiving) other its
@@ -236,7 +236,7 @@ endpoint_call_formed m caller address words capability next formed is done =
           (caller_idle m caller is) (ap (option_map kind_of_object) done.open_to.there) refl tt (λ named none. none) w.0)
     ]
 
--- what is known between in a receive
+-- the machines between in a receive
 
 module _ (m : Machine) (caller : ObjId) (address : ℕ) (named : Option ℕ) (slot : Option SlotAddress) (next : Machine)
     (formed : IsWellFormed m) (done : ReceiveDone m caller address named slot next) where
@@ -256,11 +256,11 @@ module _ (m : Machine) (caller : ObjId) (address : ℕ) (named : Option ℕ) (sl
   pub received_caller : (is : IsCaller m caller) → IsThread ended caller is.thread
   received_caller is = ended_idle m done.reply formed.links caller is.thread is.there (caller_idle m caller is)
 
-  -- and so is the endpoint
+  -- the endpoint is as it was
   pub received_endpoint : object_of ended done.open_to.id ≡ Some (o.Endpoint done.open_to.endpoint)
   received_endpoint = ended_endpoint m done.reply formed.links done.open_to.id done.open_to.endpoint done.open_to.there
 
-  -- with the capability that arrives from a sender
+  -- a capability arrives from a sender
   module _ (sender : ObjId) (sending : Sending) (is : IsSender ended done.open_to.id sender sending) where
     abbrev arrived : Machine
     arrived = with_arrival ended (arrival_of ended sender sending caller slot)

@@ -1,4 +1,4 @@
--- A machine stays well formed where a capability moves: two of its slots have changed names.
+-- That a machine stays well formed when a capability moves: two of its slots exchange names.
 use Rattle.std.{specs.Prelude.{None, Option, Some, if◌then◌else◌, option_map}, proofs.Common.{◌<◌, ◌∙◌, ◌≡◌, ◌⊎◌, Bool, ap, false, inl}}
 use Rattle.std.proofs.Common.{inr, refl, subst, sym, true}
 use Rattle.base.specs.declared.ids.{ObjId.ObjId, SlotRef.SlotRef}
@@ -34,7 +34,7 @@ module _ (m next : Machine) (source target : SlotRef) (held : Cap) (formed : IsW
     by_source false true apart is = rw (apart, is) (sym full)
     by_source false false apart also = rw (apart, also) refl
 
-  -- what is there was there, or is what moved
+  -- each capability was there, or is the one that moved
   was_or_moved : (q : SlotRef) (cap : Cap) → cap_of next q ≡ Some cap → (q ≡ target) ⊎ (cap_of m q ≡ Some cap)
   was_or_moved q cap e = by_tie (same_slot q target) (same_slot q source) refl (sym (moves.caps q) ∙ e) where
     by_tie :
@@ -66,7 +66,7 @@ module _ (m next : Machine) (source target : SlotRef) (held : Cap) (formed : IsW
         let one : other above ≡ parent = cc in
         is ∙ ap (λ s. Some s) (sym (twice above) ∙ ap other one)
 
-  -- a pair that is there was one, of the slots that have changed names
+  -- each pair was a pair of the renamed slots
   pub pair_was :
       (q parent : SlotRef) → parent_of next q ≡ Some parent
       → parent_of m (exchange source target q) ≡ Some (exchange source target parent)

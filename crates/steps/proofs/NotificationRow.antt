@@ -1,5 +1,4 @@
--- What the rows of notifications have in common: the notification that was found by a capability with a right, its word, and who
--- waits there.
+-- The common part of the calls on notifications: the notification that a capability with a right leads to, its word, and who waits there.
 use Rattle.std.{specs.Prelude.{Contains, Ok, Option, Result, Some, option_map}, proofs.Common.{ℕ, ◌∙◌, ◌≡◌, Bool, List, ap, refl, subst}}
 use Rattle.std.proofs.{Common.{sym, true}, lemmas.Option.same_Some}
 use Rattle.base.specs.declared.{ids.ObjId.ObjId, refusal.Cause.Cause}
@@ -10,7 +9,7 @@ use Rattle.machine.specs.{Objects.kind_of_object, Refusing.◌>>=◌, Step.Find.
 use Rattle.machine.specs.WellFormed.{IsWellFormed, LinksAgree, WaitsAt, WaitsAtKind}
 use Rattle.steps.proofs.{Conditions.both_done, Finding.{FindsObject, finds, found_kind, is_permitted}, FoundObjects.notification_of_kind}
 
--- a notification that is found, by a capability with a right
+-- a notification is found by a capability with a right
 pub record IsOpen (m : Machine) (caller : ObjId) (address : ℕ) (allows : Badged → Bool) : Type 0 where
   pub id : ObjId
   pub end : Badged
@@ -19,7 +18,7 @@ pub record IsOpen (m : Machine) (caller : ObjId) (address : ℕ) (allows : Badge
   pub notification : Notification
   pub there : object_of m id ≡ Some (o.Notification notification)
 
--- where a row went past its conditions, a notification is open, and what follows them came about
+-- a call that passed its conditions found an open notification, and did what follows them
 pub opens :
     {B : Type 0} (m : Machine) (caller : ObjId) (address : ℕ) (allows : Badged → Bool) (then_do : ObjId × Badged → Result B Cause)
     (b : B)
@@ -46,14 +45,14 @@ opens m caller address allows then_do b formed e =
       right.2,
     )
 
--- a notification's word
+-- a notification's word is set
 pub with_pending_there :
     (m : Machine) (id : ObjId) (old : Notification) (word : Option ℕ) → object_of m id ≡ Some (o.Notification old)
     → with_pending m id word ≡ with_object m id (o.Notification (record old { pending = word }))
 unfolding with_pending
 with_pending_there m id old word there = rw there refl
 
--- who waits at a notification waits for it
+-- a thread in a notification's queue waits for the notification
 waits_by_kind : (run : RunState) (id : ObjId) → WaitsAt run id → WaitsAtKind run kind.Notification → run ≡ state.Waiting id
 waits_by_kind (state.Waiting n) id at fits = ap state.Waiting at
 waits_by_kind _ id at fits = absurd fits
@@ -68,7 +67,7 @@ module _ (m : Machine) (id : ObjId) (notification : Notification) (there : objec
       let at = same_Some w.1 kind.Notification (sym w.4 ∙ ap (option_map kind_of_object) there) in
       (w.0, w.2, waits_by_kind w.0.state id w.3 (subst (λ k. WaitsAtKind w.0.state k) at w.5))
 
-  -- so nobody sends there
+  -- nobody who waits there sends
   pub none_sends : IsAlike m id (state.Waiting id)
   none_sends threads thread tcb waited within is =
       let w = waits_for threads thread waited within in

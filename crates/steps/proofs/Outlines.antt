@@ -1,4 +1,4 @@
--- Slots, numbers and ranges fit as before where objects keep their kinds, sizes and addresses, and slots are as they were.
+-- That slots, numbers and ranges still fit if objects keep their kinds, sizes and addresses, and slots are as they were.
 use Rattle.std.{specs.Prelude.{Bool, List, None, Option, Some, cond, false, is_some, length, option_map, true}, proofs.Common.{◌<◌, ◌∙◌}}
 use Rattle.std.proofs.{Common.{◌≡◌, ◌≤◌, ◌⊎◌, ap, arith, inl, inr, refl, subst, sym}, lemmas.Option.{none-some, same_Some}}
 use Rattle.base.specs.declared.ids.{ObjId.ObjId, SlotRef.SlotRef}
@@ -11,7 +11,7 @@ use Rattle.machine.{specs.WellFormed.{LinksAgree, Meets, NumbersFit, PartsFit, S
 use Rattle.machine.proofs.LookUps.{going-with_object, number_of-with_object, object_of-with_object, one_id, parent_of-with_object}
 use Rattle.machine.proofs.LookUps.{queue_of-with_object, words_of-with_object}
 
--- an object without what threads, notifications, replies and contexts hold for a time
+-- an object without what threads, notifications, replies and contexts hold at the time
 abbrev pub outline : Object → Object
 outline (o.Tcb thread) = o.Tcb (record { address = thread.address; state = state.Inactive; inbox = inbox.Empty; context = None })
 outline (o.Notification notification) = o.Notification (record notification { pending = None })
@@ -19,7 +19,7 @@ outline (o.Reply answers) = o.Reply (record answers { state = reply.Free })
 outline (o.Context context) = o.Context (record context { share = None; thread = None })
 outline object = object
 
--- objects keep their outlines, queues are where they were, words as many as they were, and slots are as they were
+-- objects keep their outlines, queues stay where they are, words keep their number, and slots are as they were
 pub record Steady (m next : Machine) : Type 0 where
   pub outlines : (q : ObjId) → option_map outline (object_of next q) ≡ option_map outline (object_of m q)
   pub queues : (q : ObjId) → is_some (queue_of next q) ≡ is_some (queue_of m q)
@@ -29,14 +29,14 @@ pub record Steady (m next : Machine) : Type 0 where
   pub number : next.next ≡ m.next
   pub going : next.going ≡ m.going
 
--- what shows the same as something that is there is there too
+-- something is there if something that shows the same was
 pub shown_there :
     {X Y : Type 0} (show : X → Y) (here other : Option X) (x : X) → option_map show here ≡ option_map show other
     → other ≡ Some x → (y : X) × (here ≡ Some y) × (show y ≡ show x)
 shown_there show None other x e is = absurd (none-some (show x) (e ∙ ap (option_map show) is))
 shown_there show (Some y) other x e is = (y, refl, same_Some (show y) (show x) (e ∙ ap (option_map show) is))
 
--- one place gets another content that shows the same
+-- one entry gets new contents that show the same
 pub shown_kept :
     {X Y : Type 0} (show : X → Y) (look : ObjId → Option X) (id : ObjId) (old new : X) → look id ≡ Some old
     → show new ≡ show old → (q : ObjId)
@@ -47,7 +47,7 @@ shown_kept show look id old new was same q = by_tie (same_id q id) refl where
       ap (λ x. Some x) same ∙ sym (ap (option_map show) was) ∙ ap (λ p. option_map show (look p)) (sym (one_id q id e))
   by_tie false e = refl
 
--- an object gets another content with the same outline
+-- an object gets new contents with the same outline
 pub object_steady :
     (m : Machine) (id : ObjId) (old new : Object) → object_of m id ≡ Some old → outline new ≡ outline old
     → Steady m (with_object m id new)
@@ -150,14 +150,14 @@ words_in (o.Reply answers) = refl
 words_in (o.Context context) = refl
 words_in _ = refl
 
--- what an outline shows is the same of two objects with the same outline
+-- two objects with the same outline show the same
 same_in :
     {X : Type 0} (shown : Object → X) → ((object : Object) → shown (outline object) ≡ shown object) → (a b : Object)
     → outline a ≡ outline b → shown a ≡ shown b
 same_in shown in_outline a b e = sym (in_outline a) ∙ ap shown e ∙ in_outline b
 
 module _ (m next : Machine) (steady : Steady m next) where
-  -- an object that is there now was there with the same outline
+  -- each object was there with the same outline
   pub object_before :
       (q : ObjId) (object : Object) → object_of next q ≡ Some object
       → (old : Object) × (object_of m q ≡ Some old) × (outline old ≡ outline object)
@@ -332,7 +332,7 @@ module _ (m next : Machine) (steady : Steady m next) where
             (was.0, was.1, cap_after was.0 was.1 was.2, was.3);
       }
 
--- such a change keeps a machine well formed where its links agree
+-- such a change keeps a machine well formed if its links agree
 pub steady_formed : (m next : Machine) → Steady m next → LinksAgree next → IsWellFormed m → IsWellFormed next
 steady_formed m next steady links formed =
     record {

@@ -1,4 +1,4 @@
--- What a poll does that is made: the word of the notification that it found is answered and taken.
+-- The effect of a poll that isn't refused: it answered and took the word of the notification that it found.
 use Rattle.std.{specs.Prelude.{None, Ok, unwrap_or}, proofs.Common.{ℕ, ◌∙◌, ◌≡◌, ap, sym}}
 use Rattle.base.specs.declared.ids.ObjId.{ObjId}
 use Rattle.machine.specs.declared.{call.{Answer.Answer as answer, Made.{Made, TheVariants.Done}}, object.Object.Object as o}

@@ -1,5 +1,5 @@
--- What a receive does that is made: the thread that the reply held is halted, and the message of the thread that waits first to
--- send is received; where none does, the caller waits.
+-- The effect of a receive that isn't refused: it halted the thread that the reply held. It received the message of the first sender, or the
+-- caller waits if there is none.
 use Rattle.std.{specs.Prelude.{None, Ok, Option, Some, option_map}, proofs.Common.{ℕ, ◌∙◌, ◌≡◌, ◌⊎◌, ap, inl, inr, refl, subst, sym}}
 use Rattle.std.proofs.lemmas.Option.{none-some, same_Some}
 use Rattle.base.specs.declared.ids.ObjId.{ObjId}

@@ -1,5 +1,5 @@
--- What changes where a thread leaves its queue and its reply: read off the machine as it was, object by object and queue by
--- queue; and links agree where it is idle then.
+-- The machine after a thread leaves its queue and its reply, object by object and queue by queue; and that its links agree if the thread is
+-- idle then.
 use Rattle.std.{specs.Prelude.{None, Option, Some, if◌then◌else◌, is_some, length, option_map}, proofs.Common.{◌∙◌, ◌≡◌, ◌≢◌, ◌⊎◌, Bool}}
 use Rattle.std.proofs.{Common.{List, ap, cond, false, inl, inr, refl, subst, sym, true}, lemmas.Bool.false≢true}
 use Rattle.std.specs.FinMap as map
@@ -43,7 +43,7 @@ pub rest_parents : (m next : Machine) → SameRest m next → (slot : SlotRef) �
 unfolding parent_of
 rest_parents m next same slot = ap (λ parents. map.get parents slot) same.parents
 
--- an object that is no reply is the same where a thread leaves
+-- objects other than replies are the same after a thread leaves
 freed_same : (thread : ObjId) (object : Object) → ((holding : Reply) → object ≢ o.Reply holding) → freed thread object ≡ object
 freed_same thread (o.Reply holding) differs = absurd (differs holding refl)
 freed_same thread _ differs = refl
@@ -56,7 +56,7 @@ module _ (m next : Machine) (thread : ObjId) (new : Tcb) (released : IsReleased 
   released_elsewhere q apart =
       released.objects q ∙ at_other q thread (Some (o.Tcb new)) (option_map (freed thread) (object_of m q)) apart
 
-  -- another object that is no reply is as it was
+  -- each other object but a reply is as it was
   pub other_now :
       (q : ObjId) (object : Object) → q ≢ thread → ((holding : Reply) → object ≢ o.Reply holding) → object_of m q ≡ Some object
       → object_of next q ≡ Some object
@@ -71,7 +71,7 @@ module _ (m next : Machine) (thread : ObjId) (new : Tcb) (released : IsReleased 
       released_elsewhere q apart ∙ ap (option_map (freed thread)) e
       ∙ ap (λ (s : ReplyState). Some (o.Reply (record holding { state = s }))) (held_freed thread holding.state is)
 
-  -- another is as it was
+  -- each other reply is as it was
   pub reply_stays :
       (q : ObjId) (holding : Reply) → q ≢ thread → object_of m q ≡ Some (o.Reply holding) → ¬ (IsHolding holding.state thread)
       → object_of next q ≡ Some (o.Reply holding)
@@ -80,7 +80,7 @@ module _ (m next : Machine) (thread : ObjId) (new : Tcb) (released : IsReleased 
       ∙ ap (λ (s : ReplyState). Some (o.Reply (record holding { state = s }))) (others_kept thread holding.state differs)
 
   module _ (old : Tcb) (was : IsThread m thread old) (runs : new.context ≡ old.context) (idle : IsIdle new.state) where
-    -- it is the one that leaves
+    -- only this thread leaves
     abbrev leaver : Leavers
     leaver =
         record {

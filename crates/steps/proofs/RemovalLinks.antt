@@ -1,4 +1,4 @@
--- A removal is a set of threads that leave their queues and their replies, and of objects that go.
+-- That links agree after a removal, as a set of threads leaves its queues and replies, and a set of objects is removed.
 use Rattle.std.{specs.Prelude.{◌||◌, None, Option, Some, option_map}, proofs.Common.{◌∙◌, ◌≡◌, Bool, ap, cond, false, refl, sym, true}}
 use Rattle.std.proofs.lemmas.Bool.{false≢true}
 use Rattle.base.specs.declared.ids.{ObjId.ObjId, SlotRef.SlotRef}

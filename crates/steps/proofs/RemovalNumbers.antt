@@ -1,4 +1,4 @@
--- Numbers and ranges of a well-formed machine fit after a removal, so that it stays well formed.
+-- That numbers and ranges fit after a removal, so that the machine stays well formed.
 use Rattle.std.{specs.Prelude.Some, proofs.Common.{◌<◌, ◌∙◌, ◌≡◌, ◌≤◌, Bool, ap, false, subst, sym}}
 use Rattle.base.specs.declared.ids.{ObjId.ObjId, SlotRef.SlotRef}
 use Rattle.machine.specs.{declared.object.{Object.{Object, Object as o}, Untyped.Untyped}, Finalising.finalised, Machine.Machine}
@@ -14,7 +14,7 @@ module _ (m : Machine) (chosen : SlotRef → Bool) (formed : IsWellFormed m) whe
   abbrev vanished : ObjId → Bool
   vanished = vanishes m chosen
 
-  -- what an object was that is there
+  -- what an object was before the removal
   record Was (id : ObjId) (object : Object) : Type 0 where
     old : Object
     there : object_of m id ≡ Some old

@@ -1,4 +1,4 @@
--- What a delete and a revoke do that are made: the slot that they found, and the machine after it.
+-- The effect of a delete or revoke that isn't refused: the slot that it found, and the machine after it.
 use Rattle.std.{specs.Prelude.{None, Ok, Option, Some}, proofs.Common.{◌∙◌, ◌≡◌, ◌⊎◌, Bool, ap, cond, false, inl, inr, refl, subst, sym}}
 use Rattle.std.proofs.{Common.true, lemmas.{Bool.false≢true, Option.none-some}}
 use Rattle.base.specs.declared.ids.{ObjId.ObjId, SlotRef.SlotRef}
@@ -9,7 +9,7 @@ use Rattle.machine.{specs.WellFormed.{IsWellFormed, child, further}, proofs.{Exc
 use Rattle.machine.proofs.{OrphanLemmas.climbed, RemovalLooks.{cap_of-removed, gone_has_no_parent, nearest_survives}}
 use Rattle.steps.proofs.{BelowLemmas.below_decided, Conditions.{both_done, same_ok}}
 
--- a removal was made: of nothing where the slot was empty, and else of those that go with the slot
+-- a removal was made: of nothing if the slot was empty, and else of the capabilities chosen with the slot
 pub record RemovalDone (m : Machine) (caller : ObjId) (address : SlotAddress) (chosen : SlotRef → SlotRef → Bool) (next : Machine) : Type 0 where
   pub slot : SlotRef
   pub found : target_of m caller address ≡ Ok slot
@@ -75,7 +75,7 @@ deleted_empty m caller address made next e =
       by_after slot (inr some) =
           ap (λ (n : Machine). cap_of n slot) some.2 ∙ chosen_empty m (same_slot slot) slot (slot_itself slot)
 
--- a slot that descends from another has one above it whose parent is the other
+-- nothing descends from a slot that is nobody's parent
 childless : (m : Machine) (above : SlotRef) → ((slot : SlotRef) → ¬ (parent_of m slot ≡ Some above)) → {slot : SlotRef} → ¬ (Descends m slot above)
 childless m above none (child is) = none _ is
 childless m above none (further is rest) = childless m above none rest

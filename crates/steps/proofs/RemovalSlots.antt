@@ -1,4 +1,4 @@
--- Slots, the parts of objects, and numbers and ranges of a well-formed machine fit after a removal.
+-- That slots, parts of objects, numbers and ranges fit after a removal.
 use Rattle.std.{specs.Prelude.{ℕ, None, Some}, proofs.Common.{◌<◌, ◌∙◌, ◌≡◌, Bool, List, ap, arith, cond, false, inl, inr, refl, subst}}
 use Rattle.std.proofs.{Common.{sym, true}, lemmas.Option.{none-some, same_Some}}
 use Rattle.base.specs.declared.ids.{ObjId.ObjId, SlotRef.SlotRef}
@@ -9,7 +9,7 @@ use Rattle.machine.{specs.WellFormed.kind_of, proofs.{RemovalLooks.words_of-remo
 use Rattle.machine.proofs.{RemovalStays.{holder_stays, like_finalised, object_stays, object_was, parent_was}, RemovalTable.finalised_there}
 use Rattle.steps.proofs.{LeavingLinks.{kind_now, queue_now, queue_was}, RemovalLinks.{have_left, leavers}, SameObjects.Kin}
 
--- what lies in memory that lies in other memory lies there
+-- an object in untyped memory lies in all memory around that
 lies_through : (outer inner : Untyped) (object : Object) → LiesIn outer (o.Untyped inner) → LiesIn inner object → LiesIn outer object
 lies_through outer inner (o.Control _) holds lies = lies
 lies_through outer inner _ holds lies = (omega (arith, holds.0, lies.0), omega (arith, holds.1, lies.1))
@@ -21,7 +21,7 @@ kin_on m low mid high (inr w) (inr v) =
     let one : v.1 ≡ o.Untyped w.0 = same_Some v.1 (o.Untyped w.0) (sym v.3 ∙ w.2) in
     inr (v.0, w.1, v.2, w.3, lies_through v.0 w.0 w.1 (subst (λ (object : Object). LiesIn v.0 object) one v.4) w.4)
 
--- who descends is for the same object, or for one in the memory above
+-- a descendant is for the same object, or for one in the memory above
 pub descendants_kin :
     (m : Machine) → SlotsFit m → {slot above : SlotRef} → Descends m slot above → (below over : Cap) → cap_of m slot ≡ Some below
     → cap_of m above ≡ Some over → Kin m below.object over.object

@@ -1,5 +1,5 @@
--- What a reply does that is made: the thread that has called through it gets the words, after the context that it lent to the caller;
--- where none has, nothing changes.
+-- The effect of a reply that isn't refused: the thread that called through the reply got its lent context back, then the words. Nothing
+-- changed if no thread had called.
 use Rattle.std.{specs.Prelude.{Ok, Option, Some}, proofs.Common.{ℕ, ◌∙◌, ◌≡◌, ◌⊎◌, List, ap, false, inl, inr, refl, sym}}
 use Rattle.base.specs.declared.ids.ObjId.{ObjId}
 use Rattle.machine.specs.declared.{call.Made.Made, cap.Detail.Detail as d, object.{Object.{Object, Object as o}, ReplyState.ReplyState}}
@@ -9,7 +9,7 @@ use Rattle.machine.specs.declared.object.ObjectKind.TheVariants as kind
 use Rattle.machine.specs.declared.object.ReplyState.TheVariants as reply
 use Rattle.steps.proofs.{Conditions.{both_done, same_ok}, Finding.{FindsObject, finds}}
 
--- a thread that has called through a reply is answered, where one has
+-- the thread that has called through a reply is answered, if there is one
 abbrev pub Answers : Machine → ObjId → ObjId → List ℕ → Machine → Type 0
 Answers m invoker id words next =
     ((thread : ObjId) × (at : ℕ)

@@ -1,4 +1,4 @@
--- A made retype makes its objects one after another, and keeps a well-formed machine well formed.
+-- That a retype makes its objects one after another, and keeps a machine well formed.
 use Rattle.std.specs.{FinMap.{entries, get-entries, Entries.find}, List.list_any, Prelude.{None, Ok, Some, cond, if◌then◌else◌}}
 use Rattle.std.proofs.Common.{[], ℕ, ◌+◌, ◌<◌, ◌^◌, ◌||◌, ◌∙◌, ◌∷◌, ◌≡◌, ◌≢◌, ◌≤◌, ◌⊎◌, Bool, List, ap, arith, false, inl, inr, refl, subst}
 use Rattle.std.proofs.{Common.{suc, sym, true, zero}, Math.Nat.eq-or-lt_of_le, lemmas.Bool.or_right}
@@ -34,8 +34,6 @@ all_formed {of = of} {bits = bits} {source = source} formed (first {m = m} {betw
     all_formed
     (made_formed m between source (taken (new_size of bits) source.memory).watermark
     (new_object of bits (placed (new_size of bits) source.memory)) (new_detail of) slot makes can formed) rest
-
--- what a new object is like
 
 pub new_address : (of : MemoryKind) (bits at : ℕ) → address_of (new_object of bits at) ≡ at
 new_address kind.Untyped bits at = refl
@@ -89,7 +87,7 @@ new_ranged kind.Reply bits at size ends = ends
 new_ranged kind.Context bits at size ends = ends
 new_ranged kind.Frame bits at size ends = ends
 
--- a watermark never falls where memory is taken
+-- a watermark never falls when memory is taken
 mark_rises : (count size : ℕ) (memory : Untyped) → memory.watermark ≤ (all_taken count size memory).watermark
 mark_rises zero size memory = omega arith
 mark_rises (suc count) size memory =
@@ -97,8 +95,8 @@ mark_rises (suc count) size memory =
     mark_rises count size (taken size memory) in
     omega (arith, later)
 
--- so many objects can be made: the memory is there with a capability, holds nothing past its watermark, and has room; and the
--- slots are empty ones of a CNode
+-- objects can be made: the memory exists with a capability, holds nothing past its watermark and has room; and the slots are empty ones of
+-- a CNode
 record CanMakeAll (m : Machine) (source : Source) (size : ℕ) (node : ObjId) (offset count : ℕ) : Type 0 where
   was : ℕ
   there : object_of m source.id ≡ Some (o.Untyped (marked source.memory was))
@@ -230,7 +228,7 @@ module _ (of : MemoryKind) (bits : ℕ) (sized : IsSized of bits) (node : ObjId)
       (made_formed m next source (mark_from source) (object_from source) (new_detail of) (slot_at offset) makes one formed)
       (can_rest m next source offset count formed can makes))
 
--- a slot that has no child is nobody's parent
+-- a slot without children is nobody's parent
 
 is_parent :
     (q slot : SlotRef) (pairs : List (SlotRef × SlotRef)) → find slot_cmp q pairs ≡ Some slot
@@ -258,7 +256,7 @@ no_descent : (m : Machine) (slot : SlotRef) → has_child m slot ≡ false → {
 no_descent m slot leaf (child {slot = q} e) = childless m slot q leaf e
 no_descent m slot leaf (further e rest) = no_descent m slot leaf rest
 
--- slots of a window that are empty, one by one
+-- the empty slots of a window, one by one
 pub each_vacant :
     (m : Machine) (node : ObjId) (offset count : ℕ) (u : Unit {0}) → all_vacant m (window node offset count) ≡ Ok u
     → (index : ℕ) → offset ≤ index → index < offset + count → cap_of m (record { holder = node; index = index }) ≡ None
@@ -351,7 +349,7 @@ module _ (m : Machine) (caller : ObjId) (untyped : ℕ) (of : MemoryKind) (bits 
           vacant = each_vacant m done.node.node offset count tt done.vacant;
         })
 
-  -- the objects that a made retype makes, one after another
+  -- the objects that a made retype makes
   pub retype_makes : MakesAll of bits m (begun m source) (window done.node.node offset count) next
   retype_makes =
       subst (λ (n : Machine). MakesAll of bits m (begun m source) (window done.node.node offset count) n) (sym done.changes)

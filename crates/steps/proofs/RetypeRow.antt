@@ -1,4 +1,4 @@
--- What a retype found that is made, and the objects that it made one after another.
+-- A retype that isn't refused: what it found, and the objects that it made one after another.
 use Rattle.std.{specs.Prelude.{Err, None, Ok, Option, Some, nat_le, nat_lt}, proofs.Common.{ℕ, ◌+◌, ◌^◌, ◌≡◌, ◌≤◌, Bool, ap, false}}
 use Rattle.std.proofs.Common.{leb-true, ltb-false, refl, subst, sym, true}
 use Rattle.base.specs.declared.{ids.{ObjId.ObjId, SlotRef.SlotRef}, limits.TheConstants.MAX_RADIX, refusal.Cause.Cause as cause}
@@ -11,7 +11,7 @@ use Rattle.machine.specs.declared.object.MemoryKind.TheVariants as kind
 use Rattle.machine.specs.declared.object.ObjectKind.TheVariants as object_kind
 use Rattle.steps.proofs.{Conditions.{both_done, same_ok}, Finding.{FindsCap, finds}}
 
--- a size that may be asked for
+-- a size that a retype may ask for
 abbrev pub IsSized : MemoryKind → ℕ → Type 0
 IsSized kind.Untyped bits = (4 ≤ bits) × (bits ≤ 47)
 IsSized kind.CNode bits = (1 ≤ bits) × (bits ≤ MAX_RADIX)
@@ -25,7 +25,7 @@ pub record FindsUntyped (m : Machine) (caller : ObjId) (address : ℕ) (source :
   pub object : held.object ≡ source.id
   pub there : object_of m source.id ≡ Some (o.Untyped source.memory)
 
--- and another to that of a CNode
+-- an address leads to the capability of a CNode
 pub record FindsTaker (m : Machine) (caller : ObjId) (address : ℕ) (node : Level) : Type 0 where
   pub at : SlotRef
   pub left : ℕ

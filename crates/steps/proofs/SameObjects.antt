@@ -1,4 +1,4 @@
--- What stays where nothing but slots differs: parts, links, and numbers as far as capabilities are found again.
+-- Facts that stay true if only slots differ: on parts, on links, and on numbers as far as capabilities are still found.
 use Rattle.std.{specs.Prelude.{Some, option_map}, proofs.Common.{◌<◌, ◌∙◌, ◌≡◌, ◌⊎◌, ap, inl, inr, refl, subst, sym}}
 use Rattle.base.specs.declared.ids.{ObjId.ObjId, SlotRef.SlotRef}
 use Rattle.machine.specs.declared.{cap.Cap.Cap, object.{Object.{Object, Object as o}, ObjectKind.ObjectKind as kind, Untyped.Untyped}}
@@ -42,7 +42,7 @@ links_beside m other links =
       context_thread = links.context_thread;
     }
 
--- each object that had a capability has one
+-- each object that had a capability still has one
 abbrev pub KeepsCaps : Machine → Machine → Type 0
 KeepsCaps m next =
     (slot : SlotRef) (held : Cap) → cap_of m slot ≡ Some held
@@ -54,7 +54,7 @@ OneCap m =
     (a b : SlotRef) (first second : Cap) → cap_of m a ≡ Some first → cap_of m b ≡ Some second → first.object ≡ second.object
     → kind_of_detail first.detail ≡ kind.Untyped → a ≡ b
 
--- where all capabilities of one object descended from those of an untyped, they still do
+-- capabilities of one object still descend from those of an untyped, if all did
 abbrev pub KeepsDescent : Machine → Machine → Type 0
 KeepsDescent m next =
     (slot above : SlotRef) (held over : Cap) (memory : Untyped) → cap_of next slot ≡ Some held → cap_of next above ≡ Some over
@@ -63,7 +63,7 @@ KeepsDescent m next =
     → top.object ≡ over.object → Descends m low high)
     → Descends next slot above
 
--- one object is another, or lies in the untyped memory that the other is
+-- two objects are one, or the first lies in the untyped memory that the second is
 abbrev pub Kin : Machine → ObjId → ObjId → Type 0
 Kin m low high =
     (low ≡ high)

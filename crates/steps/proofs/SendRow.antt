@@ -1,5 +1,5 @@
--- What a send and a call do that are made: the message goes to the thread that waits first to receive, and a call waits for the
--- answer, with its context lent; where none does, the caller waits.
+-- The effect of a send or call that isn't refused: the first thread that waits to receive got the message, or the caller waits if there is
+-- none. A call waits for the answer, with its context lent.
 use Rattle.std.{specs.Prelude.{None, Ok, Option, Some, option_map}, proofs.Common.{ℕ, ◌≡◌, ◌⊎◌, List, ap, false, inl, inr, refl, sym, true}}
 use Rattle.base.specs.declared.ids.ObjId.{ObjId}
 use Rattle.machine.specs.declared.{call.Made.{Made, TheVariants.Blocked}, object.{Endpoint.Endpoint, Object.Object as o}}
@@ -9,7 +9,7 @@ use Rattle.machine.specs.Step.{Deliver.{delivered, first_at, receiver_in, sendin
 use Rattle.machine.specs.{Step.Send.{endpoint_call_of, send_of, sent_or_waits}, WellFormed.{IsAlike, IsWellFormed}}
 use Rattle.steps.proofs.{Conditions.same_ok, EndpointRow.{IsEndOpen, IsReceiver, no_receiver, opens_end, receiver_first}}
 
--- a message goes to a receiver that waits at an endpoint, or its sender waits there
+-- a message is delivered to a receiver that waits at an endpoint, or its sender waits there
 abbrev pub Sends : Machine → ObjId → ObjId → Sending → (ObjId → Receiving → Machine) → Machine → Type 0
 Sends m id caller sending does next =
     ((receiver : ObjId) × (receiving : Receiving) × IsReceiver m id receiver receiving × (next ≡ does receiver receiving))
@@ -53,7 +53,7 @@ module _ (m : Machine) (caller : ObjId) (sending : Sending) (endpoint : Endpoint
         inr
         (no_receiver m sending.endpoint formed (ap (option_map kind_of_object) there) sending is, sym (ap (λ p. p.1) does))
 
-  -- a call's delivery, after which it waits for the answer
+  -- the delivery of a call, after which the caller waits for the answer
   abbrev calling : ObjId → Receiving → Machine
   calling receiver receiving =
       called_through (delivered m caller sending receiver receiving) caller receiver (answer_through sending receiving.reply)

@@ -1,10 +1,9 @@
--- One object's content becomes another, and the others' stay as they were.
+-- That one object gets new contents, and all others stay as they were.
 use Rattle.std.{specs.Prelude.{Some, if◌then◌else◌}, proofs.Common.{◌∙◌, ◌≡◌, ◌≢◌, ◌⊎◌, ap, inl, inr, sym}}
 use Rattle.base.specs.declared.ids.ObjId.{ObjId}
 use Rattle.machine.{specs.{declared.object.Object.Object, Machine.{Machine, object_of, same_id}}, proofs.Ids.{at_itself, at_other}}
 use Rattle.machine.proofs.Ids.{one_or_two}
 
--- one object's content is this, and the others' are as they were
 abbrev pub SetsObject : Machine → ObjId → Object → Machine → Type 0
 SetsObject m id object next = (q : ObjId) → object_of next q ≡ (if same_id q id then Some object else object_of m q)
 
@@ -15,14 +14,14 @@ module _ (m next : Machine) (id : ObjId) (object : Object) (sets : SetsObject m 
   pub set_elsewhere : (q : ObjId) → q ≢ id → object_of next q ≡ object_of m q
   set_elsewhere q differs = sets q ∙ at_other q id (Some object) (object_of m q) differs
 
-  -- another content was there before
+  -- contents other than the new ones were there before
   pub other_before : (q : ObjId) (other : Object) → other ≢ object → object_of next q ≡ Some other → object_of m q ≡ Some other
   other_before q other differs e = by_id (one_or_two q id) where
     by_id : (q ≡ id) ⊎ (q ≢ id) → object_of m q ≡ Some other
     by_id (inl same) = let now : Some other ≡ Some object = sym e ∙ ap (object_of next) same ∙ set_there in absurd (differs cc)
     by_id (inr apart) = sym (set_elsewhere q apart) ∙ e
 
-  -- another content than the old one is still there
+  -- contents other than the old ones are still there
   pub other_after :
       (old : Object) → object_of m id ≡ Some old → (q : ObjId) (other : Object) → other ≢ old → object_of m q ≡ Some other
       → object_of next q ≡ Some other

@@ -1,5 +1,5 @@
--- What a signal does that is made: the first thread that waits gets the badge and is ready; where nobody waits, the badge joins
--- the word.
+-- The effect of a signal that isn't refused: the first thread that waits got the badge and is ready; if nobody waits, the badge was added
+-- to the word.
 use Rattle.std.{specs.{Int.RustNames.bit_or, Prelude.{Contains, None, Ok, Option, Some, unwrap_or}}, proofs.Common.{[], ℕ, ◌∙◌, ◌∷◌, ◌≡◌}}
 use Rattle.std.proofs.Common.{◌⊎◌, List, ap, inl, inr, refl, subst, sym}
 use Rattle.base.specs.declared.ids.ObjId.{ObjId}
@@ -13,7 +13,7 @@ use Rattle.machine.specs.declared.thread.Inbox.TheVariants as inbox
 use Rattle.machine.specs.declared.thread.RunState.TheVariants as state
 use Rattle.steps.proofs.{Conditions.same_ok, NotificationRow.{IsOpen, opens, waits_for, with_pending_there}}
 
--- a thread with a word in its inbox, ready
+-- a ready thread with a word in its inbox
 abbrev pub roused : ℕ → Tcb → Tcb
 roused word tcb = record tcb { state = state.Ready; inbox = inbox.Word word }
 
@@ -25,7 +25,7 @@ pub record Wakes (m : Machine) (id : ObjId) (badge : ℕ) (next : Machine) : Typ
   pub waits : thread.state ≡ state.Waiting id
   pub changes : next ≡ with_released m first (roused badge)
 
--- a notification with a badge that joined its word
+-- a notification whose word has a badge added
 abbrev pub marked : Notification → ℕ → Notification
 marked notification badge = record notification { pending = Some (bit_or badge (unwrap_or notification.pending 0)) }
 
@@ -65,7 +65,7 @@ signalled_alone m id notification badge nobody there =
           Some (bit_or badge (unwrap_or (pending_in object) 0));
     }))) there)
 
--- what a notification that is signalled comes to
+-- the notification after a signal
 signalled_done :
     (m : Machine) (id : ObjId) (notification : Notification) (badge : ℕ) → IsWellFormed m
     → object_of m id ≡ Some (o.Notification notification)

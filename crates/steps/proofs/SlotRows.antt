@@ -1,4 +1,4 @@
--- What a copy, a mint and a move do that are made: the slots that they found, and what changed.
+-- The effect of a copy, mint or move that isn't refused: the slots that it found, and what changed.
 use Rattle.std.{specs.{FinMap.get-remove, Prelude.{Err, None, Ok, Option, Result, Some, cond, if◌then◌else◌}}, proofs.Common.{[], ℕ, ◌∙◌}}
 use Rattle.std.proofs.Common.{◌∷◌, ◌≡◌, ◌≢◌, Bool, List, ap, arith, false, length, refl, subst, sym, true}
 use Rattle.base.specs.declared.{ids.{ObjId.ObjId, SlotRef.SlotRef}, refusal.LookupFailure.LookupFailure, rights.Rights.Rights}
@@ -14,7 +14,7 @@ use Rattle.machine.proofs.{LookUps.{parent_of-with_parent, slot_total}, SlotChan
 use Rattle.machine.specs.declared.object.ObjectKind.TheVariants as kind
 use Rattle.steps.proofs.{Conditions.{both_done, same_ok}, Copies.{is_copyable, masked_narrower, minted_narrower}, Finding.finds}
 
--- a slot address leads to a slot: an ordinary lookup to that of a CNode's capability, and a target lookup on from there
+-- a slot address leads to a slot: an ordinary lookup finds a CNode's capability, and a target lookup goes on from there
 pub record LeadsTo (m : Machine) (caller : ObjId) (address : SlotAddress) (slot : SlotRef) : Type 0 where
   pub at : SlotRef
   pub left : ℕ
@@ -37,7 +37,7 @@ pub record Derives (m : Machine) (caller : ObjId) (to from : SlotAddress) (next 
   pub held : Cap
   pub detail : Detail
   pub finds : FindsEnds m caller to from target source held
-  -- the copy is of the same kind, which is not untyped, and has no right that the source lacks
+  -- the copy is of the same kind, isn't for untyped memory, and has no right that the source lacks
   pub narrower : IsNarrower detail held.detail
   pub copyable : kind_of_detail held.detail ≢ kind.Untyped
   pub changes : Fills m target (copied held detail) (parent_of_copy m source held) next
@@ -50,7 +50,7 @@ pub record MoveDone (m : Machine) (caller : ObjId) (to from : SlotAddress) (next
   pub finds : FindsEnds m caller to from target source held
   pub changes : Moves m source target held next
 
--- a target lookup that is made
+-- a target lookup is made
 
 has_root : (at : Option Level) (level : Level) → rooted at ≡ Ok level → at ≡ Some level
 has_root None level e = cc
@@ -104,7 +104,7 @@ is_filled : (filling : Option Cap) (held : Cap) → filled filling ≡ Ok held �
 is_filled None held e = cc
 is_filled (Some other) held e = ap (λ c. Some c) (same_ok e)
 
--- a slot address leads to a slot with this capability
+-- a slot address leads to a slot that holds this capability
 source_leads :
     (m : Machine) (caller : ObjId) (address : SlotAddress) (slot : SlotRef) (held : Cap)
     → source_of m caller address ≡ Ok (slot, held) → LeadsTo m caller address slot × (cap_of m slot ≡ Some held)
@@ -137,7 +137,7 @@ ends_found m caller to from ends e =
       filled = from_there.1;
     })
 
--- a slot without a parent gets a capability with a parent, or with none
+-- a slot without a parent gets a capability, with a parent or without
 under_fills :
     (m : Machine) (slot : SlotRef) (held : Cap) (parent : Option SlotRef) → parent_of m slot ≡ None
     → Fills m slot held parent (under (with_cap m slot held) slot parent)

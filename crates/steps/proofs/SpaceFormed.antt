@@ -1,4 +1,4 @@
--- A thread that loses its root slot's capability, or gets a CNode's there, keeps a well-formed machine well formed.
+-- That a machine stays well formed when a thread's root slot is cleared, or gets a CNode's capability.
 use Rattle.std.{specs.Prelude.{IsTrue, None, Option, Some}, proofs.Common.{ℕ, ◌∙◌, ◌≡◌, ◌⊎◌, ap, arith, inl, inr, refl, subst, sym}}
 use Rattle.std.proofs.lemmas.{Bool.lt-ltb, Option.same_Some}
 use Rattle.base.specs.declared.ids.{ObjId.ObjId, SlotRef.SlotRef}
@@ -9,7 +9,7 @@ use Rattle.machine.{specs.WellFormed.kind_of, proofs.{Exchange.slot_itself, Remo
 use Rattle.steps.proofs.{FillsFormed.{Takes, fills_formed}, FoundObjects.tcb_of_kind, RemovalNumbers.removed_formed}
 use Rattle.steps.proofs.{RemovalRows.chosen_empty, SlotRows.with_copy_fills, SpaceRow.{ClearDone, RootFilled, SetDone, root_filled}}
 
--- a root slot that is cleared
+-- a root slot is cleared: the machine stays well formed
 
 pub rootless_formed : (m : Machine) (thread : ObjId) → IsWellFormed m → IsWellFormed (without_root m thread)
 rootless_formed m thread formed = by_cap (cap_of m (root_of thread)) where
@@ -17,7 +17,7 @@ rootless_formed m thread formed = by_cap (cap_of m (root_of thread)) where
   by_cap None = formed
   by_cap (Some held) = removed_formed m (same_slot (root_of thread)) formed
 
--- is empty
+-- the cleared root slot is empty
 pub root_empty : (m : Machine) (thread : ObjId) → cap_of (without_root m thread) (root_of thread) ≡ None
 root_empty m thread = by_cap (cap_of m (root_of thread)) refl where
   by_cap :
@@ -26,7 +26,7 @@ root_empty m thread = by_cap (cap_of m (root_of thread)) refl where
   by_cap None e = e
   by_cap (Some held) e = chosen_empty m (same_slot (root_of thread)) (root_of thread) (slot_itself (root_of thread))
 
--- and a slot that is still filled holds what it held
+-- a slot that is still filled holds what it held
 pub held_before :
     (m : Machine) (thread : ObjId) (slot : SlotRef) (held : Cap) → cap_of (without_root m thread) slot ≡ Some held
     → cap_of m slot ≡ Some held
@@ -35,18 +35,18 @@ held_before m thread slot held = by_cap (cap_of m (root_of thread)) where
   by_cap None e = e
   by_cap (Some _) e = (cap_was m (same_slot (root_of thread)) slot held e).1
 
--- a thread whose capability a slot holds is there
+-- a thread whose capability a slot holds exists
 pub thread_there :
     (m : Machine) (thread : ObjId) (tcb : SlotRef) (of : Cap) → IsWellFormed m → cap_of m tcb ≡ Some of → of.object ≡ thread
     → of.detail ≡ d.Tcb → kind_of m thread ≡ Some kind.Tcb
 thread_there m thread tcb of formed filled object detail =
     ap (kind_of m) (sym object) ∙ formed.slots.object tcb of filled ∙ ap (λ x. Some (kind_of_detail x)) detail
 
--- and has its root slot
+-- an existing thread has its root slot
 pub root_there : (m : Machine) (thread : ObjId) → kind_of m thread ≡ Some kind.Tcb → IsTrue (has_slot m (root_of thread))
 root_there m thread is = let tcb = tcb_of_kind (object_of m thread) is in rw tcb.1 (lt-ltb 0 1 (omega arith))
 
--- a root slot that is empty gets a copy of a CNode's capability, if there is one
+-- an empty root slot gets a copy of a CNode's capability, if there is one
 pub rooted_formed :
     (m : Machine) (thread : ObjId) (tcb node : SlotRef) → IsWellFormed m → cap_of m (root_of thread) ≡ None
     → ((of : Cap) → cap_of m tcb ≡ Some of → kind_of m thread ≡ Some kind.Tcb)
@@ -76,7 +76,7 @@ rooted_formed m thread tcb node formed empty there nodes = by_case (root_filled 
 
 module _ (m : Machine) (thread : ObjId) (tcb : SlotRef) (of : Cap) (formed : IsWellFormed m) (filled : cap_of m tcb ≡ Some of)
     (object : of.object ≡ thread) (detail : of.detail ≡ d.Tcb) where
-  -- where the slot with the thread's capability is still filled, the thread is still there
+  -- a thread is still there if the slot with its capability is still filled
   still_there :
       (now : Cap) → cap_of (without_root m thread) tcb ≡ Some now
       → kind_of (without_root m thread) thread ≡ Some kind.Tcb

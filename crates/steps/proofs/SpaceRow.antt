@@ -1,4 +1,4 @@
--- What a clearspace and a setspace do that are made: the thread that they found, the CNode's capability, and the machine after it.
+-- The effect of a clearspace or setspace that isn't refused: the thread and the CNode's capability that it found, and the machine after it.
 use Rattle.std.{specs.Prelude.{None, Ok, Option, Some}, proofs.Common.{ℕ, ◌≡◌, ◌⊎◌, ap, inl, inr, refl, sym}}
 use Rattle.base.specs.declared.ids.{ObjId.ObjId, SlotRef.SlotRef}
 use Rattle.machine.specs.{declared.{call.Made.Made, cap.{Cap.Cap, Detail.Detail as d, Guard.Guard}}, Lookup.root_of, Machine.Machine}
@@ -60,7 +60,7 @@ pub record RootFilled (m : Machine) (thread : ObjId) (tcb node : SlotRef) : Type
   pub node_held : cap_of m node ≡ Some held
   pub changes : with_root m thread tcb node ≡ with_copy m (root_of thread) node held held.detail
 
--- or nothing changed, as one of the two slots was empty
+-- a root slot got such a copy, or nothing changed as one of the two slots was empty
 pub root_filled :
     (m : Machine) (thread : ObjId) (tcb node : SlotRef)
     → RootFilled m thread tcb node ⊎ (with_root m thread tcb node ≡ m)

@@ -1,4 +1,4 @@
--- What is a step, when two steps of one event agree, and that a refused one changes nothing.
+-- Which results are steps, that two steps of one event agree, and that a refused step changes nothing.
 use Rattle.std.{specs.{List.{All, zip}, Prelude.{Err, Ok, Result}}, proofs.Common.{[], ◌∙◌, ◌∷◌, ◌≡◌, ◌≢◌, ◌⊎◌, List, ap, inl, inr, refl}}
 use Rattle.std.proofs.{Common.{subst, sym}, lemmas.List.Elements.{All-cons, All-nil}}
 use Rattle.base.specs.{declared.refusal.{Cause.Cause, Misuse.Misuse}, Refusals.{misuse_refusal, out_of_memory, refusal_of}}
@@ -8,7 +8,7 @@ use Rattle.machine.specs.declared.call.Made.TheVariants as made
 use Rattle.machine.specs.{Outcomes.{IsRefused, outcome_of}, Run.Run, Step.{LacksMemory, MayEnd, Step, made_by, settled, step_of, Step.ends}}
 use Rattle.machine.specs.Step.Step.{lacks}
 
--- an event that was made is a step, and so is one that was refused
+-- a made event is a step, and so is a refused one
 
 pub made_steps :
     (m : Machine) (event : Event) (made : Made) (next : Machine) → made_by m event ≡ Ok (made, next)
@@ -47,7 +47,7 @@ unfolding step_of
 refused_changes_nothing m event outcome next (ends e) = settled_refused m (made_by m event) outcome next e
 refused_changes_nothing m event outcome next (lacks without) = λ refused. without.same
 
--- how an event ends that its call decides
+-- how an event ends, as its call decides
 settled_ends : (m : Machine) (event : Event) (made : Result (Made × Machine) Cause) → MayEnd event (settled m made).0
 settled_ends m event (Ok (made.Done answer, next)) = tt
 settled_ends m event (Ok (made.Blocked, next)) = tt
@@ -59,7 +59,7 @@ unfolding step_of
 steps_end m event outcome next (ends e) = subst (MayEnd event) (ap (λ p. p.0) e) (settled_ends m event (made_by m event))
 steps_end m event outcome next (lacks without) = subst (MayEnd event) (sym without.refused) (inr (without.takes, refl))
 
--- and so how each event of a run ends
+-- how each event of a run ends
 abbrev pub Ended : Event × Outcome → Type 0
 Ended entry = MayEnd entry.0 entry.1
 
@@ -73,7 +73,7 @@ runs_end first (event ∷ events) (outcome ∷ outcomes) last ran =
     All-cons Ended (event, outcome) (zip events outcomes) (steps_end first event outcome ran.0 ran.1)
     (runs_end ran.0 events outcomes last ran.2)
 
--- no step is refused as what isn't begun
+-- no step is refused as one that isn't begun
 
 settled_is_begun : (m : Machine) (made : Result (Made × Machine) Cause) (wrong : Misuse) → (settled m made).0 ≢ Refused (misuse_refusal wrong)
 settled_is_begun m (Ok (made.Done answer, next)) wrong same = cc

@@ -1,4 +1,4 @@
--- A thread that is suspended or resumed keeps a well-formed machine well formed.
+-- That suspend and resume keep a machine well formed.
 use Rattle.std.{specs.Prelude.{None, Option, Some}, proofs.Common.{ℕ, ◌≡◌, refl, subst, sym}}
 use Rattle.base.specs.declared.ids.ObjId.{ObjId}
 use Rattle.machine.specs.{declared.{object.Object.{Object, Object as o}, thread.{RunState.RunState, Tcb.Tcb}}, Machine.{Machine, object_of}}

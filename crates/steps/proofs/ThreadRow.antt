@@ -1,4 +1,4 @@
--- What a suspend and a resume do that are made: the thread that they found, and the machine after it.
+-- The effect of a suspend or resume that isn't refused: the thread that it found, and the machine after it.
 use Rattle.std.{specs.Prelude.Ok, proofs.Common.{ℕ, ◌≡◌, ap, sym}}
 use Rattle.base.specs.declared.ids.ObjId.{ObjId}
 use Rattle.machine.specs.{declared.{call.Made.Made, cap.Detail.Detail as d}, Machine.Machine, Releasing.with_suspended, Step.Find.find}

@@ -1,4 +1,4 @@
--- What is seen where a thread's content changes, and that a caller waits nowhere.
+-- The machine after a thread's contents change, and that a caller is in no queue.
 use Rattle.std.{specs.Prelude.{Contains, Ok, Some}, proofs.Common.{ℕ, ◌∙◌, ◌≡◌, List, refl, subst, sym}}
 use Rattle.base.specs.declared.ids.ObjId.{ObjId}
 use Rattle.machine.specs.{declared.{object.{Object.Object as o, Share.Share}, thread.Tcb.Tcb}, Changes.with_tcb, Machine.Machine}
@@ -20,14 +20,12 @@ pub queue_with_tcb :
     (m : Machine) (id : ObjId) (old new : Tcb) → IsThread m id old → (q : ObjId) → queue_of (with_tcb m id new) q ≡ queue_of m q
 queue_with_tcb m id old new there q = rw (with_tcb_there m id old new there) (queue_of-with_object m id (o.Tcb new) q)
 
--- a ready thread is in no queue
 pub ready_caller_waits_nowhere :
     (m : Machine) (caller : ObjId) → IsWellFormed m → IsCaller m caller → (id : ObjId) (threads : List ObjId)
     → queue_of m id ≡ Some threads → ¬ (Contains threads caller)
 ready_caller_waits_nowhere m caller formed is id threads e within =
     idle_in_none m formed.links caller is.thread is.there (subst IsIdle (sym is.ready) tt) id threads caller e within refl
 
--- a thread that may call is in no queue
 pub caller_waits_nowhere :
     (m : Machine) (core : ℕ) (caller : ObjId) (share : Share) → IsWellFormed m → admitted m core caller ≡ Ok share
     → (id : ObjId) (threads : List ObjId) → queue_of m id ≡ Some threads → ¬ (Contains threads caller)

@@ -1,4 +1,4 @@
--- What a wait does that is made: the word of the notification that it found is taken; where there is none, the caller waits.
+-- The effect of a wait that isn't refused: it took the word of the notification that it found; if there was none, the caller waits.
 use Rattle.std.{specs.Prelude.{None, Ok, Option, Some}, proofs.Common.{ℕ, ◌∙◌, ◌≡◌, ◌⊎◌, ap, inl, inr, sym}}
 use Rattle.base.specs.declared.ids.ObjId.{ObjId}
 use Rattle.machine.specs.{declared.{call.Made.Made, object.Object.Object as o, thread.RunState.RunState as state}, Capabilities.can_read}

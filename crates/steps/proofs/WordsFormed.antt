@@ -1,4 +1,4 @@
--- A read and a write keep a well-formed machine well formed: an object has as many words as it had, and all else is as it was.
+-- That read and write keep a machine well formed: each object has as many words as before, and all else is as it was.
 use Rattle.std.specs.FinMap as map
 use Rattle.std.{specs.Prelude.{None, Option, Some, cond, option_map, slice_set}, proofs.Common.{ℕ, ◌∙◌, ◌≡◌, List, ap, length, refl, subst}}
 use Rattle.std.proofs.{Common.sym, lemmas.List.length-set}

@@ -1,4 +1,4 @@
--- What a read and a write do that are made: a read changes nothing, a write one word of the frame that was found.
+-- The effect of a read or write that isn't refused: a read changes nothing, a write one word of the frame that it found.
 use Rattle.std.{specs.Prelude.{Ok, nat_lt}, proofs.Common.{ℕ, ◌<◌, ◌≡◌, Bool, ap, arith, false, refl, sym, true}}
 use Rattle.std.proofs.lemmas.Bool.Decides.{nat_tests}
 use Rattle.base.specs.declared.{ids.ObjId.ObjId, rights.Rights.Rights}

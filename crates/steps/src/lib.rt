@@ -1,9 +1,7 @@
 //! What the kernel's calls do to a machine: row by row what is found and changed, and that machines stay well formed.
 //!
-//! The rows and the definition of well-formed machines are those of `machine`; here are the laws of
-//! them.
-//!
-//! The crates of calls and `integrity` stand on it. It knows no policy.
+//! The rows and the definition of well-formed machines are in `machine`; their laws are here. The
+//! crate knows no policy.
 #![tactic(auto)]
 
 mod message_laws;

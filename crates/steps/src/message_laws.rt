@@ -37,7 +37,7 @@ pub fn releases_keep_machines_well_formed()
         → IsWellFormed (emptied m thread) }
 {}
 
-/// A law: a thread that isn't blocked keeps a well-formed machine well formed as it begins to wait.
+/// A law: a thread that isn't blocked keeps a well-formed machine well formed when it begins to wait.
 ///
 /// The thread waits at an object as the others there do, or with a reply that holds nobody.
 pub fn blocks_keep_machines_well_formed()
@@ -74,9 +74,9 @@ pub fn arrivals_keep_machines_well_formed()
         → IsWellFormed (with_arrival m (arrival_of m sender sending receiver slot)) }
 {}
 
-/// A law: what a call lends comes back with its answer.
+/// A law: the answer to a call returns what the call lent.
 ///
-/// Where the receiver answers at once, each thread runs then on what it ran on before the call.
+/// If the receiver answers at once, each thread then runs on what it ran on before the call.
 pub fn answers_return_what_calls_lent()
     ensures { (m : Machine) (caller receiver id : Number) (tcb its : Thread) (words : List ℕ)
         → IsWellFormed m

@@ -1,4 +1,4 @@
-//! Laws about removals: what is removed, and what stays.
+//! Laws about removals: which capabilities and objects are removed, and what happens to those that stay.
 ghost use Rattle.std.specs.{Bool.Decides, Prelude.{[], ◌↔◌, ◌≡◌, ◌≢◌, ◌≤◌, Bool, Contains, List, None, Ok, Some}};
 ghost use Rattle.std.specs.Prelude.{false, if◌then◌else◌, true};
 ghost use Rattle.base.specs.declared.ids.{ObjId.ObjId as Id, SlotRef.SlotRef as Slot};
@@ -46,10 +46,10 @@ pub fn what_goes_is_the_least_closed_set()
         → Decides (vanishes m chosen id) (LosesAll m (gone_of m chosen) id) }
 {}
 
-/// A law: the number of capabilities for an object decides which is the last.
+/// A law: the number of capabilities for an object tells which is the last.
 ///
-/// The number is 0 exactly where no slot holds one, and 1 exactly where a slot that holds one holds
-/// all. An object vanishes in a removal exactly if there are some before it and none after.
+/// The number is 0 exactly if no slot holds one, and 1 exactly if a slot that holds one holds all.
+/// An object vanishes in a removal exactly if there are some before it and none after.
 pub fn counts_tell_the_last_capability()
     ensures none { (m : Machine) (id : Id)
         → (caps_to m id ≡ 0) ↔ ((slot : Slot) (held : Held) → cap_of m slot ≡ Some held → held.object ≢ id) }
@@ -94,7 +94,7 @@ pub fn a_removal_is_told_by_its_look_ups()
 ///
 /// The clauses say it kind by kind. A CNode, untyped memory, a frame and a control do nothing more.
 pub fn vanished_objects_are_finalised()
-    // of an endpoint or a notification: who is queued is aborted, unless it is halted
+    // an endpoint or a notification: all in its queue are aborted, unless they are halted
     ensures queued { (m : Machine) (chosen : Slot → Bool)
         → IsWellFormed m
         → (id thread : Id) (threads : List Id) (tcb : Thread)
@@ -105,7 +105,7 @@ pub fn vanished_objects_are_finalised()
         → vanishes m chosen thread ≡ false
         → is_halted (vanishes m chosen) tcb.state ≡ false
         → IsThread (removed m chosen) thread (unbound (vanishes m chosen) (aborted tcb)) }
-    // of a reply: the thread that waits with it or has called it is halted
+    // a reply: the thread that waits with it or has called through it is halted
     ensures held { (m : Machine) (chosen : Slot → Bool)
         → IsWellFormed m
         → (id thread : Id) (holding : Holding) (tcb : Thread)
@@ -115,7 +115,7 @@ pub fn vanished_objects_are_finalised()
         → IsThread m thread tcb
         → vanishes m chosen thread ≡ false
         → IsThread (removed m chosen) thread (unbound (vanishes m chosen) (halted tcb)) }
-    // of a context: its thread loses it
+    // a context: its thread loses it
     ensures context { (m : Machine) (chosen : Slot → Bool)
         → IsWellFormed m
         → (id thread : Id) (context : Bound) (tcb : Thread)
@@ -125,12 +125,12 @@ pub fn vanished_objects_are_finalised()
         → IsThread m thread tcb
         → vanishes m chosen thread ≡ false
         → (after : Thread) × IsThread (removed m chosen) thread after × (after.context ≡ None) }
-    // of a thread: it is in no queue, as whoever is aborted or halted
+    // a thread: it is in no queue, and neither is one that is aborted or halted
     ensures queues { (m : Machine) (chosen : Slot → Bool) (id thread : Id) (threads : List Id)
         → queue_of (removed m chosen) id ≡ Some threads
         → Contains threads thread
         → leaves m (vanishes m chosen) thread ≡ false }
-    // its reply becomes free, as that of whoever is aborted or halted; else a reply is as it was
+    // the reply of such a thread becomes free; each other reply is as it was
     ensures replies { (m : Machine) (chosen : Slot → Bool) (id thread : Id) (holding : Holding)
         → object_of m id ≡ Some (o.Reply holding)
         → IsHolding holding.state thread
@@ -138,14 +138,14 @@ pub fn vanished_objects_are_finalised()
         → object_of (removed m chosen) id
         ≡ Some (o.Reply
         (record holding { state = if leaves m (vanishes m chosen) thread then reply.Free else holding.state })) }
-    // its context is unbound
+    // a thread's context is unbound
     ensures contexts { (m : Machine) (chosen : Slot → Bool) (id thread : Id) (context : Bound)
         → object_of m id ≡ Some (o.Context context)
         → context.thread ≡ Some thread
         → vanishes m chosen thread ≡ true
         → vanishes m chosen id ≡ false
         → object_of (removed m chosen) id ≡ Some (o.Context (record context { thread = None })) }
-    // a thread that none of this reaches is as it was
+    // each other thread is as it was
     ensures threads { (m : Machine) (chosen : Slot → Bool) (thread : Id) (tcb : Thread)
         → IsThread m thread tcb
         → vanishes m chosen thread ≡ false
@@ -153,7 +153,7 @@ pub fn vanished_objects_are_finalised()
         → is_aborted (vanishes m chosen) tcb.state ≡ false
         → leads_nowhere (vanishes m chosen) tcb.context ≡ false
         → IsThread (removed m chosen) thread tcb }
-    // and so is each object of another kind
+    // each object of another kind is as it was
     ensures others { (m : Machine) (chosen : Slot → Bool) (id : Id) (object : Thing)
         → object_of m id ≡ Some object
         → vanishes m chosen id ≡ false

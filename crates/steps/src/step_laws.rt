@@ -1,4 +1,4 @@
-//! Laws about all steps: they agree, and keep machines well formed.
+//! Laws about all steps: which outcomes an event may have, and that machines stay well formed.
 ghost use Rattle.std.specs.{List.zip, Prelude.{ℕ, ◌≡◌, ◌≢◌, ◌⊎◌, All, List, Ok, Result}};
 ghost use Rattle.base.specs.declared.{ids.ObjId.ObjId as Number, refusal.{Cause.Cause as Why, Misuse.Misuse as Wrong}};
 ghost use Rattle.base.specs.Refusals.{misuse_refusal};
@@ -24,8 +24,8 @@ pub fn steps_of_one_event_agree()
 
 /// A law: a call is refused by a condition of its own, or for lack of memory if it takes some.
 ///
-/// A retype takes memory. Only a failed lookup has a detail. Each call of a run is refused so too,
-/// and no step is refused as what isn't begun.
+/// A retype takes memory. Only a failed lookup has a detail. Each call of a run is refused in these
+/// ways, and no step is refused as one that isn't begun.
 pub fn calls_are_refused_by_conditions()
     ensures step { (m : Machine) (event : Occurs) (outcome : Ended) (next : Machine) → Step m event outcome next
         → MayEnd event outcome }
@@ -50,9 +50,9 @@ pub fn steps_keep_machines_well_formed()
         → IsWellFormed last }
 {}
 
-/// A law: a call keeps a well-formed machine well formed, also by itself, before its thread is admitted.
+/// A law: a call keeps a well-formed machine well formed, also on its own, before its thread is admitted.
 ///
-/// A call that has its thread wait, or that empties its inbox, does so where the thread is ready.
+/// The thread must be ready if the call makes it wait or empties its inbox.
 pub fn calls_keep_machines_well_formed()
     ensures { (m next : Machine) (caller : Number) (which : Calls) (result : Result Comes Why)
         → IsWellFormed m

@@ -1,13 +1,13 @@
-//! A law about the root slots of threads.
+//! The law that a machine stays well formed when a thread's root slot is cleared.
 ghost use Rattle.std.specs.Prelude.{◌≡◌, IsTrue, None, Some};
 ghost use Rattle.base.specs.declared.ids.{ObjId.ObjId as Number, SlotRef.SlotRef as Slot};
 ghost use Rattle.machine.specs.{declared.cap.Cap.Cap as Held, Lookup.root_of, Machine.{Machine, cap_of, has_slot}};
 ghost use Rattle.machine.specs.{Step.Space.without_root, WellFormed.IsWellFormed};
 ghost use Rattle.machine.specs.declared.cap.Detail.TheVariants as d;
 
-/// A law: where a root slot is cleared, the machine stays well formed.
+/// A law: a machine stays well formed when a root slot is cleared.
 ///
-/// The slot is empty, and a slot that is still filled holds what it held. Where a slot that had the
+/// The slot is empty, and a slot that is still filled holds what it held. If a slot that had the
 /// thread's capability is still filled, the thread has its root slot.
 pub fn cleared_root_slots_can_be_filled()
     ensures well_formed { (m : Machine) (thread : Number) → IsWellFormed m → IsWellFormed (without_root m thread) }

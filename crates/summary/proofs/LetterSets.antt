@@ -1,4 +1,4 @@
--- Whom a label may change by reasons of a letter, as unions of sets of labels.
+-- The labels that a label may change by the reasons of one letter, as unions of sets of labels.
 use Rattle.std.proofs.Common.{ℕ, ◌≡◌, ◌⊎◌, inl, inr, refl, sym, true}
 use Rattle.base.specs.declared.kind.Kind.{Kind, TheVariants.{Await, Call, Context, Control, Grant, Notify, Receive, Reply, Runs}}
 use Rattle.base.specs.declared.kind.Kind.TheVariants.{SchedControl, Send, Write}
@@ -13,7 +13,7 @@ lettered_kind Send is = cc
 lettered_kind _ is = cc
 
 module _ (test : EdgeTest) (acts : ActorTest) (a l : ℕ) where
-  -- the ways that have a letter
+  -- the ways to change that have a letter
   abbrev pub WaysOf : Letter → Type 0
   WaysOf letter = (way : WayToChange test acts a l) × (way_letter way ≡ letter)
 
@@ -142,7 +142,7 @@ module _ (test : EdgeTest) (acts : ActorTest) (a l : ℕ) where
   other_from (grants endpoint receiver granted received waits controlled) is = inr (receiver, (endpoint, granted, received, waits), controlled)
   other_from (replies answer) is = absurd (cc)
 
-  -- each way to change another has one of the letters
+  -- each way to change another label has one of the letters
 
   abbrev pub SomeLetter : Type 0
   SomeLetter = (WaysOf by_call ⊎ WaysOf by_answer) ⊎ (WaysOf by_signal ⊎ WaysOf by_other)

@@ -1,14 +1,13 @@
--- Lists that grow by one piece.
+-- Lists that grow by one piece: one that passes a test, or one that doesn't.
 use Rattle.std.{specs.List.{filter, range_with_len}, proofs.Common.{[], ℕ, ◌++◌, ◌+◌, ◌<◌, ◌∙◌, ◌∷◌, ◌≡◌, Bool, List, ap, get_or}}
 use Rattle.std.proofs.Common.{false, length, map, sym, take, true}
 use Rattle.std.proofs.lemmas.List.{append-nil, map-append, map-id, take_more, Elements.{filter-append}}
 use Rattle.matrix.proofs.Pieces.{range_more}
 
--- one number more that passes, or not
 pub filter_more : (p : ℕ → Bool) (n : ℕ) → filter p (range_with_len 0 (n + 1)) ≡ filter p (range_with_len 0 n) ++ filter p (n ∷ [])
 filter_more p n = ap (filter p) (range_more n) ∙ filter-append p (range_with_len 0 n) (n ∷ [])
 
--- one number more is kept, or not
+-- a number that passes is kept, and one that doesn't isn't
 
 pub number_passes : (p : ℕ → Bool) (n label : ℕ) (kept longer : List ℕ) → label ≡ n → p label ≡ true → kept ≡ filter p (range_with_len 0 n)
     → longer ≡ kept ++ label ∷ [] → longer ≡ filter p (range_with_len 0 (n + 1))
@@ -24,7 +23,7 @@ number_fails p n label kept same fails so_far =
     so_far ∙ sym (append-nil (filter p (range_with_len 0 n)))
     ∙ ap (λ xs. filter p (range_with_len 0 n) ++ xs) (sym one) ∙ sym (filter_more p n)
 
--- one value more is kept, or not
+-- a value that passes is kept, and one that doesn't isn't
 
 pub item_passes : {X Y : Type 0} (g : X → Y) (p : X → Bool) (xs : List X) (i : ℕ) (x : X) (kept longer : List Y) → i < length xs
     → x ≡ get_or xs i x → p x ≡ true → kept ≡ map g (filter p (take i xs)) → longer ≡ kept ++ g x ∷ []

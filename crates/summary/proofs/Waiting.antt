@@ -1,4 +1,4 @@
--- Sources of edges that are kept row by row, and labels that are found by them.
+-- The sources of edges, kept row by row, and the labels that are found by them.
 use Rattle.std.proofs.lemmas.List.{get_or_default}
 use Rattle.std.proofs.Common.{[], ℕ, ◌<◌, ◌∙◌, ◌∷◌, ◌≡◌, Bool, List, ap, arith, false, get_or, length, not, refl, subst, sym, true}
 use Rattle.base.specs.{declared.{edge.Edge.Edge, kind.Kind.{Kind, TheVariants.{Holds, Reply}}, labels.Labels.Labels}, Labels.{is_in, no_labels}}
@@ -7,13 +7,13 @@ use Rattle.policy.specs.{Change.{ActorTest, MayAnswer}, Policy.{JoinsLabels, all
 use Rattle.policy.proofs.{Gathering.{Tells, told_as}, Stepping.{only_kind, source_by}}
 use Rattle.summary.specs.{Sources.{IsJoint, IsSources, SourcesOf, row_at}, Ways.{IsCallers, IsHeldBy}}
 
--- two tests that hold alike are equal
+-- two booleans are equal if each is true whenever the other is
 pub same_truth : (b c : Bool) → (b ≡ true → c ≡ true) → (c ≡ true → b ≡ true) → b ≡ c
 same_truth true c to from = sym (to refl)
 same_truth false true to from = from refl
 same_truth false false to from = refl
 
--- the sources are of the policy and the kind that they were made of
+-- the sources are those of the policy and the kind that they were made of
 pub of_kind : (edges : List Edge) (kind : Kind) (s : SourcesOf) → s ≡ record { edges = edges; kind = kind } → (ends actors found : Labels)
     → ((from : ℕ) → Tells (is_in found from) (IsSource (allows s.edges) (s.kind ∷ []) ends from × (is_in actors from ≡ true)))
     → (from : ℕ) → Tells (is_in found from) (IsSource (allows edges) (kind ∷ []) ends from × (is_in actors from ≡ true))
@@ -22,7 +22,7 @@ of_kind edges kind s is ends actors found tells =
     (λ (t : SourcesOf). (from : ℕ) → Tells (is_in found from) (IsSource (allows t.edges) (t.kind ∷ []) ends from × (is_in actors from ≡ true)))
     is tells
 
--- what is in the rows of a set are the sources of edges to it
+-- the labels in the rows of a set are the sources of edges to it
 pub joint_sources : (edges : List Edge) (kind : Kind) (rows : List Labels) (set : Labels) (from : ℕ) (b : Bool) → JoinsLabels edges
     → IsSources (allows edges) kind rows → Tells b (IsJoint rows set from) → Tells b (IsSource (allows edges) (kind ∷ []) set from)
 joint_sources edges kind rows set from b joins are tells = told_as b tells to back where
@@ -41,7 +41,7 @@ joint_sources edges kind rows set from b joins are tells = told_as b tells to ba
         has = (are.each source.to ends.1 from).1 edge;
       }
 
--- what is in the rows of replies is held by them
+-- the labels in the rows of replies are those that the replies hold
 pub joint_callers : (edges : List Edge) (acts : ActorTest) (rows : List Labels) (replies : Labels) (l : ℕ) (b : Bool) → JoinsLabels edges
     → IsCallers (allows edges) acts rows → Tells b (IsJoint rows replies l) → Tells b (IsHeldBy (allows edges) acts replies l)
 joint_callers edges acts rows replies l b joins are tells = told_as b tells to back where
@@ -62,7 +62,7 @@ joint_callers edges acts rows replies l b joins are tells = told_as b tells to b
         has = (are.each held.reply ends.0 l).1 held.called;
       }
 
--- threads that replies hold to which a label has an edge may be answered by it
+-- a label may answer the threads held by replies to which it has an edge
 pub held_answers : (edges : List Edge) (acts : ActorTest) (a l : ℕ) (replies : Labels) (b : Bool)
     → ((reply : ℕ) → Tells (is_in replies reply) (allows edges a Reply reply ≡ true)) → Tells b (IsHeldBy (allows edges) acts replies l)
     → Tells b (MayAnswer (allows edges) acts a l)
@@ -70,12 +70,11 @@ held_answers edges acts a l replies b named tells = told_as b tells
     (λ held. record { reply = held.reply; uses = (named held.reply).0 held.among; called = held.called })
     (λ may. record { reply = may.reply; among = (named may.reply).1 may.uses; called = may.called })
 
--- a row that was read, where it stands
 pub row_is : (rows : List Labels) (i k : ℕ) (row d : Labels) → i ≡ k → i < length rows → row ≡ get_or rows i d → row ≡ row_at rows k
 row_is rows i k row d same within is =
     is ∙ get_or_default rows i d no_labels within ∙ ap (λ n. get_or rows n no_labels) same
 
--- what fails where something holds
+-- a negated test decides the negation
 pub not_tells : {X : Type 0} (b : Bool) → Tells b X → Tells (not b) (X → ⊥)
 not_tells true tells = (λ is. absurd (false≢true is), λ none. absurd (none (tells.0 refl)))
 not_tells false tells = (λ is x. false≢true (tells.1 x), λ none. refl)

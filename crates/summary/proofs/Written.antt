@@ -1,10 +1,10 @@
--- Texts that are written one after the other.
+-- Texts that are written piece by piece: groups of labels, and lists of names.
 use Rattle.std.proofs.Common.{ℕ, ◌++◌, ◌∙◌, ◌≡◌, List, ap, append_assoc, sym, true}
 use Rattle.machine.specs.Layout.{Layout}
 use Rattle.matrix.specs.Padding.{given}
 use Rattle.summary.specs.{declared.rows.Row.Row, Regions.{changers, group_of, group_text, leads, names_text, readers, takers, users_text}}
 
--- the group of a label that is the first of it
+-- the group of a label that is the first of its group
 pub group_there : (t : Layout) (rows : List Row) (others : List ℕ) (l : ℕ) (group changing taking reading old text longer : List ℕ)
     → leads rows others l ≡ true → group ≡ group_of rows others l → changing ≡ changers rows l → taking ≡ takers rows l
     → reading ≡ readers rows l → text ≡ old ++ names_text t group → longer ≡ text ++ users_text t changing taking reading

@@ -6,25 +6,22 @@ abbrev pub is_thread : Object → Bool
 is_thread (o.Tcb _) = true
 is_thread _ = false
 
--- memory is frames, and untyped memory, of which frames can be made
+-- memory: frames, and untyped memory, of which frames can be made
 abbrev pub is_memory : Object → Bool
 is_memory (o.Frame _) = true
 is_memory (o.Untyped _) = true
 is_memory _ = false
 
--- whether an object of the table that passes a test has a label
+-- whether a label has an object of the table that passes a test
 abbrev pub has_object : (Object → Bool) → Layout → ℕ → Bool
 has_object passes t label = list_any (λ initial. passes initial.object && (label == initial.label)) t.objects
 
--- whether a label has a thread
 abbrev pub has_thread : Layout → ℕ → Bool
 has_thread = has_object is_thread
 
--- whether a label has memory
 abbrev pub has_memory : Layout → ℕ → Bool
 has_memory = has_object is_memory
 
--- the labels of the table
 abbrev pub labels_of : Layout → List ℕ
 labels_of t = range_with_len 0 (length t.labels)
 

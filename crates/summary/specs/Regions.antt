@@ -1,4 +1,4 @@
--- The text about labels without a thread (confine's own): those with the same users in one line, and below it who these are.
+-- The text on labels without a thread: one line for those with the same users, and below it who these are (confine's own).
 use Rattle.std.specs.{List.{filter, flat_map, list_all, list_any}, Prelude.{[], ℕ, ◌&&◌, ◌++◌, ◌∷◌, Bool, List, codes, false}}
 use Rattle.std.specs.Prelude.{if◌then◌else◌, map, nat_lt, not, true}
 use Rattle.base.specs.Labels.{is_in}
@@ -7,12 +7,11 @@ use Rattle.captext.specs.PolicyText.{label_name}
 use Rattle.matrix.specs.Padding.{given}
 use Rattle.summary.specs.declared.rows.Row.{Row}
 
--- two tests agree
 abbrev pub is_same : Bool → Bool → Bool
 is_same true b = b
 is_same false b = not b
 
--- the label of the row may take from a label, and not change it otherwise
+-- whether the row's label may take from a label and not change it otherwise
 abbrev pub takes_from : Row → ℕ → Bool
 takes_from row l = is_in row.shrinks l && not (is_in row.changes l)
 
@@ -28,13 +27,13 @@ readers rows l = map (λ row. row.label) (filter (λ row. is_in row.reads l) row
 abbrev pub takers : List Row → ℕ → List ℕ
 takers rows l = map (λ row. row.label) (filter (λ row. takes_from row l) rows)
 
--- the row's label uses two labels in the same ways
+-- whether the row's label uses two labels in the same ways
 abbrev pub uses_alike : ℕ → ℕ → Row → Bool
 uses_alike k l row =
     (is_same (is_in row.changes k) (is_in row.changes l) && is_same (takes_from row k) (takes_from row l))
     && is_same (is_in row.reads k) (is_in row.reads l)
 
--- two labels are changed, taken from and read by the same labels with a thread
+-- whether two labels are changed, taken from and read by the same labels with a thread
 abbrev pub has_same_users : List Row → ℕ → ℕ → Bool
 has_same_users rows k l = list_all (uses_alike k l) rows
 
@@ -42,15 +41,15 @@ has_same_users rows k l = list_all (uses_alike k l) rows
 abbrev pub group_of : List Row → List ℕ → ℕ → List ℕ
 group_of rows others l = filter (λ k. has_same_users rows k l) others
 
--- a label comes before another and has the same users
+-- whether a label comes before another and has the same users
 abbrev pub is_leader : List Row → ℕ → ℕ → Bool
 is_leader rows l k = nat_lt k l && has_same_users rows k l
 
--- no label before this one has the same users
+-- whether no label before this one has the same users
 abbrev pub leads : List Row → List ℕ → ℕ → Bool
 leads rows others l = not (list_any (λ k. is_leader rows l k) others)
 
--- a name after others
+-- a name that follows another one
 abbrev pub more_name : Layout → ℕ → List ℕ
 more_name t l = codes ", " ++ label_name t l
 
@@ -59,16 +58,15 @@ abbrev pub names_text : Layout → List ℕ → List ℕ
 names_text t [] = []
 names_text t (first ∷ labels) = label_name t first ++ flat_map (more_name t) labels
 
--- whether there are no labels
 abbrev pub is_nil : List ℕ → Bool
 is_nil [] = true
 is_nil (first ∷ labels) = false
 
--- what stands between two lists
+-- the text between two lists
 abbrev pub separator : Bool → List ℕ
 separator first = if first then [] else codes "; "
 
--- a word and names, where there are any
+-- a word and names, if there are any names
 abbrev pub listed_text : Layout → Bool → List ℕ → List ℕ → List ℕ
 listed_text t first word labels = if is_nil labels then [] else separator first ++ (word ++ names_text t labels)
 
@@ -79,7 +77,7 @@ lists_text t changers takers readers =
     ++ (listed_text t (is_nil changers) (codes "taken away by ") takers
     ++ listed_text t (is_nil changers && is_nil takers) (codes "read by ") readers)
 
--- .. if anybody does
+-- who uses a label, or that nobody does
 abbrev pub who_text : Layout → List ℕ → List ℕ → List ℕ → List ℕ
 who_text t changers takers readers =
     if (is_nil changers && is_nil takers) && is_nil readers then codes "changed and read by nobody" else lists_text t changers takers readers
@@ -87,11 +85,10 @@ who_text t changers takers readers =
 abbrev pub users_text : Layout → List ℕ → List ℕ → List ℕ → List ℕ
 users_text t changers takers readers = codes "\n    " ++ (who_text t changers takers readers ++ codes "\n")
 
--- the labels with the same users as this one, at the first of them
+-- the labels with the same users as this one, if it is the first of them
 abbrev pub group_text : Layout → List Row → List ℕ → ℕ → List ℕ
 group_text t rows others l =
     given (leads rows others l) (names_text t (group_of rows others l) ++ users_text t (changers rows l) (takers rows l) (readers rows l))
 
--- all of them
 abbrev pub regions_text : Layout → List Row → List ℕ → List ℕ
 regions_text t rows others = flat_map (group_text t rows others) others

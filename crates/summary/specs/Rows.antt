@@ -1,4 +1,4 @@
--- The rows of the matrix: what a label with a thread has to do with others (confine's own).
+-- The rows of the matrix: what a label with a thread may do to others, and reads of them (confine's own).
 use Rattle.std.specs.{List.range_with_len, Prelude.{ℕ, ◌↔◌, ◌≡◌, All, List, length, map, true}}
 use Rattle.base.specs.Labels.{is_in}
 use Rattle.machine.specs.Layout.{Layout}
@@ -17,12 +17,12 @@ pub record IsRowOf (t : Layout) (limits : Limits) (row : Row) : Type 0 where
   pub shares : (l : ℕ) → (is_in row.shares l ≡ true) ↔ SharesMemory t limits.test row.label l
   pub reads : (l : ℕ) → is_in row.reads l ≡ reads_of limits.test row.label l
 
--- the rows are of the labels with a thread, numbered from 1
+-- the rows are those of the labels with a thread, numbered from 1
 pub record AreRowsOf (t : Layout) (limits : Limits) (rows : List Row) : Type 0 where
   pub labels : map (λ row. row.label) rows ≡ programs_of t
   pub numbers : map (λ row. row.number) rows ≡ range_with_len 1 (length rows)
   pub each : All (IsRowOf t limits) rows
 
--- the rows are those of a system
+-- the rows are those of the reach of a table
 abbrev pub AreRows : TableReach → List Row → Type 0
 AreRows reach = AreRowsOf reach.table (limits_of reach)

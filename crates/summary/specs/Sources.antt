@@ -1,4 +1,4 @@
--- For each label, the labels that have an edge of a kind to it, and the union of some of them (confine's own).
+-- The sources of each label, which are the labels with an edge of a kind to it; and unions of sources (confine's own).
 use Rattle.std.specs.Prelude.{ℕ, ◌<◌, ◌↔◌, ◌≡◌, List, get_or, length, true}
 use Rattle.base.specs.{declared.{edge.Edge.Edge, kind.Kind.Kind, labels.Labels.Labels}, Labels.{is_in, no_labels}}
 use Rattle.base.specs.declared.label.TheConstants.Label as Label
@@ -9,7 +9,6 @@ pub record SourcesOf : Type 0 where
   pub edges : List Edge
   pub kind : Kind
 
--- the row of a label
 abbrev pub row_at : List Labels → ℕ → Labels
 row_at rows label = get_or rows label no_labels
 

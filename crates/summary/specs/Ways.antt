@@ -1,4 +1,4 @@
--- By which reasons labels may change others: what is kept to find that out (confine's own).
+-- The ways in which labels may change others: the sets of labels by which they are found (confine's own).
 use Rattle.std.specs.Prelude.{ℕ, ◌<◌, ◌↔◌, ◌≡◌, List, length, true}
 use Rattle.base.specs.{declared.{edge.Edge.Edge, kind.Kind.{Kind, TheVariants.{Await, Receive, Send}}, labels.Labels.Labels}, Labels.is_in}
 use Rattle.base.specs.declared.label.TheConstants.Label as Label
@@ -10,7 +10,7 @@ pub record WaysOf : Type 0 where
   pub edges : List Edge
   pub actors : Labels
 
--- the row of each label has those whose threads replies of it may hold
+-- the row of each label has the labels whose threads its replies may hold
 pub record IsCallers (test : EdgeTest) (acts : ActorTest) (rows : List Labels) : Type 0 where
   pub count : length rows ≡ Label.COUNT
   pub each : (reply : ℕ) → reply < Label.COUNT → (l : ℕ) → (is_in (row_at rows reply) l ≡ true) ↔ MayHoldCaller test acts reply l
@@ -21,7 +21,7 @@ pub record IsHeldBy (test : EdgeTest) (acts : ActorTest) (replies : Labels) (l :
   pub among : is_in replies reply ≡ true
   pub called : MayHoldCaller test acts reply l
 
--- what is kept is of these edges and these labels
+-- the sets are those of these edges and these labels
 pub record IsWays (edges : List Edge) (actors : Labels) (sending receiving waiting : SourcesOf) (rows : List Labels) (lending borrowing : Labels) :
     Type 0 where
   pub senders : sending ≡ record { edges = edges; kind = Send }
@@ -31,6 +31,6 @@ pub record IsWays (edges : List Edge) (actors : Labels) (sending receiving waiti
   pub lenders : (a : ℕ) → (is_in lending a ≡ true) ↔ MayLend (allows edges) (is_in actors) a
   pub borrowers : (b : ℕ) → (is_in borrowing b ≡ true) ↔ MayBorrow (allows edges) b
 
--- an edge of a kind from one label to another, beside one of another kind from the one
+-- a label has an edge of a kind to another, and an edge of another kind to some label
 abbrev pub IsBeside : EdgeTest → Kind → Kind → ℕ → ℕ → Type 0
 IsBeside test kind other a l = (test a kind l ≡ true) × ((end : ℕ) × (test a other end ≡ true))

@@ -1,4 +1,4 @@
--- The whole summary of the reach of a table (confine's own).
+-- The summary of the reach of a table (confine's own).
 use Rattle.std.specs.Prelude.{[], ℕ, ◌++◌, ◌∷◌, ◌≡◌, List, codes}
 use Rattle.machine.specs.Layout.{Layout}
 use Rattle.reach.specs.Reach.{TableReach}
@@ -6,12 +6,11 @@ use Rattle.matrix.specs.Matrix.{matrix_text}
 use Rattle.summary.specs.{Labelled.others_of, Marks.cells, Regions.regions_text, Rows.AreRows}
 use Rattle.summary.specs.declared.{rows.Row.Row, writing.TheConstants.HEAD}
 
--- after an empty line the labels without a thread, if there are any
+-- an empty line and the labels without a thread, if there are any
 abbrev pub others_text : Layout → List Row → List ℕ → List ℕ
 others_text t rows [] = []
 others_text t rows (first ∷ others) = codes "\n" ++ regions_text t rows (first ∷ others)
 
--- the text of rows
 abbrev pub summary_text : Layout → List Row → List ℕ
 summary_text t [] = codes "no label has a thread\n"
 summary_text t (row ∷ rows) =

@@ -1,4 +1,4 @@
-//! What a cell of the matrix says: the letters of the reasons, `t`, a dot, and an `m` for memory.
+//! The cells of the matrix: the letters of the reasons, `t`, a dot, and an `m` for memory.
 ghost use Rattle.std.specs.Prelude.{◌++◌, ◌≡◌, IfOk, OnOk, string_bytes};
 ghost use Rattle.matrix.specs.Padding.{given};
 ghost use Rattle.summary.specs.Marks.{cells, extent_text, letters, marks};
@@ -24,7 +24,7 @@ impl MatrixRow for Row {
     }
 }
 
-/// Returns what the cell of a row and another label says.
+/// Returns the cell of a row and another label.
 ///
 /// # Errors
 ///

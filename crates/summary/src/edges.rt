@@ -1,4 +1,4 @@
-//! The edges of a policy from one label.
+//! The labels to which a label has edges of a policy.
 ghost use Rattle.std.specs.Prelude.{ℕ, ◌↔◌, ◌≡◌, true};
 ghost use Rattle.base.specs.Labels.{is_in};
 ghost use Rattle.policy.specs.Policy.{allows};

@@ -20,7 +20,6 @@ fn is_memory(object: &Object) -> bool
     matches!(object, Object::Frame(_) | Object::Untyped(_))
 }
 
-// The labels that have a thread in the table.
 fn with_threads(table: &Table) -> Labels
     ensures { (label : ℕ) → is_in result label ≡ has_thread table.now label }
 {

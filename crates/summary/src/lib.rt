@@ -1,8 +1,7 @@
 //! The summary of a system: a matrix of who may change whom, and the labels without a
 //! thread with those who change and read them.
 //!
-//! `claims`, `diagram`, `flowtext`, `reptext` and `report` stand on it. It knows no claim, and no code of the
-//! kernel's calls.
+//! The crate knows no claim, and no code of the kernel's calls.
 #![tactic(auto)]
 
 mod cells;

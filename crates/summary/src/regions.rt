@@ -1,4 +1,4 @@
-//! The labels without a thread, with those who change them, take from them and read them.
+//! The text on labels without a thread, with those who change them, take from them and read them.
 ghost use Rattle.std.specs.{List.{flat_map, list_any}, Prelude.{◌++◌, ◌≡◌, IfOk, OnOk, string_bytes}};
 ghost use Rattle.summary.specs.Regions.{changers, group_of, group_text, has_same_users, is_leader, is_nil, leads, listed_text, lists_text};
 ghost use Rattle.summary.specs.Regions.{more_name, names_text, readers, regions_text, separator, takers, takes_from, users_text, uses_alike};
@@ -10,7 +10,7 @@ use captext::label_name;
 use std::alloc::{AllocError, Global};
 use table::Table;
 
-/// Writes the labels without a thread: those with the same users in one line, and who these are.
+/// Writes the labels without a thread: one line for those with the same users, and who these users are.
 #[tactic(auto, using(matrix::proofs::Pieces::piece_more))]
 pub(crate) fn write_regions(
     alloc: Global,
@@ -88,7 +88,7 @@ fn uses_alike(row: &Row, one: Label, other: Label) -> bool
         && row.reads.has(one) == row.reads.has(other)
 }
 
-// Whether the row's label may take from a label, and not change it otherwise.
+// Whether the row's label may take from a label and not change it otherwise.
 fn takes_from(row: &Row, label: Label) -> bool
     ensures { result ≡ takes_from row.now label }
 {
@@ -218,7 +218,7 @@ fn write_lists(
     write_listed(text, table, untaken, "read by ", readers)
 }
 
-// Writes a word and names, where there are any, after a separator if they aren't the first.
+// Writes a word and names, if there are any names; a separator comes before them if they aren't the first.
 fn write_listed(
     text: &mut String,
     table: &Table,
@@ -237,14 +237,13 @@ fn write_listed(
     write_names(text, table, labels)
 }
 
-// What stands between two lists.
+// The text between two lists.
 fn separator(is_first: bool) -> &'static str
     ensures { result.now ≡ separator is_first }
 {
     if is_first { "" } else { "; " }
 }
 
-// Whether there are no labels.
 fn is_nil(labels: &[Label]) -> bool
     ensures { result ≡ is_nil labels.now }
 {

@@ -1,4 +1,4 @@
-//! The rows of the matrix: for each label with a thread, which labels it has to do with, and how.
+//! The rows of the matrix: for each label with a thread, the labels that it may change or read, and how.
 ghost use Rattle.std.specs.Prelude.{ℕ, ◌≡◌, IfOk};
 ghost use Rattle.base.specs.Labels.{is_in};
 ghost use Rattle.policy.specs.{Policy.allows};
@@ -19,21 +19,21 @@ use table::Table;
 pub struct Row {
     pub number: usize,
     pub label: Label,
-    /// Those that it may change by a call or a send.
+    /// The labels that it may change by a call or a send.
     pub calls: Labels,
-    /// .. by an answer, or by taking a call.
+    /// The labels that it may change by an answer, or by taking a call.
     pub answers: Labels,
-    /// .. by a signal.
+    /// The labels that it may change by a signal.
     pub signals: Labels,
-    /// .. for another reason.
+    /// The labels that it may change for another reason.
     pub others: Labels,
-    /// Those that it may change.
+    /// The labels that it may change.
     pub changes: Labels,
-    /// Those that it may make smaller.
+    /// The labels that it may make smaller.
     pub shrinks: Labels,
-    /// Those that have memory which it may write.
+    /// The labels that have memory which it may write.
     pub shares: Labels,
-    /// Those that it reads.
+    /// The labels that it reads.
     pub reads: Labels,
 }
 

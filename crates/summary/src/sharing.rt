@@ -1,4 +1,4 @@
-//! Which labels have memory that others may write.
+//! The sharing of memory: which labels have memory that others may write.
 ghost use Rattle.std.specs.Prelude.{ℕ, ◌↔◌, ◌≡◌, IfOk, true};
 ghost use Rattle.base.specs.Labels.{is_in};
 ghost use Rattle.policy.specs.Policy.{allows};
@@ -12,7 +12,7 @@ use policy::Policy;
 use std::alloc::{AllocError, Global};
 use table::Table;
 
-/// Returns for each label the other labels that have its memory to read or to write.
+/// Returns for each label the other labels that may read or write its memory.
 pub(crate) fn sharers(
     alloc: Global,
     table: &Table,

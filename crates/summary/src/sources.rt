@@ -1,4 +1,4 @@
-//! For each label, the labels that have an edge of a kind to it.
+//! The sources of each label: the labels that have an edge of a kind to it.
 ghost use Rattle.std.specs.Prelude.{[], ℕ, ◌<◌, ◌↔◌, ◌∷◌, ◌≡◌, ◌≤◌, IfOk, length, true};
 ghost use Rattle.base.specs.declared.label.TheConstants.Label as Label;
 ghost use Rattle.base.specs.Labels.{is_in};
@@ -52,7 +52,7 @@ impl<'a> Sources<'a> {
     }
 }
 
-/// Returns the labels among those whose threads make calls that have an edge to a label of the set.
+/// Returns the labels whose threads make calls and that have an edge to a label of the set.
 pub(crate) fn waiting(sources: &Sources<'_>, ends: Labels, actors: Labels) -> Labels
     ensures { (from : ℕ) → (is_in result from ≡ true)
         ↔ (IsSource (allows sources.now.edges) (sources.now.kind ∷ []) ends from × (is_in actors from ≡ true)) }

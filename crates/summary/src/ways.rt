@@ -1,4 +1,4 @@
-//! In which ways threads of a label may change objects of others: a set of labels for each letter.
+//! The ways in which threads of a label may change objects of others: a set of labels for each letter.
 ghost use Rattle.std.specs.Prelude.{ℕ, ◌↔◌, ◌≡◌, ◌⊎◌, IfOk, true};
 ghost use Rattle.base.specs.declared.kind.Kind.TheVariants as authority;
 ghost use Rattle.base.specs.Labels.{is_in};
@@ -14,10 +14,10 @@ use policy::Policy;
 use std::alloc::{AllocError, Global};
 use std::marker::Model;
 
-/// What says in which ways labels may change others.
+/// The sets of labels by which the ways to change others are found.
 ///
-/// It is a policy, the labels whose threads make calls, for each label those that have to do with it, and the
-/// labels that may lend a context or be lent one.
+/// They are made of a policy and the labels whose threads make calls: for each label those that
+/// have to do with it, and the labels that may lend a context or be lent one.
 #[derive(Drop)]
 pub(crate) struct Ways<'a> {
     policy: &'a Policy,
@@ -42,7 +42,7 @@ impl<'a> Model for Ways<'a> {
 }
 
 impl<'a> Ways<'a> {
-    /// Returns what says in which ways labels may change others.
+    /// Returns the sets of a policy and the labels whose threads make calls.
     pub(crate) fn new(
         alloc: Global,
         policy: &'a Policy,

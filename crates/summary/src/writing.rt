@@ -1,4 +1,4 @@
-//! The whole summary.
+//! The summary of a system as one text.
 ghost use Rattle.std.specs.Prelude.{◌++◌, ◌≡◌, IfErr, IfOk, OnOk, string_bytes};
 ghost use Rattle.base.specs.Refusals.{out_of_memory};
 ghost use Rattle.summary.specs.{Labelled.others_of, Whole.{IsSummary, others_text, summary_text}};
@@ -12,7 +12,7 @@ use reach::Reach;
 use std::alloc::{AllocError, Global};
 use table::Table;
 
-/// What the summary begins with.
+/// The beginning of the summary.
 const HEAD: &str = "\
 who may change whom, in any run: C calls, A answers, S signals, F for another reason, t only takes away, \
 . never; m: memory that one writes and the other has

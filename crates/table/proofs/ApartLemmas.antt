@@ -1,11 +1,10 @@
--- Rising ranges of addresses that don't meet: which of them another meets, and where it goes if it meets none.
+-- Ranges of addresses that rise and don't meet: which of them another range meets, and where a range that meets none is inserted.
 use Rattle.std.{specs.List.{insert, list_any, Sorted.{IsNonDecreasingBy, IsPartitionPoint}}, proofs.Common.{ℕ, ◌&&◌, ◌+◌, ◌-◌, ◌<◌, ◌∙◌}}
 use Rattle.std.proofs.Common.{◌≡◌, ◌≤◌, Bool, List, ap, arith, false, get_or, inl, inr, length, nat_lt, refl, sym, true}
 use Rattle.std.proofs.lemmas.{Bool.{cases_lt, cases_order, false≢true, Decides.nat_tests}, List.{get_or_default, Edits.get_or-insert_above}}
 use Rattle.std.proofs.lemmas.List.{Edits.{get_or-insert_at, get_or-insert_below, length-insert}, Folds.{list_any_at, list_any_none}}
 use Rattle.table.specs.{declared.extent.Extent.Extent, Placement.{AreApart, touches}}
 
--- starts rise
 pub starts_rise : (extents : List Extent) → AreApart extents → IsNonDecreasingBy (λ extent. extent.start) extents
 starts_rise extents apart i j d le within = elim (cases_order i j) [
   | inl same ↦ rw same (omega arith)
@@ -28,7 +27,7 @@ module _ (extents : List Extent) (extent : Extent) (at : ℕ) (apart : AreApart 
   above k d from within =
       outside_high (get_or extents k d).start (get_or extents k d).end extent.start extent.end (parted.1 k d from within)
 
-  -- where the last that starts below ends below, so do those before it
+  -- if the last range that starts below ends below, all before it do
   below : (k : ℕ) (d : Extent) → k < at → touches (get_or extents (at - 1) d) extent ≡ false
       → touches (get_or extents k d) extent ≡ false
   below k d before none =
@@ -81,7 +80,7 @@ module _ (extents : List Extent) (extent : Extent) (at : ℕ) (apart : AreApart 
     at_above k d after =
         ap (λ i. get_or (insert extents at extent) i d) (omega arith) ∙ get_or-insert_above extents at extent d (k - 1) (omega arith) bound
 
-    -- what it doesn't meet stays apart with it in its place
+    -- ranges stay apart with one that meets none of them
     pub apart_with : AreApart (insert extents at extent)
     apart_with = record {
       upward = λ k d within. upward_at k d (omega (arith, within, length-insert extents at extent bound));

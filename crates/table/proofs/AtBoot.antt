@@ -1,4 +1,4 @@
--- What the boot state of a table has of it: objects with their links, kinds and labels.
+-- The boot state of a table, read off the table: its objects with their links, their kinds and their labels.
 use Rattle.std.proofs.Common.{ℕ, ◌<◌, ◌∙◌, ◌≡◌, None, Option, Some, ap, false, if◌then◌else◌, length, nat_lt, option_and_then, option_map}
 use Rattle.std.proofs.{Common.{refl, subst, sym, true}, lemmas.{Bool.Decides.Decides-ltb, Option.{get_or_from_slice_get, none-some}}}
 use Rattle.std.proofs.lemmas.Option.{same_Some, slice_get_within}
@@ -9,7 +9,7 @@ use Rattle.machine.specs.{Layout.{declared_label, initial_of}, Machine.{Machine,
 use Rattle.machine.{specs.WellFormed.kind_of, proofs.Bound.kind-bound}
 use Rattle.table.specs.Rules.{IsAtRest, IsLawful, IsObjectOf, kind_at}
 
--- a booted object is a declared one with its links
+-- an object of the boot state is a declared one with its links
 pub record Declared (t : Layout) (id : ObjId) (object : Object) : Type 0 where
   pub initial : Initial
   pub declares : initial_of t id ≡ Some initial
@@ -59,8 +59,6 @@ boot_label t m boot id = ap labelled (boot.objects id) ∙ by_initial (initial_o
       (Decides-ltb id.0 (length t.objects)).1 (initial_below t id initial e) in
       rw (e, below) refl
 
--- the table
-
 pub initial_lawful :
     (t : Layout) → IsLawful t → (id : ObjId) (initial : Initial) → initial_of t id ≡ Some initial → IsObjectOf (length t.labels) initial
 unfolding initial_of
@@ -68,13 +66,13 @@ initial_lawful t lawful id initial e =
     subst (IsObjectOf (length t.labels)) (get_or_from_slice_get t.objects id.0 initial initial e)
     (lawful.draft.objects.each id.0 initial (slice_get_within t.objects id.0 initial e))
 
--- at rest a thread has no recorded rights
+-- a thread at rest has no recorded rights
 pub rest_links : (run : RunState) (k : Kind) (end : ObjId) → IsAtRest run → state_links run k end ≡ false
 rest_links state.Ready k end rest = refl
 rest_links state.Inactive k end rest = refl
 rest_links _ k end rest = absurd rest
 
--- and lends nothing
+-- a thread at rest lends nothing
 pub rest_lends : (run : RunState) → IsAtRest run → context_lent run ≡ None
 rest_lends state.Ready rest = refl
 rest_lends state.Inactive rest = refl

@@ -1,4 +1,4 @@
--- A draft with a binding more is one.
+-- That a draft stays a draft when a binding is added.
 use Rattle.std.{specs.{List.{find, list_any}, Option.option_or, Ordering.is_eq}, proofs.Common.{[], ℕ, ◌++◌, ◌<◌, ◌||◌, ◌∙◌, ◌∷◌, ◌≡◌, ◌≢◌}}
 use Rattle.std.proofs.Common.{Bool, List, None, Option, Some, ap, arith, cond, false, get_or, get_or-set_other, get_or-set_same, is_some}
 use Rattle.std.proofs.{Common.{length, option_map, refl, set, sym, true}, lemmas.{Bool.{false≢true, ltb-true}, Cmp.tied_itself}}
@@ -9,7 +9,7 @@ use Rattle.machine.{specs.{Machine.same_id, Objects.kind_of_object}, proofs.Look
 use Rattle.table.specs.{Aims.{IsOfThreads, thread_bound_to}, Building.{AdmitsBinding, is_above_bindings, is_above_bound, is_bound}}
 use Rattle.table.{specs.{Building.with_binding, Rules.{IsBindingOf, IsDraft, kind_at}}, proofs.ListLemmas.{all_from_last, not_any}}
 
--- threads below the last are below the new one
+-- threads below the last bound one are below the new one
 below_new :
     (t : Layout) (thread : ObjId) → IsDraft t → is_above_bindings t thread ≡ true → (k : ℕ) (d : Binding) → k < length t.bindings
     → (get_or t.bindings k d).thread.0 < thread.0
@@ -47,7 +47,7 @@ draft_binding t binding h admits = record {
   };
 }
 
--- the number of an object of the table is one that objects may have
+-- the number of a declared object is small enough
 pub context_low :
     (t : Layout) (id : ObjId) (kind : ObjectKind) → IsDraft t → kind_at t id ≡ Some kind → id.0 < OBJECT_NUMBERS
 unfolding kind_at initial_of
@@ -61,7 +61,7 @@ context_low t id kind h e = by (initial_of t id) refl e where
       let few = h.objects.few in
       omega arith
 
--- a context is bound where it has a thread
+-- a context is bound if it has a thread
 pub has_thread :
     (bindings : List Binding) (context : ObjId)
     → is_some (thread_bound_to bindings context) ≡ list_any (λ binding. same_id binding.context context) bindings
@@ -82,7 +82,7 @@ not_bound t context free = by (thread_bound_to t.bindings context) (has_thread t
   by None e = refl
   by (Some thread) e = absurd (false≢true (sym e))
 
--- one binding more gives its context the thread, and leaves the others what they have
+-- a new binding gives its context the thread, and changes no other context's thread
 thread_added :
     (bindings : List Binding) (binding : Binding) → thread_bound_to bindings binding.context ≡ None → (context : ObjId)
     → thread_bound_to (bindings ++ binding ∷ []) context

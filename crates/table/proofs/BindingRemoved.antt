@@ -1,4 +1,4 @@
--- A draft whose last item was a binding was one without it, and admitted it.
+-- That a draft without its last binding is a draft, and admits that binding.
 use Rattle.std.proofs.Common.{ℕ, ◌-◌, ◌<◌, ◌≡◌, ◌≢◌, None, Option, Some, get_or, length, refl, slice_get, true}
 use Rattle.std.proofs.lemmas.Bool.{false_from_ne_true, lt-ltb}
 use Rattle.machine.{specs.{declared.layout.Binding.Binding, Layout.{Layout, initial_of}, Machine.same_id}, proofs.LookUps.one_id}

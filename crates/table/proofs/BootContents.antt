@@ -1,4 +1,4 @@
--- In a boot state each object has a queue and its words, and nothing else has; and ranges are those that the table's rules allow.
+-- The contents of objects in a boot state: which have a queue or words, and that their ranges obey the table's rules.
 use Rattle.std.{specs.Prelude.{Some, option_map}, proofs.Common.{[], ◌∙◌, ◌≡◌, ◌≤◌, ap, replicate, subst, sym}}
 use Rattle.std.proofs.lemmas.List.{length-replicate}
 use Rattle.base.specs.declared.{ids.ObjId.ObjId, limits.TheConstants.ADDRESS_END}

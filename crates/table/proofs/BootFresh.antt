@@ -1,4 +1,4 @@
--- A boot state is as the boot rule says.
+-- That a boot state obeys the boot rule.
 use Rattle.std.{specs.{Option.option_and_then, Prelude.option_map}, proofs.Common.{[], ◌∙◌, ◌≡◌, ◌⊎◌, ap, inl, inr, refl, replicate, sym}}
 use Rattle.base.specs.declared.ids.ObjId.{ObjId}
 use Rattle.machine.specs.declared.{object.Object.{Object, Object as o}, thread.{RunState.{RunState, RunState as run}, Tcb.Tcb}}
@@ -11,7 +11,7 @@ rests-cases run.Ready rests = inl refl
 rests-cases run.Inactive rests = inr refl
 rests-cases _ rests = absurd rests
 
--- the object that is bound to a thread was declared as a thread in the same state
+-- an object that is bound to a thread is declared as a thread
 thread-declared :
     (t : Layout) (id : ObjId) (thread : Tcb) (object : Object) → o.Tcb thread ≡ bound t id object
     → (declared : Tcb) × (object ≡ o.Tcb declared) × (thread.state ≡ declared.state)

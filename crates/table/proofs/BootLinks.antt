@@ -10,19 +10,15 @@ use Rattle.machine.specs.WellFormed.{LinksAgree, WaitsAt}
 use Rattle.table.{specs.Rules.{IsAtRest, IsLawful}, proofs.BootParts.{Binds, at_boot, binding-law, binds-context, binds-thread}}
 use Rattle.table.proofs.BootParts.{context-bound, declared-present, map-some, thread-bound}
 
--- every queue is empty
 pub boot-queue :
     (t : Layout) (m : Machine) (id : ObjId) (threads : List ObjId) → IsBoot t m → queue_of m id ≡ Some threads → threads ≡ []
 boot-queue t m id threads boot queue = (map-some (λ (object : Object). []) (booted t id) threads (sym (boot.queues id) ∙ queue)).2
 
--- nobody is in a queue
 unqueued :
     (t : Layout) (m : Machine) (id thread : ObjId) (threads : List ObjId) → IsBoot t m → queue_of m id ≡ Some threads
     → Contains threads thread → ⊥
 unqueued t m id thread threads boot queue waits =
     let none = ap length (boot-queue t m id threads boot queue) in omega (arith, waits.1)
-
--- a thread that is at rest waits for nothing
 
 unwaiting : (state : RunState) (id : ObjId) → IsAtRest state → WaitsAt state id → ⊥
 unwaiting run.Inactive id rests waits = waits
@@ -39,7 +35,7 @@ uncalled run.Inactive id rests called = called
 uncalled run.Ready id rests called = called
 uncalled _ id rests called = rests
 
--- a declared object of a kind
+-- a declared object of a kind is a thread or a context of the boot state
 
 tcb-of_kind :
     (t : Layout) (id : ObjId) (object : Object) → kind_of_object object ≡ kind.Tcb
@@ -53,7 +49,7 @@ context-of_kind :
 context-of_kind t id (o.Context context) of_kind = (record context { thread = bound_thread t id }, refl)
 context-of_kind t id _ of_kind = absurd cc
 
--- the context of a bound thread is there, and has the thread
+-- the context of a bound thread is there, and has this thread
 pub boot-context :
     (t : Layout) (m : Machine) (thread id : ObjId) → IsLawful t → IsBoot t m → Binds t thread id
     → (context : Context) × (object_of m id ≡ Some (o.Context context)) × (context.thread ≡ Some thread)
@@ -66,7 +62,7 @@ boot-context t m thread id lawful boot binds =
     declared-present t m id found.0 boot found.1 ∙ ap (λ object. Some object) made.1 in
     (made.0, present, at_boot t m id (o.Context made.0) lawful boot present ∙ context-bound t thread id lawful binds)
 
--- the thread of a bound context is there, and has the context
+-- the thread of a bound context is there, and has this context
 pub boot-thread :
     (t : Layout) (m : Machine) (thread id : ObjId) → IsLawful t → IsBoot t m → Binds t thread id
     → (tcb : Tcb) × IsThread m thread tcb × (tcb.context ≡ Some id)

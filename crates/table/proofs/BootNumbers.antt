@@ -1,4 +1,4 @@
--- The numbers and ranges of a boot state fit: no two objects overlap, and nothing is made of untyped memory yet.
+-- The ranges of memory in a boot state: no two objects overlap, and nothing is made of untyped memory yet.
 use Rattle.std.{specs.Prelude.Some, proofs.Common.{ℕ, ◌+◌, ◌<◌, ◌∙◌, ◌≡◌, ◌≢◌, ◌≤◌, ◌⊎◌, ap, arith, get_or, inl, inr, subst, sym}}
 use Rattle.std.proofs.lemmas.{Bool.cases_lt, Nat.pow_pos, Option.same_Some}
 use Rattle.base.specs.declared.ids.{ObjId.ObjId, SlotRef.SlotRef}
@@ -9,7 +9,7 @@ use Rattle.machine.proofs.Bound.{address-bound, end-bound}
 use Rattle.table.{specs.{Placement.IsApart, Rules.IsLawful}, proofs.{BootContents.boot-ranged, BootParts.{at_boot, declares, fills}}}
 use Rattle.table.proofs.{BootParts.pair-cases, BootSlots.kind-aimed}
 
--- two capabilities for one object, the first of them for untyped memory, are in one slot
+-- two capabilities for one object are in one slot if the first is for untyped memory
 one-slot :
     (t : Layout) (m : Machine) (a b : SlotRef) (first second : Cap) → IsLawful t → IsBoot t m → cap_of m a ≡ Some first
     → cap_of m b ≡ Some second → first.object ≡ second.object
@@ -30,7 +30,7 @@ one-slot t m a b first second lawful boot has_first has_second same untyped =
       | inr differ ↦ elim differ [ inl apart ↦ absurd (apart also same) | inr apart ↦ absurd (apart untyped (sym same)) ]
     ]
 
--- an object with a byte below its end has one at its address
+-- an object that has a byte has one at its address
 occupied : (object : Object) (byte : ℕ) → byte < end_of object → address_of object < end_of object
 occupied (o.Untyped memory) byte below = omega (arith, pow_pos memory.bits)
 occupied (o.CNode node) byte below = omega (arith, pow_pos (node.radix + 5))

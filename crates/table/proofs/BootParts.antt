@@ -1,4 +1,4 @@
--- What the objects, the capabilities and the bindings of a boot state are in its table.
+-- The objects, capabilities and bindings of a boot state, as its table lists them.
 use Rattle.std.specs.{Cmp.tied_itself, List.find, Ordering.is_eq, Prelude.{⊤, AllPairs, Contains, None, Option, Some, option_map}}
 use Rattle.std.proofs.Common.{[], ℕ, ◌<◌, ◌∙◌, ◌∷◌, ◌≡◌, ◌≢◌, ◌⊎◌, Bool, List, ap, arith, cond, false, get_or, inl, inr, length, refl}
 use Rattle.std.proofs.{Common.{subst, suc, sym, true, zero}, lemmas.{Bool.cases_order, List.Elements.{All-contains, at_from_Contains}}}
@@ -20,7 +20,7 @@ map-some f (Some x) y is = (x, refl, same_Some y (f x) (sym is))
 Contains-cons : {X : Type 0} (y : X) (ys : List X) (x : X) → Contains ys x → Contains (y ∷ ys) x
 Contains-cons y ys x has = (suc has.0, omega (arith, has.1), has.2)
 
--- what a look-up finds is in the list and passes
+-- an element that is found is in the list and passes
 finds : {X : Type 0} (p : X → Bool) (xs : List X) (x : X) → find p xs ≡ Some x → Contains xs x × (p x ≡ true)
 finds p [] x is = absurd (none-some x is)
 finds p (y ∷ ys) x is = by_test (λ rest. finds p ys x rest) (p y) refl is where
@@ -30,7 +30,7 @@ finds p (y ∷ ys) x is = by_test (λ rest. finds p ys x rest) (p y) refl is whe
   by_test further true first is = let same : y ≡ x = same_Some y x is in ((0, omega arith, same), ap p (sym same) ∙ first)
   by_test further false first is = let rest = further is in (Contains-cons y ys x rest.0, rest.1)
 
--- an element that passes isn't missed
+-- a look-up finds something if an element passes
 not-missed :
     {X : Type 0} (p : X → Bool) (xs : List X) (k : ℕ) (x : X) → k < length xs → get_or xs k x ≡ x → p x ≡ true → find p xs ≡ None
     → ⊥
@@ -43,7 +43,7 @@ not-missed p (y ∷ ys) (suc k) x within at passes missed =
       by_test further true missed = none-some y (sym missed)
       by_test further false missed = further missed
 
--- the one element that passes is found
+-- the only element that passes is found
 pub find-only :
     {X : Type 0} (p : X → Bool) (xs : List X) (x : X) → Contains xs x → p x ≡ true
     → ((y : X) → Contains xs y → p y ≡ true → y ≡ x) → find p xs ≡ Some x
@@ -52,7 +52,7 @@ find-only {X} p xs x has passes only = by_found (find p xs) refl where
   by_found None missed = absurd (not-missed p xs has.0 x has.1 has.2 passes missed)
   by_found (Some y) is = let there = finds p xs y is in is ∙ ap (λ z. Some z) (only y there.0 there.1)
 
--- of two elements of a list that relates each to those after it, they are one, or the one relates to the other
+-- two elements of a list that relates each to those after it are equal, or one relates to the other
 pub pair-cases :
     {X : Type 0} (R : X → X → Type 0) (xs : List X) (x y : X) → AllPairs R xs → Contains xs x → Contains xs y
     → (x ≡ y) ⊎ (R x y ⊎ R y x)
@@ -75,7 +75,7 @@ pair-cases {X} R xs x y pairs has_x has_y =
 same_id-itself : (id : ObjId) → same_id id id ≡ true
 same_id-itself id = ap is_eq (tied_itself id_total id)
 
--- an object as it is in a boot state: nothing is made of it, queued, received or pending, and it is bound as the table says
+-- an object as it is in a boot state: empty, at rest, and bound as the table says
 abbrev pub IsAtBoot : Layout → ObjId → Object → Type 0
 IsAtBoot t id (o.Untyped memory) = memory.watermark ≡ memory.base
 IsAtBoot t id (o.Tcb thread) = IsAtRest thread.state × (thread.inbox ≡ inbox.Empty) × (thread.context ≡ bound_context t id)
@@ -117,7 +117,6 @@ declares t m id object boot present =
       in_list = λ d. get_or_from_slice_get t.objects id.0 found.0 d found.1;
     }
 
--- a declared object is there
 pub declared-present :
     (t : Layout) (m : Machine) (id : ObjId) (initial : Initial) → IsBoot t m → initial_of t id ≡ Some initial
     → object_of m id ≡ Some (bound t id initial.object)
@@ -138,7 +137,6 @@ at_boot t m id object lawful boot present =
     let P : Object → Type 0 = λ object. IsAtBoot t id object in
     subst P (sym declared.is) (at_boot-bound t id declared.initial.object (declared-law t id object lawful declared).blank)
 
--- a capability that the table puts into a slot is in its list
 pub in_slot :
     (t : Layout) (slot : SlotRef) (held : Cap) → initial_cap t slot ≡ Some held
     → Contains t.caps (record { slot = slot; cap = held })
@@ -151,7 +149,7 @@ in_slot t slot held filled =
     let is : found.0 ≡ record { slot = slot; cap = held } = λ i. record { slot = same i; cap = sym found.2 i } in
     subst (Contains t.caps) is there.0
 
--- it is marked as its source says
+-- a capability of the table is marked as its source says
 pub marked :
     (t : Layout) (slot : SlotRef) (held : Cap) → IsLawful t → initial_cap t slot ≡ Some held
     → held.original ≡ is_original t slot held.detail
@@ -186,19 +184,18 @@ cap-law t m slot held lawful boot filled =
     let P : Filled → Type 0 = λ filled. IsCapOf t.objects filled in
     All-contains P t.caps (record { slot = slot; cap = held }) lawful.draft.caps.each (fills t m slot held boot filled)
 
--- and is marked as its source says
+-- a capability of a boot state is marked as its source says
 pub mark-law :
     (t : Layout) (m : Machine) (slot : SlotRef) (held : Cap) → IsLawful t → IsBoot t m → cap_of m slot ≡ Some held
     → held.original ≡ is_original t slot held.detail
 mark-law t m slot held lawful boot filled = marked t slot held lawful (sym (boot.caps slot) ∙ filled)
 
--- and a slot's parent there is its parent in the table
+-- a slot's parent in a boot state is its parent in the table
 pub pair-law :
     (t : Layout) (m : Machine) (slot parent : SlotRef) → IsLawful t → IsBoot t m → parent_of m slot ≡ Some parent
     → IsPairOf t (record { parent = parent; child = slot })
 pair-law t m slot parent lawful boot joined = paired t slot parent lawful (sym (boot.parents slot) ∙ joined)
 
--- the table binds a thread to a context
 abbrev pub Binds : Layout → ObjId → ObjId → Type 0
 Binds t thread context = Contains t.bindings (record { thread = thread; context = context })
 
@@ -209,7 +206,7 @@ binding-law t thread context lawful binds =
     let P : Binding → Type 0 = λ binding. IsBindingOf t.objects binding in
     All-contains P t.bindings (record { thread = thread; context = context }) lawful.draft.bindings.each binds
 
--- a thread that has a context is bound to it, and the other way round
+-- a thread has a context exactly if the table binds it to that context
 
 pub binds-thread : (t : Layout) (thread context : ObjId) → bound_context t thread ≡ Some context → Binds t thread context
 unfolding bound_context
@@ -242,7 +239,7 @@ thread-bound t thread context lawful binds =
             | inr rises ↦ elim rises [ inl below ↦ absurd (omega arith) | inr above ↦ absurd (omega arith) ]
           ]
 
--- a context that has a thread is bound to it, and the other way round
+-- a context has a thread exactly if the table binds the thread to it
 
 pub binds-context : (t : Layout) (thread context : ObjId) → bound_thread t context ≡ Some thread → Binds t thread context
 unfolding bound_thread

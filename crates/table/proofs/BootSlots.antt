@@ -1,5 +1,4 @@
--- The slots of a boot state fit: each is in its holder, its capability is for an object of the kind that it says, and the tree is
--- that of the table.
+-- The slots of a boot state: each is in its holder, each capability says the kind of its object, and the tree is that of the table.
 use Rattle.std.{specs.Prelude.{Some, option_map}, proofs.{Common.{◌∙◌, ◌≡◌, ap, inl, refl, sym}, lemmas.Option.same_Some}}
 use Rattle.base.specs.declared.ids.{ObjId.ObjId, SlotRef.SlotRef}
 use Rattle.machine.specs.declared.{cap.{Cap.Cap, Detail.{Detail, Detail as d}}, layout.Initial.Initial, object.Object.{Object, Object as o}}
@@ -7,7 +6,6 @@ use Rattle.machine.specs.{Boot.{IsBoot, bound}, Capabilities.kind_of_detail, Lay
 use Rattle.machine.{specs.{Objects.kind_of_object, WellFormed.{SlotsFit, kind_of}}, proofs.Bound.{kind-bound, slot_count-bound}}
 use Rattle.table.{specs.Rules.{IsDetailOf, IsLawful}, proofs.{BootParts.{cap-law, declared-present, pair-law}, BootTree.boot-acyclic}}
 
--- a detail that fits an object is of the object's kind
 pub kind-detail : (object : Object) (detail : Detail) → IsDetailOf object detail → kind_of_object object ≡ kind_of_detail detail
 kind-detail (o.Untyped _) d.Untyped fits = refl
 kind-detail (o.CNode _) (d.CNode _) fits = refl
@@ -20,7 +18,6 @@ kind-detail (o.Frame _) (d.Frame _) fits = refl
 kind-detail (o.Control _) d.Control fits = refl
 kind-detail _ _ fits = absurd fits
 
--- a declared object has its kind
 pub kind-present :
     (t : Layout) (m : Machine) (id : ObjId) (initial : Initial) → IsBoot t m → initial_of t id ≡ Some initial
     → kind_of m id ≡ Some (kind_of_object initial.object)
@@ -28,7 +25,7 @@ kind-present t m id initial boot at =
     ap (option_map kind_of_object) (declared-present t m id initial boot at)
     ∙ ap (λ found. Some found) (kind-bound t id initial.object)
 
--- the object of a capability is of the kind that the capability says
+-- a capability says the kind of its object
 pub kind-aimed :
     (t : Layout) (m : Machine) (slot : SlotRef) (held : Cap) → IsLawful t → IsBoot t m → cap_of m slot ≡ Some held
     → kind_of m held.object ≡ Some (kind_of_detail held.detail)

@@ -1,4 +1,4 @@
--- Each table has one boot state: its maps list what the table declares.
+-- That each table has exactly one boot state, whose maps list what the table declares.
 use Rattle.std.specs.FinMap as map
 use Rattle.std.{specs.{List.find, Prelude.{None, Option, Some, option_map, slice_get}}, proofs.Common.{[], ℕ, ◌+◌, ◌∙◌, ◌∷◌, ◌≡◌, ◌≢◌}}
 use Rattle.std.proofs.Common.{Bool, List, ap, arith, cond, false, length, refl, replicate, suc, sym, true, zero}
@@ -12,7 +12,7 @@ use Rattle.machine.proofs.LookUps.{id_total, same_machine, slot_total}
 abbrev id : ℕ → ObjId
 id n = record { 0 = n }
 
--- something for each of the objects, from a number on
+-- one entry for each object, numbered from `n` on
 numbered : {X : Type 0} → (ObjId → Initial → X) → ℕ → List Initial → List (ObjId × X)
 numbered f n [] = []
 numbered f n (initial ∷ more) = (id n, f (id n) initial) ∷ numbered f (n + 1) more
@@ -36,7 +36,7 @@ numbered_at f n (suc k) (initial ∷ more) q at =
     (apart_ids q (id n) (λ same. omega arith))
     ∙ numbered_at f (n + 1) k more q (omega arith)
 
--- what is listed by slots
+-- one entry for each slot of a list
 listed : {A X : Type 0} → (A → SlotRef) → (A → X) → List A → List (SlotRef × X)
 listed key value [] = []
 listed key value (x ∷ xs) = (key x, value x) ∷ listed key value xs
@@ -63,7 +63,6 @@ option_map_twice f g None = refl
 option_map_twice f g (Some a) = refl
 
 module _ (t : Layout) where
-  -- something for each booted object
   for_each : {X : Type 0} → (Object → X) → map.FinMap id_cmp X
   for_each f = map.from_entries (numbered (λ q initial. f (bound t q initial.object)) 0 t.objects)
 
@@ -110,7 +109,6 @@ module _ (t : Layout) where
     going = refl;
   }
 
--- and no other
 pub boot_one : (t : Layout) (m n : Machine) → IsBoot t m → IsBoot t n → m ≡ n
 boot_one t m n a b =
     same_machine

@@ -1,5 +1,5 @@
--- The derivation tree of a boot state: ranks rise along its pairs, and no chain of it is longer than two pairs, since a child that is
--- a parent itself has a badge, and its parent has none.
+-- The derivation tree of a boot state: ranks rise along its pairs. A chain has at most two pairs, as a child that is a parent has a badge
+-- and its own parent has none.
 use Rattle.std.{specs.{Option.option_and_then, Prelude.{None, Option, Some}}, proofs.Common.{ℕ, ◌<◌, ◌==◌, ◌∙◌, ◌≡◌, ◌⊎◌, Bool, ap, arith}}
 use Rattle.std.proofs.{Common.{false, inl, inr, not, refl, sym, true}, lemmas.Bool.eq-eqb}
 use Rattle.base.specs.declared.ids.SlotRef.{SlotRef}
@@ -7,7 +7,7 @@ use Rattle.machine.specs.{declared.cap.Cap.Cap, Boot.IsBoot, Capabilities.badge_
 use Rattle.machine.{specs.{Machine.{Machine, parent_of}, Tree.IsRanked, WellFormed.Descends}, proofs.TreeRanks.ranked_acyclic}
 use Rattle.table.{specs.{Rules.IsLawful, Tree.{is_original, is_original_from, source_of}}, proofs.BootParts.{marked, paired}}
 
--- how far down a capability is: an original one is at the top if it has no badge, and else below that; a copy is at the bottom
+-- the depth of a capability: 0 for an original one without a badge, 1 for one with a badge, and 2 for a copy
 abbrev by_mark : (original plain : Bool) → ℕ
 by_mark true true = 0
 by_mark true false = 1
@@ -17,7 +17,6 @@ abbrev tier : Option Cap → ℕ
 tier None = 0
 tier (Some held) = by_mark held.original (badge_of held.detail == 0)
 
--- a child is further down than its parent
 further_down :
     (above below : Cap) → above.original ≡ true → (badge_of above.detail ≡ 0) ⊎ (badge_of above.detail ≡ badge_of below.detail)
     → below.original ≡ not (badge_of below.detail == badge_of above.detail) → tier (Some above) < tier (Some below)
@@ -42,7 +41,7 @@ further_down above below original (inr same) mark =
       eq-itself : (n : ℕ) → (n == n) ≡ true
       eq-itself n = eq-eqb n n refl
 
--- ranks rise along the pairs of the table, all or some of them
+-- ranks rise along all pairs of the table, and along some of them
 pub boot-ranked :
     (t : Layout) (m : Machine) → IsLawful t
     → ((slot parent : SlotRef) → parent_of m slot ≡ Some parent → initial_parent t slot ≡ Some parent) → IsRanked m

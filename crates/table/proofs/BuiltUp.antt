@@ -1,4 +1,4 @@
--- The drafts whose capabilities are all marked original are those that are built up item by item.
+-- That the drafts whose capabilities are all marked original are exactly those that are built up item by item.
 use Rattle.std.proofs.{Common.{[], ℕ, ◌++◌, ◌∷◌, ◌≡◌, All, List, arith, length, refl, subst, sym, true}, lemmas.List.append-nil}
 use Rattle.std.proofs.lemmas.List.{append_assoc, Elements.{All-nil, All-push}}
 use Rattle.machine.specs.{declared.layout.{Filled.Filled, Initial.Initial, Pair.Pair, Version.Version}, Layout.{Layout, empty_layout}}
@@ -8,11 +8,10 @@ use Rattle.table.proofs.{CapAdded.draft_filled, CapRemoved.cap_removed, DraftKep
 use Rattle.table.proofs.{LabelAdded.draft_label, LabelRemoved.label_removed, ObjectAdded.draft_initial, ObjectRemoved.object_removed}
 use Rattle.table.proofs.Pairs.{draft_pair, pair_removed}
 
--- each capability is marked original
 abbrev pub AllOriginal : Layout → Type 0
 AllOriginal t = All (λ filled. filled.cap.original ≡ true) t.caps
 
--- what is built up so far: a draft whose capabilities are all marked original
+-- a draft whose capabilities are all marked original
 abbrev IsBuilt : Layout → Type 0
 IsBuilt t = IsDraft t × AllOriginal t
 
@@ -38,14 +37,14 @@ item_removed t (CapItem filled) now h =
 item_removed t (PairItem pair) now h = let front = pair_removed t pair h.0 in ((front.0, h.1), front.1)
 item_removed t (BindingItem binding) now h = let front = binding_removed t binding h.0 in ((front.0, h.1), front.1)
 
--- a table that is built up where it keeps the rules
+-- a table is built up if it is such a draft
 abbrev Builds : Layout → Type 0
 Builds t = IsBuilt t → IsBuiltUp t
 
 one_more : (t : Layout) (item : Item) → ComesNow t item → Builds t → Builds (with_item t item)
 one_more t item now builds h = let front = item_removed t item now h in more item (builds front.0) now front.1
 
--- the first parts of a table
+-- tables that have only the first sections
 
 abbrev with_labels : Version → List (List ℕ) → Layout
 with_labels version labels = record (empty_layout version) { labels = labels }

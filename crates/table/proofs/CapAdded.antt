@@ -1,4 +1,4 @@
--- A draft with a filled slot more is one.
+-- That a draft stays a draft when a slot is filled.
 use Rattle.std.{specs.{declared.cmp.Ordering.TheVariants.Less, Ordering.is_eq}, proofs.Common.{ℕ, ◌&&◌, ◌<◌, ◌∙◌, ◌≡◌, ◌≢◌, None, Option}}
 use Rattle.std.proofs.{Common.{Some, ap, arith, false, get_or, length, refl, sym, true}, lemmas.Bool.{and_parts, false≢true, leb-true}}
 use Rattle.std.proofs.lemmas.{Bool.{ltb-true, not-true}, Cmp.tied_itself, List.{Elements.All-push, Quantifiers.all_pairs_push}}
@@ -45,7 +45,7 @@ no_tcb (o.Context _) e at = cc
 no_tcb (o.Frame _) e at = cc
 no_tcb (o.Control _) e at = cc
 
--- a capability that fits is for an object with a small number
+-- a capability that fits is for an object whose number is small enough
 pub aimed_low : (t : Layout) (cap : Cap) → IsDraft t → is_fitting t cap ≡ true → cap.object.0 < OBJECT_NUMBERS
 unfolding initial_of is_fitting
 aimed_low t cap h e =
@@ -54,7 +54,7 @@ aimed_low t cap h e =
     let few = h.objects.few in
     omega arith
 
--- a thread's root slot holds a CNode's capability
+-- a thread's root slot takes only a CNode's capability
 root_holds :
     (holder : Initial) (detail : Detail) → may_hold (Some holder) detail ≡ true → kind_of_object holder.object ≡ kind.Tcb
     → kind_of_detail detail ≡ kind.CNode

@@ -1,4 +1,4 @@
--- A draft whose last item was a filled slot was one without it, and admitted it if it was marked original.
+-- That a draft without its last filled slot is a draft, and admits that slot if its capability was marked original.
 use Rattle.std.{specs.declared.cmp.Ordering.TheVariants.Less, proofs.Common.{ℕ, ◌<◌, ◌∙◌, ◌≡◌, ◌≢◌, Some, ap, false, get_or, length, not}}
 use Rattle.std.proofs.{Common.{refl, true}, lemmas.Bool.{and_from, false_from_ne_true, le-leb, lt-ltb}}
 use Rattle.machine.specs.declared.{cap.{Cap.Cap, Detail.Detail}, layout.{Filled.Filled, Initial.Initial}, object.Object.Object}
@@ -21,7 +21,6 @@ fits_detail (o.Frame _) (d.Frame rights) is = lt-ltb _ _ is
 fits_detail (o.Control _) d.Control is = refl
 fits_detail _ _ is = absurd is
 
--- an object is no thread where a thread would ask too much
 no_thread : (object : Object) → (kind_of_object object ≡ kind.Tcb → ⊥) → not (is_tcb object) ≡ true
 no_thread (o.Tcb _) apart = absurd (apart refl)
 no_thread (o.Untyped _) apart = refl

@@ -1,4 +1,4 @@
--- What the sections of a table say stays true when a section before them grows, and holds of empty ones.
+-- The rules of each section of a table: they hold of empty sections, and still hold when an earlier section grows.
 use Rattle.std.{specs.List.slice_get, proofs.Common.{[], ℕ, ◌∙◌, ◌≡◌, All, List, None, Option, Some, ap, arith, option_map, refl}}
 use Rattle.std.proofs.lemmas.{List.Elements.{All-nil, All-weaker}, Option.none-some}
 use Rattle.base.specs.declared.ids.{ObjId.ObjId, SlotRef.SlotRef}
@@ -7,7 +7,7 @@ use Rattle.machine.specs.{declared.object.ObjectKind.ObjectKind, Layout.empty_la
 use Rattle.table.specs.Rules.{BindingsFit, CapsFit, HasSlot, IsBindingOf, IsCapOf, IsDraft, IsObjectOf, IsOfKind, IsSlotPair, ObjectsFit}
 use Rattle.table.{specs.Rules.PairsFit, proofs.ListLemmas.no_pair}
 
--- empty sections
+-- empty sections keep the rules
 
 pub no_caps : (objects : List Initial) → CapsFit objects []
 no_caps objects = record { each = All-nil _; rise = λ i j d. no_pair i j; untypeds_once = λ i j d. no_pair i j }
@@ -37,7 +37,7 @@ draft_empty version = record {
   bindings = no_bindings [];
 }
 
--- the objects of a table with another number of labels
+-- the rules of objects still hold with another number of labels
 pub objects_kept :
     (n m : ℕ) (names : List (List ℕ)) (objects : List Initial) → All (IsObjectOf m) objects → ObjectsFit n names objects
     → ObjectsFit m names objects
@@ -53,7 +53,7 @@ objects_kept n m names objects each h = record {
   controls_differ = h.controls_differ;
 }
 
--- the second objects have each of the first where it was
+-- the second list has each object of the first at its place
 abbrev pub Keeps : List Initial → List Initial → Type 0
 Keeps objects more = (k : ℕ) (initial : Initial) → slice_get objects k ≡ Some initial → slice_get more k ≡ Some initial
 

@@ -1,4 +1,4 @@
--- How many bytes an object of so many bits takes, and that those of an object below the addresses' end are few.
+-- The extents of objects: how large they are, which of them meet, and which untyped memory holds an address.
 use Rattle.std.{specs.List.{Contains, find, list_any, slice_get, Sorted.IsPermutation}, proofs.Common.{[], ℕ, ◌%◌, ◌&&◌, ◌*◌, ◌++◌, ◌+◌}}
 use Rattle.std.proofs.Common.{◌-◌, ◌<◌, ◌^◌, ◌||◌, ◌∙◌, ◌∷◌, ◌≡◌, ◌≤◌, ◌⊎◌, All, Bool, List, None, Option, Some, ap, arith, false, get_or}
 use Rattle.std.proofs.{Common.{inl, inr, length, nat_le, nat_lt, refl, subst, suc, sym, true, zero}, Math.Pow.pow_mono}
@@ -23,7 +23,7 @@ size_of-bits (o.Context _) bits e = ap (λ n. 2 ^ n) (same_Some 8 bits e)
 size_of-bits (o.Frame _) bits e = ap (λ n. 2 ^ n) (same_Some 12 bits e)
 size_of-bits (o.Control _) bits e = absurd (none-some bits e)
 
--- more bits than an address has don't fit below the addresses' end
+-- an object below the addresses' end has at most as many bits as an address
 few_bits : (start bits : ℕ) → start + 2 ^ bits ≤ ADDRESS_END → bits ≤ ADDRESS_BITS
 few_bits start bits h = by (cases_lt ADDRESS_BITS bits) where
   by : (ADDRESS_BITS < bits) ⊎ (bits ≤ ADDRESS_BITS) → bits ≤ ADDRESS_BITS
@@ -62,7 +62,7 @@ many_exceed object bits e many =
           → nat_le bits ADDRESS_BITS ≡ nat_le (start + size) ADDRESS_END
       compared start bits power size e h many = grind (arith, nat_tests)
 
--- an object meets the extents of others where it meets the others
+-- an object meets the extents of others exactly if it meets the others
 met_extents :
     (extent : Extent) (object : Object) (objects : List Initial) (number : ℕ)
     → extent.start ≡ address_of object → extent.end ≡ end_of object
@@ -112,7 +112,7 @@ push_at_zero :
 push_at_zero initial objects =
     extents_push initial objects 0 ∙ ap (λ n. extents_from 0 objects ++ extent_of n initial.object ∷ []) (omega arith)
 
--- one object more has its extent among the others'
+-- the extents with one object more
 pub extents_with :
     (initial : Initial) (extent : Extent) (objects : List Initial) (extents : List Extent)
     → IsPermutation (extents_from 0 objects) extents → extent.start ≡ address_of initial.object
@@ -147,7 +147,7 @@ numbered_at :
 numbered_at objects i d e within =
     extents_at 0 objects i d e within ∙ ap (λ n. extent_of n (get_or objects i e).object) (omega arith)
 
--- an object is untyped memory, or holds no address as memory
+-- an object that holds an address as memory is untyped memory
 memory_of :
     (initial : Initial) (object : Object) → initial.object ≡ object
     → ((address : ℕ) → has_memory_at address initial ≡ false) ⊎ ((memory : Untyped) × (initial.object ≡ o.Untyped memory))
@@ -166,7 +166,7 @@ memory_extent :
     → has_memory_at address initial ≡ holds address (extent_of number initial.object)
 memory_extent address number initial memory is = rw is refl
 
--- where memory holds an address, its extent does
+-- an object's extent holds each address that its memory holds
 held_at :
     (address number : ℕ) (initial : Initial) → has_memory_at address initial ≡ true
     → holds address (extent_of number initial.object) ≡ true
@@ -175,7 +175,7 @@ held_at address number initial has = elim (memory_of initial initial.object refl
   | inr memory ↦ sym (memory_extent address number initial memory.0 memory.1) ∙ has
 ]
 
--- what the extents say of an address, the objects do: `result` is the one extent that holds it
+-- the memory that holds an address, read off the extents: `result` is the one extent that holds the address
 module _ (address : ℕ) (objects : List Initial) (extents : List Extent) (same : IsPermutation (extents_from 0 objects) extents)
     (result : Option Extent) (alone : All (λ extent. holds address extent ≡ true → result ≡ Some extent) extents) where
   holder_is :
@@ -193,7 +193,7 @@ module _ (address : ℕ) (objects : List Initial) (extents : List Extent) (same 
   unheld initial false same never = same
   unheld initial true same never = absurd (never refl)
 
-  -- no extent holds it, and no memory
+  -- if no extent holds the address, no memory does
   pub memory_nowhere : result ≡ None → find (has_memory_at address) objects ≡ None
   memory_nowhere none = find_none (has_memory_at address) objects (λ i d within.
       unheld (get_or objects i d) (has_memory_at address (get_or objects i d)) refl
@@ -223,7 +223,7 @@ module _ (address : ℕ) (objects : List Initial) (extents : List Extent) (same 
           let here = get_or_from_slice_get objects its_object.0 initial initial (ap (slice_get objects) (sym number) ∙ at) in
           (here, its_object.2 initial ∙ ap (λ (x : Initial). extent_of its_object.0 x.object) here)
 
-      -- where it is untyped memory, it holds the address
+      -- the object holds the address if it is untyped memory
       pub has_it : (memory : Untyped) → initial.object ≡ o.Untyped memory → holds address extent ≡ true → has_memory_at address initial ≡ true
       has_it memory is held =
           memory_extent address its_object.0 initial memory is ∙ ap (holds address) (sym is_its.1) ∙ held
@@ -234,7 +234,7 @@ module _ (address : ℕ) (objects : List Initial) (extents : List Extent) (same 
         | inr memory ↦ absurd (other memory.0 memory.1)
       ]
 
-      -- no other has memory there
+      -- no other object has memory there
       alone_there : (i : ℕ) (d : Initial) → i < length objects → has_memory_at address (get_or objects i d) ≡ true → i ≡ its_object.0
       alone_there i d within has =
           ap (λ (e : Extent). e.number)

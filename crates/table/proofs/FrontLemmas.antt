@@ -1,4 +1,4 @@
--- Lists without their last element: what held of the whole holds of the front, and ties the last element to it.
+-- Lists without their last element: what holds of the whole list holds of the front, and relates the last element to it.
 use Rattle.std.{specs.{List.list_any, Str.bytes_eq}, proofs.Common.{[], ℕ, ◌++◌, ◌+◌, ◌-◌, ◌<◌, ◌∷◌, ◌≡◌, All, AllPairs, Bool, List, None}}
 use Rattle.std.proofs.Common.{Option, Some, arith, false, get_or, is_some, length, position, refl, slice_get, subst, suc, sym}
 use Rattle.std.proofs.lemmas.{Bool.or_from, List.{append-nil, append_assoc, get_or_append_left, get_or_push, length_push, Elements.All-nil}}
@@ -29,11 +29,10 @@ pairs_front {X = X} R xs x h = (in_front, to_last) where
       subst (λ y. R y x) first
       (subst (λ y. R (get_or (xs ++ x ∷ []) k d) y) second (h k (length xs) d within (omega (arith, size))))
 
--- an empty list has no element, and no two
+-- every fact holds of all elements of an empty list
 pub all_of_none : {X : Type 0} (P : X → Type 0) (xs : List X) → xs ≡ [] → All P xs
 all_of_none P xs e = All-same P xs [] e (All-nil P)
 
--- where no element passes a test, the list has none that does
 pub none_passes :
     {X : Type 0} (p : X → Bool) (xs : List X) → ((k : ℕ) (d : X) → k < length xs → p (get_or xs k d) ≡ false)
     → list_any p xs ≡ false
@@ -41,7 +40,6 @@ none_passes p [] none = refl
 none_passes p (x ∷ xs) none =
     or_from (p x) (list_any p xs) (none 0 x (omega arith)) (none_passes p xs (λ k d within. none (suc k) d (omega arith)))
 
--- a name that differs from each name has no place among them
 pub no_place :
     (name : List ℕ) (names : List (List ℕ)) → ((k : ℕ) (d : List ℕ) → k < length names → get_or names k d ≡ name → ⊥)
     → is_some (position (λ other. bytes_eq name other) names) ≡ false
@@ -52,14 +50,14 @@ no_place name names apart = by (position (λ other. bytes_eq name other) names) 
       let found = position-Some (λ other. bytes_eq name other) names k [] at in
       absurd (apart k [] found.0 (sym ((bytes_eq-Decides name (get_or names k [])).0 found.1)))
 
--- what the last element is like is known from what each element is like
+-- a fact about each element holds of the last
 pub at_last :
     {X : Type 0} (P : X → Type 0) (xs : List X) (x : X) → ((k : ℕ) (d : X) → k < length xs → P (get_or xs k d))
     → slice_get xs (length xs - 1) ≡ Some x → P x
 at_last P xs x each at =
     subst P (get_or_from_slice_get xs (length xs - 1) x x at) (each (length xs - 1) x (slice_get_within xs (length xs - 1) x at))
 
--- what an empty list has, and a list with one element more each time, each list has
+-- induction over a list that grows at its end
 pub from_front :
     {X : Type 0} (P : List X → Type 0) → ((xs : List X) (x : X) → P xs → P (xs ++ x ∷ [])) → (front rest : List X) → P front
     → P (front ++ rest)

@@ -1,4 +1,4 @@
--- A draft with a label more is one.
+-- That a draft stays a draft when a label is added.
 use Rattle.std.{specs.Str.bytes_eq, proofs.Common.{[], ℕ, ◌++◌, ◌<◌, ◌∙◌, ◌∷◌, ◌≡◌, ◌≢◌, List, arith, false, get_or, is_some, length}}
 use Rattle.std.proofs.{Common.{position, sym, true}, lemmas.{Bool.false≢true, List.{length_push, Elements.{All-push, All-weaker}}}}
 use Rattle.std.proofs.lemmas.{List.Quantifiers.all_pairs_push, Slice.Eq.bytes_eq-Decides}
@@ -7,7 +7,7 @@ use Rattle.words.specs.Name.{is_name}
 use Rattle.table.{specs.{Building.{AdmitsLabel, with_label}, Names.label_named, Rules.{IsDraft, IsObjectOf}}, proofs.DraftKept.objects_kept}
 use Rattle.table.proofs.{ListLemmas.not_any, NameLemmas.list_any-none}
 
--- a name that has no number differs from each name
+-- a name that isn't in a list differs from each name in it
 pub differs :
     (name : List ℕ) (names : List (List ℕ)) → is_some (position (λ other. bytes_eq name other) names) ≡ false
     → (k : ℕ) (d : List ℕ) → k < length names → get_or names k d ≢ name

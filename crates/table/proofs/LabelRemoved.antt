@@ -1,4 +1,4 @@
--- A draft whose last item was a label was one without it, and admitted it.
+-- That a draft without its last label is a draft, and admits that label.
 use Rattle.std.proofs.{Common.{[], ℕ, ◌++◌, ◌∷◌, ◌≡◌, ◌≢◌, List, arith, length, true}, lemmas.List.length_push}
 use Rattle.machine.specs.Layout.{Layout}
 use Rattle.words.specs.Name.{is_name}

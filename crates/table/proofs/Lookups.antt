@@ -1,4 +1,4 @@
--- What a capability table has in a slot, as a slot's parent, or bound to a thread is what one of its lists says at one place.
+-- Look-ups in a capability table: what a slot holds, a slot's parent and a thread's context stand at one place of one list.
 use Rattle.std.{specs.List.{AllPairs, find, slice_get}, proofs.Common.{[], ℕ, ◌<◌, ◌∙◌, ◌∷◌, ◌≡◌, Bool, List, None, Option, Some, ap}}
 use Rattle.std.proofs.Common.{arith, cond, false, get_or, length, option_map, refl, suc, sym, true, zero}
 use Rattle.std.proofs.lemmas.Option.{get_or_from_slice_get, none-some, same_Some, slice_get-get_or, slice_get_within}
@@ -8,7 +8,7 @@ use Rattle.machine.{specs.{Layout.{initial_cap, initial_parent}, Machine.{same_i
 use Rattle.machine.proofs.LookUps.{one_slot}
 use Rattle.table.specs.Rules.{IsLawful}
 
--- an element that is found: where it is, that it passes, and that none before it does
+-- an element that is found: where it is, that it passes, and that none before it passes
 pub record FoundAt {X : Type 0} (p : X → Bool) (xs : List X) (x : X) : Type 0 where
   pub at : ℕ
   pub here : slice_get xs at ≡ Some x
@@ -32,7 +32,7 @@ found_at p (y ∷ ys) x found = by (p y) refl found (found_at p ys x) where
       record { at = 0; here = found; passes = ap p (sym (same_Some y x found)) ∙ passes; before = λ i z lt. absurd (omega (arith, lt)) }
   by false fails found later = found_later p y ys x fails (later found)
 
--- where nothing is found, nothing passes
+-- if nothing is found, nothing passes
 pub none_found : {X : Type 0} (p : X → Bool) (xs : List X) → find p xs ≡ None → (k : ℕ) (x : X) → slice_get xs k ≡ Some x → p x ≡ false
 none_found p [] found k x at = absurd (none-some x at)
 none_found {X = X} p (y ∷ ys) found k x at = by (p y) refl found k at (none_found p ys) where
@@ -54,12 +54,10 @@ found_first p (y ∷ ys) (suc k) x here passes before =
     ap (λ b. cond b (Some y) (find p ys)) (before 0 y (omega arith) refl)
     ∙ found_first p ys k x here passes (λ i z lt at. before (suc i) z (omega arith) at)
 
--- what a loop over a list reads
 pub read_at :
     {X : Type 0} (items xs : List X) (k : ℕ) (d : X) → items ≡ xs → k < length items → slice_get xs k ≡ Some (get_or items k d)
 read_at items xs k d same lt = ap (λ ys. slice_get ys k) (sym same) ∙ slice_get-get_or items k d lt
 
--- a fact of each two places of a list
 pub pair_at :
     {X : Type 0} (R : X → X → Type 0) (xs : List X) (i j : ℕ) (x y : X) → AllPairs R xs → i < j → slice_get xs i ≡ Some x
     → slice_get xs j ≡ Some y → R x y
@@ -67,7 +65,7 @@ pair_at R xs i j x y all lt at_i at_j =
     rw (sym (get_or_from_slice_get xs i x x at_i), sym (get_or_from_slice_get xs j y x at_j))
     (all i j x lt (slice_get_within xs j y at_j))
 
--- what a list has under a key stands in it
+-- the value of a key stands in the list
 pub record KeyedAt {K V X : Type 0} (key : X → K) (value : X → V) (xs : List X) (k : K) (v : V) : Type 0 where
   pub at : ℕ
   pub element : X
@@ -86,7 +84,7 @@ keyed_at {X = X} same one key value xs k v is = by (find (λ x. same (key x) k) 
       let at = found_at (λ x. same (key x) k) xs element found in
       record { at = at.at; element = element; here = at.here; key_is = one (key element) k at.passes; value_is = same_Some (value element) v is }
 
--- a filled slot stands in the table's list
+-- a filled slot stands in the table's list of capabilities
 
 pub filled_at :
     (t : Layout) (slot : SlotRef) (held : Cap) → initial_cap t slot ≡ Some held
@@ -94,7 +92,7 @@ pub filled_at :
 unfolding initial_cap
 filled_at t slot held is = keyed_at same_slot one_slot (λ (f : Filled). f.slot) (λ f. f.cap) t.caps slot held is
 
--- so does a child with its parent
+-- a child stands with its parent in the table's list of pairs
 
 pub parent_at :
     (t : Layout) (child parent : SlotRef) → initial_parent t child ≡ Some parent
@@ -102,7 +100,7 @@ pub parent_at :
 unfolding initial_parent
 parent_at t child parent is = keyed_at same_slot one_slot (λ (p : Pair). p.child) (λ p. p.parent) t.pairs child parent is
 
--- and a bound thread with its context
+-- a bound thread stands with its context in the table's list of bindings
 
 pub bound_at :
     (t : Layout) (thread context : ObjId) → bound_context t thread ≡ Some context

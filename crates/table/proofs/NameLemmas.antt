@@ -1,4 +1,4 @@
--- Where a name stands among names that are kept as strings, and that a new one goes last.
+-- Names that are kept as strings: the place of a name among them, and that a new name goes last.
 use Rattle.std.{specs.{List.{list_any, position_or_len, prefix_len}, Str.bytes_eq, String.{string_bytes, string_eq}}, proofs.Common.{[], ℕ}}
 use Rattle.std.proofs.Common.{◌++◌, ◌+◌, ◌||◌, ◌∙◌, ◌∷◌, ◌≡◌, Bool, List, None, Option, Some, String, ap, arith, cond, false, if◌then◌else◌}
 use Rattle.std.proofs.Common.{is_some, length, map, nat_lt, not, option_map, position, refl, suc, sym, true}
@@ -26,17 +26,17 @@ list_any-position p (x ∷ xs) = by (p x) (list_any p xs) (position_or_len p xs)
   by true any n len e = grind (arith, nat_tests)
   by false any n len e = e ∙ grind (arith, nat_tests)
 
--- a name that has no place isn't there
+-- a name without a place isn't in the list
 pub list_any-none : {X : Type 0} (p : X → Bool) (xs : List X) → is_some (position p xs) ≡ false → list_any p xs ≡ false
 list_any-none p xs none =
     list_any-position p xs ∙ sym (is_some-cond (nat_lt (position_or_len p xs) (length xs)) (position_or_len p xs)) ∙ none
 
--- a name has a number where it has a place
+-- a name has a number exactly if it has a place
 pub is_some-option_map : {X Y : Type 0} (f : X → Y) (o : Option X) → is_some (option_map f o) ≡ is_some o
 is_some-option_map f None = refl
 is_some-option_map f (Some x) = refl
 
--- a name that isn't there goes last
+-- a new name goes last
 pub added :
     {A : Type 0} (name : List ℕ) (string : String A) (strings : List (String A)) (names : List (List ℕ))
     → string_bytes string ≡ name → map string_bytes strings ≡ names

@@ -1,5 +1,5 @@
--- No pair of a lawful table's derivation tree is for untyped memory: that has one capability at most, which would be its own parent,
--- and so not original.
+-- That no pair of a lawful table's derivation tree is for untyped memory: such memory has at most one capability, which would be its own
+-- parent and so not original.
 use Rattle.std.specs.{declared.cmp.Ordering.TheVariants.Less, Cmp.tied_itself, Option.option_and_then, Ordering.is_eq, Prelude.Contains}
 use Rattle.std.{specs.Prelude.{Some, option_map, slice_get}, proofs.Common.{◌==◌, ◌∙◌, ◌≡◌, ◌≢◌, ap, inl, inr, not, sym, true}}
 use Rattle.std.proofs.lemmas.{Bool.{eq-eqb, false≢true}, List.Elements.All-contains, Option.same_Some}
@@ -54,7 +54,7 @@ module _ (t : Layout) (pair : Pair) (lawful : IsLawful t) (has : Contains t.pair
       ∙ ap (λ (initial : Initial). kind_of_object initial.object) one
       ∙ kind-detail below.target.object kin.below.detail below.detail
 
-  -- so if they are for untyped memory, they are in one slot
+  -- if they are for untyped memory, they are in one slot
   one_place : kind_of_detail kin.below.detail ≡ kind.Untyped → pair.parent ≡ pair.child
   one_place untyped =
       elim
@@ -70,7 +70,7 @@ module _ (t : Layout) (pair : Pair) (lawful : IsLawful t) (has : Contains t.pair
       Once : Filled → Filled → Type 0
       Once one other = kind_of_detail other.cap.detail ≡ kind.Untyped → one.cap.object ≢ other.cap.object
 
-  -- and the child is then its own parent, which isn't original
+  -- the child would then be its own parent, which isn't original
   not_untyped : kind_of_detail kin.below.detail ≢ kind.Untyped
   unfolding is_original source_of
   not_untyped untyped =

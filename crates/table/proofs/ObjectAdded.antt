@@ -1,4 +1,4 @@
--- A draft with an object more is one.
+-- That a draft stays a draft when an object is added.
 use Rattle.std.proofs.Common.{[], ℕ, ◌&&◌, ◌++◌, ◌+◌, ◌<◌, ◌||◌, ◌∙◌, ◌∷◌, ◌≡◌, ◌≢◌, ◌≤◌, Bool, List, ap, arith, cond, false, get_or}
 use Rattle.std.proofs.{Common.{length, nat_le, nat_lt, not, sym, true}, lemmas.Bool.{and_parts, eqb-true, false_from_ne_true, false≢true}}
 use Rattle.std.proofs.lemmas.{Bool.{leb-true, ltb-true, not-true, Decides.nat_tests}, List.{length_push, Elements.All-push}}
@@ -33,7 +33,7 @@ control_at t (o.Reply _) core once at = absurd (false≢true at)
 control_at t (o.Context _) core once at = absurd (false≢true at)
 control_at t (o.Frame _) core once at = absurd (false≢true at)
 
--- what room for an object says of the three counts
+-- an object for which there is room leaves the three counts within their limits
 within_limits :
     (objects slots more threads : ℕ) (thread : Bool)
     → ((nat_lt objects MAX_OBJECTS && nat_le (slots + more) MAX_SLOTS) && (nat_lt threads MAX_THREADS || not thread)) ≡ true → threads ≤ MAX_THREADS

@@ -1,4 +1,4 @@
--- A draft whose last item was an object was one without it, and admitted it.
+-- That a draft without its last object is a draft, and admits that object.
 use Rattle.std.proofs.Common.{ℕ, ◌+◌, ◌<◌, ◌||◌, ◌∙◌, ◌≡◌, ◌≢◌, ◌≤◌, ◌⊎◌, Bool, List, arith, cond, false, get_or, inl, inr, length, nat_lt}
 use Rattle.std.proofs.{Common.{not, refl, subst, sym, true}, lemmas.Bool.{and_from, and_parts, cases_lt, eq-eqb, false_from_ne_true}}
 use Rattle.std.proofs.lemmas.{Bool.{false≢true, le-leb, lt-ltb, ltb-true, not_from_false, Decides.nat_tests}, List.length_push}
@@ -24,7 +24,7 @@ starts_below (o.Context _) = inl (omega arith)
 starts_below (o.Frame _) = inl (omega arith)
 starts_below (o.Control _) = inr refl
 
--- objects with no address in both don't meet
+-- objects that share no address don't meet
 apart_meets : (one other : Object) → IsApart one other → meets one other ≡ false
 apart_meets one other apart =
     false_from_ne_true (meets one other)
@@ -61,7 +61,7 @@ no_repeat t (o.Reply _) differ = refl
 no_repeat t (o.Context _) differ = refl
 no_repeat t (o.Frame _) differ = refl
 
--- a thread more is within the limit
+-- one thread more is within the limit
 threads_fit : (threads : ℕ) (thread : Bool) → threads + cond thread 1 0 ≤ MAX_THREADS → (nat_lt threads MAX_THREADS || not thread) ≡ true
 threads_fit threads true few = grind (arith, nat_tests)
 threads_fit threads false few = grind (arith, nat_tests)

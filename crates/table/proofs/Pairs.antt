@@ -1,4 +1,4 @@
--- A draft with a pair of the derivation tree more is one; and one whose last item was a pair was one without it, and admitted it.
+-- That a draft stays a draft when a pair of the derivation tree is added; and that a draft without its last pair is one, and admits it.
 use Rattle.std.{specs.declared.cmp.Ordering.TheVariants.Less, proofs.{Common.◌≡◌, lemmas.List.Elements.All-push}}
 use Rattle.std.proofs.lemmas.List.Quantifiers.{all_pairs_push}
 use Rattle.machine.specs.{declared.layout.Pair.Pair, Layout.Layout, Machine.slot_cmp}

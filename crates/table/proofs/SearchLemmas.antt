@@ -1,4 +1,4 @@
--- What a binary search over rising keys finds is the first element with the key.
+-- That a binary search over rising keys finds the first element with the key.
 use Rattle.std.specs.{declared.cmp.Ordering.{Ordering, TheVariants.{Equal, Greater, Less}}, Cmp.IsTotalOrder, List.{find, slice_get}}
 use Rattle.std.specs.{List.Sorted.{IsNonDecreasingBy, IsPartitionPoint, IsSortedBy}, Ordering.{is_eq, is_lt, ordering_index}}
 use Rattle.std.{specs.Ordering.ordering_reverse, proofs.Common.{[], ℕ, ◌+◌, ◌-◌, ◌<◌, ◌∙◌, ◌∷◌, ◌≡◌, ◌≤◌, ◌⊎◌, All, AllPairs, Bool, List}}
@@ -49,7 +49,7 @@ module _ {X K : Type 0} {R : K → K → Ordering} (order : IsTotalOrder R) (key
     by k d within (inl lower) = ap is_eq (apart.0 k d (omega arith) lower)
     by k d within (inr upper) = ap is_eq (apart.1 k d upper within)
 
-  -- none is between neighbours: one that comes before what is sought, if there is one, and one that comes after
+  -- no element is between two neighbours of which the first comes before the key and the second after it
   pub none_between :
       (i : ℕ) → ((k : ℕ) → i ≡ k + 1 → (x : X) × (slice_get xs k ≡ Some x) × (R (key x) sought ≡ Less))
       → ((x : X) → slice_get xs i ≡ Some x → R sought (key x) ≡ Less) → None ≡ find (λ x. is_eq (R (key x) sought)) xs

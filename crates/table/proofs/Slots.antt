@@ -1,4 +1,4 @@
--- Slots that the objects have, and slots above those of a rising list.
+-- The slots that objects have, and slots above all those of a rising list.
 use Rattle.std.{specs.{declared.cmp.Ordering.{Ordering, TheVariants.{Equal, Greater, Less}}, Ordering.is_lt}, proofs.Common.{◌-◌, ◌∙◌, ◌≡◌}}
 use Rattle.std.proofs.Common.{All, AllPairs, List, None, Option, Some, ap, length, option_map, refl, slice_get, sym, true}
 use Rattle.std.proofs.lemmas.Bool.{false≢true, lt-ltb, ltb-true}
@@ -25,7 +25,7 @@ is_less Less e = refl
 is_less Equal e = absurd (false≢true e)
 is_less Greater e = absurd (false≢true e)
 
--- what is below the last of rising slots is below a slot above it
+-- a fact about all slots of a rising list and a slot above its last
 pub below_new :
     {X : Type 0} (slot_of : X → SlotRef) (xs : List X) (slot : SlotRef)
     → AllPairs (λ one other. slot_cmp (slot_of one) (slot_of other) ≡ Less) xs

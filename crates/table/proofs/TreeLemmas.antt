@@ -1,4 +1,4 @@
--- The tests of the derivation tree say what its rules say, and marks change nothing but marks.
+-- The tests of the derivation tree: they decide its rules, and marking capabilities as original changes only the marks.
 use Rattle.std.specs.{declared.cmp.Ordering.TheVariants.Less, Bool.Decides, Cmp.tied_itself, List.{find, list_any, position_or_len}}
 use Rattle.std.{specs.{Option.option_and_then, Ordering.is_eq}, proofs.Common.{[], ℕ, ◌++◌, ◌+◌, ◌<◌, ◌==◌, ◌||◌, ◌∙◌, ◌∷◌, ◌≡◌, ◌≤◌, ◌⊎◌}}
 use Rattle.std.proofs.Common.{All, AllPairs, Bool, List, None, Option, Some, ap, arith, cond, false, get_or, is_some, length, map, nat_lt}
@@ -14,7 +14,7 @@ use Rattle.table.specs.{Aims.Marks, Rules.{IsCapOf, IsDraft, IsLawful, Rises}, T
 use Rattle.table.{specs.Tree.{is_original_from, source_of, tree_fault, tree_of, with_mark, with_originals}, proofs.FrontLemmas.none_passes}
 use Rattle.table.proofs.{ListLemmas.not_any, NameLemmas.{list_any-none, list_any-position}}
 
--- a pair passes the test just where it keeps the rules
+-- a pair passes the test exactly if it keeps the rules
 
 badges :
     (above below : Detail)
@@ -68,7 +68,7 @@ none_from_tree t all =
     (sym (list_any-position fails t.pairs)
     ∙ none_passes fails t.pairs (λ k d within. not_from_true _ (kin_from_pair t (get_or t.pairs k d) (all k d within))))
 
--- the first pair that is none, and that there is none such
+-- the first pair that breaks a rule, or that no pair does
 
 pub fault_here :
     (caps : List Filled) (pairs : List Pair) (i : ℕ) (d : Pair) → i < length pairs
@@ -93,7 +93,7 @@ fault_nowhere caps pairs d all =
     ap (λ n. cond (nat_lt n (length pairs)) (Some n) None) first
     ∙ ap (λ b. cond b (Some (length pairs)) None) (le-ltb (length pairs) (length pairs) (omega arith))
 
--- slots that are marked otherwise
+-- filled slots with other marks
 
 abbrev pub remark : (Filled → Bool) → Filled → Filled
 remark mark filled = record filled { cap = record filled.cap { original = mark filled } }
@@ -101,7 +101,6 @@ remark mark filled = record filled { cap = record filled.cap { original = mark f
 abbrev pub as_original : Filled → Filled
 as_original filled = remark (λ _. true) filled
 
--- the table with all its capabilities marked original
 abbrev pub unmarked : Layout → Layout
 unmarked t = record t { caps = map as_original t.caps }
 
@@ -117,7 +116,7 @@ find_map {X} {Y} p f (x ∷ xs) = by (p (f x)) _ _ (find_map p f xs) where
   by true later rest e = refl
   by false later rest e = e
 
--- what is original doesn't hang on marks
+-- whether a capability is original doesn't depend on marks
 original_unmarked : (t : Layout) (slot : SlotRef) (detail : Detail) → is_original (unmarked t) slot detail ≡ is_original t slot detail
 unfolding is_original source_of initial_cap initial_parent
 original_unmarked t slot detail = by (option_map (λ pair. pair.parent) (find (λ pair. same_slot pair.child slot) t.pairs)) where
@@ -138,7 +137,7 @@ original_unmarked t slot detail = by (option_map (λ pair. pair.parent) (find (�
       (find_map (λ filled. same_slot filled.slot parent) as_original t.caps)
       ∙ from (find (λ filled. same_slot filled.slot parent) t.caps)
 
--- so two tables that differ in marks alone mark alike
+-- two tables that differ only in marks have the same original capabilities
 original_same :
     (t u : Layout) → unmarked t ≡ unmarked u → (slot : SlotRef) (detail : Detail) → is_original t slot detail ≡ is_original u slot detail
 original_same t u same slot detail =
@@ -173,7 +172,7 @@ draft_remarked mark t h = record {
   bindings = h.bindings;
 }
 
--- a draft whose tree has no fault is a table once it is marked
+-- a draft whose tree has no fault is a table once its capabilities are marked
 pub lawful_marked : (draft : Layout) → IsDraft draft → tree_fault (with_originals draft) ≡ None → IsLawful (with_originals draft)
 lawful_marked draft h none = record {
   draft = draft_remarked mark draft h;
@@ -188,7 +187,7 @@ lawful_marked draft h none = record {
   mark : Filled → Bool
   mark filled = is_original draft filled.slot filled.cap.detail
 
--- and a table comes of the draft in which all capabilities are marked original
+-- a lawful table is made from the draft in which all its capabilities are marked original
 
 map_same : {X : Type 0} (f : X → X) (xs : List X) → All (λ x. f x ≡ x) xs → map f xs ≡ xs
 map_same f [] all = refl
@@ -206,7 +205,7 @@ marked_again t lawful = λ i. record t { caps = again i } where
       let same = original_unmarked t filled.slot filled.cap.detail ∙ sym (lawful.marked k d within) in
       λ i. record filled { cap = record filled.cap { original = same i } })
 
--- marks leave what capabilities are for
+-- marking leaves capabilities with their objects
 pub marks_marked : (mark : Filled → Bool) (caps : List Filled) (aimed : List Bool) → Marks caps aimed → Marks (map (remark mark) caps) aimed
 marks_marked mark caps aimed h object = h object ∙ sym (same caps) where
   aims : Filled → Bool
@@ -216,7 +215,7 @@ marks_marked mark caps aimed h object = h object ∙ sym (same caps) where
   same [] = refl
   same (filled ∷ caps) = ap (λ rest. aims filled || rest) (same caps)
 
--- slots that differ in marks alone rise alike
+-- slots that differ only in marks rise alike
 pub rises_same : (caps others : List Filled) → map as_original caps ≡ map as_original others → Rises others → Rises caps
 rises_same caps others same rise i j d lower within =
     let size = length-map caps as_original in
@@ -228,7 +227,7 @@ rises_same caps others same rise i j d lower within =
     After : Filled → Filled → Type 0
     After one other = slot_cmp one.slot other.slot ≡ Less
 
--- the slots before an index are marked, and the others as they were
+-- the slots before an index are marked, and all others are as they were
 pub record Marked (before caps : List Filled) (mark : Filled → Filled) (i : ℕ) : Type 0 where
   pub same : map as_original caps ≡ map as_original before
   pub front : take i caps ≡ map mark (take i before)

@@ -1,4 +1,4 @@
--- A table that is made one of version 2 keeps the rules, and its boot state.
+-- That a table turned into one of version 2 keeps the rules and its boot state.
 use Rattle.std.proofs.{Common.{◌≤◌, arith}, lemmas.List.Elements.All-weaker}
 use Rattle.base.specs.declared.label.TheConstants.Label as Label
 use Rattle.machine.specs.{declared.layout.Version.Version, Boot.IsBoot, Layout.{Layout, bound_context, bound_thread, initial_cap}}

@@ -1,5 +1,4 @@
--- How a capability table is built up: what may be added to it, told by tests that a reader of tables makes, and the table with
--- that item added (confine's own).
+-- The building up of a capability table: tests of what may be added to it, and the table with one item more (confine's own).
 use Rattle.std.specs.{List.list_any, Ordering.is_lt, Prelude.{[], ℕ, ◌&&◌, ◌++◌, ◌+◌, ◌-◌, ◌<◌, ◌^◌, ◌||◌, ◌∷◌, ◌≡◌, ◌≤◌, Bool, List, None}}
 use Rattle.std.specs.Prelude.{Option, Some, false, is_some, length, nat_le, nat_lt, not, option_map, slice_get, true}
 use Rattle.base.specs.declared.{ids.{ObjId.ObjId, SlotRef.SlotRef}, limits.TheConstants.{ADDRESS_END, MAX_OBJECTS, MAX_SLOTS, MAX_THREADS}}
@@ -13,7 +12,7 @@ use Rattle.table.specs.{Rules.{slots_in, threads_in}, Tree.is_for_untyped}
 
 -- the tests
 
--- whether one object more stays within the limits of objects, slots and threads
+-- whether one more object stays within the limits of objects, slots and threads
 unfoldable pub has_room : Layout → Object → Bool
 has_room t object =
     (nat_lt (length t.objects) MAX_OBJECTS && nat_le (slots_in t.objects + slot_count object) MAX_SLOTS)
@@ -27,17 +26,16 @@ is_free t object = not (list_any (λ initial. meets initial.object object) t.obj
 unfoldable pub has_control : Layout → ℕ → Bool
 has_control t core = list_any (λ initial. is_control_of initial.object core) t.objects
 
--- whether an object is a control of a core that the table has the control of
+-- whether an object controls a core whose control the table has
 abbrev pub repeats_control : Layout → Object → Bool
 repeats_control t (o.Control control) = has_control t control.core
 repeats_control t _ = false
 
--- whether an object, if it is there, has a slot of this index
+-- whether an object has a slot of this index, if there is an object
 abbrev pub has_index : Option Initial → ℕ → Bool
 has_index None index = false
 has_index (Some holder) index = nat_lt index (slot_count holder.object)
 
--- whether the table's objects have a slot
 unfoldable pub declares_slot : Layout → SlotRef → Bool
 declares_slot t slot = has_index (initial_of t slot.holder) slot.index
 
@@ -52,13 +50,13 @@ is_above (Some last) slot = is_lt (slot_cmp last slot)
 unfoldable pub is_above_caps : Layout → SlotRef → Bool
 is_above_caps t slot = is_above (option_map (λ filled. filled.slot) (last_cap t)) slot
 
--- whether a capability may be in a slot of this holder: a thread's root slot takes only a CNode's
+-- whether a slot of this holder may hold a capability: a thread's root slot takes only a CNode's
 abbrev pub may_hold : Option Initial → Detail → Bool
 may_hold (Some holder) (d.CNode _) = true
 may_hold (Some holder) _ = not (is_tcb holder.object)
 may_hold None _ = false
 
--- whether a capability has only this many of the rights, and a badge that is a word
+-- whether a capability's rights are below a bound, as bits, and its badge is a word
 abbrev pub is_badged : ℕ → Badged → Bool
 is_badged rights end = nat_lt end.rights.0 rights && nat_lt end.badge (2 ^ 64)
 
@@ -79,7 +77,7 @@ abbrev pub fits_target : Option Initial → Detail → Bool
 fits_target None detail = false
 fits_target (Some target) detail = fits target.object detail
 
--- whether the table has a capability's object, and its detail fits
+-- whether the table has the object of a capability, and the capability's detail fits it
 unfoldable pub is_fitting : Layout → Cap → Bool
 is_fitting t cap = fits_target (initial_of t cap.object) cap.detail
 
@@ -87,7 +85,7 @@ is_fitting t cap = fits_target (initial_of t cap.object) cap.detail
 unfoldable pub has_cap_to : Layout → ObjId → Bool
 has_cap_to t object = list_any (λ filled. same_id filled.cap.object object) t.caps
 
--- whether a capability is for an untyped that has one
+-- whether a capability is for untyped memory that has one already
 abbrev pub repeats_untyped : Layout → Cap → Bool
 repeats_untyped t cap = is_for_untyped cap.detail && has_cap_to t cap.object
 
@@ -150,7 +148,7 @@ pub record AdmitsBinding (t : Layout) (binding : Binding) : Type 0 where
   pub context : kind_at t binding.context ≡ Some kind.Context
   pub once : is_bound t binding.context ≡ false
 
--- the table with one item more, which goes last
+-- the table with one more item, which goes last
 
 abbrev pub with_label : Layout → List ℕ → Layout
 with_label t name = record t { labels = t.labels ++ name ∷ [] }

@@ -3,16 +3,14 @@ use Rattle.std.specs.Prelude.{[], ℕ, ◌+◌, ◌∷◌, List}
 use Rattle.machine.specs.{declared.{layout.Initial.Initial, object.Object.Object}, Objects.{address_of, end_of}}
 use Rattle.table.specs.declared.extent.Extent.{Extent}
 
--- each object has the name of its number
 pub record Inventory : Type 0 where
   pub names : List (List ℕ)
   pub objects : List Initial
 
--- the addresses of the object of a number
 abbrev pub extent_of : ℕ → Object → Extent
 extent_of number object = record { start = address_of object; end = end_of object; number = number }
 
--- those of objects that are numbered from here on
+-- the extents of objects, numbered from here on
 unfoldable pub extents_from : ℕ → List Initial → List Extent
 extents_from number [] = []
 extents_from number (initial ∷ objects) = extent_of number initial.object ∷ extents_from (number + 1) objects

@@ -1,5 +1,5 @@
--- How a capability table is built up from the empty one of its version: its items, which item the table takes next, and the tables that come
--- about so (confine's own; the order is that of a table's text).
+-- The items of a capability table, in the order of its text: which may come next, and the tables built up from the empty one of a version
+-- (confine's own).
 use Rattle.std.specs.Prelude.{[], ℕ, ◌≡◌, List}
 use Rattle.machine.specs.{declared.layout.{Binding.Binding, Filled.Filled, Initial.Initial, Pair.Pair, Version.Version}, Layout.Layout}
 use Rattle.machine.specs.Layout.{empty_layout}
@@ -14,7 +14,6 @@ pub data Item : Type 0 where
   PairItem : (pair : Pair) → Item
   BindingItem : (binding : Binding) → Item
 
--- the table with one item more
 abbrev pub with_item : Layout → Item → Layout
 with_item t (LabelItem name) = with_label t name
 with_item t (ObjectItem name initial) = with_initial t name initial
@@ -22,7 +21,7 @@ with_item t (CapItem filled) = with_filled t filled
 with_item t (PairItem pair) = with_pair t pair
 with_item t (BindingItem binding) = with_binding t binding
 
--- what comes after an item in the order labels, objects, capabilities, pairs, bindings has not begun
+-- neither the named section nor one after it has begun; the order is labels, objects, capabilities, pairs, bindings
 
 abbrev pub BeforeBindings : Layout → Type 0
 BeforeBindings t = t.bindings ≡ []
@@ -43,7 +42,6 @@ ComesNow t (CapItem _) = BeforePairs t
 ComesNow t (PairItem _) = BeforeBindings t
 ComesNow t (BindingItem _) = Unit {0}
 
--- the table admits an item
 abbrev pub Admits : Layout → Item → Type 0
 Admits t (LabelItem name) = AdmitsLabel t name
 Admits t (ObjectItem name initial) = AdmitsObject t name initial
@@ -51,7 +49,7 @@ Admits t (CapItem filled) = AdmitsCap t filled
 Admits t (PairItem pair) = AdmitsPair t pair
 Admits t (BindingItem binding) = AdmitsBinding t binding
 
--- a table that is built up from the empty one of its version, each item in its order and where the table so far admits it
+-- a table built up from the empty one of its version: each item comes in its order, and the table so far admits it
 pub data IsBuiltUp : Layout → Type 0 where
   none : (version : Version) → IsBuiltUp (empty_layout version)
   more : {t : Layout} (item : Item) → IsBuiltUp t → ComesNow t item → Admits t item → IsBuiltUp (with_item t item)

@@ -1,18 +1,18 @@
--- Where objects lie in memory: alignment, and which objects overlap (compare the seL4 manual, "Memory Allocation").
+-- The place of objects in memory: alignment, and which objects overlap (compare the seL4 manual, "Memory Allocation").
 use Rattle.std.specs.{List.{All, AllPairs}, Prelude.{ℕ, ◌%◌, ◌&&◌, ◌<◌, ◌==◌, ◌^◌, ◌≤◌, Bool, List, None, Option, Some, nat_le, nat_lt}}
 use Rattle.std.specs.Prelude.{true}
 use Rattle.machine.specs.{declared.object.Object.Object, Objects.{address_of, end_of, size_bits}}
 use Rattle.table.specs.declared.extent.Extent.{Extent}
 
--- an address at which an object has a byte
+-- an object has a byte at an address
 abbrev pub Lies : Object → ℕ → Type 0
 Lies object address = (address_of object ≤ address) × (address < end_of object)
 
--- no address is in both
+-- no address is in both objects
 abbrev pub IsApart : Object → Object → Type 0
 IsApart one other = (address : ℕ) → Lies one address → Lies other address → ⊥
 
--- whether some address is in both
+-- whether some address is in both objects
 abbrev pub meets : Object → Object → Bool
 meets one other = nat_lt (address_of one) (end_of other) && nat_lt (address_of other) (end_of one)
 
@@ -23,7 +23,7 @@ is_aligned object = at_multiple (size_bits object) where
   at_multiple None = true
   at_multiple (Some bits) = address_of object % 2 ^ bits == 0
 
--- whether some address is in both
+-- whether some address is in both extents
 abbrev pub touches : Extent → Extent → Bool
 touches one other = nat_lt one.start other.end && nat_lt other.start one.end
 
@@ -31,7 +31,7 @@ touches one other = nat_lt one.start other.end && nat_lt other.start one.end
 abbrev pub holds : ℕ → Extent → Bool
 holds address extent = nat_le extent.start address && nat_lt address extent.end
 
--- rising ranges of addresses, of which each ends before the next starts
+-- rising ranges of addresses, each of which ends before the next starts
 pub record AreApart (extents : List Extent) : Type 0 where
   pub upward : All (λ extent. extent.start ≤ extent.end) extents
   pub rising : AllPairs (λ one other. one.end ≤ other.start) extents

@@ -1,6 +1,5 @@
--- The rules that a capability table keeps: how it names things, what its objects are like at boot and where they lie, which
--- slots it fills and with what, what is derived from what, and which threads it binds to contexts (compare the seL4 manual,
--- "Bootstrapping").
+-- The rules that a capability table keeps on its names, objects and their addresses, filled slots, derivation tree and bindings (compare
+-- the seL4 manual, "Bootstrapping").
 use Rattle.std.specs.{declared.cmp.Ordering.TheVariants.Less, Prelude.{ℕ, ⊤, ◌+◌, ◌<◌, ◌==◌, ◌^◌, ◌≡◌, ◌≢◌, ◌≤◌, All, AllPairs, Bool, List}}
 use Rattle.std.specs.Prelude.{None, Option, Some, count_by, false, length, option_map, slice_get, sum_by, true}
 use Rattle.base.specs.declared.core_number.TheConstants.CoreNo as CoreNo
@@ -21,12 +20,12 @@ IsAtRest run.Ready = ⊤
 IsAtRest run.Inactive = ⊤
 IsAtRest _ = ⊥
 
--- a context is not configured yet, or has a share within the limits
+-- a context isn't configured yet, or has a share within the limits
 abbrev pub IsWithinLimits : Option Share → Type 0
 IsWithinLimits None = ⊤
 IsWithinLimits (Some share) = (1 ≤ share.budget) × (share.budget ≤ share.period) × (share.period ≤ MAX_PERIOD) × (share.core < CoreNo.COUNT)
 
--- an object as it is at boot: nothing made of it, nothing queued, received, pending or bound
+-- an object as it is at boot: empty, and with nothing queued, received, pending or bound
 abbrev pub IsBlank : Object → Type 0
 IsBlank (o.Untyped memory) = (4 ≤ memory.bits) × (memory.bits ≤ 47) × (memory.watermark ≡ memory.base)
 IsBlank (o.CNode node) = (0 < node.radix) × (node.radix ≤ MAX_RADIX)
@@ -38,12 +37,12 @@ IsBlank (o.Context context) = IsWithinLimits context.share × (context.thread �
 IsBlank (o.Frame _) = ⊤
 IsBlank (o.Control control) = control.core < CoreNo.COUNT
 
--- only this many of the rights, and a badge that is a word
+-- rights below a bound, as bits, and a badge that is a word
 abbrev pub IsBadged : ℕ → Badged → Type 0
 IsBadged rights end = (end.rights.0 < rights) × (end.badge < 2 ^ 64)
 
--- a capability's detail fits its object: it is of the object's kind, has only rights that the kind knows, a badge that is a word,
--- and a guard that leaves room for the radix
+-- a capability's detail fits its object: it says the object's kind, has only rights of that kind, a badge that is a word, and a guard that
+-- leaves room for the radix
 abbrev pub IsDetailOf : Object → Detail → Type 0
 IsDetailOf (o.Untyped _) d.Untyped = ⊤
 IsDetailOf (o.CNode node) (d.CNode guard) = (guard.size + node.radix ≤ 64) × (guard.value < 2 ^ guard.size)
@@ -69,15 +68,15 @@ is_tcb _ = false
 unfoldable pub kind_at : Layout → ObjId → Option ObjectKind
 kind_at t id = option_map (λ initial. kind_of_object initial.object) (initial_of t id)
 
--- how many slots objects have
+-- the number of slots of objects
 abbrev pub slots_in : List Initial → ℕ
 slots_in objects = sum_by (λ initial. slot_count initial.object) objects
 
--- how many of the objects are threads
+-- the number of objects that are threads
 abbrev pub threads_in : List Initial → ℕ
 threads_in objects = count_by (λ initial. is_tcb initial.object) objects
 
--- Each section's rules speak of what its lines can see: the labels, and the objects.
+-- Each section's rules read only the labels and objects, which come before it.
 
 -- an object that a table of so many labels may declare
 pub record IsObjectOf (labels : ℕ) (initial : Initial) : Type 0 where
@@ -92,7 +91,7 @@ pub record HasSlot (objects : List Initial) (slot : SlotRef) : Type 0 where
   pub held : slice_get objects slot.holder.0 ≡ Some holder
   pub within : slot.index < slot_count holder.object
 
--- a slot that the table may fill, and a capability for it
+-- a slot that the table may fill, with a capability that it may hold
 pub record IsCapOf (objects : List Initial) (filled : Filled) : Type 0 where
   pub place : HasSlot objects filled.slot
   pub target : Initial
@@ -101,21 +100,20 @@ pub record IsCapOf (objects : List Initial) (filled : Filled) : Type 0 where
   pub root : kind_of_object place.holder.object ≡ kind.Tcb → kind_of_detail filled.cap.detail ≡ kind.CNode
   pub detail : IsDetailOf target.object filled.cap.detail
 
--- a parent's slot and a child's that the table may tell
+-- a parent and a child that the table may pair
 pub record IsSlotPair (objects : List Initial) (pair : Pair) : Type 0 where
   pub parent : HasSlot objects pair.parent
   pub child : HasSlot objects pair.child
 
--- an object has this kind
 abbrev pub IsOfKind : List Initial → ObjId → ObjectKind → Type 0
 IsOfKind objects id kind = option_map (λ initial. kind_of_object initial.object) (slice_get objects id.0) ≡ Some kind
 
--- a thread and a context that the table may bind
+-- a thread and a context that the table may bind to each other
 pub record IsBindingOf (objects : List Initial) (binding : Binding) : Type 0 where
   pub thread : IsOfKind objects binding.thread kind.Tcb
   pub context : IsOfKind objects binding.context kind.Context
 
--- the labels of a table that may have at most so many
+-- the labels of a table that may have at most `most`
 pub record LabelsFit (most : ℕ) (labels : List (List ℕ)) : Type 0 where
   pub few : length labels ≤ most
   pub spelled : All (λ name. is_name name ≡ true) labels
@@ -133,7 +131,6 @@ pub record ObjectsFit (labels : ℕ) (names : List (List ℕ)) (objects : List I
   pub controls_differ :
       AllPairs (λ one other. (core : ℕ) → is_control_of one.object core ≡ true → is_control_of other.object core ≡ false) objects
 
--- slots rise
 abbrev pub Rises : List Filled → Type 0
 Rises caps = AllPairs (λ one other. slot_cmp one.slot other.slot ≡ Less) caps
 
@@ -157,7 +154,7 @@ pub record BindingsFit (objects : List Initial) (bindings : List Binding) : Type
   -- a context is bound to at most one thread
   pub contexts_differ : AllPairs (λ one other. one.context ≢ other.context) bindings
 
--- what a table keeps line by line
+-- the rules that a table keeps line by line
 pub record IsDraft (t : Layout) : Type 0 where
   pub labels : LabelsFit (most_labels t.version) t.labels
   pub objects : ObjectsFit (length t.labels) t.names t.objects
@@ -165,10 +162,10 @@ pub record IsDraft (t : Layout) : Type 0 where
   pub pairs : PairsFit t.objects t.pairs
   pub bindings : BindingsFit t.objects t.bindings
 
--- what every capability table keeps
+-- the rules that every capability table keeps
 pub record IsLawful (t : Layout) : Type 0 where
   pub draft : IsDraft t
-  -- the mark of each capability is as its source says
+  -- each capability is marked as its source says
   pub marked : All (λ filled. filled.cap.original ≡ is_original t filled.slot filled.cap.detail) t.caps
   -- each pair of the tree may be parent and child
   pub tree : All (IsPairOf t) t.pairs

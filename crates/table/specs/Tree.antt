@@ -1,5 +1,5 @@
--- The derivation tree of a capability table: which capability may be whose child, and which are original (seL4 manual,
--- "Capability Derivation Tree").
+-- The derivation tree of a capability table: which capabilities may be parent and child, and which are original (seL4 manual, "Capability
+-- Derivation Tree").
 use Rattle.std.specs.{Int.RustNames.bit_and, Option.option_and_then, Prelude.{ℕ, ◌&&◌, ◌==◌, ◌||◌, ◌≡◌, ◌⊎◌, Bool, List, None, Option}}
 use Rattle.std.specs.Prelude.{Some, false, map, not, position, true}
 use Rattle.base.specs.declared.ids.SlotRef.{SlotRef}
@@ -18,17 +18,15 @@ abbrev pub is_for_untyped : Detail → Bool
 is_for_untyped d.Untyped = true
 is_for_untyped _ = false
 
--- the table of these capabilities and pairs alone
+-- the table of only these capabilities and pairs
 abbrev pub tree_of : List Filled → List Pair → Layout
 tree_of caps pairs = record (empty_layout version.One) { caps = caps; pairs = pairs }
 
--- which capabilities are original
-
--- the capability in a slot's parent: none where the slot has no parent, or the parent is empty
+-- the capability in the parent of a slot, if there are both
 unfoldable pub source_of : Layout → SlotRef → Option Cap
 source_of t slot = option_and_then (initial_cap t) (initial_parent t slot)
 
--- whether a capability with this source is original: copies keep the source's badge
+-- whether a capability with this source is original; a copy has the source's badge
 abbrev pub is_original_from : Option Cap → Detail → Bool
 is_original_from None detail = true
 is_original_from (Some source) detail = not (badge_of detail == badge_of source.detail)
@@ -37,19 +35,16 @@ is_original_from (Some source) detail = not (badge_of detail == badge_of source.
 unfoldable pub is_original : Layout → SlotRef → Detail → Bool
 is_original t slot detail = is_original_from (source_of t slot) detail
 
--- a filled slot, marked as the table's pairs say
 abbrev pub with_mark : Layout → Filled → Filled
 with_mark t filled = record filled { cap = record filled.cap { original = is_original t filled.slot filled.cap.detail } }
 
--- the table in which each capability is marked so
+-- the table whose capabilities are all marked as its pairs say
 abbrev pub with_originals : Layout → Layout
 with_originals t = record t { caps = map (with_mark t) t.caps }
 
--- which capabilities may be parent and child
-
--- the capability above and the one below in a pair of the tree: both slots are filled and for one object; the one above is
--- original, and has no badge or the badge of the one below, whose rights are among its own. Neither is for untyped memory: this
--- has one capability at most, and a capability that is its own parent isn't original
+-- a pair of the tree: both slots are filled, for one object. The one above is original, and has no badge or the badge of the one below. The
+-- one below has no right that the one above lacks. Neither is for untyped memory, which has one capability at most: a capability that is
+-- its own parent isn't original.
 pub record IsPairOf (t : Layout) (pair : Pair) : Type 0 where
   pub above : Cap
   pub below : Cap
@@ -60,7 +55,7 @@ pub record IsPairOf (t : Layout) (pair : Pair) : Type 0 where
   pub badge : (badge_of above.detail ≡ 0) ⊎ (badge_of above.detail ≡ badge_of below.detail)
   pub rights : bit_and (rights_of above.detail) (rights_of below.detail) ≡ rights_of below.detail
 
--- the same as a test
+-- whether two capabilities may be a pair of the tree
 abbrev pub are_kin : Option Cap → Option Cap → Bool
 are_kin (Some above) (Some below) =
     same_id above.object below.object && above.original
@@ -71,6 +66,6 @@ are_kin _ _ = false
 unfoldable pub is_kin : Layout → Pair → Bool
 is_kin t pair = are_kin (initial_cap t pair.parent) (initial_cap t pair.child)
 
--- the number of the first pair that is none
+-- the number of the first pair that may not be one
 unfoldable pub tree_fault : Layout → Option ℕ
 tree_fault t = position (λ pair. not (is_kin t pair)) t.pairs

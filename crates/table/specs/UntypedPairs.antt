@@ -3,7 +3,7 @@ use Rattle.std.specs.Prelude.{◌≡◌, ◌≢◌, ◌⊎◌, Some}
 use Rattle.machine.specs.{declared.{cap.Cap.Cap, layout.Pair.Pair, object.ObjectKind.ObjectKind as kind}, Capabilities.kind_of_detail}
 use Rattle.machine.specs.Layout.{Layout, initial_cap}
 
--- the capability that a table puts into the parent's slot of a pair, or into the child's, isn't for untyped memory
+-- neither capability of a pair is for untyped memory, as the table fills their slots
 abbrev pub IsForNoUntyped : Layout → Pair → Type 0
 IsForNoUntyped t pair =
     (held : Cap) → (initial_cap t pair.parent ≡ Some held) ⊎ (initial_cap t pair.child ≡ Some held)

@@ -3,7 +3,6 @@ use Rattle.std.specs.Prelude.{ℕ}
 use Rattle.machine.specs.declared.layout.Version.{Version}
 use Rattle.machine.specs.declared.layout.Version.TheVariants as version
 
--- the number of a version, with which the text of a table begins
 abbrev pub version_number : Version → ℕ
 version_number version.One = 1
 version_number version.Two = 2

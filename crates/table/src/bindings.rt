@@ -1,4 +1,4 @@
-//! The bindings of a capability table: threads with the contexts that they run on.
+//! The bindings of threads to scheduling contexts in a capability table.
 ghost use Rattle.std.specs.Prelude.{[], ◌++◌, ◌<◌, ◌∷◌, ◌≡◌, None, OnErr, OnOk};
 ghost use Rattle.base.specs.declared.limits.TheConstants.{OBJECT_NUMBERS};
 ghost use Rattle.table.specs.Aims.{thread_bound_to};

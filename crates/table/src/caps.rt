@@ -14,7 +14,7 @@ use std::marker::Model;
 #[derive(Drop)]
 pub struct Caps {
     items: Vec<Filled>,
-    /// For each object up to the last that has one, whether a capability is for it.
+    /// For each object up to the last that has a capability, whether it has one.
     aimed: Vec<bool>,
 }
 

@@ -88,7 +88,7 @@ impl Draft {
         self.version
     }
 
-    /// Makes it one of version 2, and changes nothing else.
+    /// Turns the draft into one of version 2, and changes nothing else.
     #[tactic(auto, using(crate::proofs::Upgraded::draft_upgraded))]
     pub(crate) fn upgrade(&mut self)
         ensures { self.new ≡ upgraded self.old }
@@ -180,7 +180,7 @@ impl Draft {
         self.objects.label_at(address)
     }
 
-    /// Returns whether one object more stays within the limits.
+    /// Returns whether one more object stays within the limits.
     #[tactic(auto, unfolding(crate::specs::Building::has_room))]
     pub fn has_room(&self, object: &Object) -> bool
         ensures { result ≡ has_room self.now object.now }
@@ -190,7 +190,7 @@ impl Draft {
             && (self.objects.threads() < MAX_THREADS || !matches!(object, Object::Tcb(_)))
     }
 
-    /// Returns whether an object overlaps none of the table's.
+    /// Returns whether an object overlaps no object of the table.
     #[tactic(auto, unfolding(crate::specs::Building::is_free))]
     pub fn is_free(&self, object: &Object) -> bool
         requires { end_of object.now ≤ ADDRESS_END }
@@ -199,7 +199,7 @@ impl Draft {
         self.objects.is_free(object)
     }
 
-    /// Returns whether the table has the control of a core.
+    /// Returns whether the table has the control object of a core.
     #[tactic(auto, unfolding(crate::specs::Building::has_control))]
     pub fn has_control(&self, core: CoreNo) -> bool
         ensures { result ≡ has_control self.now core }
@@ -458,7 +458,7 @@ fn is_control_of(object: &Object, core: CoreNo) -> bool
     }
 }
 
-/// Whether a capability has only this many of the rights; its badge is a word.
+/// Whether a capability's rights are below a bound, as bits; its badge is a word.
 fn is_badged(rights: u8, end: Badged) -> bool
     ensures { result ≡ is_badged rights end }
 {

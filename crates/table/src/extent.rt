@@ -9,7 +9,7 @@ ghost use Rattle.table.specs.Placement as placement;
 use base::{ADDRESS_BITS, ADDRESS_END};
 use machine::Object;
 
-/// The addresses from `start` on and below `end`, at which the object of this number lies.
+/// The addresses from `start` on and below `end`, where the object of this number lies.
 #[derive(Clone, Copy)]
 pub struct Extent {
     pub start: u64,
@@ -42,12 +42,12 @@ impl Extent {
     }
 }
 
-/// Returns whether an extent meets one of these, of which no two meet.
+/// Returns whether an extent meets one of these, no two of which meet.
 pub fn meets_any(rising: &[Extent], extent: &Extent) -> bool
     requires { AreApart rising.now }
     ensures { result ≡ list_any (λ other. touches other extent.now) rising.now }
 {
-    // Of those that start below its end, only the last can reach beyond its start.
+    // Only the last of those that start below the end can reach beyond the start.
     let count = count_below(rising, extent.end);
     count > 0 && rising[count - 1].meets(extent)
 }
@@ -75,7 +75,7 @@ pub fn holder(rising: &[Extent], address: u64) -> Option<Extent>
     ensures found { MatchOption result ⊤ (λ extent. Contains rising.now extent × (holds address extent ≡ true)) }
     ensures alone { All (λ extent. holds address extent ≡ true → result ≡ Some extent) rising.now }
 {
-    // Of those that start at it or below, only the last can reach beyond it.
+    // Only the last of those that start at the address or below can reach beyond it.
     let count = count_up_to(rising, address);
     if count > 0 && address < rising[count - 1].end {
         Some(rising[count - 1])
@@ -84,7 +84,7 @@ pub fn holder(rising: &[Extent], address: u64) -> Option<Extent>
     }
 }
 
-/// How many of these rising extents start at an address or below it.
+/// The number of these rising extents that start at an address or below it.
 fn count_up_to(rising: &[Extent], address: u64) -> usize
     requires { AreApart rising.now }
     ensures bound { result ≤ length rising.now }
@@ -94,7 +94,7 @@ fn count_up_to(rising: &[Extent], address: u64) -> usize
     rising.partition_point(|other| other.start <= address)
 }
 
-/// How many of these rising extents start below an address.
+/// The number of these rising extents that start below an address.
 fn count_below(rising: &[Extent], address: u64) -> usize
     requires { AreApart rising.now }
     ensures bound { result ≤ length rising.now }

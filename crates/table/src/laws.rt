@@ -1,4 +1,4 @@
-//! Laws about capability tables that keep the rules.
+//! Laws on lawful capability tables: how they are built up, and what no version changes.
 ghost use Rattle.std.specs.Prelude.{◌↔◌, ◌≡◌, Contains, None};
 ghost use Rattle.base.specs.declared.ids.ObjId.{ObjId};
 ghost use Rattle.machine.specs.{declared.layout.Pair.Pair, Authority.label_of, Boot.IsBoot, Layout.{Layout, upgraded}};
@@ -8,8 +8,8 @@ ghost use Rattle.table.specs.UntypedPairs.{IsForNoUntyped};
 
 /// A law: the tables that keep the rules are exactly those that are built up from an empty table, item by item.
 ///
-/// Each item comes in its order and where the table so far admits it. The capabilities are then
-/// marked as the pairs say, and none of the pairs breaks a rule.
+/// Each item comes in its order, and the table so far admits it. The capabilities are then marked
+/// as the pairs say, and no pair breaks a rule.
 pub fn lawful_tables_are_built_up()
     ensures tables { (t : Layout) → IsLawful t
         ↔ ((draft : Layout) × IsBuiltUp draft × (tree_fault (with_originals draft) ≡ None)

@@ -4,7 +4,7 @@
 //! item on, but for those of the derivation tree. These are tested when it becomes a [`Table`]. A
 //! contract sees either as a `Layout`.
 //!
-//! `kernel`, the crates of verdicts and the texts stand on it. It knows no policy.
+//! The crate knows no policy.
 #![tactic(auto)]
 
 mod bindings;

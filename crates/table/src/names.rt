@@ -1,4 +1,4 @@
-//! Names with their numbers.
+//! Lists of distinct names, numbered in the order in which they were added.
 ghost use Rattle.std.specs.{Option.option_copied, Prelude.{[], ◌++◌, ◌<◌, ◌∷◌, ◌≡◌, OnErr, OnOk, false, is_some}};
 ghost use Rattle.std.specs.{Prelude.{length, position, slice_get}, Str.bytes_eq};
 
@@ -6,7 +6,7 @@ use indexmap::IndexSet;
 use std::alloc::{AllocError, Global};
 use std::marker::Model;
 
-/// A list of distinct names, numbered from 0 in the order in which they were added.
+/// A list of distinct names, numbered from 0.
 #[derive(Drop)]
 pub struct Names {
     alloc: Global,

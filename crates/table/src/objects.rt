@@ -62,7 +62,7 @@ impl Objects {
         ensures objects { result.now ≡ self.now.objects }
         ensures named { length self.now.names ≡ length self.now.objects }
     {
-        // Reading a field makes known what the type keeps.
+        // The type's invariant is known once a field is read.
         let _ = &self.names;
         self.items.as_slice()
     }
@@ -102,7 +102,7 @@ impl Objects {
         self.threads
     }
 
-    /// Returns whether an object overlaps none of these.
+    /// Returns whether an object overlaps none of the list.
     pub fn is_free(&self, object: &Object) -> bool
         requires { end_of object.now ≤ ADDRESS_END }
         ensures { result ≡ not (list_any (λ initial. meets initial.object object.now) self.now.objects) }

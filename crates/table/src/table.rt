@@ -1,4 +1,4 @@
-//! A finished capability table.
+//! The type of finished capability tables, and what can be asked of a table.
 ghost use Rattle.std.specs.{List.find, Option.option_copied, Prelude.{◌<◌, ◌≡◌, ◌≤◌, AllPairs, IfSome, length}};
 ghost use Rattle.std.specs.Prelude.{slice_get};
 ghost use Rattle.base.specs.declared.label.TheConstants.Label as LabelLimits;
@@ -148,11 +148,11 @@ impl Table {
         self.draft.caps()
     }
 
-    /// A law about every table, with nothing to run: it keeps the rules of tables.
+    /// A law about every table, with nothing to run: a table keeps the rules.
     pub fn keeps_rules(&self)
         ensures { IsLawful self.now }
     {
-        // What the type keeps is known once a field is read.
+        // The type's invariant is known once a field is read.
         let _ = &self.draft;
     }
 
@@ -205,7 +205,7 @@ impl Table {
     }
 }
 
-/// The binding of a thread among those that rise by thread.
+/// The binding of a thread, in bindings that rise by thread.
 fn binding_of(bindings: &[Binding], thread: ObjId) -> Option<Binding>
     requires { AllPairs (λ one other. one.thread.0 < other.thread.0) bindings.now }
     ensures { result ≡ find (λ binding. same_id binding.thread thread) bindings.now }

@@ -1,4 +1,4 @@
-//! The derivation tree of a capability table, and the rules that it keeps.
+//! Look-ups in the derivation tree of a capability table, and the test of its rules.
 ghost use Rattle.std.specs.{declared.cmp.Ordering.TheVariants.Less, List.find};
 ghost use Rattle.std.specs.Prelude.{[], ℕ, ◌+◌, ◌≡◌, IsTrue, None, Some, option_map, slice_get};
 ghost use Rattle.machine.specs.{declared.layout.Pair.Pair as Edge, Machine.{same_slot, slot_cmp}};
@@ -42,7 +42,7 @@ pub fn parent_in(pairs: &[Pair], slot: SlotRef) -> Option<SlotRef>
     }
 }
 
-/// Whether there is no pair before the number `near`, or that before it comes before the slot.
+/// Whether the pair before the number `near`, if there is one, comes before the slot.
 fn is_past(pairs: &[Pair], near: usize, slot: SlotRef) -> bool
     ensures { IsTrue result → (k : ℕ) → near ≡ k + 1
         → (pair : Edge) × (slice_get pairs.now k ≡ Some pair) × (slot_cmp pair.child slot ≡ Less) }
@@ -56,7 +56,7 @@ fn is_past(pairs: &[Pair], near: usize, slot: SlotRef) -> bool
     }
 }
 
-/// Whether there is no pair at the number `near`, or that at it comes after the slot.
+/// Whether the pair at the number `near`, if there is one, comes after the slot.
 fn is_ahead(pairs: &[Pair], near: usize, slot: SlotRef) -> bool
     ensures { IsTrue result → (pair : Edge) → slice_get pairs.now near ≡ Some pair → slot_cmp slot pair.child ≡ Less }
 {
@@ -66,7 +66,7 @@ fn is_ahead(pairs: &[Pair], near: usize, slot: SlotRef) -> bool
     }
 }
 
-/// The parent of a slot, which is looked for at the number `near` before anywhere else.
+/// The parent of a slot, looked for first at the number `near`.
 fn parent_near(pairs: &[Pair], near: usize, slot: SlotRef) -> Option<SlotRef>
     requires { RisesByChild pairs.now }
     ensures { result ≡ option_map (λ pair. pair.parent) (find (λ pair. same_slot pair.child slot) pairs.now) }
@@ -78,7 +78,7 @@ fn parent_near(pairs: &[Pair], near: usize, slot: SlotRef) -> Option<SlotRef>
     }
 }
 
-/// The number after `near`, where the pair at it is that of the slot.
+/// The number after `near` if the pair at `near` is that of the slot, or else `near`.
 fn past(pairs: &[Pair], near: usize, slot: SlotRef) -> usize {
     match pairs.get(near) {
         Some(pair) if pair.child == slot => near + 1,
@@ -86,7 +86,7 @@ fn past(pairs: &[Pair], near: usize, slot: SlotRef) -> usize {
     }
 }
 
-/// The capability in the parent of a slot, whose pair is looked for at the number `near` first.
+/// The capability in the parent of a slot, whose pair is looked for first at the number `near`.
 #[tactic(auto, unfolding(crate::specs::Tree::source_of, machine::specs::Layout::initial_cap, machine::specs::Layout::initial_parent))]
 fn source_of(caps: &[Filled], pairs: &[Pair], near: usize, slot: SlotRef) -> Option<Cap>
     requires caps { Rises caps.now }
@@ -97,7 +97,7 @@ fn source_of(caps: &[Filled], pairs: &[Pair], near: usize, slot: SlotRef) -> Opt
     cap_in(caps, parent)
 }
 
-/// Whether a capability is original in a slot, whose pair is looked for at the number `near` first.
+/// Whether a capability is original in a slot, whose pair is looked for first at the number `near`.
 #[tactic(auto, unfolding(crate::specs::Tree::is_original))]
 fn is_original(caps: &[Filled], pairs: &[Pair], near: usize, slot: SlotRef, detail: &Detail) -> bool
     requires caps { Rises caps.now }
@@ -116,7 +116,7 @@ pub fn mark_originals(caps: &mut [Filled], pairs: &[Pair])
     requires pairs { RisesByChild pairs.now }
     ensures { caps.new ≡ (with_originals (tree_of caps.old pairs.now)).caps }
 {
-    // Both rise, so the next slot that is a child is mostly that of the next pair.
+    // Both lists rise, so the next slot that is a child is mostly that of the next pair.
     let mut near = 0;
     for i in 0..caps.len() {
         let filled = caps[i];
@@ -126,8 +126,8 @@ pub fn mark_originals(caps: &mut [Filled], pairs: &[Pair])
     }
 }
 
-/// Whether two capabilities may be parent and child. None for untyped memory are: such memory has one
-/// capability, and what is its own parent isn't original.
+/// Whether two capabilities may be parent and child. Capabilities for untyped memory may not: such
+/// memory has one capability, and a capability that is its own parent isn't original.
 fn are_kin(above: &Cap, below: &Cap) -> bool
     ensures { result ≡ tree.are_kin (Some above.now) (Some below.now) }
 {
@@ -137,7 +137,7 @@ fn are_kin(above: &Cap, below: &Cap) -> bool
         && rights_of(&above.detail).contains(rights_of(&below.detail))
 }
 
-/// The capability in a slot, which is looked for at the number `near` before anywhere else.
+/// The capability in a slot, looked for first at the number `near`.
 fn cap_near(caps: &[Filled], near: usize, slot: SlotRef) -> Option<Cap>
     requires { Rises caps.now }
     ensures { result ≡ option_map (λ filled. filled.cap) (find (λ filled. same_slot filled.slot slot) caps.now) }
@@ -156,8 +156,8 @@ fn forward(caps: &[Filled], mut near: usize, slot: SlotRef) -> usize {
     near
 }
 
-/// Whether the capabilities in the slots of a pair may be parent and child; that of the child is looked
-/// for at the number `near` first.
+/// Whether the capabilities in the slots of a pair may be parent and child. The child is looked for
+/// first at the number `near`.
 #[tactic(auto, unfolding(crate::specs::Tree::is_kin, machine::specs::Layout::initial_cap))]
 fn is_kin(caps: &[Filled], near: usize, pair: &Pair) -> bool
     requires { Rises caps.now }
@@ -175,7 +175,7 @@ pub fn tree_fault(caps: &[Filled], pairs: &[Pair]) -> Option<usize>
     requires { Rises caps.now }
     ensures { result ≡ tree.tree_fault (tree_of caps.now pairs.now) }
 {
-    // Both rise, so the children are met in turn.
+    // Both lists rise, so the children are met in turn.
     let mut near = 0;
     for (number, pair) in pairs.iter().enumerate() {
         near = forward(caps, near, pair.child);

@@ -10,7 +10,7 @@ use objects::State;
 use replies::abort;
 use steps::calls_keep_machines_well_formed;
 
-/// Has a thread that is inactive run, and aborts one that is blocked. One that is ready stays so.
+/// Makes an inactive thread run, and aborts a blocked one. A ready one stays so.
 #[tactic(auto, unfolding(machine::specs::Step::Suspend::with_resumed))]
 fn let_run(state: &mut State, thread: ObjId)
     requires { IsInItsQueue state.old thread }
@@ -25,7 +25,7 @@ fn let_run(state: &mut State, thread: ObjId)
     }
 }
 
-// Does what the row of a suspend says.
+// The whole row of a suspend.
 #[tactic(auto, unfolding(machine::specs::Step::Suspend::suspend_of))]
 fn make_suspend(state: &mut State, caller: ObjId, address: u64) -> Result<Made, Cause>
     requires { IsWellFormed state.old }
@@ -37,8 +37,8 @@ fn make_suspend(state: &mut State, caller: ObjId, address: u64) -> Result<Made, 
 }
 
 /// Suspends the thread at an address (seL4 manual, seL4_TCB_Suspend).
-///
 /// The thread leaves its queue and its reply, can't run until it is resumed, and has nothing to
+/// fetch.
 /// fetch.
 ///
 /// # Errors
@@ -54,7 +54,7 @@ pub fn suspend(state: &mut State, caller: ObjId, address: u64) -> Result<Made, C
     make_suspend(state, caller, address)
 }
 
-// Does what the row of a resume says.
+// The whole row of a resume.
 #[tactic(auto, unfolding(machine::specs::Step::Suspend::resume_of))]
 fn make_resume(state: &mut State, caller: ObjId, address: u64) -> Result<Made, Cause>
     requires { IsWellFormed state.old }
@@ -67,8 +67,8 @@ fn make_resume(state: &mut State, caller: ObjId, address: u64) -> Result<Made, C
 
 /// Resumes the thread at an address (seL4 manual, seL4_TCB_Resume; the abort is confine's own).
 ///
-/// A thread that is inactive can run, and keeps its inbox. One that is blocked leaves its queue and
-/// its reply, can run, and learns that it was aborted. One that is ready stays as it is.
+/// An inactive thread can run, and keeps its inbox. A blocked thread leaves its queue and its
+/// reply, can run, and learns that it was aborted. A ready thread stays as it is.
 ///
 /// # Errors
 ///

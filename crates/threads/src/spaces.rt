@@ -22,7 +22,7 @@ fn root_of(thread: ObjId) -> SlotRef
     }
 }
 
-/// Removes the capability in a thread's root slot, if it is filled, and all that can't stay without it.
+/// Removes the capability in a thread's root slot, if it is filled, and all that can't exist without it.
 fn clear_root(state: &mut State, thread: ObjId)
     requires { IsWellFormed state.old }
     ensures changes { state.new ≡ without_root state.old thread }
@@ -36,8 +36,8 @@ fn clear_root(state: &mut State, thread: ObjId)
     }
 }
 
-/// Fills a thread's root slot, which is empty, with a copy of what the slot `node` holds. Does nothing
-/// where that slot is empty, or the slot `tcb` with the thread's capability is.
+/// Fills a thread's empty root slot with a copy of what the slot `node` holds. Does nothing if that
+/// slot is empty, or the slot `tcb` with the thread's capability is.
 #[tactic(auto, unfolding(machine::specs::Step::Space::with_root))]
 fn fill_root(state: &mut State, thread: ObjId, tcb: SlotRef, node: SlotRef)
     requires well_formed { IsWellFormed state.old }
@@ -60,7 +60,7 @@ fn fill_root(state: &mut State, thread: ObjId, tcb: SlotRef, node: SlotRef)
     }
 }
 
-// Does what the row of a clearing of a space says.
+// The whole row of a clearing of a space.
 #[tactic(auto, unfolding(machine::specs::Step::Space::clear_space_of))]
 fn make_clear_space(state: &mut State, caller: ObjId, address: u64) -> Result<Made, Cause>
     requires { IsWellFormed state.old }
@@ -73,7 +73,7 @@ fn make_clear_space(state: &mut State, caller: ObjId, address: u64) -> Result<Ma
 
 /// Empties the root slot of the thread at an address (confine's own, a part of seL4's seL4_TCB_SetSpace).
 ///
-/// If the slot is filled, its capability is removed, and all that can't stay without it. The
+/// If the slot is filled, its capability is removed, and all that can't exist without it. The
 /// thread's look-ups fail from then on.
 ///
 /// # Errors
@@ -89,7 +89,7 @@ pub fn clear_space(state: &mut State, caller: ObjId, address: u64) -> Result<Mad
     make_clear_space(state, caller, address)
 }
 
-// Does what the row of a setting of a space says.
+// The whole row of a setting of a space.
 #[tactic(auto, unfolding(machine::specs::Step::Space::set_space_of))]
 fn make_set_space(state: &mut State, caller: ObjId, address: u64, space: u64) -> Result<Made, Cause>
     requires { IsWellFormed state.old }
@@ -107,8 +107,8 @@ fn make_set_space(state: &mut State, caller: ObjId, address: u64, space: u64) ->
 /// Gives the thread at an address another root for its capability space (seL4 manual, seL4_TCB_SetSpace).
 ///
 /// The new root is a copy of the CNode's capability at the address `space`. The old one is removed
-/// first, as by [`clear_space`]. Where that empties the slot of the thread's or of the CNode's
-/// capability, or takes the thread itself, the call is done and the root slot stays empty.
+/// first, as by [`clear_space`]. If that empties the slot of the thread's or of the CNode's
+/// capability, or removes the thread itself, the call is done and the root slot stays empty.
 ///
 /// # Errors
 ///

@@ -1,5 +1,4 @@
--- The slots between which a message's capability travels: the target is there and empty, and the source holds what was found in
--- it.
+-- The slots between which a message's capability is copied: the target exists and is empty, and the source holds what was found there.
 use Rattle.std.{specs.Prelude.{IsTrue, None, Ok, Option, Some}, proofs.Common.{◌≡◌, subst}}
 use Rattle.base.specs.declared.ids.ObjId.{ObjId}
 use Rattle.machine.specs.{declared.{slot_address.{Ends.Ends, SlotAddress.SlotAddress}, thread.Sending.Sending}, Machine.{Machine, cap_of}}

@@ -1,5 +1,5 @@
--- A caller whose call was delivered and the receiver are two threads, and the reply that the receiver named holds nobody; so the
--- caller's context may be handed over where it is lent.
+-- The two threads of a call that was delivered: they differ, and the reply that the receiver named holds nobody, so the caller's context
+-- may be handed over if it is lent.
 use Rattle.std.{specs.Prelude.{None, Some, option_map}, proofs.{Common.{◌∙◌, ◌≡◌, ◌≢◌, ap, sym}, lemmas.Option.none-some}}
 use Rattle.base.specs.declared.ids.ObjId.{ObjId}
 use Rattle.machine.specs.declared.{object.ObjectKind.ObjectKind as kind, thread.{Lent.Lent, Receiving.Receiving, Sending.Sending, Tcb.Tcb}}

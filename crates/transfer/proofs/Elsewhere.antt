@@ -1,4 +1,4 @@
--- A thread that waits nowhere still waits nowhere where others leave their queues.
+-- That a thread that waits nowhere still waits nowhere after others leave their queues.
 use Rattle.std.{specs.Prelude.{Contains, None, Option, Some, filter}, proofs.Common.{◌∙◌, ◌≡◌, Bool, List, cond, false, not, refl, subst}}
 use Rattle.std.proofs.{Common.{sym, true}, lemmas.Option.same_Some}
 use Rattle.base.specs.declared.ids.ObjId.{ObjId}
@@ -11,7 +11,6 @@ use Rattle.machine.specs.declared.thread.RunState.TheVariants as state
 use Rattle.steps.proofs.LeavingLinks.{in_whole}
 use Rattle.objects.specs.Waiting.{WaitsNowhere}
 
--- the same queues
 free_along :
     (m next : Machine) (thread : ObjId) → ((q : ObjId) → queue_of next q ≡ queue_of m q) → WaitsNowhere m thread
     → WaitsNowhere next thread
@@ -88,7 +87,7 @@ free_released m other change thread free = by_object (object_of m other) refl wh
       (queues_with_tcb (unblocked m other tcb.state) other (change tcb)) (free_unblocked m other tcb.state thread free))
   by_object (Some _) e = rw e free
 
--- whom a reply holds is halted
+-- the thread that a reply holds is halted
 pub free_halted_holder :
     (m : Machine) (id thread : ObjId) → WaitsNowhere m thread → WaitsNowhere (with_holder_halted m id) thread
 unfolding with_holder_halted

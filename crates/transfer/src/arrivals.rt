@@ -1,4 +1,4 @@
-//! The delivery of messages, with at most one capability.
+//! The delivery of messages, each with at most one capability.
 ghost use Rattle.std.specs.Prelude.{◌≡◌, is_ok};
 ghost use Rattle.machine.specs.Step.Deliver.{arrival_of, delivered, message_of, with_arrival};
 ghost use Rattle.machine.specs.WellFormed.{IsWellFormed};
@@ -11,7 +11,7 @@ use objects::State;
 use replies::give;
 use steps::{arrivals_keep_machines_well_formed, releases_keep_machines_well_formed};
 
-/// The slots between which a message's capability travels, if one arrives; else why none does.
+/// The slots between which a message's capability is copied, if one arrives; else the reason why none does.
 #[tactic(auto, unfolding(machine::specs::Step::Deliver::arrival_of))]
 fn arrival(
     state: &State,
@@ -36,7 +36,7 @@ fn arrival(
     })
 }
 
-/// Copies a message's capability to the receiver's slot, if one arrives, and says whether one does.
+/// Copies a message's capability to the receiver's slot, if one arrives. Returns whether one does.
 pub fn arrive(
     state: &mut State,
     sender: ObjId,

@@ -1,4 +1,4 @@
-//! The call Fetch, which takes what a thread was given and has not fetched yet.
+//! The call Fetch, which takes what a thread was given and hasn't fetched yet.
 ghost use Rattle.std.specs.Prelude.{◌≡◌};
 ghost use Rattle.machine.specs.{Machine.object_of, Makes.Makes, Step.Fetch.{emptied, fetch_of, fetched, fetched_in}};
 ghost use Rattle.machine.specs.WellFormed.{IsCaller, IsWellFormed};
@@ -8,7 +8,7 @@ use machine::{Answer, Inbox, Made, Object, Tcb};
 use objects::State;
 use steps::calls_keep_machines_well_formed;
 
-/// What an inbox answers.
+/// The answer that an inbox gives.
 fn fetched(inbox: Inbox) -> Result<Answer, Cause>
     ensures { result ≡ fetched inbox }
 {
@@ -20,7 +20,7 @@ fn fetched(inbox: Inbox) -> Result<Answer, Cause>
     }
 }
 
-/// What the inbox of a thread answers.
+/// The answer that the inbox of a thread gives.
 fn fetched_in(state: &State, thread: ObjId) -> Result<Answer, Cause>
     ensures { result ≡ fetched_in (object_of state.now thread) }
 {
@@ -44,7 +44,7 @@ fn empty_inbox(state: &mut State, thread: ObjId)
     }
 }
 
-// Does what the row of a fetch says.
+// The whole row of a fetch.
 #[tactic(auto, unfolding(machine::specs::Step::Fetch::fetch_of))]
 fn make_fetch(state: &mut State, caller: ObjId) -> Result<Made, Cause>
     ensures { Makes state.old state.new result (fetch_of state.old caller) }
@@ -54,10 +54,10 @@ fn make_fetch(state: &mut State, caller: ObjId) -> Result<Made, Cause>
     Ok(Made::Done(answer))
 }
 
-/// Takes what the caller was given while it waited and has not fetched yet.
+/// Takes what the caller was given while it waited and hasn't fetched yet.
 ///
-/// This is a message, the word of a notification, or the news that what it waited for is gone. Its
-/// inbox is empty then. (confine's own: seL4 puts these into the thread's registers.)
+/// This is a message, the word of a notification, or the news that the wait was aborted. The inbox
+/// is empty afterwards. (confine's own: seL4 puts these into the thread's registers.)
 ///
 /// # Errors
 ///

@@ -16,7 +16,7 @@ fn run_state(state: &State, thread: ObjId) -> Option<RunState>
     }
 }
 
-/// Who waits first at an endpoint, and the run state in which it waits.
+/// The thread that waits first at an endpoint, and the run state in which it waits.
 #[tactic(auto, unfolding(machine::specs::Step::Deliver::first_at))]
 fn first_at(state: &State, id: ObjId) -> Option<(ObjId, RunState)>
     ensures { result ≡ first_at state.now id }

@@ -11,8 +11,8 @@ use objects::State;
 use replies::{halt, link};
 use schedctl::{context_under, hand_over};
 
-/// What a caller lends to a receiver: the scheduling context that it runs on, where the receiver has
-/// none.
+/// The loan of a caller to a receiver: the scheduling context that the caller runs on, if the
+/// receiver has none.
 fn loan_made(state: &State, caller: ObjId, receiver: ObjId) -> Option<Lent>
     ensures { result ≡ loan_made state.now caller receiver }
 {
@@ -25,7 +25,7 @@ fn loan_made(state: &State, caller: ObjId, receiver: ObjId) -> Option<Lent>
     }
 }
 
-// Has a thread whose call was delivered wait for its answer through a reply, and lend what it runs on
+// Makes a thread whose call was delivered wait for its answer through a reply, and lend its context
 // meanwhile.
 fn wait_and_lend(state: &mut State, caller: ObjId, receiver: ObjId, id: ObjId)
     requires well_formed { IsWellFormed state.old }
@@ -43,10 +43,10 @@ fn wait_and_lend(state: &mut State, caller: ObjId, receiver: ObjId, id: ObjId)
     }
 }
 
-/// Has a caller wait for its answer through a reply, and lends the context that it runs on to the receiver.
+/// Makes a caller wait for its answer through a reply, and lends its context to the receiver.
 ///
 /// The call was delivered to the receiver, and the reply holds nobody. The scheduling context is
-/// lent where the receiver has none. Where there is no reply for an answer, the caller is halted.
+/// lent if the receiver has none. The caller is halted if there is no reply for an answer.
 pub fn call_through(state: &mut State, caller: ObjId, receiver: ObjId, reply: Option<ObjId>)
     requires well_formed { IsWellFormed state.old }
     requires caller { kind_of state.old caller ≡ Some kind.Tcb }

@@ -47,7 +47,7 @@ fn end_reply(state: &mut State, reply: Option<ObjId>)
     }
 }
 
-/// Takes the message of the thread that waits first to send, or has the receiver wait for one.
+/// Takes the message of the first thread that waits to send, or makes the receiver wait for one.
 fn receive_or_wait(state: &mut State, caller: ObjId, receiving: Receiving) -> Made
     requires well_formed { IsWellFormed state.old }
     requires free { WaitsNowhere state.old caller }
@@ -66,7 +66,7 @@ fn receive_or_wait(state: &mut State, caller: ObjId, receiving: Receiving) -> Ma
     }
 }
 
-// Does what the row of a receive says.
+// The whole row of a receive.
 #[tactic(auto, unfolding(machine::specs::Step::Receive::receive_of))]
 fn make_receive(
     state: &mut State,
@@ -93,13 +93,13 @@ fn make_receive(
 
 /// Receives a message through the endpoint at an address (seL4 manual, "Endpoints", "Reply objects" and seL4_Recv).
 ///
-/// The message is that of the thread that waits first to send. Where none does, the caller waits
+/// The message is that of the first thread that waits to send. If there is none, the caller waits
 /// for one.
 ///
-/// Through the reply at the address `reply`, if one is given, a call is answered. The thread that
+/// A call is answered through the reply at the address `reply`, if one is given. The thread that
 /// the reply held until then is halted first. The message's capability, if one arrives, is put into
-/// `slot`, an empty one. Where no slot is given, or the slot isn't there or is filled, the message
-/// comes without it.
+/// the empty slot `slot`. The message comes without it if no slot is given, or the slot doesn't
+/// exist or is filled.
 ///
 /// # Errors
 ///

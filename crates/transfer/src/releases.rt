@@ -1,4 +1,4 @@
-//! What a thread does next whose message was delivered.
+//! The release of a thread whose message was delivered: it continues, waits for an answer, or is halted.
 ghost use Rattle.std.specs.Prelude.{◌≡◌};
 ghost use Rattle.machine.specs.{Releasing.IsInItsQueue, Step.Deliver.{answer_through, linked, sent}};
 
@@ -14,7 +14,7 @@ pub fn answer_through(sending: Sending, reply: Option<ObjId>) -> Option<ObjId>
     if sending.can_reply { reply } else { None }
 }
 
-/// Has a thread whose call was delivered wait for its answer, or halts it where there is no reply for one.
+/// Makes a thread whose call was delivered wait for its answer, or halts it if there is no reply for one.
 pub fn link_or_halt(state: &mut State, caller: ObjId, reply: Option<ObjId>)
     requires { IsInItsQueue state.old caller }
     ensures { state.new ≡ linked state.old caller reply }
@@ -29,7 +29,7 @@ pub fn link_or_halt(state: &mut State, caller: ObjId, reply: Option<ObjId>)
     }
 }
 
-/// Has a thread whose message was delivered continue, or wait for the answer if it called.
+/// Makes a thread whose message was delivered continue, or wait for the answer if it called.
 pub fn release(state: &mut State, sender: ObjId, sending: Sending, reply: Option<ObjId>)
     requires { IsInItsQueue state.old sender }
     ensures { state.new ≡ sent state.old sender sending reply }

@@ -17,7 +17,7 @@ use objects::State;
 use queues::block;
 use steps::calls_keep_machines_well_formed;
 
-/// What is recorded of a message that is sent by a capability to an endpoint.
+/// The record of a message that is sent by a capability to an endpoint.
 fn sending_by(
     endpoint: ObjId,
     end: Badged,
@@ -39,7 +39,7 @@ fn sending_by(
     }
 }
 
-/// Gives a message to the thread that waits first to receive, or has its sender wait for one.
+/// Gives a message to the first thread that waits to receive, or makes its sender wait for one.
 fn send_or_wait(state: &mut State, caller: ObjId, sending: Sending) -> Made
     requires well_formed { IsWellFormed state.old }
     requires free { WaitsNowhere state.old caller }
@@ -58,7 +58,7 @@ fn send_or_wait(state: &mut State, caller: ObjId, sending: Sending) -> Made
     }
 }
 
-// Does what the row of a send says.
+// The whole row of a send.
 #[tactic(auto, unfolding(machine::specs::Step::Send::send_of))]
 fn make_send(
     state: &mut State,
@@ -80,12 +80,12 @@ fn make_send(
 
 /// Sends a message through the endpoint at an address (seL4 manual, "Endpoints" and seL4_Send).
 ///
-/// The thread that waits first to receive gets the message. Where none does, the caller waits for
+/// The first thread that waits to receive gets the message. If there is none, the caller waits for
 /// one.
 ///
-/// At most one capability is sent with it, that at the address `capability` when the message is
-/// received. It arrives where the capability to the endpoint has the right Grant, it isn't untyped
-/// memory's, and the receiver gave an empty slot. The message is sent without it otherwise.
+/// At most one capability is sent with it: that at the address `capability` when the message is
+/// received. It arrives if the capability to the endpoint has the right Grant, it isn't for untyped
+/// memory, and the receiver gave an empty slot. Otherwise the message is sent without it.
 ///
 /// # Errors
 ///
@@ -107,8 +107,8 @@ pub fn send(
     make_send(state, caller, address, words, capability)
 }
 
-/// Gives a call to the thread that waits first to receive, and has the caller wait for the answer; or
-/// has it wait for a receiver.
+/// Gives a call to the first thread that waits to receive, and makes the caller wait for the
+/// answer; or makes it wait for a receiver.
 fn call_or_wait(state: &mut State, caller: ObjId, sending: Sending)
     requires well_formed { IsWellFormed state.old }
     requires caller { IsCaller state.old caller }
@@ -129,7 +129,7 @@ fn call_or_wait(state: &mut State, caller: ObjId, sending: Sending)
     }
 }
 
-// Does what the row of a call says.
+// The whole row of a call.
 #[tactic(auto, unfolding(machine::specs::Step::Send::endpoint_call_of))]
 fn make_call(
     state: &mut State,
@@ -150,11 +150,11 @@ fn make_call(
     Ok(Made::Blocked)
 }
 
-/// Sends a message, and has the caller wait for the answer (seL4 manual, "Endpoints", "Reply objects" and seL4_Call).
+/// Sends a message, and makes the caller wait for the answer (seL4 manual, "Endpoints", "Reply objects" and seL4_Call).
 ///
-/// It sends as [`send`] does. The answer comes through the reply that the receiver named.
+/// The message is sent as by [`send`]. The answer comes through the reply that the receiver named.
 ///
-/// Where the receiver named none, or the capability to the endpoint has neither the right Grant nor
+/// If the receiver named none, or the capability to the endpoint has neither the right Grant nor
 /// GrantReply, the caller is halted once its message is received. Otherwise, if the receiver was
 /// there first and runs on no scheduling context, it runs on the caller's until it answers.
 ///

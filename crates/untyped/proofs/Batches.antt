@@ -1,4 +1,4 @@
--- Objects that are made one after another are those that are made at once.
+-- That objects made one after another are the same as objects made all at once.
 use Rattle.std.{specs.{FinMap.{FinMap, get, get-insert, insert, same_map}, List.fold, Prelude.Some}, proofs.Common.{[], ℕ, ◌+◌, ◌<◌, ◌∙◌}}
 use Rattle.std.proofs.Common.{◌∷◌, ◌≡◌, ◌≢◌, Bool, List, ap, arith, cond, false, length, refl, sym, true}
 use Rattle.base.specs.declared.ids.{ObjId.ObjId, SlotRef.SlotRef}
@@ -10,7 +10,7 @@ use Rattle.untyped.specs.Batch.{new_objects, with_batch, with_caps}
 abbrev Content : Type 0
 Content = FinMap id_cmp Object
 
--- an object set twice is what it was set to last
+-- an object that is set twice is what it was set to last
 set_twice :
     (m : Content) (id : ObjId) (first second : Object) → insert (insert m id first) id second ≡ insert m id second
 set_twice m id first second =
@@ -51,7 +51,7 @@ object_twice :
 unfolding with_object
 object_twice m id first second = ap (λ objects. record m { objects = objects }) (set_twice m.objects id first second)
 
--- an object may be set before another is new, or after
+-- an object may be set before another is added, or after
 object_past_new :
     (m : Machine) (id : ObjId) (one new : Object) → id.0 < m.next
     → with_new (with_object m id one) new ≡ with_object (with_new m new) id one
@@ -75,7 +75,7 @@ new_past_caps :
 unfolding with_new with_cap with_parent
 new_past_caps m object slot parent held = refl
 
--- new objects may come before a slot is filled, or after
+-- objects may be added before a slot is filled, or after
 news_past_caps :
     (m : Machine) (objects : List Object) (slot parent : SlotRef) (held : Cap)
     → fold with_new (with_parent (with_cap m slot held) slot parent) objects
@@ -117,7 +117,7 @@ module _ (kind : MemoryKind) (bits : ℕ) where
       (object_past_new m source.id (o.Untyped (later source).memory) (object_from source) below)
       ∙ object_past_caps (with_new m (object_from source)) source.id _ slot source.slot (new_cap m.next kind)
 
-  -- what the untyped's content was before doesn't matter
+  -- the untyped's content before doesn't matter
   made_whatever :
       (m : Machine) (source : Source) (was : Object) (slot : SlotRef)
       → with_made (with_object m source.id was) source kind bits slot ≡ with_made m source kind bits slot
@@ -150,7 +150,7 @@ module _ (kind : MemoryKind) (bits : ℕ) where
       (o.Untyped (all_taken (length slots) (new_size kind bits) (later source).memory)))
       (news_past_caps (with_new m (object_from source)) objects slot source.slot (new_cap m.next kind))
 
-  -- objects that are made one after another, at least one, are made at once
+  -- objects that are made one after another are made at once, if there are any
   pub made_at_once :
       (m : Machine) (source : Source) (slot : SlotRef) (slots : List SlotRef) → source.id.0 < m.next
       → with_all_made m source kind bits (slot ∷ slots) ≡ with_batch m source kind bits (slot ∷ slots)

@@ -1,4 +1,4 @@
--- A slot has a child exactly where it is the parent of some slot.
+-- That a slot has a child exactly if it is the parent of some slot.
 use Rattle.std.specs.{declared.cmp.Ordering.{Ordering, TheVariants.{Equal, Greater, Less}}, FinMap.{entries, entries_sorted, find}}
 use Rattle.std.specs.{FinMap.{get-entries, is_sorted, Entries.below_all}, List.list_any, Ordering.{is_eq, is_lt}, Prelude.{◌&&◌, ◌||◌, ◌≢◌}}
 use Rattle.std.{specs.Prelude.{None, Some}, proofs.Common.{[], ◌∙◌, ◌∷◌, ◌≡◌, Bool, List, T, ap, cond, false, refl, subst, sym, true}}
@@ -19,7 +19,7 @@ second : (a b : Bool) → T (a && b) → T b
 second true b t = t
 second false b t = absurd t
 
--- a slot that is below all keys is none of them
+-- a slot below all keys is none of them
 not_below : (q : SlotRef) (pairs : Pairs) → T (below_all slot_cmp q pairs) → find slot_cmp q pairs ≡ None
 not_below q [] below = refl
 not_below q (pair ∷ pairs) below = by_order (slot_cmp q pair.0) (not_below q pairs) below where
@@ -72,8 +72,6 @@ a_child m slot q is = by_tie (has_child m slot) refl where
   by_tie : (tie : Bool) → has_child m slot ≡ tie → tie ≡ true
   by_tie true tie = refl
   by_tie false tie = absurd (childless m slot q tie is)
-
--- where the making begins
 
 pub begun_later :
     (m : Machine) (source : Source) (q : SlotRef) → parent_of m q ≡ Some source.slot → source ≡ begun m source

@@ -52,7 +52,7 @@ module _ (m : Machine) (slot parent : SlotRef) (held : Cap) where
       by_tie true is = absurd (apart (one_slot q slot is))
       by_tie false is = empty
 
-  -- an empty slot stays in no pair: it is neither the one that is filled nor its parent, which is filled
+  -- an empty slot stays in no pair of the tree: it isn't the one that is filled, nor its parent, which is filled
   pub alone_stays : IsSome (cap_of m parent) → (q : SlotRef) → q ≢ slot → cap_of m q ≡ None → IsAlone m q → IsAlone filled q
   alone_stays above q apart empty alone =
       record {

@@ -1,4 +1,4 @@
--- What was there stays there when objects are added and their capabilities put into slots; and so a whole retype is made.
+-- That machines keep what they have when objects are added and their capabilities put into slots; and so that a whole retype can be made.
 use Rattle.std.{specs.{List.fold, Prelude.{IsSome, Some, is_some}}, proofs.Common.{[], ℕ, ◌+◌, ◌<◌, ◌∙◌, ◌∷◌, ◌≡◌, ◌≤◌, Bool, List, ap}}
 use Rattle.std.proofs.{Common.{arith, cond, false, inl, inr, length, refl, suc, sym, true, zero}, lemmas.Bool.cases_eq}
 use Rattle.std.proofs.lemmas.List.FromFn.{length-map-range_with_len}
@@ -11,8 +11,6 @@ use Rattle.machine.proofs.LookUps.{one_id, parent_of-with_new}
 use Rattle.untyped.specs.{declared.{filling.Window.Window, making.Making.Making}, Batch.{new_objects, with_batch, with_caps}}
 use Rattle.untyped.specs.{Making.{CanBeMade, with_making}, Shown.source_shown, Windows.{AreThere, IsFree, slots_of}}
 use Rattle.untyped.proofs.Batches.{made_at_once}
-
--- new objects
 
 number_after : (m : Machine) (object : Object) → (with_new m object).next ≡ m.next + 1
 unfolding with_new
@@ -58,8 +56,6 @@ free_past_news m objects at below free index low high =
       alone_past_news m objects (record { holder = at.node; index = index }) was.2,
     )
 
--- the new ones are there
-
 new_there : (m : Machine) (object : Object) → object_of (with_new m object) (record { 0 = m.next }) ≡ Some object
 new_there m object =
     let id : ObjId = record { 0 = m.next } in
@@ -84,8 +80,6 @@ pub length-new_objects :
 length-new_objects zero kind bits memory = refl
 length-new_objects (suc count) kind bits memory = ap suc (length-new_objects count kind bits (taken (new_size kind bits) memory))
 
--- filled slots
-
 object_past_caps :
     (m : Machine) (number : ℕ) (kind : MemoryKind) (slots : List SlotRef) (parent : SlotRef) (q : ObjId)
     → object_of (with_caps m number kind slots parent) q ≡ object_of m q
@@ -95,7 +89,7 @@ object_past_caps m number kind (slot ∷ slots) parent q =
     ∙ object_of-with_parent (with_cap m slot (new_cap number kind)) slot parent q
     ∙ object_of-with_cap m slot (new_cap number kind) q
 
--- memory that is taken changes in its watermark alone
+-- memory that is taken changes only its watermark
 
 pub only_marked :
     (count size : ℕ) (memory : Untyped)
@@ -103,7 +97,7 @@ pub only_marked :
 only_marked zero size memory = refl
 only_marked (suc count) size memory = only_marked count size (taken size memory)
 
--- untyped memory that is there, whatever its watermark, gets one
+-- existing untyped memory gets a watermark, whatever it had
 marked :
     (m : Machine) (id : ObjId) (memory : Untyped) (was mark : ℕ)
     → object_of m id ≡ Some (o.Untyped (record memory { watermark = was }))

@@ -4,7 +4,7 @@ use Rattle.std.proofs.lemmas.List.{append_assoc, take_more_set}
 use Rattle.machine.specs.{declared.object.{MemoryKind.MemoryKind, Object.Object, Untyped.Untyped}, Memory.{new_object, new_size}}
 use Rattle.untyped.specs.Batch.{new_objects}
 
--- one more object is written, and the rest follow
+-- one object is written, and the others follow
 pub one_placed :
     (kind : MemoryKind) (bits : ℕ) (memory : Untyped) (objects all : List Object) (index left mark : ℕ)
     → index < length objects

@@ -1,4 +1,4 @@
--- What a retype found and checked can be made.
+-- That a retype that met its conditions can be made.
 use Rattle.std.{specs.Prelude.{Err, IsSome, None, Ok, Option, Some, nat_le}, proofs.Common.{ℕ, ◌*◌, ◌+◌, ◌<◌, ◌^◌, ◌∙◌, ◌≡◌, ◌≤◌, Bool, ap}}
 use Rattle.std.proofs.Common.{arith, false, leb-true, refl, subst, sym, true}
 use Rattle.base.specs.declared.{ids.{ObjId.ObjId, SlotRef.SlotRef}, limits.TheConstants.{ADDRESS_END, MAX_MADE, MAX_PRESENT, MAX_RADIX}}
@@ -12,7 +12,7 @@ use Rattle.steps.proofs.{LedSlots.{IsNode, node_at, node_slot}, RetypeFormed.eac
 use Rattle.steps.proofs.{RetypeRow.untyped_found, SlotRows.empty_alone}
 use Rattle.untyped.specs.{declared.making.Making.Making, Making.CanBeMade, Shown.source_shown}
 
--- where the making begins in memory that was found: there, but for the watermark, and within an object's range
+-- the memory where the making begins: it exists, but for its watermark, and is within an object's range
 pub record IsBegun (found source : Source) : Type 0 where
   pub slot : source.slot ≡ found.slot
   pub id : source.id ≡ found.id

@@ -1,11 +1,11 @@
--- Objects made at once: all of them are added, then each slot gets its capability, then the untyped memory its watermark.
+-- Objects made at once: all are added, then each slot gets its capability, then the untyped memory its watermark.
 use Rattle.std.specs.{List.fold, Prelude.{[], ℕ, ◌+◌, ◌∷◌, List, length, suc, zero}}
 use Rattle.base.specs.declared.ids.SlotRef.{SlotRef}
 use Rattle.machine.specs.{declared.object.{MemoryKind.MemoryKind, Object.{Object, Object as o}, Untyped.Untyped}, Machine.Machine}
 use Rattle.machine.specs.{Machine.{with_cap, with_new, with_object, with_parent}, Memory.{Source, all_taken, new_cap, new_object, new_size}}
 use Rattle.machine.specs.Memory.{placed, taken}
 
--- so many new objects of a kind, one after another in the memory
+-- `count` new objects of a kind, one after another in the memory
 abbrev pub new_objects : ℕ → MemoryKind → ℕ → Untyped → List Object
 new_objects zero kind bits memory = []
 new_objects (suc count) kind bits memory =

@@ -1,4 +1,4 @@
--- What a retype is about to make, once its conditions are met, and the machine after it.
+-- The plan of a retype whose conditions are met, and the machine after it.
 use Rattle.std.specs.Prelude.{ℕ, ◌+◌, ◌<◌, ◌^◌, ◌≡◌, ◌≤◌, Err, IsSome, None, Ok, Option, Result, Some}
 use Rattle.base.specs.declared.{limits.TheConstants.{ADDRESS_END, MAX_MADE, OBJECT_NUMBERS}, refusal.{Cause.Cause, Refusal.Refusal}}
 use Rattle.base.specs.Refusals.{refusal_of}
@@ -10,7 +10,7 @@ use Rattle.untyped.specs.{declared.making.Making.Making, Shown.source_shown, Win
 abbrev pub with_making : Machine → Making → Machine
 with_making m making = with_all_made m (source_shown making.source) making.kind making.bits (slots_of making.window)
 
--- the memory is there, but for its watermark, with a capability, and the slots are free; sizes and numbers are within their limits
+-- the memory exists, but for its watermark, with a capability; the slots are free; sizes and numbers are within their limits
 pub record CanBeMade (m : Machine) (making : Making) : Type 0 where
   pub sized : sized making.kind making.bits ≡ Ok tt
   pub some : 0 < making.window.count
@@ -25,12 +25,12 @@ pub record CanBeMade (m : Machine) (making : Making) : Type 0 where
   pub ends : making.window.offset + making.window.count < 2 ^ 64
   pub free : IsFree m making.window
 
--- what a call comes to that found what it is about to make, or a cause to refuse
+-- the result of a call with this plan, or this cause to refuse
 abbrev pub planned : Machine → Result Making Cause → Result (Made × Machine) Cause
 planned m (Ok making) = Ok (Done (Count making.window.count), with_making m making)
 planned m (Err cause) = Err cause
 
--- the refusal of a call, where it isn't made
+-- the refusal of a call, if it isn't made
 abbrev pub refusal_in : Result (Made × Machine) Cause → Option Refusal
 refusal_in (Ok made) = None
 refusal_in (Err cause) = Some (refusal_of cause)

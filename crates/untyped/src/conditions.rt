@@ -1,4 +1,4 @@
-//! The conditions of a retype: size, number, and slots.
+//! The conditions of a retype on size, number and slots.
 ghost use Rattle.std.specs.Prelude.{◌+◌, ◌<◌, ◌^◌, ◌≡◌, ◌≤◌, IfOk};
 ghost use Rattle.base.specs.declared.limits.TheConstants.{MAX_RADIX};
 ghost use Rattle.machine.specs.Step.Retype.{a_few, all_vacant, between, in_node, sized, window};
@@ -7,7 +7,7 @@ use base::{Cause, MAX_MADE, MAX_RADIX, ObjId, SlotRef};
 use machine::{MemoryKind, Radix};
 use objects::State;
 
-/// Refuses a number that doesn't lie from one to another.
+/// Refuses a number that isn't between two others.
 fn between(least: u64, most: u64, bits: u64) -> Result<(), Cause>
     ensures { result ≡ between least most bits }
 {
@@ -61,7 +61,7 @@ pub fn in_node(radix: Radix, offset: u64, count: u64) -> Result<(), Cause>
     ensures within { IfOk result (λ fits. offset + count ≤ 2 ^ MAX_RADIX) }
 {
     let slots = radix.slots();
-    // The sum of the two may be past every number.
+    // The sum of the two may exceed every number.
     if offset <= slots && count <= slots - offset {
         Ok(())
     } else {
@@ -69,7 +69,7 @@ pub fn in_node(radix: Radix, offset: u64, count: u64) -> Result<(), Cause>
     }
 }
 
-/// Refuses where a slot of the window is filled.
+/// Refuses if a slot of the window is filled.
 ///
 /// # Errors
 ///

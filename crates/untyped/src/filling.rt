@@ -1,4 +1,4 @@
-//! How the capabilities of new objects are put into their slots.
+//! The filling of slots with the capabilities of new objects.
 ghost use Rattle.std.specs.Prelude.{◌+◌, ◌<◌, ◌^◌, ◌≡◌, ◌≤◌, IsSome, IsTrue, None};
 ghost use Rattle.base.specs.declared.limits.TheConstants.{OBJECT_NUMBERS};
 ghost use Rattle.machine.specs.{Machine.{cap_of, has_slot, object_of, with_cap, with_parent}, Tree.IsAlone};
@@ -10,7 +10,7 @@ use derivation::insert_child;
 use machine::{Cap, MemoryKind};
 use objects::State;
 
-/// A number of slots of a CNode, one after another.
+/// A number of slots of a CNode, in a row.
 #[derive(Clone, Copy)]
 pub struct Window {
     pub node: ObjId,
@@ -18,7 +18,7 @@ pub struct Window {
     pub count: u64,
 }
 
-/// Fills an empty slot that is in no pair of the tree with a capability that is a child of that in another.
+/// Fills an empty slot that is in no pair of the tree, with a capability that is a child of the one in another slot.
 fn fill_below(state: &mut State, slot: SlotRef, cap: Cap, parent: SlotRef)
     requires there { IsTrue (has_slot state.old slot) }
     requires vacant { cap_of state.old slot ≡ None }
@@ -33,8 +33,8 @@ fn fill_below(state: &mut State, slot: SlotRef, cap: Cap, parent: SlotRef)
 
 /// Fills the slots of a window with the capabilities of new objects.
 ///
-/// The objects have numbers from `first` on. The capabilities become children of that in the slot
-/// `parent`.
+/// The objects are numbered from `first` on. The capabilities become children of the one in the
+/// slot `parent`.
 pub fn fill(state: &mut State, window: Window, first: u64, kind: MemoryKind, parent: SlotRef)
     requires ends { window.offset + window.count < 2 ^ 64 }
     requires numbers { first + window.count ≤ OBJECT_NUMBERS }

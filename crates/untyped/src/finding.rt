@@ -1,4 +1,4 @@
-//! The untyped memory and the CNode that a retype names.
+//! The look-ups of the untyped memory and the CNode that a retype names.
 ghost use Rattle.std.specs.Prelude.{◌≡◌};
 ghost use Rattle.machine.specs.Step.Retype.{find_taker, find_untyped, memory_in};
 ghost use Rattle.untyped.specs.Shown.{found_shown, taker_shown};

@@ -1,8 +1,8 @@
 //! The call Retype: untyped memory becomes objects.
 //!
-//! Each condition of the call is a function of its own, and says what the kernel's step says of it.
+//! Each condition of the call is a function of its own, with the contract that the kernel's step gives it.
 //!
-//! `kernel` stands on it. It knows no policy.
+//! The crate knows no policy.
 #![tactic(auto)]
 
 mod conditions;

@@ -1,4 +1,4 @@
-//! The limits of a kernel, which a retype keeps.
+//! The limits of a kernel on objects, slots, threads and object numbers, which a retype keeps.
 ghost use Rattle.std.specs.Prelude.{◌≡◌, ◌≤◌};
 ghost use Rattle.base.specs.declared.limits.TheConstants.{MAX_MADE};
 ghost use Rattle.machine.specs.Step.Retype.{within_limits};

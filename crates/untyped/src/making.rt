@@ -1,4 +1,4 @@
-//! New objects and their capabilities.
+//! The plan of a retype, and the new objects and capabilities that it makes.
 ghost use Rattle.std.specs.Prelude.{◌≡◌, Ok};
 ghost use Rattle.machine.specs.{Memory.{new_cap, new_detail, new_object}, Step.Retype.sized};
 
@@ -11,7 +11,7 @@ use machine::{
     Object, Radix, Reply, ReplyState, RunState, Tcb, Untyped,
 };
 
-/// The plan of a call: it makes objects of a kind, as many as its window has slots, from a place in its memory on.
+/// The plan of a call: how many objects of a kind it makes, from which place in memory, and for which slots.
 #[derive(Clone, Copy)]
 pub struct Making {
     pub source: Source,
@@ -59,7 +59,7 @@ pub fn new_object(kind: MemoryKind, bits: u64, address: u64) -> Object
     }
 }
 
-/// What the capability of a new object says: all rights of its kind, no badge, and no guard.
+/// The detail of a new object's capability: all rights of its kind, no badge, and no guard.
 fn new_detail(kind: MemoryKind) -> Detail
     ensures { result ≡ new_detail kind }
 {
@@ -84,7 +84,7 @@ fn new_detail(kind: MemoryKind) -> Detail
     }
 }
 
-/// Returns the capability of a new object of that number, which is original.
+/// Returns the capability of a new object of that number; it is original.
 pub fn new_cap(number: u64, kind: MemoryKind) -> Cap
     ensures { result ≡ new_cap number kind }
 {

@@ -1,4 +1,4 @@
-//! How new objects are placed in memory.
+//! The placing of new objects in memory, one after another.
 ghost use Rattle.std.specs.Prelude.{◌≡◌, ◌≤◌, Ok, length};
 ghost use Rattle.base.specs.declared.limits.TheConstants.{ADDRESS_END, MAX_MADE};
 ghost use Rattle.machine.specs.{Memory.{all_taken, new_size}, Step.Retype.sized};
@@ -8,7 +8,7 @@ use crate::making::new_object;
 use crate::room::new_size;
 use machine::{MemoryKind, Object, Untyped};
 
-/// Writes new objects of a kind over those that are there, one after another in the memory.
+/// Writes new objects of a kind over the given ones, one after another in the memory.
 ///
 /// Returns the watermark after them.
 pub fn place(kind: MemoryKind, bits: u64, memory: Untyped, objects: &mut [Object]) -> u64

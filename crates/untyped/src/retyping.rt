@@ -16,7 +16,7 @@ use objects::State;
 use std::alloc::AllocError;
 use steps::retypes_keep_machines_well_formed;
 
-/// What a retype is about to make, whose conditions are met in their order, or why it is refused.
+/// The plan of a retype, whose conditions are tested in their order, or the cause of its refusal.
 #[tactic(auto, unfolding(machine::specs::Step::Retype::retype_of))]
 fn plan(
     state: &State,
@@ -54,7 +54,7 @@ fn plan(
     })
 }
 
-/// Makes objects with their capabilities. Memory is taken before anything is changed.
+/// Makes objects with their capabilities. Memory is allocated before anything is changed.
 fn make(state: &mut State, making: Making) -> Result<(), AllocError>
     requires { CanBeMade state.old making }
     ensures ok { OnOk result (state.new ≡ with_making state.old making) }
@@ -78,9 +78,9 @@ fn make(state: &mut State, making: Making) -> Result<(), AllocError>
 
 /// Makes `count` objects of a kind from the untyped memory that the caller names (seL4 manual, seL4_Untyped_Retype).
 ///
-/// The objects' capabilities are put into as many slots, from `offset` on, of the CNode that the
-/// caller names as `to`. `bits` is the size of untyped memory and the radix of a CNode. Where
-/// memory runs out the call is refused, and the state stays as it was.
+/// The objects' capabilities are put into `count` slots, from `offset` on, of the CNode that the
+/// caller names as `to`. `bits` is the size of untyped memory and the radix of a CNode. If an
+/// allocation fails, the call is refused and the state stays as it was.
 ///
 /// # Errors
 ///
@@ -98,7 +98,7 @@ fn make(state: &mut State, making: Making) -> Result<(), AllocError>
 /// - [`Cause::TooMany`] (44), where there would be too many objects, slots, threads or object
 /// numbers.
 ///
-/// [`Unmade::OutOfMemory`] (40) where none of these holds, and an allocation failed.
+/// [`Unmade::OutOfMemory`] (40) if none of these holds, and an allocation failed.
 pub fn retype(
     state: &mut State,
     caller: ObjId,
@@ -123,7 +123,7 @@ pub fn retype(
     }
 }
 
-/// Returns why [`retype`] is refused, however much memory there is; `None` if it isn't.
+/// Returns why [`retype`] is refused, however much memory there is, or `None` if it isn't.
 pub fn retype_refusal(
     state: &State,
     caller: ObjId,

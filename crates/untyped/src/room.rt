@@ -29,9 +29,9 @@ pub fn new_size(kind: MemoryKind, bits: u64) -> u64
     }
 }
 
-/// Returns the memory where the making begins.
+/// Returns the memory with the watermark where the making begins.
 ///
-/// The making begins at the memory's base where nothing that is there was made of it.
+/// The making begins at the memory's base if no existing object was made of it.
 #[tactic(auto, unfolding(machine::specs::Memory::has_child))]
 pub fn begun(state: &State, source: Source) -> Source
     ensures { source_shown result ≡ begun state.now (source_shown source) }
@@ -46,7 +46,7 @@ pub fn begun(state: &State, source: Source) -> Source
     Source { memory, ..source }
 }
 
-/// Refuses where the memory has no room for `count` objects of a size.
+/// Refuses if the memory has no room for `count` objects of a size.
 ///
 /// # Errors
 ///

@@ -1,4 +1,4 @@
-//! A line for each label that may change another, or read it.
+//! The lines on a label's users: one for each label that may change another, or read it.
 ghost use Rattle.std.specs.{List.flat_map, Prelude.{◌++◌, ◌≡◌, IfErr, IfOk, OnOk, string_bytes}};
 ghost use Rattle.base.specs.{Labels.members_of, Refusals.out_of_memory};
 ghost use Rattle.captext.specs.PolicyText.{label_name};
@@ -14,7 +14,7 @@ use reach::{Extent, Reach};
 use std::alloc::{AllocError, Global};
 use table::Table;
 
-/// A label, and how far it goes with the one that is asked about.
+/// A label, and how far it goes with another.
 #[derive(Clone, Copy)]
 struct User {
     label: Label,
@@ -113,7 +113,7 @@ fn write_change(
     }
 }
 
-// Writes the line of a label that goes so far.
+// Writes the line of a label that goes this far.
 fn write_extent(
     text: &mut String,
     table: &Table,
@@ -183,7 +183,7 @@ fn has(policy: &Policy, from: Label, kind: Kind, to: Label) -> bool
     policy.has(Edge { from, kind, to })
 }
 
-// Writes the name of a label, and what stands behind it.
+// Writes the name of a label and the end of its line.
 fn write_line(text: &mut String, table: &Table, label: Label, end: &str) -> Result<(), AllocError>
     ensures { OnOk result (string_bytes text.new ≡ string_bytes text.old ++ (label_name table.now label ++ end.now)) }
 {

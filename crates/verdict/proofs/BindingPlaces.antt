@@ -1,4 +1,4 @@
--- The search for a broken binding: each place that breaks A4 stands under a binding of the table, and these rise.
+-- The search for a broken binding: each place that breaks A4 is a binding of the table, and bindings rise.
 use Rattle.std.proofs.Common.{[], ℕ, ◌<◌, ◌∷◌, ◌≡◌, ◌⊎◌, List, Some, ap, arith, get_or, inl, inr, refl, slice_get}
 use Rattle.std.proofs.lemmas.Option.{none-some}
 use Rattle.base.specs.declared.ids.ObjId.{ObjId}
@@ -11,11 +11,11 @@ use Rattle.verdict.{specs.Verdict.{BreaksUnder, place_of}, proofs.RuleOrder.firs
 abbrev pub of_binding : Binding → List ℕ
 of_binding binding = binding.thread.0 ∷ []
 
--- no binding is broken among the first
+-- none of the first bindings is broken
 abbrev pub NothingBroken : Layout → EdgeTest → ℕ → Type 0
 NothingBroken t allowed n = NoneSoFar place_of (Breaks t allowed) (a4 ∷ []) t.bindings of_binding n
 
--- a table's threads run on what they are bound to alone
+-- a table's threads run only on the contexts that it binds them to
 pub declared_bound :
     (t : Layout) (thread context : ObjId)
     → ((of_table t).context thread ≡ Some context) ⊎ ((of_table t).lent thread ≡ Some context)

@@ -1,4 +1,4 @@
--- A table declares the authority that its boot state has: so it breaks a rule where that lies outside the policy, and nowhere else.
+-- That a table breaks a rule exactly where the authority of its boot state lies outside the policy.
 use Rattle.std.proofs.Common.{◌↔◌, ◌∙◌, ◌≡◌, None, Option, Some, ap, false, option_map, refl, subst, sym}
 use Rattle.std.proofs.lemmas.Option.{get_or_from_slice_get, none-some, same_Some, slice_get_within}
 use Rattle.base.specs.declared.{ids.ObjId.ObjId, kind.Kind.Kind}
@@ -16,7 +16,6 @@ use Rattle.verdict.proofs.{DenialPlaces.{denial_at, exceeded_at, exceeded_there,
 use Rattle.verdict.proofs.RuleOrder.{policy_first}
 use Rattle.verdict.specs.declared.denial.Denial.TheVariants as denial
 
--- what a table binds is a thread
 bound_thread : (t : Layout) → IsLawful t → (thread context : ObjId) → bound_context t thread ≡ Some context → kind_at t thread ≡ Some kind.Tcb
 unfolding kind_at initial_of
 bound_thread t lawful thread context is =
@@ -32,7 +31,7 @@ unbound :
 unbound t lawful thread other None is = refl
 unbound t lawful thread other (Some context) is = absurd (other (bound_thread t lawful thread context is))
 
--- an object as it is at boot has the links that the table declares
+-- an object has the links at boot that the table declares
 
 boot_context :
     (t : Layout) → IsLawful t → (id : ObjId) (initial : Option Initial) → initial_of t id ≡ initial
@@ -89,24 +88,24 @@ boot_keeps t lawful id k end (Some initial) declares =
     blank_keeps t id initial.object k end (initial_lawful t lawful id initial declares).blank
 
 module _ (t : Layout) (allowed : EdgeTest) where
-  -- a rule is broken at a place where the table declares authority outside there
+  -- a rule is broken at a place exactly if the authority that the table declares there is outside the policy
   broken_there : (d : Denial) (place : Excess) → excess_of d ≡ Some place → Breaks t allowed d ↔ Exceeds (of_table t) allowed place
   broken_there (denial.Policy _) place is = absurd (none-some place is)
   broken_there (denial.Sharp _) place is = absurd (none-some place is)
   broken_there d place is = exceeded_there (of_table t) allowed d place is
 
-  -- where it is the first that is broken, the policy is closed
+  -- the policy is closed if the first broken rule is one of authority
   pub first_closed : (d : Denial) (place : Excess) → excess_of d ≡ Some place → IsLeastBroken t allowed d → IsClosed allowed
   first_closed d place is least = closed_if allowed (λ b broken.
       least.first (denial.Policy b) broken (rw (numbered d place is) (policy_first b place)))
 
-  -- and where it is, each denial of what is broken names a place
+  -- each denial names a place if the policy is closed
   named : (d : Denial) → IsClosed allowed → Breaks t allowed d → (place : Excess) × (excess_of d ≡ Some place)
   named (denial.Policy b) closed broken = absurd (unbroken allowed closed b broken)
   named d closed broken = let at = exceeded_at (of_table t) allowed d broken in (at.0, at.1)
 
 module _ (t : Layout) (m : Machine) (lawful : IsLawful t) (boot : IsBoot t m) where
-  -- the authority of a boot state is read off its table
+  -- the sources of authority of a boot state are those of its table
   pub boot_sources : of_table t ≡ of_machine t m
   boot_sources = λ i. record {
     cap = λ slot. sym (boot.caps slot) i;
@@ -127,7 +126,7 @@ module _ (t : Layout) (m : Machine) (lawful : IsLawful t) (boot : IsBoot t m) wh
     subst (λ (s : Sources). Exceeds s allowed place) (sym boot_sources),
   )
 
-  -- a rule is broken at a place where the boot state's authority lies outside there
+  -- a rule is broken at a place exactly if the boot state's authority lies outside the policy there
   pub broken_outside :
       (allowed : EdgeTest) (d : Denial) (place : Excess) → excess_of d ≡ Some place
       → Breaks t allowed d ↔ Exceeds (of_machine t m) allowed place
@@ -136,7 +135,7 @@ module _ (t : Layout) (m : Machine) (lawful : IsLawful t) (boot : IsBoot t m) wh
     λ out. (broken_there t allowed d place is).1 ((exceeds_same allowed place).1 out),
   )
 
-  -- and so the policy is exceeded as its denial says, whichever rules it has to obey itself
+  -- the policy is exceeded as its denial says, whichever rules it must obey itself
   exceeded_outside :
       (allowed : EdgeTest) (d : Denial) (place : Excess) → excess_of d ≡ Some place
       → IsExceeded (of_table t) allowed d ↔ Exceeds (of_machine t m) allowed place
@@ -145,14 +144,14 @@ module _ (t : Layout) (m : Machine) (lawful : IsLawful t) (boot : IsBoot t m) wh
     λ out. (exceeded_there (of_table t) allowed d place is).1 ((exceeds_same allowed place).1 out),
   )
 
-  -- and each such place has its denial
+  -- each place outside the policy has its denial
   pub outside_declared :
       (allowed : EdgeTest) (place : Excess) → Exceeds (of_machine t m) allowed place
       → (d : Denial) × (excess_of d ≡ Some place) × Breaks t allowed d
   outside_declared allowed place out =
       let d = denial_at place in (d.0, d.1, (broken_outside allowed d.0 place d.1).1 out)
 
-  -- so the boot state is confined exactly where the policy is exceeded nowhere
+  -- the boot state is confined exactly if the policy is exceeded nowhere
 
   pub boot_confined : (allowed : EdgeTest) → IsNone (IsExceeded (of_table t) allowed) → IsConfined t allowed m
   boot_confined allowed none =
@@ -164,13 +163,13 @@ module _ (t : Layout) (m : Machine) (lawful : IsLawful t) (boot : IsBoot t m) wh
       let at = exceeded_at (of_table t) allowed d exceeded in
       within_confined t allowed m confined at.0 ((exceeded_outside allowed d at.0 at.1).0 exceeded)
 
-  -- and where it is, and the policy is closed, no rule is broken
+  -- no rule is broken if the policy is closed and the boot state confined
   pub confined_accepted : (allowed : EdgeTest) → IsClosed allowed → IsConfined t allowed m → IsAccepted t allowed
   confined_accepted allowed closed confined d broken =
       let place = named t allowed d closed broken in
       within_confined t allowed m confined place.0 ((broken_outside allowed d place.0 place.1).0 broken)
 
-  -- the least broken place is the first that lies outside
+  -- the least broken place is the first place outside the policy
   pub first_outside :
       (allowed : EdgeTest) (d : Denial) (place : Excess) → excess_of d ≡ Some place → IsLeastBroken t allowed d
       → IsOutside t allowed m place
@@ -181,7 +180,7 @@ module _ (t : Layout) (m : Machine) (lawful : IsLawful t) (boot : IsBoot t m) wh
         least.first broken.0 broken.2 (rw (numbered broken.0 other broken.1, numbered d place is) before);
   }
 
-  -- and the other way round, where the policy is closed
+  -- the first place outside the policy is the least broken one, if the policy is closed
   pub least_broken :
       (allowed : EdgeTest) (d : Denial) (place : Excess) → excess_of d ≡ Some place → IsClosed allowed
       → IsOutside t allowed m place → IsLeastBroken t allowed d

@@ -1,11 +1,11 @@
--- A denial by A1 to A6 names a place, and each place has its denial.
+-- Denials by A1 to A6 and the places that they name: each denial has its place, and each place its denial.
 use Rattle.std.specs.Option.{option_map_or}
 use Rattle.std.proofs.{Common.{[], ◌↔◌, ◌≡◌, MatchOption, None, Option, Some, ap, refl, subst, sym}, lemmas.Option.none-some}
 use Rattle.policy.specs.Domain.{EdgeTest}
 use Rattle.verdict.specs.{declared.denial.Denial.{Denial, Denial as denial}, Sources.Sources, Verdict.{IsExceeded, excess_of, place_of}}
 use Rattle.verdict.specs.Rules.{Exceeds, Excess, binding, capability, excess_place, holding, pair, recorded, root}
 
--- by the same numbers
+-- a denial and its place have the same numbers
 pub numbered : (d : Denial) (place : Excess) → excess_of d ≡ Some place → place_of d ≡ excess_place place
 numbered (denial.Policy _) place is = absurd (none-some place is)
 numbered (denial.Sharp _) place is = absurd (none-some place is)
@@ -20,7 +20,7 @@ denial_at (binding thread context) = (denial.Binding thread context, refl)
 denial_at (holding reply thread) = (denial.Holding reply thread, refl)
 denial_at (recorded thread k l) = (denial.Recorded thread k l, refl)
 
--- a denial of a place is this one
+-- the denial of a place is this one
 pub denial_is : (d : Denial) (place : Excess) → excess_of d ≡ Some place → d ≡ (denial_at place).0
 unfolding denial_at
 denial_is (denial.Policy _) place is = absurd (none-some place is)
@@ -28,7 +28,7 @@ denial_is (denial.Sharp _) place is = absurd (none-some place is)
 denial_is (denial.Certificate _) place is = absurd (none-some place is)
 denial_is d place is = ap (λ e. option_map_or (λ p. (denial_at p).0) e d) is
 
--- the policy is exceeded as a denial says where it is at the place
+-- the policy is exceeded as a denial says exactly if it is at the denial's place
 module _ (s : Sources) (allowed : EdgeTest) (d : Denial) where
   pub exceeded_there : (place : Excess) → excess_of d ≡ Some place → IsExceeded s allowed d ↔ Exceeds s allowed place
   exceeded_there place is =

@@ -1,4 +1,4 @@
--- The first broken place of a set of rules: of the policy's own rules if one is broken, else at the slots, and else of a binding.
+-- The first broken place of a set of rules: first the policy's own rules, then the slots, then the bindings.
 use Rattle.std.proofs.{Common.{[], ℕ, ◌∷◌, ◌≡◌, ◌⊎◌, List, None, Option, Some, arith, get_or, inl, inr, lit<, refl, sym}}
 use Rattle.machine.specs.Layout.{Layout}
 use Rattle.policy.specs.{Broken.broken_place, Domain.EdgeTest}
@@ -11,7 +11,7 @@ use Rattle.verdict.proofs.RuleOrder.{before_by_rule, first_rules, never_both}
 use Rattle.verdict.proofs.RuleSets.{broken_either, excess_breaks, own_breaks, own_first}
 use mathlib.Core.Bool.{false≢true}
 
--- what has a property is of two sorts, and all of the one sort comes before what is of the other
+-- a property of two sorts: each place of the one sort comes before each of the other
 pub record InTwoSorts (One Other All : Denial → Type 0) : Type 0 where
   pub either : (d : Denial) → All d → One d ⊎ Other d
   pub one : (d : Denial) → One d → All d
@@ -19,7 +19,7 @@ pub record InTwoSorts (One Other All : Denial → Type 0) : Type 0 where
   pub before : (d e : Denial) → One d → Other e → ComesBefore (place_of d) (place_of e)
 
 module _ (One Other All : Denial → Type 0) (sorts : InTwoSorts One Other All) where
-  -- the first of the one sort is the first of all
+  -- the first place of the one sort is the first of all
   pub least_one : (d : Denial) → IsLeast place_of One d → IsLeast place_of All d
   least_one d least = record {
     has = sorts.one d least.has;
@@ -29,7 +29,7 @@ module _ (One Other All : Denial → Type 0) (sorts : InTwoSorts One Other All) 
     ];
   }
 
-  -- where there is none of it, what is first of the other is
+  -- the first place of the other sort is the first of all, if there is none of the one
   pub least_other : IsNone One → (found : Option Denial) → FindsLeast place_of Other found → FindsLeast place_of All found
   least_other none None nothing = λ e all. elim (sorts.either e all) [ inl one ↦ none e one | inr other ↦ nothing e other ]
   least_other none (Some d) least = record {
@@ -37,7 +37,7 @@ module _ (One Other All : Denial → Type 0) (sorts : InTwoSorts One Other All) 
     first = λ e all earlier. elim (sorts.either e all) [ inl one ↦ none e one | inr other ↦ least.first e other earlier ];
   }
 
--- the policy's own rules, and those of authority
+-- the policy's own rules come before those of authority
 
 pub own_and_excess :
     (set : Rules) (t : Layout) (allowed : EdgeTest)
@@ -49,7 +49,7 @@ own_and_excess set t allowed = record {
   before = own_first set t allowed;
 }
 
--- those of authority: at the slots, and of bindings
+-- the rules of authority: slots come before bindings
 
 module _ (t : Layout) (allowed : EdgeTest) where
   either_part : (d : Denial) → IsExceeded (of_table t) allowed d → BreaksSlots t allowed d ⊎ BreaksUnder t allowed (a4 ∷ []) d
@@ -85,7 +85,7 @@ module _ (t : Layout) (allowed : EdgeTest) where
         (let lt = slots.0 in let one = rule_is d slots.0 in let other = begins (place_of e) under.0 in omega (arith, lt, one, other));
   }
 
--- the first of all: where the policy's own rules hold, at the slots, and where these break none either, of a binding
+-- the first of all, if the policy keeps its own rules: at the slots, or else of a binding
 
 module _ (set : Rules) (t : Layout) (allowed : EdgeTest) (none : IsNone (BreaksOwn set t allowed)) where
   beyond : (found : Option Denial) → FindsLeast place_of (IsExceeded (of_table t) allowed) found → FindsLeast place_of (BreaksBy set t allowed) found

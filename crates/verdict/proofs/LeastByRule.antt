@@ -1,10 +1,9 @@
--- Denials are found place by place, and the first of the least rule is kept: it is the least of all that were looked at, where what is
--- found later, of no lesser rule, doesn't come first.
+-- The least denial of those found place by place: a later denial replaces the first one only if its rule is less.
 use Rattle.std.proofs.{Common.{◌<◌, ◌≤◌, ◌⊎◌, None, Option, Some, arith, inl, inr}, lemmas.{Bool.cases_order, Cmp.nat_list_cmp_total}}
 use Rattle.policy.specs.Places.{ComesBefore, FindsLeast}
 use Rattle.verdict.specs.{declared.denial.Denial.Denial, Verdict.{place_of, rule_number}}
 
--- what is broken at the places that were looked at, at the next one, and at all of these
+-- the denials at the places looked at before, at the next one, and at all of these
 pub record LooksFurther (Before Here After : Denial → Type 0) : Type 0 where
   pub split : (d : Denial) → After d → Before d ⊎ Here d
   pub more : (d : Denial) → Before d → After d
@@ -15,7 +14,7 @@ pub record LooksFurther (Before Here After : Denial → Type 0) : Type 0 where
   pub most : (d : Denial) → After d → rule_number (Some d) < rule_number None
 
 module _ (Before Here After : Denial → Type 0) (looks : LooksFurther Before Here After) where
-  -- a lesser rule comes first
+  -- a denial of a lesser rule becomes the least
   pub least_new :
       (first next : Option Denial) → FindsLeast place_of Here next → FindsLeast place_of Before first → rule_number next < rule_number first
       → FindsLeast place_of After next
@@ -35,7 +34,7 @@ module _ (Before Here After : Denial → Type 0) (looks : LooksFurther Before He
     ];
   }
 
-  -- and a greater one, or the same one, after
+  -- a denial of the same rule or a greater one doesn't
   pub least_kept :
       (first next : Option Denial) → FindsLeast place_of Here next → FindsLeast place_of Before first → rule_number first ≤ rule_number next
       → FindsLeast place_of After first

@@ -1,5 +1,4 @@
--- Slot by slot, the first denial of the least rule is the least place at all slots so far: slots rise, and each broken place of A1
--- to A3 stands at one that is filled.
+-- The least denial of all slots, found slot by slot: slots rise, and each broken place of A1 to A3 is at a filled one.
 use Rattle.std.specs.{declared.cmp.Ordering.TheVariants.Less, Cmp.tied_itself, List.find, Option.option_and_then, Ordering.is_eq}
 use Rattle.std.proofs.Common.{[], ℕ, ◌+◌, ◌<◌, ◌∙◌, ◌∷◌, ◌≡◌, ◌≤◌, ◌⊎◌, List, None, Option, Some, ap, arith, get_or, inl, inr, length, map}
 use Rattle.std.proofs.{Common.{option_map, refl, slice_get, subst, sym}, lemmas.{Bool.cases_order, List.get_or-map}}
@@ -15,7 +14,7 @@ use Rattle.verdict.{specs.Verdict.{place_of, rule_number}, proofs.{LeastByRule.L
 use Rattle.verdict.proofs.SlotPlaces.{BreaksAt, IsAt, slot_least}
 use Rattle.verdict.specs.declared.denial.Denial.TheVariants as denial
 
--- a denial of a slot has the number of its rule first
+-- the place of a denial at a slot begins with the number of its rule
 pub rule_is : (d : Denial) → rule_number (Some d) < a4 → get_or (place_of d) 0 0 ≡ rule_number (Some d)
 rule_is (denial.Capability _ _ _) slots = refl
 rule_is (denial.Root _ _) slots = refl
@@ -33,7 +32,7 @@ by_rule one other of_one of_other lt =
     before_by_rule (place_of one) (place_of other)
     (let one_is = rule_is one of_one in let other_is = rule_is other of_other in omega (arith, lt, one_is, other_is))
 
--- of one rule the place of an earlier slot comes first
+-- the place of an earlier slot comes before a later one of the same rule
 before_by_slot :
     (rule : ℕ) (one other : SlotRef) (xs ys : List ℕ) → slot_cmp one other ≡ Less
     → ComesBefore (rule ∷ one.holder.0 ∷ one.index ∷ xs) (rule ∷ other.holder.0 ∷ other.index ∷ ys)
@@ -61,7 +60,7 @@ module _ (t : Layout) (allowed : EdgeTest) where
       (λ i other lt at. ap is_eq
       (pair_at (λ (one two : Filled). slot_cmp one.slot two.slot ≡ Less) t.caps i n other filled lawful.draft.caps.rise lt at here)))
 
-  -- where the edge that is missing at each slot is told, what is denied by one of them is the least at its slot
+  -- the denial of the missing edge at each slot is the least at this slot
   pub least_at :
       IsLawful t → (missing : List (Option Edge)) → missing ≡ map (missing_edge t allowed) t.caps
       → (n : ℕ) (filled : Filled) → slice_get t.caps n ≡ Some filled → (edge : Option Edge) → edge ≡ get_or missing n edge
@@ -74,7 +73,7 @@ module _ (t : Layout) (allowed : EdgeTest) where
       ∙ ap (λ held. find (is_missing allowed) (edges_with t filled.slot held)) (sym (held_here lawful n filled here))))
       (slot_least t allowed filled.slot)
 
-  -- broken at one of the first filled slots
+  -- a denial at one of the first filled slots
   pub record BrokenAmong (n : ℕ) (d : Denial) : Type 0 where
     pub at : ℕ
     pub within : at < n
@@ -83,7 +82,7 @@ module _ (t : Layout) (allowed : EdgeTest) where
     pub broken : BreaksAt t allowed filled.slot d
 
   module _ (lawful : IsLawful t) (n : ℕ) (filled : Filled) (here : slice_get t.caps n ≡ Some filled) where
-    -- at the slots before, or at this one
+    -- a denial is at a slot before, or at this one
     at_this : (d : Denial) → BrokenAmong (n + 1) d → BrokenAmong n d ⊎ BreaksAt t allowed filled.slot d
     at_this d h = let within = h.within in elim (cases_order h.at n) [
       | inl same ↦ inr (subst (λ (f : Filled). BreaksAt t allowed f.slot d) (same_Some h.filled filled (sym h.here ∙ ap (slice_get t.caps) same ∙ here)) h.broken)

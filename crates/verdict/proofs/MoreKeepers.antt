@@ -1,4 +1,4 @@
--- Where more labels keep, the sharp rules ask for no less, and are broken where they were; where the same do, at the same places.
+-- Sharp rules for two sets of keepers: with more keepers they ask for no less, and with the same they are broken at the same places.
 use Rattle.std.proofs.Common.{ℕ, None, Option, Some}
 use Rattle.policy.specs.{Domain.EdgeTest, Places.FindsLeast, Sharp.{Keepers, MayPut}}
 use Rattle.sharp.specs.{declared.broken.SharpBroken.{SharpBroken, SharpBroken as broken}, Broken.{IsSharplyBrokenAt, SharplyAsks}}

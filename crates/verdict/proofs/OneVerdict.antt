@@ -1,4 +1,4 @@
--- A verdict by a set of rules is the only one: two places that are first are one, since no two denials by the set have the same place.
+-- That there is one verdict by a set of rules: no two denials by the set have the same place, so only one is first.
 use Rattle.std.specs.{declared.cmp.Ordering.{Ordering, TheVariants.{Equal, Greater, Less}}, Cmp.Lexicographic.slice_cmp}
 use Rattle.std.{specs.{FinMap.{nat_cmp-IsAntisymmetric, slice_cmp-IsAntisymmetric}, Ordering.{nat_cmp, ordering_reverse}}, proofs.Common.ℕ}
 use Rattle.std.proofs.Common.{◌∙◌, ◌≡◌, Err, List, Ok, Result, Some, ap, arith, get_or, inl, inr, refl, sym}
@@ -13,7 +13,7 @@ use Rattle.verdict.specs.declared.{denial.Denial.{Denial, Denial as denial}, rul
 use Rattle.verdict.specs.{Rules.{Excess, binding, capability, excess_place, holding, pair, recorded, root}, Verdict.{excess_of, place_of}}
 use Rattle.verdict.proofs.{DenialPlaces.{denial_at, denial_is, exceeded_at, numbered}, RuleSets.{broken_either, own_below}}
 
--- of two of which neither comes first, where no two that have the property have one place, each is the other
+-- two least elements are equal if no two elements of the property have the same place
 pub one_least :
     {X : Type 0} (place : X → List ℕ) (P : X → Type 0) → ((x y : X) → P x → P y → place x ≡ place y → x ≡ y) → (x y : X)
     → IsLeast place P x → IsLeast place P y → x ≡ y
@@ -109,7 +109,7 @@ same_own rules.Sharp t allowed (denial.Sharp b) (denial.Sharp c) one other same 
 same_own rules.Sharp t allowed (denial.Sharp b) e one other same = absurd other
 same_own rules.Sharp t allowed d e one other same = absurd one
 
--- no two denials of what is broken by one set of rules have the same place
+-- no two denials by one set of rules have the same place
 pub same_place :
     (set : Rules) (t : Layout) (allowed : EdgeTest) (d e : Denial) → BreaksBy set t allowed d → BreaksBy set t allowed e
     → place_of d ≡ place_of e → d ≡ e

@@ -1,4 +1,4 @@
--- Where only labels that may act have calls that aren't refused, all others are refused than those of the set of these labels.
+-- That all calls are refused but those of a set of labels, if the set holds exactly the labels that may act.
 use Rattle.std.proofs.Common.{ℕ, ◌↔◌, ◌≡◌, ◌⊎◌, Some, inl, inr, true}
 use Rattle.base.specs.{declared.labels.Labels.Labels, Labels.is_in}
 use Rattle.machine.specs.{Authority.label_of, Layout.Layout, Outcomes.IsRefused}

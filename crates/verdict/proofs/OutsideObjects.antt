@@ -1,4 +1,4 @@
--- What lies outside first in a machine is by the least rule of those that are broken at any object, at the first of its objects.
+-- The first place outside a policy, found object by object: it has the least rule that is broken, at the first object that breaks it.
 use Rattle.std.proofs.Common.{[], ℕ, ◌+◌, ◌<◌, ◌∙◌, ◌∷◌, ◌≡◌, ◌≤◌, ◌⊎◌, IsSome, List, None, Option, Some, ap, arith, get_or, inl, inr}
 use Rattle.std.proofs.{Common.{is_some, refl, subst, sym}, lemmas.{Bool.cases_order, Option.none-some}}
 use Rattle.base.specs.{declared.ids.ObjId.ObjId, Kinds.kind_number}
@@ -13,7 +13,7 @@ use Rattle.verdict.specs.declared.denial.Denial.TheVariants as denial
 abbrev pub object_in : Denial → ℕ
 object_in d = get_or (place_of d) 1 0
 
--- of no lesser rule, what is at a later object doesn't come first
+-- the place of a later object doesn't come before that of an earlier one, unless its rule is less
 later_object :
     (rule other at later : ℕ) (xs ys : List ℕ) → rule ≤ other → at < later → ComesBefore (other ∷ later ∷ ys) (rule ∷ at ∷ xs) → ⊥
 later_object rule other at later xs ys le lt less = elim (decided other rule _ less) [
@@ -57,8 +57,6 @@ module _ (t : Layout) (allowed : EdgeTest) (m : Machine) where
       later_object (rule_number (Some d)) (rule_number (Some e)) (object_in d) (object_in e) one.rest other.rest le lt
       (subst (ComesBefore (rule_number (Some e) ∷ object_in e ∷ other.rest)) one.is (subst (λ place. ComesBefore place (place_of d)) other.is before))
 
-  -- an object without a label has no authority
-
   labelled :
       (place : Excess) → Exceeds (of_machine t m) allowed place
       → (l : ℕ) × (label_of t m (record { 0 = get_or (excess_place place) 1 0 }) ≡ Some l)
@@ -76,7 +74,7 @@ module _ (t : Layout) (allowed : EdgeTest) (m : Machine) where
   unfolding label_of
   absent_label id absent = rw absent refl
 
-  -- at the objects below n
+  -- the denials at the objects below n
   abbrev pub LiesBelow : ℕ → Denial → Type 0
   LiesBelow n d = LiesOutside t allowed m d × (object_in d < n)
 

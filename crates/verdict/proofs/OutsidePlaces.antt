@@ -1,4 +1,4 @@
--- Where a machine's authority lies outside by each rule, at an object and under it: in its slots, kind by kind.
+-- The places of one object where a machine's authority lies outside the policy, by each of the rules A1 to A6.
 use Rattle.std.{specs.Prelude.◌↔◌, proofs.Common.{[], ℕ, ◌++◌, ◌<◌, ◌∙◌, ◌∷◌, ◌≡◌, ◌≤◌, ◌⊎◌, IsTrue, List, None, Option, Some, ap, arith}}
 use Rattle.std.proofs.{Common.{false, inl, inr, refl, subst, sym, true}, lemmas.{Bool.ltb-true, Option.{none-some, same_Some}}}
 use Rattle.base.specs.{declared.{ids.{ObjId.ObjId, SlotRef.SlotRef}, kind.Kind.{Kind, Kind as authority}}, Kinds.kind_number}
@@ -35,7 +35,7 @@ of_kinds place P beginning within = record {
       let one = number_stands i a at_i in let other = number_stands j b at_j in inl (omega (arith, lt, one, other));
 }
 
--- a slot that is there is one of those of its object
+-- a slot of an object has an index below the number of its slots
 pub slot_below :
     (m : Machine) (slot : SlotRef) (object : Object) → object_of m slot.holder ≡ Some object → IsTrue (has_slot m slot)
     → slot.index < slot_count object
@@ -45,7 +45,7 @@ module _ (t : Layout) (allowed : EdgeTest) (m : Machine) where
   abbrev Out : Excess → Type 0
   Out = Exceeds (of_machine t m) allowed
 
-  -- what lies outside by a rule at an object
+  -- the places of an object that lie outside, rule by rule
 
   abbrev slot_at : ObjId → ℕ → SlotRef
   slot_at id index = record { holder = id; index = index }
@@ -113,11 +113,11 @@ module _ (t : Layout) (allowed : EdgeTest) (m : Machine) where
   by_a6 id rest Q f (denial.Sharp b) h = absurd h.1
   by_a6 id rest Q f _ h = absurd (omega (arith, h.0.0))
 
-  -- the policy lacks the edge of a kind from a label to that of an object
+  -- the policy lacks an edge from a label to the label of an object
   abbrev pub Lacks : ℕ → Kind → ObjId → ℕ → Type 0
   Lacks from k end l = (label_of t m end ≡ Some l) × (allowed from k l ≡ false)
 
-  -- what lies outside is of one form, and does exactly where that edge is lacking
+  -- the denials of one form, which are those of an edge that the policy lacks
   pub record IsBy (U : Denial → Type 0) (from : ℕ) (k : Kind) (end : ObjId) (make : ℕ → Denial) : Type 0 where
     pub of : (d : Denial) → U d → (l : ℕ) × (d ≡ make l) × Lacks from k end l
     pub has : (l : ℕ) → Lacks from k end l → U (make l)
@@ -228,7 +228,7 @@ module _ (t : Layout) (allowed : EdgeTest) (m : Machine) where
         );
       }
 
-    -- A3, where the object is the child's holder
+    -- A3, by the holder of the child
 
     pub child_slots :
         ((slot parent : SlotRef) → parent_of m slot ≡ Some parent → IsTrue (has_slot m slot)) → (object : Object)
@@ -249,11 +249,11 @@ module _ (t : Layout) (allowed : EdgeTest) (m : Machine) where
       placed = λ context. refl;
     }
 
-    -- the context is the one that is looked at, and the policy lacks the edge to its label
+    -- the policy lacks the edge to the label of this context
     abbrev pub IsLacked : Option ObjId → ObjId → Type 0
     IsLacked looked context = (looked ≡ Some context) × ((l : ℕ) × Lacks from authority.Runs context l)
 
-    -- the contexts that the thread is bound to, and that it lent, where each is lacking, and the lesser of them
+    -- the lesser one of a thread's context and the context that it lent, of those whose edge is lacking
     module _
         (bound lent first : Option ObjId)
         (tells_bound : (context : ObjId) → (bound ≡ Some context) ↔ IsLacked (own_context_in (object_of m id)) context)

@@ -1,4 +1,4 @@
--- A machine is confined exactly where no authority lies outside at any place.
+-- That a machine is confined exactly if no authority lies outside the policy at any place.
 use Rattle.std.proofs.Common.{ℕ, ◌∙◌, ◌≡◌, ◌⊎◌, Bool, Option, Some, ap, false, inl, inr, refl, sym, true}
 use Rattle.base.specs.declared.{ids.ObjId.ObjId, kind.Kind.{Kind, Kind as authority}}
 use Rattle.machine.specs.declared.{object.Object.{Object, Object as o}, thread.{RunState.{RunState, RunState as state}, Tcb.Tcb}}
@@ -44,7 +44,7 @@ module _ (t : Layout) (allowed : EdgeTest) (m : Machine) where
     target = refl;
   }
 
-  -- all authority is given by what lies at some place
+  -- all authority is given by a place
   is_given : (from : ℕ) (k : Kind) (to : ℕ) → HasAuthority t m from k to → IsGiven from k to
   is_given from k to (by_cap slot held filled node given source target) =
       record { place = capability slot k to; there = (held, filled, node, target, given); source = source; kind = refl; target = refl }
@@ -72,7 +72,7 @@ module _ (t : Layout) (allowed : EdgeTest) (m : Machine) where
         missing = ap (λ k. allowed from k to) at.kind ∙ missing;
       })))
 
-  -- a thread's recorded links are no binding
+  -- a thread's recorded links are no bindings
   recorded_link :
       (tcb : Tcb) (run : RunState) (k : Kind) (end : ObjId) → tcb.state ≡ run → state_links run k end ≡ true
       → links (o.Tcb tcb) k end ≡ true
@@ -84,7 +84,7 @@ module _ (t : Layout) (allowed : EdgeTest) (m : Machine) where
   recorded_link tcb state.Inactive authority.Runs end is e = cc
   recorded_link tcb run k end is e = ap (λ r. state_links r k end) is ∙ e
 
-  -- what an object keeps, holds and runs on are its links
+  -- the links of an object: what it keeps, holds and runs on
 
   runs_link :
       (id end : ObjId) (object : Option Object) → object_of m id ≡ object
@@ -107,7 +107,7 @@ module _ (t : Layout) (allowed : EdgeTest) (m : Machine) where
   keeps_link id end k (Some (o.Tcb tcb)) at is = (o.Tcb tcb, at, recorded_link tcb tcb.state k end refl is)
   keeps_link id end k _ at is = cc
 
-  -- what lies at a place gives its edge
+  -- each place gives its edge
   gives_edge :
       (place : Excess) (from to : ℕ) → IsThere held_by place → (ends_at held_by place).from ≡ Some from
       → (ends_at held_by place).to ≡ Some to → HasAuthority t m from (ends_at held_by place).kind to

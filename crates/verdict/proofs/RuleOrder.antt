@@ -1,4 +1,4 @@
--- The rules of closed policies, and those of sharply closed ones, come before those of the authority that a table or a machine holds.
+-- That the rules of closed policies, and those of sharply closed ones, come before the rules of authority.
 use Rattle.std.{specs.{declared.cmp.Ordering.TheVariants.{Greater, Less}, Ordering.ordering_reverse}, proofs.Common.{[], ℕ, ◌<◌, ◌∙◌, ◌∷◌}}
 use Rattle.std.proofs.{Common.{◌≡◌, ◌≤◌, List, ap, arith, get_or, lit<, lit≤, refl, sym}, lemmas.Cmp.nat_list_cmp_total}
 use Rattle.policy.specs.{declared.broken.Broken.{Broken, Broken as broken}, Broken.broken_place, Places.ComesBefore}

@@ -1,4 +1,4 @@
--- A rule of a set is one of the policy's own, or one of authority; and those of the policy's own come first.
+-- Sets of rules: each rule of a set is one of the policy's own or one of authority, and the policy's own come first.
 use Rattle.std.proofs.Common.{◌<◌, ◌≤◌, ◌⊎◌, arith, get_or, inl, inr}
 use Rattle.machine.specs.Layout.{Layout}
 use Rattle.policy.{specs.{Closed.IsClosed, Domain.EdgeTest, Places.{ComesBefore, IsNone}}, proofs.{Sharpness.closed_sharply, Unbroken.closed_if}}
@@ -50,7 +50,7 @@ pub own_first :
     → ComesBefore (place_of d) (place_of e)
 own_first set t allowed d e own exceeded = before_by_rule (place_of d) (place_of e) (own_below set t allowed d e own exceeded)
 
--- what is accepted by a set of rules is exceeded nowhere
+-- a policy accepted by a set of rules is exceeded nowhere
 pub none_exceeded :
     (set : Rules) (t : Layout) (allowed : EdgeTest) → IsAcceptedBy set t allowed → IsNone (IsExceeded (of_table t) allowed)
 none_exceeded set t allowed accepted d exceeded = accepted d (excess_breaks set t allowed d exceeded)
@@ -61,7 +61,7 @@ accepted_closed t allowed accepted = closed_if allowed (λ b broken. accepted (d
 pub accepted_sharp : (t : Layout) (allowed : EdgeTest) → IsAcceptedBy rules.Sharp t allowed → IsSharp t allowed
 accepted_sharp t allowed accepted = sharply_closed_if allowed (MayKeep t allowed) (λ b broken. accepted (denial.Sharp b) broken)
 
--- it is accepted by the sharp rules where it is sharply closed besides
+-- a policy exceeded nowhere is accepted by the sharp rules if it is sharply closed
 pub sharply_accepted :
     (t : Layout) (allowed : EdgeTest) → IsSharp t allowed → IsNone (IsExceeded (of_table t) allowed) → IsAcceptedBy rules.Sharp t allowed
 sharply_accepted t allowed sharp none (denial.Sharp b) broken = unbroken allowed (MayKeep t allowed) sharp b broken

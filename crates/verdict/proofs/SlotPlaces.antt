@@ -1,4 +1,4 @@
--- What is denied at a slot is the first that is broken there: a capability's kinds rise, and the pair whose child the slot is comes after.
+-- The first denial at a slot: that of the least missing kind of its capability, or else of the pair whose child is the slot.
 use Rattle.std.{specs.{List.{filter, find, flat_map}, Option.{option_and_then, option_or}}, proofs.Common.{[], ℕ, ◌&&◌, ◌++◌, ◌∙◌, ◌∷◌}}
 use Rattle.std.proofs.Common.{◌≡◌, ◌≤◌, Bool, List, MatchOption, None, Option, Some, ap, arith, cond, false, inl, inr, lit<, not}
 use Rattle.std.proofs.{Common.{option_map, refl, subst, sym, true}, lemmas.Bool.{and_from, and_parts, cases_order}}
@@ -26,7 +26,7 @@ IsAt slot _ = ⊥
 abbrev pub BreaksAt : Layout → EdgeTest → SlotRef → Denial → Type 0
 BreaksAt t allowed slot d = IsAt slot d × Breaks t allowed d
 
--- the first kind that passes a test is the least
+-- the first kind that passes a test is the least that does
 
 kinds_first :
     (test : Kind → Bool) (k : Kind) → find test all_kinds ≡ Some k
@@ -44,7 +44,7 @@ kinds_first test k found = (at.passes, least) where
         | inr (inr above) ↦ omega (arith, here, above)
       ]
 
--- a search through the edges of the kinds that are given is one through all kinds
+-- a search through the edges of given kinds is a search through all kinds
 find_given :
     (given : Kind → Bool) (p : Edge → Bool) (edge : Kind → Edge) (kinds : List Kind)
     → find p (flat_map (λ k. edge k ∷ []) (filter given kinds)) ≡ option_map edge (find (λ k. given k && p (edge k)) kinds)
@@ -68,7 +68,7 @@ no_edges_to None kinds = no_edges None kinds
 no_edges_to (Some from) [] = refl
 no_edges_to (Some from) (k ∷ kinds) = no_edges_to (Some from) kinds
 
--- of two places that differ in a number alone that of the greater isn't first
+-- the greater of two numbers at the same position gives the later place
 not_first : (beginning end : List ℕ) (n m : ℕ) → n ≤ m → ComesBefore (beginning ++ m ∷ end) (beginning ++ n ∷ end) → ⊥
 not_first [] end n m le less = elim (decided m n _ less) [ inl lt ↦ omega arith | inr same ↦ not_before_itself end same.1 ]
 not_first (b ∷ bs) end n m le less = elim (decided b b _ less) [ inl lt ↦ omega arith | inr same ↦ not_first bs end n m le same.1 ]
@@ -87,7 +87,7 @@ module _ (t : Layout) (allowed : EdgeTest) (slot : SlotRef) where
   abbrev Out : Excess → Type 0
   Out = Exceeds (of_table t) allowed
 
-  -- what is broken at the slot, by its rule
+  -- each denial at the slot, by its rule
   each :
       (Q : Denial → Type 0) → ((k : Kind) (l : ℕ) → Out (Excess.capability slot k l) → Q (denial.Capability slot k l))
       → ((l : ℕ) → Out (Excess.root slot l) → Q (denial.Root slot l)) → ((p : SlotRef) → Out (Excess.pair slot p) → Q (denial.Pair slot p))
@@ -98,7 +98,7 @@ module _ (t : Layout) (allowed : EdgeTest) (slot : SlotRef) where
   each Q cap root pair (denial.Pair child p) h = subst (λ (s : SlotRef). Out (Excess.pair s p) → Q (denial.Pair s p)) (sym h.0) (pair p) h.1
   each Q cap root pair _ h = absurd h.0
 
-  -- only the pair may be broken
+  -- only the pair can be broken
   abbrev PairOnly : Type 0
   PairOnly = (d : Denial) → BreaksAt t allowed slot d → a3 ≤ rule_number (Some d)
 
@@ -121,7 +121,7 @@ module _ (t : Layout) (allowed : EdgeTest) (slot : SlotRef) where
     target_is : (x : Cap) → initial_cap t slot ≡ Some x → declared_label t held.object ≡ declared_label t x.object
     target_is x is = ap (λ (c : Cap). declared_label t c.object) (same_Some held x (sym filled ∙ is))
 
-    -- without labels nothing is broken
+    -- nothing is broken without a label
     no_source : declared_label t slot.holder ≡ None → PairOnly
     no_source none = pair_only (λ k l x. none-some x.from (sym none ∙ x.source)) (λ l x. none-some x.from (sym none ∙ x.source))
 
@@ -147,7 +147,7 @@ module _ (t : Layout) (allowed : EdgeTest) (slot : SlotRef) where
                 (ap not (missing_is k x.from x.to x.source (is ∙ x.target) x.missing)),
           )
 
-      -- in a CNode, the least kind that is given and missing
+      -- a CNode's slot: the least kind that is given and missing
       in_node :
           kind_at t slot.holder ≡ Some object.CNode
           → CapFound (find (is_missing allowed) (flat_map (edge_between (Some from) (Some to)) (filter (gives held.detail) all_kinds)))
@@ -192,7 +192,7 @@ module _ (t : Layout) (allowed : EdgeTest) (slot : SlotRef) where
                 },
               )
 
-      -- in a thread's root, space
+      -- a thread's root slot: the kind space
       in_thread :
           kind_at t slot.holder ≡ Some object.Tcb → CapFound (find (is_missing allowed) (flat_map (edge_between (Some from) (Some to)) (Space ∷ [])))
       in_thread thread = by (allowed from Space to) refl where
@@ -241,7 +241,7 @@ module _ (t : Layout) (allowed : EdgeTest) (slot : SlotRef) where
         by kind is (Some from) source (Some to) target =
             pair_only (λ k l x. let same = sym is ∙ x.there.2 in cc) (λ l x. let same = sym is ∙ x.there.2 in cc)
 
-  -- only a pair may be broken, and isn't
+  -- nothing is broken if only the pair can be, and isn't
   nothing : PairOnly → ((p : SlotRef) → Out (Excess.pair slot p) → ⊥) → IsNone (BreaksAt t allowed slot)
   nothing only no_pair d h =
       each (λ e. a3 ≤ rule_number (Some e) → ⊥) (λ k l x le. omega (arith, le)) (λ l x le. omega (arith, le)) (λ p x le. no_pair p x) d h (only d h)

@@ -1,11 +1,10 @@
--- That in every run only the labels of a set have steps that aren't refused (confine's own).
+-- That in every run all steps are refused but those of threads whose labels are in a set (confine's own).
 use Rattle.std.specs.Prelude.{ℕ, ◌≡◌, ◌⊎◌, Some, true}
 use Rattle.base.specs.{declared.labels.Labels.Labels, Labels.is_in}
 use Rattle.machine.specs.{declared.call.{Event.Event, Outcome.Outcome}, Authority.label_of, Layout.Layout, Machine.Machine}
 use Rattle.machine.specs.{Outcomes.IsRefused, Step.Step}
 use Rattle.integrity.specs.Safe.{IsReached}
 
--- in every run each step is refused, or is of a thread whose label is in the set
 abbrev pub RefusesAllBut : Layout → Labels → Type 0
 RefusesAllBut t labels =
     (m next : Machine) (event : Event) (outcome : Outcome) → IsReached t m → Step m event outcome next

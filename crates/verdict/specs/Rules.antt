@@ -1,6 +1,5 @@
--- The rules by which a policy allows what a table or a machine holds, in the order in which they are tested, and the places where
--- they are broken (compare 'seL4 Enforces Integrity', section 3: well-formed policies, and states whose authority lies within
--- them; the rules and their order are confine's own).
+-- The rules of authority, A1 to A6, in the order in which they are tested: what a table or a machine holds must be allowed by the policy
+-- (compare 'seL4 Enforces Integrity', section 3: states whose authority lies within a policy; the rules and their order are confine's own).
 use Rattle.std.specs.Prelude.{[], ℕ, ◌∷◌, ◌≡◌, ◌⊎◌, List, None, Option, Some, false, true}
 use Rattle.base.specs.{declared.{edge.Edge.Edge, ids.{ObjId.ObjId, SlotRef.SlotRef}, kind.Kind.Kind}, Kinds.kind_number}
 use Rattle.base.specs.declared.kind.Kind.TheVariants as authority
@@ -9,7 +8,7 @@ use Rattle.machine.specs.declared.object.ObjectKind.TheVariants as object
 use Rattle.policy.specs.{Broken.edge_of, Domain.EdgeTest}
 use Rattle.verdict.specs.Sources.{Sources}
 
--- the numbers of the rules: P1 to P8, or S1 to S8, which are the policy's own, are 1 to 8; A1 to A6 follow, and then C1
+-- the numbers of the rules: 1 to 8 for the policy's own, P1 to P8 or S1 to S8; then A1 to A6, and then C1
 
 abbrev pub a1 : ℕ
 a1 = 9
@@ -32,46 +31,46 @@ a6 = 14
 abbrev pub c1 : ℕ
 c1 = 15
 
--- a place where authority may lie outside a policy, by the rules A1 to A6
+-- a place where authority may lie outside a policy, by A1 to A6
 pub data Excess : Type 0 where
-  -- a capability in a slot of a CNode, a kind that it gives, and its object's label
+  -- A1: a capability in a slot of a CNode, a kind that it gives, and its object's label
   capability : SlotRef → Kind → ℕ → Excess
-  -- a thread's root slot, and the label of its capability's object
+  -- A2: a thread's root slot, and the label of its capability's object
   root : SlotRef → ℕ → Excess
-  -- a child in the derivation tree, and its parent
+  -- A3: a child in the derivation tree, and its parent
   pair : SlotRef → SlotRef → Excess
-  -- a thread, and a context that it is bound to or lent
+  -- A4: a thread, and a context that it is bound to or lent
   binding : ObjId → ObjId → Excess
-  -- a reply, and the thread that it holds
+  -- A5: a reply, and the thread that it holds
   holding : ObjId → ObjId → Excess
-  -- a blocked thread, a kind that it keeps, and the label of what it keeps it over
+  -- A6: a blocked thread, a kind that it keeps, and the label of the object that it keeps it over
   recorded : ObjId → Kind → ℕ → Excess
 
--- what lies at a place, and gives an edge of authority
+-- a place where something lies that gives an edge of authority
 abbrev pub IsThere : Sources → Excess → Type 0
--- A1: a capability in a slot of a CNode gives each of its kinds
+-- a capability in a slot of a CNode gives each of its kinds
 IsThere s (capability slot kind label) =
     (held : Cap) × (s.cap slot ≡ Some held) × (s.kind slot.holder ≡ Some object.CNode) × (s.label held.object ≡ Some label)
     × (gives held.detail kind ≡ true)
--- A2: a capability in a thread's root slot gives space alone
+-- a capability in a thread's root slot gives only space
 IsThere s (root slot label) =
     (held : Cap) × (s.cap slot ≡ Some held) × (s.kind slot.holder ≡ Some object.Tcb) × (s.label held.object ≡ Some label)
--- A3: a pair of the derivation tree gives derive
+-- a pair of the derivation tree gives derive
 IsThere s (pair child parent) = s.parent child ≡ Some parent
--- A4: a thread that is bound to a context, or lent it, has runs
+-- a thread that is bound to a context, or lent it, has runs
 IsThere s (binding thread context) = (s.context thread ≡ Some context) ⊎ (s.lent thread ≡ Some context)
--- A5: a reply that holds a thread has holds
+-- a reply that holds a thread has holds
 IsThere s (holding reply thread) = s.holds reply thread ≡ true
--- A6: a blocked thread has each kind that it keeps
+-- a blocked thread has each kind that it keeps
 IsThere s (recorded thread kind label) = (end : ObjId) × (s.keeps thread kind end ≡ true) × (s.label end ≡ Some label)
 
--- an edge of authority, as far as its objects have labels
+-- an edge of authority whose objects may lack labels
 pub record Ends : Type 0 where
   pub from : Option ℕ
   pub kind : Kind
   pub to : Option ℕ
 
--- the edge that what lies at a place gives
+-- the edge that a place gives
 abbrev pub ends_at : Sources → Excess → Ends
 ends_at s (capability slot kind label) = record { from = s.label slot.holder; kind = kind; to = Some label }
 ends_at s (root slot label) = record { from = s.label slot.holder; kind = authority.Space; to = Some label }
@@ -80,7 +79,7 @@ ends_at s (binding thread context) = record { from = s.label thread; kind = auth
 ends_at s (holding reply thread) = record { from = s.label reply; kind = authority.Holds; to = s.label thread }
 ends_at s (recorded thread kind label) = record { from = s.label thread; kind = kind; to = Some label }
 
--- authority lies outside the policy at a place: what lies there gives an edge that the policy doesn't have
+-- authority lies outside the policy at a place: the policy lacks the edge that the place gives
 pub record Exceeds (s : Sources) (allowed : EdgeTest) (place : Excess) : Type 0 where
   pub from : ℕ
   pub to : ℕ
@@ -89,12 +88,12 @@ pub record Exceeds (s : Sources) (allowed : EdgeTest) (place : Excess) : Type 0 
   pub target : (ends_at s place).to ≡ Some to
   pub missing : allowed from (ends_at s place).kind to ≡ false
 
--- the edge of a kind between two labels, where there are both
+-- the edge of a kind between two labels, if there are both
 abbrev pub joined : Option ℕ → Kind → Option ℕ → Option Edge
 joined (Some from) kind (Some to) = Some (edge_of from kind to)
 joined _ kind _ = None
 
--- the edge that a policy has to have for what is at a place
+-- the edge that a policy must have for a place
 abbrev pub edge_needed_at : Sources → Excess → Option Edge
 edge_needed_at s place = joined (ends_at s place).from (ends_at s place).kind (ends_at s place).to
 

@@ -1,5 +1,5 @@
--- What authority is read off: the capabilities in slots, the derivation tree and the links of a table or of a machine, with the
--- kinds and labels of objects (compare 'seL4 Enforces Integrity', section 3, the authority of a state).
+-- The sources of authority in a table or a machine: capabilities in slots, the derivation tree and links, with kinds and labels of objects
+-- (compare 'seL4 Enforces Integrity', section 3, the authority of a state).
 use Rattle.std.specs.Prelude.{ℕ, Bool, None, Option, Some, false}
 use Rattle.base.specs.declared.{ids.{ObjId.ObjId, SlotRef.SlotRef}, kind.Kind.Kind}
 use Rattle.machine.specs.{declared.{cap.Cap.Cap, object.{Object.{Object, Object as o}, ObjectKind.ObjectKind}}, Authority.holds_thread}
@@ -12,16 +12,16 @@ pub record Sources : Type 0 where
   pub parent : SlotRef → Option SlotRef
   pub kind : ObjId → Option ObjectKind
   pub label : ObjId → Option ℕ
-  -- what a thread is bound to
+  -- the context that a thread is bound to
   pub context : ObjId → Option ObjId
-  -- what a thread lent
+  -- the context that a thread lent
   pub lent : ObjId → Option ObjId
   -- whether a reply holds a thread
   pub holds : ObjId → ObjId → Bool
   -- whether a blocked thread keeps a kind of authority over an object
   pub keeps : ObjId → Kind → ObjId → Bool
 
--- a table declares no thread that lent its context, no reply that holds a thread, and no blocked thread
+-- a table declares no lent context, no reply that holds a thread, and no blocked thread
 abbrev pub of_table : Layout → Sources
 of_table t = record {
   cap = initial_cap t;

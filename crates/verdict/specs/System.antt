@@ -1,4 +1,4 @@
--- A system is a capability table and a policy; the verdict on it, and what an accepted one keeps (confine's own).
+-- Systems, which are a capability table and a policy; the verdict on one, and what holds of an accepted one (confine's own).
 use Rattle.std.specs.Prelude.{◌≡◌, Err, List, Ok, Result}
 use Rattle.base.specs.declared.edge.Edge.{Edge}
 use Rattle.machine.specs.Layout.{Layout}
@@ -8,7 +8,7 @@ use Rattle.verdict.specs.{declared.denial.Denial.Denial, Verdict.{IsAccepted, Is
 
 pub record System : Type 0 where
   pub table : Layout
-  -- its edges
+  -- the edges of the policy
   pub policy : List Edge
 
 -- no rule is broken, and every run is safe
@@ -16,7 +16,7 @@ pub record IsAcceptedSystem (system : System) : Type 0 where
   pub verdict : IsAccepted system.table (allows system.policy)
   pub safe : IsSafe system.table (allows system.policy)
 
--- accepted, if nothing is broken, as this table with this policy; else denied with the least place where a rule is broken
+-- accepted with this table and policy if no rule is broken; else denied with the least place where one is
 abbrev pub IsVerdict : Layout → List Edge → Result System Denial → Type 0
 IsVerdict t edges (Ok accepted) = (accepted ≡ record { table = t; policy = edges }) × IsAccepted t (allows edges)
 IsVerdict t edges (Err denial) = IsLeastBroken t (allows edges) denial

@@ -1,5 +1,5 @@
--- The verdict on a capability table and a policy: which rules they break and where, which of these places comes first, and what
--- is accepted; and the first place where a machine's authority lies outside a policy (confine's own).
+-- The verdict on a capability table and a policy: the rules that they break, and which broken place comes first; and the first place where
+-- a machine's authority lies outside a policy (confine's own).
 use Rattle.std.specs.{Option.{option_and_then, option_map_or}, Prelude.{[], ℕ, ◌∷◌, List, MatchOption, None, Option, Some, codes}}
 use Rattle.base.specs.declared.edge.Edge.{Edge}
 use Rattle.machine.specs.{Layout.Layout, Machine.Machine}
@@ -9,7 +9,7 @@ use Rattle.verdict.specs.{declared.denial.Denial.Denial, Rules.{Exceeds, Excess,
 use Rattle.verdict.specs.declared.denial.Denial.TheVariants as denial
 use Rattle.verdict.specs.{Rules.{edge_needed_at, excess_place, holding, pair, recorded, root}, Sources.{Sources, of_machine, of_table}}
 
--- where a denial by A1 to A6 says that authority lies outside
+-- the place where a denial by A1 to A6 says that authority lies outside
 abbrev pub excess_of : Denial → Option Excess
 excess_of (denial.Policy broken) = None
 excess_of (denial.Sharp broken) = None
@@ -25,8 +25,7 @@ excess_of (denial.Certificate line) = None
 abbrev pub IsExceeded : Sources → EdgeTest → Denial → Type 0
 IsExceeded s allowed d = MatchOption (excess_of d) ⊥ (Exceeds s allowed)
 
--- the table or the policy breaks one of the rules P1 to P8 and A1 to A6 at a place. S1 to S8 are another set, and C1 is a rule of
--- certificates
+-- the table or the policy breaks one of the rules P1 to P8 and A1 to A6 at a place; S1 to S8 belong to another set, and C1 to certificates
 abbrev pub Breaks : Layout → EdgeTest → Denial → Type 0
 Breaks t allowed (denial.Policy broken) = IsBrokenAt allowed broken
 Breaks t allowed d = IsExceeded (of_table t) allowed d
@@ -38,7 +37,7 @@ place_of (denial.Sharp broken) = sharp_place broken
 place_of (denial.Certificate line) = c1 ∷ line ∷ []
 place_of d = option_map_or excess_place (excess_of d) []
 
--- the number of the rule of authority, A1 to A6, by which something is denied, and a greater one where it is denied by none of them
+-- the number of the rule A1 to A6 of a denial, and a greater number for any other denial
 abbrev pub rule_number : Option Denial → ℕ
 rule_number (Some (denial.Capability _ _ _)) = a1
 rule_number (Some (denial.Root _ _)) = a2
@@ -48,7 +47,7 @@ rule_number (Some (denial.Holding _ _)) = a5
 rule_number (Some (denial.Recorded _ _ _)) = a6
 rule_number _ = c1
 
--- the edge that a denial asks a policy for, if one edge would mend it: none by P1, and none for a certificate
+-- the edge that a denial asks a policy for, if one edge would mend it; P1 and C1 ask for none
 abbrev pub edge_asked : Layout → Denial → Option Edge
 edge_asked t (denial.Policy broken) = edge_asked_at broken
 edge_asked t (denial.Sharp broken) = Some (sharp_edge_at broken)
@@ -65,14 +64,13 @@ rule_name (denial.Holding _ _) = codes "A5"
 rule_name (denial.Recorded _ _ _) = codes "A6"
 rule_name (denial.Certificate _) = codes "C1"
 
--- a broken place that begins with these numbers
+-- a broken place begins with these numbers
 abbrev pub BreaksUnder : Layout → EdgeTest → List ℕ → Denial → Type 0
 BreaksUnder t allowed = IsUnder place_of (Breaks t allowed)
 
 abbrev pub IsLeastBroken : Layout → EdgeTest → Denial → Type 0
 IsLeastBroken t allowed = IsLeast place_of (Breaks t allowed)
 
--- nothing is broken
 abbrev pub IsAccepted : Layout → EdgeTest → Type 0
 IsAccepted t allowed = IsNone (Breaks t allowed)
 

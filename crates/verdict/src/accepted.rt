@@ -1,4 +1,4 @@
-//! A capability table and a policy that are accepted.
+//! Pairs of a capability table and a policy that are accepted.
 ghost use Rattle.std.specs.Prelude.{◌≡◌};
 ghost use Rattle.policy.specs.Policy.{allows};
 ghost use Rattle.integrity.specs.Safe.{IsSafe};

@@ -1,4 +1,4 @@
-//! Which labels may act in runs of an accepted system.
+//! The labels that may act in runs of an accepted system.
 ghost use Rattle.std.specs.Prelude.{ℕ, ◌↔◌, ◌≡◌, false, true};
 ghost use Rattle.base.specs.Labels.{is_in};
 ghost use Rattle.policy.specs.Policy.{allows};
@@ -13,7 +13,7 @@ use reach::labels_that_act;
 impl Accepted<'_> {
     /// Returns the labels that may act: those with a thread that can run at boot, and those that such a label controls.
     ///
-    /// In every run each call by a thread of another label is refused. So such a thread never changes,
+    /// In every run each call by a thread of another label is refused. Such a thread never changes,
     /// makes or removes an object.
     pub fn acting(&self) -> Labels
         ensures acting { (a : ℕ) → (is_in result a ≡ true) ↔ MayAct self.now.table (allows self.now.policy) a }

@@ -1,4 +1,4 @@
-//! The least place where the bindings of a table break A4.
+//! The least place where the bindings of a table break A4, which asks for runs edges.
 ghost use Rattle.std.specs.Prelude.{[], ◌∷◌, ◌≡◌, Some};
 ghost use Rattle.machine.specs.Layout.{bound_context};
 ghost use Rattle.policy.specs.{Places.FindsLeast, Policy.allows};

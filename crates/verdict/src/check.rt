@@ -1,4 +1,4 @@
-//! The check of a capability table and a policy, with what it promises of those that it accepts.
+//! The check of a capability table and a policy, with what it promises for those that it accepts.
 ghost use Rattle.std.specs.Prelude.{ℕ, ◌<◌, ◌≡◌, ◌≤◌, IfErr, IfNone, IfOk};
 ghost use Rattle.base.specs.Refusals.{out_of_memory};
 ghost use Rattle.policy.specs.{Places.FindsLeast, Policy.allows};
@@ -23,11 +23,11 @@ use table::Table;
 
 /// Returns the verdict on a capability table and a policy, by the rules P1 to P8 and A1 to A4.
 ///
-/// They are accepted, or denied with the first of these rules that is broken and the first place
-/// where it is. The slots of the table are shared out among 1 to 16 workers, each of which arrives
-/// at the gate first. The verdict is the same for every number of workers.
+/// They are accepted, or denied with the first broken rule and the first place where it is broken.
+/// The slots of the table are shared out among 1 to 16 workers, each of which arrives at the gate
+/// first. The verdict is the same for every number of workers.
 ///
-/// Where they are accepted, this holds after every list of kernel calls by any threads in any
+/// If they are accepted, this holds after every list of kernel calls by any threads in any
 /// interleaving:
 ///
 /// - every capability lies within the policy
@@ -36,7 +36,7 @@ use table::Table;
 ///   only shrinks and the caller's label may make it smaller
 /// - a context's configured budget or period changes only by a caller whose label has the policy's
 ///   SchedControl edge
-/// - each object that is there has a label, so that no authority is unseen.
+/// - each existing object has a label, so that no authority is unseen.
 ///
 /// # Errors
 ///
@@ -70,8 +70,8 @@ pub fn judge<'a, R: Threads + Sync, G: Gate + Sync>(
 /// Returns the verdict on a capability table and a policy, by a set of rules and A1 to A4, as [`judge`] does
 /// by P1 to P8.
 ///
-/// Where they are accepted, every run from the table's boot state is safe: after every list of kernel calls
-/// holds what [`judge`] says.
+/// If they are accepted, every run from the table's boot state is safe: after every list of kernel
+/// calls, what [`judge`] says holds.
 ///
 /// # Errors
 ///
@@ -101,7 +101,7 @@ pub fn judge_by<R: Threads + Sync, G: Gate + Sync>(
     }
 }
 
-// The headline for this table and this policy, by whichever rules they are accepted.
+// The headline for this table and this policy, accepted by either set of rules.
 fn are_safe_by(table: &Table, policy: &Policy, rules: Rules)
     requires { IsAcceptedBy rules table.now (allows policy.now) }
     ensures { IsSafe table.now (allows policy.now) }
@@ -110,8 +110,8 @@ fn are_safe_by(table: &Table, policy: &Policy, rules: Rules)
     sharply_accepted_systems_are_safe();
 }
 
-// The first place where the table or the policy breaks a rule of the set, or one of A1 to A4: first of all
-// where the policy itself does, then at the slots, and then at the bindings.
+// The first place where a rule of the set, or one of A1 to A4, is broken: first the policy itself,
+// then the slots, then the bindings.
 fn first_denial<R: Threads + Sync, G: Gate + Sync>(
     rt: &R,
     alloc: Global,
@@ -151,8 +151,8 @@ fn first_rule<R: Threads + Sync>(
     }
 }
 
-// The first place where it breaks a sharp rule. The keepers are the labels that may keep capabilities for
-// CNodes.
+// The first place where the policy breaks a sharp rule. The keepers are the labels that may keep
+// capabilities for CNodes.
 fn first_sharply_broken(table: &Table, policy: &Policy) -> Option<SharpBroken>
     ensures { FindsLeast sharp_place
         (IsSharplyBrokenAt (allows policy.now) (MayKeep table.now (allows policy.now))) result }

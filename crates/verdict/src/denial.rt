@@ -1,4 +1,4 @@
-//! Denials: the rule that is broken, and where.
+//! Denials of systems: the rule that is broken, and where.
 ghost use Rattle.std.specs.Prelude.{◌≡◌};
 ghost use Rattle.verdict.specs.Verdict.{rule_number};
 
@@ -6,14 +6,14 @@ use base::{Kind, Label, ObjId, SlotRef};
 use policy::Broken;
 use sharp::SharpBroken;
 
-/// The reason why a system is denied: the rule that is broken, and where.
+/// The reason why a system is denied.
 ///
 /// Denials are ordered by rule, and then by what they name, from left to right.
 #[derive(Clone, Copy, PartialEq, Eq, Debug)]
 pub enum Denial {
     /// P1 to P8: the policy isn't closed.
     Policy(Broken),
-    /// S1 to S8: it isn't sharply closed.
+    /// S1 to S8: the policy isn't sharply closed.
     Sharp(SharpBroken),
     /// A1: the capability in a CNode's slot gives a kind of authority over an object of this label
     /// that the policy doesn't have.
@@ -40,14 +40,14 @@ pub enum Denial {
         thread: ObjId,
         context: ObjId,
     },
-    /// A5: a reply holds a thread, and the policy doesn't have the edge of kind holds. No table has one
-    /// that does.
+    /// A5: a reply holds a thread, and the policy doesn't have the edge of kind holds. No table
+    /// declares such a reply.
     Holding {
         reply: ObjId,
         thread: ObjId,
     },
     /// A6: a blocked thread keeps a kind of authority over an object of this label that the policy
-    /// doesn't have. No table has one.
+    /// doesn't have. No table declares one.
     Recorded {
         thread: ObjId,
         kind: Kind,
@@ -81,8 +81,8 @@ impl Denial {
     }
 }
 
-// The numbers of the rules of authority, as places have them. P1 to P8 have the numbers 1 to 8, and so do
-// S1 to S8.
+// The numbers of the rules of authority in places. P1 to P8 have the numbers 1 to 8, and so do S1
+// to S8.
 const A1: u64 = 9;
 
 const A2: u64 = 10;
@@ -97,8 +97,8 @@ const A6: u64 = 14;
 
 const LAST: u64 = 15;
 
-/// The number of the rule of authority, A1 to A6, by which something is denied; the last number where
-/// it is denied by none of them.
+/// The number of the rule of authority, A1 to A6, of a denial; the last number for any other
+/// denial.
 pub(crate) fn rule_number(denial: &Option<Denial>) -> u64
     ensures { result ≡ rule_number denial.now }
 {

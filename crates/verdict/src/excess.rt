@@ -20,8 +20,8 @@ use table::Table;
 
 /// Returns the first place where a state's authority lies outside the policy, by the rules A1 to A6.
 ///
-/// There is none exactly if all of it lies within. The table says the labels of objects. It takes
-/// no memory.
+/// There is none exactly if all authority lies within the policy. The table says the labels of
+/// objects. The call takes no memory.
 pub fn outside(table: &Table, policy: &Policy, state: &State) -> Option<Denial>
     ensures within { IfNone result (IsConfined table.now (allows policy.now) state.now) }
     ensures first { IfSome result (λ denial. (place : Excess) × (excess_of denial ≡ Some place)
@@ -31,7 +31,7 @@ pub fn outside(table: &Table, policy: &Policy, state: &State) -> Option<Denial>
     first_outside(table, policy, state)
 }
 
-// The first denial: by the least rule that is broken at any object, and at the first such object. Each
+// The first denial: by the least rule that is broken at any object, at the first such object. Each
 // object is looked at once.
 fn first_outside(table: &Table, policy: &Policy, state: &State) -> Option<Denial>
     ensures { FindsLeast place_of (LiesOutside table.now (allows policy.now) state.now) result }
@@ -47,7 +47,7 @@ fn first_outside(table: &Table, policy: &Policy, state: &State) -> Option<Denial
     first
 }
 
-// The first denial at an object. Where it is absent, that is one look-up.
+// The first denial at an object. An absent object takes one look-up.
 fn first_at(table: &Table, policy: &Policy, state: &State, id: ObjId) -> Option<Denial>
     ensures { FindsLeast place_of (LiesAt table.now (allows policy.now) state.now id) result }
 {

@@ -1,4 +1,4 @@
-//! Laws about verdicts, and about what lies outside a policy.
+//! Laws about verdicts: that there is one, and that it is a verdict on the boot state; and about authority outside a policy.
 ghost use Rattle.std.specs.Prelude.{◌↔◌, ◌≡◌, List, Result, Some};
 ghost use Rattle.base.specs.declared.edge.Edge.{Edge};
 ghost use Rattle.machine.specs.{Boot.IsBoot, Layout.Layout, Machine.Machine};
@@ -11,7 +11,7 @@ ghost use Rattle.verdict.specs.{Rules.{Exceeds, Excess}, Sources.of_machine};
 ghost use Rattle.verdict.specs.System.{IsVerdict, System};
 ghost use Rattle.verdict.specs.Verdict.{Breaks, IsAccepted, IsLeastBroken, IsOutside, excess_of};
 
-/// A law: a state is confined exactly where no authority lies outside the policy at any place of the rules A1 to A6.
+/// A law: a state is confined exactly if no authority lies outside the policy at any place of the rules A1 to A6.
 pub fn confined_states_have_nothing_outside()
     ensures { (t : Layout) (allowed : EdgeTest) (m : Machine)
         → IsConfined t allowed m ↔ ((place : Excess) → ¬ Exceeds (of_machine t m) allowed place) }
@@ -19,12 +19,12 @@ pub fn confined_states_have_nothing_outside()
 
 /// A law: the verdict on a table is one on its boot state.
 ///
-/// A rule is broken at a place exactly where the boot state's authority lies outside the policy there,
-/// and each place where it does has its denial. That denial is the verdict exactly if the policy is
-/// closed and the place is the first. A table and a policy are accepted exactly if the policy is closed
-/// and the boot state is confined. By the sharp rules they are accepted exactly if the policy is sharply
-/// closed, where the labels that may keep capabilities for CNodes are the keepers, and the boot state is
-/// confined.
+/// A rule is broken at a place exactly if the boot state's authority lies outside the policy there,
+/// and each such place has its denial. That denial is the verdict exactly if the policy is closed
+/// and the place is the first. A table and a policy are accepted exactly if the policy is closed
+/// and the boot state is confined. The sharp rules accept them exactly if the boot state is
+/// confined and the policy is sharply closed, with the labels that may keep capabilities for CNodes
+/// as keepers.
 pub fn a_verdict_is_on_the_boot_state()
     ensures place { (t : Layout) (allowed : EdgeTest) (boot : Machine) (denial : Denial) (place : Excess)
         → IsLawful t

@@ -1,6 +1,6 @@
 //! The verdict on a capability table and a policy: accepted, or denied with the first rule that is broken and where.
 //!
-//! The texts of verdicts and the commands stand on it. It knows no code of the kernel's calls.
+//! The crate knows no code of the kernel's calls.
 #![tactic(auto)]
 
 mod accepted;

@@ -5,7 +5,7 @@
 pub enum Rules {
     /// P1 to P8: the policy has to be closed ('seL4 Enforces Integrity', section 3).
     Closed,
-    /// S1 to S8: it has to be sharply closed, where the labels that may keep capabilities for CNodes are
-    /// known of the table. Each closed policy is.
+    /// S1 to S8: the policy has to be sharply closed, with the labels as keepers that may keep
+    /// capabilities for CNodes. Each closed policy is.
     Sharp,
 }

@@ -1,4 +1,4 @@
-//! The headline as laws about accepted systems.
+//! The headline: laws about the runs of accepted systems.
 ghost use Rattle.std.specs.Prelude.{ℕ, List};
 ghost use Rattle.base.specs.declared.edge.Edge.{Edge};
 ghost use Rattle.machine.specs.Layout.{Layout};
@@ -29,10 +29,10 @@ pub fn accepted_systems_are_safe()
     confined_systems_are_safe();
 }
 
-/// A law, the headline over the sharp rules: every run of a capability table and a policy that are accepted
-/// by these is safe.
+/// A law, the headline for the sharp rules: every run of a capability table and a policy that they
+/// accept is safe.
 ///
-/// After every list of kernel calls holds what [`accepted_systems_are_safe`] says.
+/// After every list of kernel calls, what [`accepted_systems_are_safe`] says holds.
 pub fn sharply_accepted_systems_are_safe()
     ensures { (t : Layout) (edges : List Edge)
         → IsLawful t
@@ -42,13 +42,13 @@ pub fn sharply_accepted_systems_are_safe()
     sharply_confined_systems_are_safe();
 }
 
-/// A law: in runs of an accepted system threads change only objects of labels that they may change or shrink.
+/// A law: in runs of an accepted system, threads change only objects of labels that they may change or shrink.
 ///
-/// In every run from the boot state no step of a thread of a label changes, makes or removes an
-/// object of a label that it may not change and may not make smaller. Where it may not change that
-/// label, each object of it stays as it is, or shrinks.
+/// In every run from the boot state, a step of a thread never changes, makes or removes an object
+/// of a label that the thread's label may neither change nor make smaller. An object of a label
+/// that it may only make smaller stays as it is, or shrinks.
 ///
-/// This is so for each test of labels that holds of all that may act and may have threads.
+/// This holds for each test of labels that accepts all that may act and may have threads.
 pub fn accepted_systems_keep_labels_apart()
     ensures apart { (t : Layout) (edges : List Edge) (acts : ActorTest) (a l : ℕ)
         → IsLawful t

@@ -1,4 +1,4 @@
-//! The first of the filled slots of a table where one of the rules A1 to A3 is broken.
+//! The first denial at the filled slots of a table, by the rules A1 to A3.
 ghost use Rattle.std.specs.{List.find, Option.option_and_then, Prelude.{ℕ, ◌<◌, ◌≡◌, ◌≤◌, IfErr, IfOk, map}};
 ghost use Rattle.base.specs.Refusals.{out_of_memory};
 ghost use Rattle.policy.specs.{Places.FindsLeast, Policy.allows};
@@ -14,7 +14,7 @@ use std::alloc::Global;
 use std::thread::Threads;
 use table::Table;
 
-/// Returns the first of the rules A1 to A3 that is broken, and the first place where it is.
+/// Returns the first place where one of the rules A1 to A3 is broken, by the least of these rules.
 ///
 /// The slots are shared out among the workers.
 ///
@@ -43,7 +43,7 @@ pub fn first_at_slots<R: Threads + Sync, G: Gate + Sync>(
     Ok(check.first_denial(&missing))
 }
 
-// The check of a filled slot: of its capability by A1 or A2, and of the pair whose child it is by A3.
+// The check of a filled slot: its capability by A1 or A2, and the pair whose child it is by A3.
 #[derive(Drop)]
 struct SlotCheck<'a> {
     alloc: Global,
@@ -52,7 +52,7 @@ struct SlotCheck<'a> {
 }
 
 impl SlotCheck<'_> {
-    // The first denial of the least rule, where these are the edges that are missing at the filled slots.
+    // The first denial of the least rule, given the edges that are missing at the filled slots.
     fn first_denial(&self, missing: &[Option<Edge>]) -> Option<Denial>
         requires { missing.now
             ≡ map (missing_edge self.now.table.now (allows self.now.policy.now)) self.now.table.now.caps }
@@ -88,7 +88,7 @@ fn first_missing(policy: &Policy, edges: &[Edge]) -> Option<Edge>
     edges.iter().find(|edge| !policy.has(**edge)).copied()
 }
 
-// What is denied where a filled slot gives an edge that the policy doesn't have.
+// The denial of an edge that a filled slot gives and the policy doesn't have.
 fn denial_of(table: &Table, filled: &Filled, missing: Option<Edge>) -> Option<Denial>
     ensures { result ≡ option_and_then (λ edge. denial_by table.now filled.now.slot edge.kind edge.to) missing }
 {

@@ -1,4 +1,4 @@
--- Bytes that pass a test of ASCII alone are text.
+-- That bytes are text if all of them pass a test that only ASCII bytes pass.
 use Rattle.std.{specs.{List.list_all, Str.{IsAscii, IsUtf8}}, proofs.Common.{[], ℕ, ◌<◌, ◌∷◌, ◌≡◌, Bool, List, lit<, suc, true, zero}}
 use Rattle.std.proofs.lemmas.{Bool.and_parts, Str.IsUtf8-from_ascii}
 

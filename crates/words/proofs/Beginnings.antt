@@ -1,4 +1,4 @@
--- A text that is cut before its end has its first fault at the line that was cut.
+-- That a text that is cut before its end has its first fault at the line that was cut.
 use Rattle.std.{specs.List.{AllByRecursion, count_by, join_with_byte, onto_first, slice_split}, proofs.Common.{[], ℕ, ◌++◌, ◌+◌, ◌<◌, ◌==◌}}
 use Rattle.std.proofs.Common.{◌∙◌, ◌∷◌, ◌≡◌, ◌≢◌, Bool, List, Ok, Result, Some, ap, arith, cond, false, length, map, refl, subst, sym, true}
 use Rattle.std.proofs.lemmas.List.{length-append, length-map, length_push, map-append, Splits.join_with_byte-slice_split}
@@ -7,7 +7,7 @@ use Rattle.words.specs.{declared.faults.Wrong.{Wrong, TheVariants.Syntax}, First
 use Rattle.words.specs.{FirstFault.{ended, no_header, no_line}, Reading.{Format, bind, last_line, steps}, Text.{IsOver, lines_of}}
 use Rattle.words.{specs.Text.{lines_of_parts, words_of}, proofs.{Splits.parts_some, WordLaws.bind_ok}}
 
--- the parts of a beginning, of the rest and of the whole: all but the beginning's last are the whole's, whose next one it begins
+-- the parts of a beginning, of the rest and of the whole: all but the beginning's last are parts of the whole, and the last begins one
 record Cuts (begun parts whole : List (List ℕ)) : Type 0 where
   done : List (List ℕ)
   last : List ℕ
@@ -17,7 +17,7 @@ record Cuts (begun parts whole : List (List ℕ)) : Type 0 where
   of_rest : parts ≡ first ∷ later
   of_whole : whole ≡ done ++ (last ++ first) ∷ later
 
--- a byte before the beginning begins its first part
+-- a byte put before the beginning is put before its first part
 onto : (b : ℕ) {begun parts whole : List (List ℕ)} → Cuts begun parts whole → Cuts (onto_first b begun) parts (onto_first b whole)
 onto b {begun} {parts} {whole} c = by_done c.done c.of_beginning c.of_whole
   where
@@ -62,7 +62,7 @@ cuts p (b ∷ beginning) rest = by_test (p b) (cuts p beginning rest)
     }
     by_test false c = onto b c
 
--- parts that are ended are lines, and the others are read on
+-- parts that are ended are lines, and reading goes on after them
 ended_parts : (done : List (List ℕ)) (next : List ℕ) (parts : List (List ℕ))
     → lines_of_parts (done ++ next ∷ parts) ≡ ended (map words_of done) ++ lines_of_parts (next ∷ parts)
 ended_parts [] next parts = refl
@@ -74,7 +74,7 @@ over_last : (last : List ℕ) → IsOver (lines_of_parts (last ∷ []))
 over_last [] = tt
 over_last (b ∷ last) = tt
 
--- what is left has bytes: so a line ends there, if all are ended
+-- a line is left, as bytes are left and all parts are ended
 line_left : (last first rest : List ℕ) (later : List (List ℕ)) (lines : List Line) → 0 < length rest
     → slice_split (λ b. b == 10) rest ≡ first ∷ later → lines_of_parts ((last ++ first) ∷ later) ≡ ended lines → 0 < length lines
 line_left last first rest later (line ∷ lines) some parts is = omega arith
@@ -91,7 +91,7 @@ line_left last first rest [] [] some parts is =
     by_part [] some is = omega (arith, some)
     by_part (b ∷ part) some is = cc
 
--- ended lines that begin with others
+-- the lines that are left after ended ones
 rest_ended : (done lines : List Line) (rest : TextLines) → ended done ++ rest ≡ ended lines
     → (left : List Line) × (lines ≡ done ++ left) × (rest ≡ ended left)
 rest_ended [] lines rest is = (lines, refl, is)
@@ -102,7 +102,7 @@ rest_ended (line ∷ done) (other ∷ lines) rest is =
     let found = rest_ended done lines rest later in
     (found.0, ap (λ l. l ∷ lines) (sym same) ∙ ap (λ ls. line ∷ ls) found.1, found.2)
 
--- what stands before the end of a list and something more is a beginning of the front
+-- a list that is cut before its last element is a beginning of its front
 front : {X : Type 0} (xs done left : List X) (end : X) → 0 < length left → xs ++ end ∷ [] ≡ done ++ left
     → (more : List X) × (xs ≡ done ++ more)
 front xs [] left end some is = (xs, refl)
@@ -115,7 +115,7 @@ front (x ∷ xs) (y ∷ done) left end some is =
     let found = front xs done left end some later in
     (found.0, ap (λ z. z ∷ xs) same ∙ ap (λ zs. y ∷ zs) found.1)
 
--- steps that come before others
+-- steps that come first don't fail if all steps don't
 first_steps : {S : Type 0} (step : S → Line → Result S Wrong) (s state : S) (done more : List Line)
     → steps step s (done ++ more) ≡ Ok state → (between : S) × (steps step s done ≡ Ok between)
 unfolding steps bind
@@ -130,7 +130,7 @@ first_inner : (done more : List Line) → AllByRecursion (λ line. line ≢ last
 first_inner [] more all = tt
 first_inner (line ∷ done) more all = (all.0, first_inner done more all.1)
 
--- after so many lines the text is cut
+-- the text is cut after some lines
 cut_after : {S T : Type 0} (f : Format S T) (state : S) (body done left : List Line)
     (over : TextLines)
     → AllByRecursion (λ line. line ≢ last_line) body → steps f.step f.start body ≡ Ok state
@@ -150,7 +150,7 @@ cut_after f state body (line ∷ done) left over inner stepped is some none =
     } in
     no_line done before.0 over good none (omega arith) refl
 
--- as many lines are ended as there are line feeds
+-- there are as many ended lines as line feeds
 counted : (p : ℕ → Bool) (beginning : List ℕ) (done : List (List ℕ)) (last : List ℕ) → slice_split p beginning ≡ done ++ last ∷ []
     → length (map words_of done) + 1 ≡ count_by p beginning + 1
 counted p beginning done last parts =

@@ -1,4 +1,4 @@
--- What decimal digits spell, and that a number has one decimal spelling.
+-- Decimal digits: the number that they spell, and that a number has one decimal spelling.
 use Rattle.std.specs.{Char.{digit_value, is_ascii_digit}, Fmt.decimal, Int.IsInRange, List.list_all, Result.{OkIff, result_ok}}
 use Rattle.std.{specs.Str.Parse.digits_value, proofs.Common.{[], ℕ, ◌&&◌, ◌*◌, ◌+◌, ◌-◌, ◌<◌, ◌==◌, ◌^◌, ◌∙◌, ◌∷◌, ◌≡◌, ◌≤◌, Bool, Err}}
 use Rattle.std.proofs.Common.{List, None, Ok, Option, Result, Some, ap, arith, cond, false, get_or, length, lit<, lt-ltb, ltb-true, nat_lt}
@@ -13,7 +13,7 @@ use Rattle.words.specs.Number.{below_limit, dec_of, has_no_leading_zero, is_deci
 pub own : IsNumeralModel (λ ds. list_all is_ascii_digit ds ≡ true) (digits_value 10)
 own = numerals_by_value _ (search rules)
 
--- what the test of a leading zero says
+-- the test for no leading zero: there is a digit, and a first digit 0 is the only one
 pub leading : (ds : List ℕ) → has_no_leading_zero ds ≡ true → (0 < length ds) × (get_or ds 0 0 ≡ 48 → length ds ≡ 1)
 leading [] h = cc
 leading (d ∷ []) h = (omega arith, λ _. refl)
@@ -22,12 +22,12 @@ leading (d ∷ e ∷ ds) h = (omega arith, λ zero. cc (ap (λ x. not (x == 48))
 pub in_range : (b : ℕ) → is_ascii_digit b ≡ true → IsInRange 48 57 b
 in_range b test = grind (arith, nat_tests)
 
--- what isn't decimal spells no number
+-- a word that isn't decimal spells no number
 pub not_decimal : (word : List ℕ) → is_decimal word ≡ false → dec_of word ≡ None
 unfolding dec_of
 not_decimal word h = ap (λ t. cond t (below_limit (digits_value 10 word)) None) h
 
--- what a number's test and a number below the limit come to
+-- a number below the limit passes the test of the limit
 pub limited : (n : ℕ) → n < 2 ^ 64 → below_limit n ≡ Some n
 limited n h = cond-true _ _ _ (lt-ltb n (2 ^ 64) h)
 
@@ -70,13 +70,13 @@ dec_again n h =
     let test = and_from _ _ (no_leading_zero-decimal n h) (digits_decimal own n h) in
     cond-true _ _ _ test ∙ ap (λ m. below_limit m) (digits_value-decimal own n h) ∙ limited n h
 
--- a word is read digit by digit: the number so far is that of the digits so far
+-- words are read digit by digit: the number so far is that of the digits so far
 
--- what begins with a zero, and has more digits, spells no number
+-- a word without a digit, or with a zero before other digits, spells no number
 pub zero_first : (word : List ℕ) → has_no_leading_zero word ≡ false → dec_of word ≡ None
 zero_first word h = not_decimal word (ap (λ t. t && list_all is_ascii_digit word) h)
 
--- nor does what has another byte than a digit
+-- a word with a byte that is no digit spells no number
 pub stray : (word : List ℕ) (i : ℕ) → i < length word → is_ascii_digit (get_or word i 0) ≡ false → dec_of word ≡ None
 stray word i within other =
     not_decimal word
@@ -95,7 +95,7 @@ next_value word i n digit within value test is =
     let spelled : digit_value (get_or word i 0) ≡ digit = omega (arith, one, is) in
     sym (more ∙ ap (λ d. digits_value 10 (take i word) * 10 + d) spelled ∙ ap (λ v. v * 10 + digit) (sym value))
 
--- a number past the limit stays past it
+-- a number above the limit stays above it with more digits
 pub over : (word : List ℕ) (i n digit : ℕ) → i < length word → n ≡ digits_value 10 (take i word)
     → is_ascii_digit (get_or word i 0) ≡ true → digit ≡ get_or word i 0 - 48 → below_limit (n * 10 + digit) ≡ None
     → dec_of word ≡ None
@@ -114,7 +114,7 @@ over word i n digit within value test is past =
     by_test true none = none
     by_test false none = refl
 
--- a digit more
+-- the number with one digit more
 pub digit_more : (word : List ℕ) (i n digit m : ℕ) → i < length word → n ≡ digits_value 10 (take i word)
     → is_ascii_digit (get_or word i 0) ≡ true → digit ≡ get_or word i 0 - 48 → Some m ≡ below_limit (n * 10 + digit)
     → m ≡ digits_value 10 (take (i + 1) word)
@@ -130,7 +130,7 @@ pub digits_more : (word : List ℕ) (i : ℕ) → i < length word → list_all i
     → is_ascii_digit (get_or word i 0) ≡ true → list_all is_ascii_digit (take (i + 1) word) ≡ true
 digits_more word i within all test = list_all_more is_ascii_digit word i 0 within ∙ and_from _ _ all test
 
--- a word all of whose digits were read spells the number that was read
+-- a word whose digits were all read spells the number read
 pub read : (word : List ℕ) (i n : ℕ) → length word ≤ i → n < 2 ^ 64 → has_no_leading_zero word ≡ true
     → n ≡ digits_value 10 (take i word) → list_all is_ascii_digit (take i word) ≡ true → Some n ≡ dec_of word
 unfolding dec_of

@@ -1,4 +1,4 @@
--- A text is refused for its first fault, and read where it has none.
+-- That a text is read if it has no fault, and is refused for its first fault otherwise.
 use Rattle.std.{specs.List.AllByRecursion, proofs.Common.{[], ℕ, ◌++◌, ◌+◌, ◌==◌, ◌∙◌, ◌∷◌, ◌≡◌, ◌≢◌, ◌⊎◌, Bool, Err, IfErr, List, None}}
 use Rattle.std.proofs.{Common.{Ok, Result, Some, ap, arith, cond, false, inl, inr, length, refl, subst, sym, true}, lemmas.Bool.cond-true}
 use Rattle.words.specs.declared.faults.{Fault.Fault, Wrong.{Wrong, TheVariants.{Double, Limit, Misplaced, Syntax, Tree, UnknownName}}}
@@ -8,7 +8,7 @@ use Rattle.words.specs.{FirstFault.{no_step, no_whole}, Reading.{Format, Reads, 
 use Rattle.words.specs.{Reading.{last_line, read_format, read_lines, read_text, steps}, Text.{IsOver, Progress, line_is}}
 use Rattle.words.proofs.{ReadingLaws.{at_step, no_more}, Splits.{line_same, same_line}, WordLaws.bind_ok}
 
--- faults of different lines differ, and so do those of one line by what is wrong
+-- faults of different lines differ, and so do different faults of one line
 
 wrong_of : ℕ → Wrong
 wrong_of n =
@@ -31,7 +31,6 @@ unfolding fault_at
 same_fault line other wrong that e =
     (ap (λ (f : Fault). f.line) e, sym (back wrong) ∙ ap (λ (f : Fault). wrong_of f.number) e ∙ back that)
 
--- a line other than `end` is told from it
 not_last : (line : Line) → line ≢ last_line → line_is line last_line ≡ false
 not_last line other = by_test (line_is line last_line) refl
   where
@@ -39,7 +38,7 @@ not_last line other = by_test (line_is line last_line) refl
     by_test true same = absurd (other (line_same line last_line same))
     by_test false same = refl
 
--- good lines are read, and what comes after them is read on
+-- good lines are read, and reading goes on after them
 pub goes_through : {S T : Type 0} (step : S → Line → Result S Wrong) (finish : S → Progress → Result T Fault) (taken : ℕ)
     (s state : S) (body : List Line) (rest : TextLines)
     → AllByRecursion (λ line. line ≢ last_line) body → steps step s body ≡ Ok state
@@ -57,7 +56,7 @@ goes_through step finish taken s state (line ∷ body) rest inner stepped =
     ∙ goes_through step finish (taken + 1) first.0 state body rest inner.1 first.2
     ∙ ap (λ n. read_lines step finish n state rest) count
 
--- the header is taken
+-- the header is read
 header_again : (header : Line) (lines : TextLines)
     → header_at header (record { taken = 0; lines = Some header ∷ lines }) ≡ Ok (record { taken = 1; lines = lines })
 unfolding header_at
@@ -74,7 +73,7 @@ good_text f finish state lines body rest good =
     ∙ goes_through f.step finish 1 f.start state body rest good.inner good.stepped
     ∙ ap (λ n. read_lines f.step finish n state rest) count
 
--- the four faults
+-- each of the ways to have a first fault is reported as such
 
 without_header : (header : Line) (lines : TextLines) → ¬ HasHeader header lines
     → header_at header (record { taken = 0; lines = lines }) ≡ Err (fault_at 1 Syntax)
@@ -100,7 +99,7 @@ stops_at step finish taken s line lines wrong other failed =
     at_step step finish taken s line lines (not_last line other)
     ∙ ap (λ r. at_line (taken + 1) r (λ next. read_lines step finish (taken + 1) next lines)) failed
 
--- `end` was reached: what is read is what the state and the place after it give
+-- the result at `end` is what the state and the place after it give
 pub reaches_end : {S T : Type 0} (step : S → Line → Result S Wrong) (finish : S → Progress → Result T Fault) (taken : ℕ) (s : S)
     (lines : TextLines)
     → read_lines step finish taken s (Some last_line ∷ lines) ≡ finish s (record { taken = taken + 1; lines = lines })
@@ -157,9 +156,9 @@ reads f lines value text =
       lines = [];
     })) (λ _. Ok t))) text.whole
 
--- each text has no fault or a first one
+-- each text has no fault, or a first one
 
--- what comes after good lines: nothing that is ended, `end`, or no step
+-- the line after good ones: none that is ended, `end`, or one that is no step
 data Comes {S : Type 0} (step : S → Line → Result S Wrong) (state : S) (rest : TextLines) : Type 0 where
   nothing : IsOver rest → Comes step state rest
   last : (later : TextLines) → rest ≡ Some last_line ∷ later → Comes step state rest
@@ -208,7 +207,6 @@ scans {S = S} step s (Some line ∷ lines) = by_test (line_is line last_line) re
     by_test false same later =
         by_step (step s line) refl (λ is. absurd (cc (sym same ∙ ap (λ l. line_is l last_line) is ∙ same_line last_line))) later
 
--- the first line is the header or isn't
 begins_or_not : (header : Line) (lines : TextLines) → HasHeader header lines ⊎ (¬ HasHeader header lines)
 begins_or_not header [] = inr (λ begins. cc (begins.1))
 begins_or_not header (None ∷ lines) = inr (λ begins. cc (begins.1))
@@ -267,7 +265,7 @@ read_or_refused f lines = by_header (begins_or_not f.header lines)
           stepped = found.stepped;
         }) found.comes
 
--- so what is read tells which
+-- the result of reading tells whether there is a first fault, and which
 
 pub has_first_fault : {S T : Type 0} (f : Format S T) (lines : TextLines) (number : ℕ)
     (wrong : Wrong)
@@ -293,7 +291,7 @@ is_text f lines state read = by_answer (read_or_refused f lines)
         subst (λ t. IsText f lines t) same text.1
     by_answer (inr first) = absurd (cc (sym (refuses f lines first.0 first.1 first.2) ∙ read))
 
--- a text has one first fault at most, and none if it is read
+-- a text has at most one first fault, and none if it is read
 
 pub one_first_fault : {S T : Type 0} (f : Format S T) (lines : TextLines)
     (number other : ℕ) (wrong that : Wrong)
@@ -309,7 +307,7 @@ pub not_both : {S T : Type 0} (f : Format S T) (lines : TextLines) (state : T)
 not_both f lines state number wrong text first =
     cc (sym (reads f lines state text) ∙ refuses f lines number wrong first)
 
--- and of what reads as a text does
+-- the fault of a result is the first one, and a first fault is the fault of the result
 
 tells : {S T : Type 0} (f : Format S T) (lines : TextLines) (fault : Fault)
     → read_format f lines ≡ Err fault → TellsFirst f lines fault
@@ -320,7 +318,7 @@ tells f lines fault failed = by_answer (read_or_refused f lines)
     by_answer (inr first) =
         (first.0, first.1, cc (sym failed ∙ refuses f lines first.0 first.1 first.2), first.2)
 
--- where it isn't read, its fault tells the first one, unless memory was refused
+-- the fault of a text that isn't read is its first one, unless memory was refused
 pub faults : {S T X : Type 0} (view : X → T) (f : Format S T) (lines : TextLines)
     (result : Result X Fault)
     → Reads view result (read_format f lines)
@@ -328,7 +326,7 @@ pub faults : {S T X : Type 0} (view : X → T) (f : Format S T) (lines : TextLin
 faults view f lines (Ok x) exact = tt
 faults view f lines (Err fault) exact = λ lacked. tells f lines fault (exact lacked)
 
--- and where it has a first fault, it is refused for that one
+-- a text with a first fault is refused for that one
 pub refused_for : {S T X : Type 0} (view : X → T) (f : Format S T) (lines : TextLines)
     (result : Result X Fault)
     → Reads view result (read_format f lines) → (line : ℕ) (wrong : Wrong)

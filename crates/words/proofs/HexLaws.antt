@@ -1,4 +1,4 @@
--- A number below 2 ^ 64 has one spelling in hexadecimal digits without a leading zero, the one that `{:x}` writes.
+-- That a number below 2 ^ 64 has one spelling in hexadecimal digits without a leading zero, the one that `{:x}` writes.
 use Rattle.std.specs.{Char.digit_value, Fmt.{digit_glyph, digits, digits_onto}, List.list_all, Str.Parse.{digits_value, digits_value_after}}
 use Rattle.std.proofs.Common.{[], ℕ, ◌%◌, ◌*◌, ◌++◌, ◌+◌, ◌-◌, ◌/◌, ◌<◌, ◌==◌, ◌^◌, ◌∙◌, ◌∷◌, ◌≡◌, ◌≢◌, ◌≤◌, Bool, List, ap, arith, eq-eqb}
 use Rattle.std.proofs.Common.{false, get_or, length, lit<, lit≤, ltb-false, ltb-true, nat_lt, not, refl, suc, sym, true, zero, zero-add}
@@ -37,7 +37,7 @@ all_written (suc k) n acc h =
     (digits_onto k 16 false (n / 16) (digit_glyph false (n % 16) ∷ acc)) (λ ds. list_all is_hex_digit ds ≡ true) (λ _. more)
     (λ _. all_written k (n / 16) _ more)
 
--- the first digit that is written of a number above 0 is not 0
+-- the first digit written of a number above 0 is not 0
 first_written : (k n : ℕ) (acc : List ℕ) → 0 < n → n < 16 ^ k → 48 < get_or (digits_onto k 16 false n acc) 0 0
 first_written zero n acc above small = absurd (omega arith)
 first_written (suc k) n acc above small =
@@ -47,7 +47,7 @@ first_written (suc k) n acc above small =
     (λ more. let some = eqb-false _ _ more in let pos : 0 < 16 = lit< tt in first_written k (n / 16) _ (omega arith)
     ((div-lt_iff_lt-mul pos).1 (omega (arith, pow-suc 16 k))))
 
--- digits after a number make it as large as their places
+-- digits after a number make it at least as large as their places
 value_grows : (m : ℕ) (ds : List ℕ) → m * 16 ^ length ds ≤ digits_value_after 16 m ds
 value_grows m [] = omega arith
 value_grows m (d ∷ ds) =
@@ -55,7 +55,7 @@ value_grows m (d ∷ ds) =
     let places : m * 16 ^ length (d ∷ ds) ≡ m * (16 ^ length ds * 16) = ap (λ p. m * p) (pow-suc 16 (length ds)) in
     omega (arith, more, places)
 
--- what is written of a number above 0 and digits after it are those digits, after what is written of the number
+-- a number followed by digits is written as the number and then these digits
 written_after : (ds : List ℕ) (j m : ℕ) (acc : List ℕ) → list_all is_hex_digit ds ≡ true → 0 < m
     → digits_onto (length ds + j) 16 false (digits_value_after 16 m ds) acc ≡ digits_onto j 16 false m (ds ++ acc)
 written_after [] j m acc h above = ap (λ k. digits_onto k 16 false m acc) (zero-add j)
@@ -102,7 +102,7 @@ written_first d rest first later above small =
     ∙ ap (λ g. g ∷ (rest ++ [])) (ap (λ n. digit_glyph false n) (mod-eq_of_lt low) ∙ glyph_of_value d first)
     ∙ ap (λ ds. d ∷ ds) (append-nil rest)
 
--- hexadecimal digits are what is written of their number
+-- hexadecimal digits are those written of their number
 pub digits-digits_value : (ds : List ℕ) → is_hexadecimal ds ≡ true → digits_value 16 ds < 2 ^ 64
     → digits 16 false (digits_value 16 ds) ≡ ds
 unfolding digits
@@ -132,6 +132,6 @@ is_hexadecimal-digits (suc n) small =
     let written = digits_onto 64 16 false (suc n) [] in
     and_from _ _ (not_zero_first written (some_first written first) first) (all_written 64 (suc n) [] refl)
 
--- and their value is the number
+-- the value of a number's digits is the number
 pub digits_value-digits : (n : ℕ) → n < 2 ^ 64 → digits_value 16 (digits 16 false n) ≡ n
 digits_value-digits n small = (digits_is_IsNumeral 16 false (lit≤ tt) (lit≤ tt) n (omega arith)).1

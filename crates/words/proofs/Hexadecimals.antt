@@ -1,4 +1,4 @@
--- What hexadecimal digits spell, and that a number has one hexadecimal spelling.
+-- Hexadecimal digits: the number that they spell, and that a number has one hexadecimal spelling.
 use Rattle.std.specs.{Fmt.digits, List.list_all, Prelude.codes, Result.{OkIff, result_ok}, Str.{IsUtf8, bytes_eq, Parse.AllDigits}}
 use Rattle.std.{specs.Str.Parse.{IsNumeral, ParsesUnsigned, digits_value}, proofs.Common.{[], ℕ, ◌++◌, ◌<◌, ◌^◌, ◌∙◌, ◌∷◌, ◌≡◌, ◌≢◌, Err}}
 use Rattle.std.proofs.Common.{List, None, Ok, Result, Some, ap, arith, cond, drop, false, get_or, length, ltb-true, subst, sym, take, true}
@@ -11,11 +11,10 @@ use Rattle.words.proofs.HexLaws.{digits_value-digits, is_hexadecimal-digits, val
 hex_digit_is_ascii : (b : ℕ) → is_hex_digit b ≡ true → b < 128
 hex_digit_is_ascii b h = grind (arith, nat_tests)
 
--- hexadecimal digits are text
 pub hexadecimal_is_text : (ds : List ℕ) → is_hexadecimal ds ≡ true → IsUtf8 ds
 hexadecimal_is_text ds h = IsUtf8-from_test is_hex_digit hex_digit_is_ascii ds (and_parts _ _ h).1
 
--- what isn't hexadecimal spells no number
+-- a word that isn't hexadecimal spells no number
 pub not_hexadecimal : (ds : List ℕ) → is_hexadecimal ds ≡ false → hex_digits_of ds ≡ None
 unfolding hex_digits_of
 not_hexadecimal ds h = ap (λ t. cond t (below_limit (digits_value 16 ds)) None) h
@@ -25,7 +24,7 @@ pub all_digits : (ds : List ℕ) → list_all is_hex_digit ds ≡ true → AllDi
 all_digits [] h = tt
 all_digits (d ∷ ds) h = let test = and_parts _ _ h in (value_below d test.0, all_digits ds test.1)
 
--- no plus comes first
+-- the first digit is no plus sign
 no_plus : (ds : List ℕ) → list_all is_hex_digit ds ≡ true → get_or ds 0 0 ≢ 43
 no_plus [] h e = absurd (omega (arith, e))
 no_plus (d ∷ ds) h e = plus_is_none d (and_parts _ _ h).0 e
@@ -33,7 +32,7 @@ no_plus (d ∷ ds) h e = plus_is_none d (and_parts _ _ h).0 e
     plus_is_none : (b : ℕ) → is_hex_digit b ≡ true → b ≡ 43 → ⊥
     plus_is_none b test is = grind (arith, nat_tests)
 
--- what `from_str_radix` reads in hexadecimal digits is the number that they spell
+-- `from_str_radix` reads the number that hexadecimal digits spell
 pub parsed : {E : Type 0} (ds : List ℕ) (r : Result ℕ E) → is_hexadecimal ds ≡ true → ParsesUnsigned 64 16 ds r
     → result_ok r ≡ hex_digits_of ds
 unfolding hex_digits_of
@@ -49,7 +48,7 @@ parsed {E = E} ds r h read =
     without_digits (Ok n) fact = ((fact.0.0.0, fact.0.1), fact.1)
     without_digits (Err e) refused = λ given. refused ((given.0, all_digits ds (and_parts _ _ h).1), given.1)
 
--- hexadecimal digits that spell a number are those that are written of it
+-- hexadecimal digits that spell a number are those written of it
 hex_digits_take : (ds : List ℕ) (n : ℕ) → hex_digits_of ds ≡ Some n → (ds ≡ digits 16 false n) × (n < 2 ^ 64)
 unfolding hex_digits_of
 hex_digits_take ds n h =
@@ -81,5 +80,5 @@ pub hex_again : (n : ℕ) → n < 2 ^ 64 → hex_of (hexadecimal n) ≡ Some n
 unfolding hex_of
 hex_again n small = hex_digits_again n small
 
--- what reading hexadecimal digits needs
+-- the laws for reading hexadecimal digits
 pub ruleset hexadecimal_laws = (not_hexadecimal, hexadecimal_is_text, parsed)

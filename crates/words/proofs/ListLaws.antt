@@ -1,4 +1,4 @@
--- A text that is a list, with a line for each value: it owes the laws of its lines, and those of the whole text follow.
+-- Texts that are lists, with a line for each value: the laws of whole texts follow from those of their lines.
 use Rattle.std.{specs.List.AllByRecursion, proofs.Common.{[], ℕ, ◌++◌, ◌∙◌, ◌∷◌, ◌≡◌, Err, IfOk, List, Ok, Result, ap, append_assoc, codes}}
 use Rattle.std.proofs.{Common.{map, refl, subst, sym}, lemmas.List.append-nil}
 use Rattle.words.specs.{declared.faults.{Fault.Fault, Wrong.Wrong}, FirstFault.Line, Reading.{IsNotLast, Reads, bind, last_line}}
@@ -6,7 +6,7 @@ use Rattle.words.specs.{Reading.{list_format, list_text, read_format, steps, who
 use Rattle.words.proofs.{OneText.{one_body, one_by_map}, TextLaws.both, TextReading.{whole_text_again, whole_text_takes}, WordLaws.bind_ok}
 use Rattle.words.proofs.WordLaws.{plain_bytes, plain_lines}
 
--- a line is a step just where it is that of a value, which joins those before it and fits after them
+-- a line is a step exactly if it is the line of a value that fits after those before it
 pub record IsListFormat {X : Type 0} (line : X → Line) (step : List X → Line → Result (List X) Wrong) (Fits : List X → Type 0)
     : Type 0 where
   pub none : Fits []
@@ -16,7 +16,7 @@ pub record IsListFormat {X : Type 0} (line : X → Line) (step : List X → Line
   pub again : (values : List X) (value : X) → Fits (values ++ value ∷ []) → step values (line value) ≡ Ok (values ++ value ∷ [])
   pub plain : (values : List X) (value : X) → Fits (values ++ value ∷ []) → IsPlainLine (line value) × IsNotLast (line value)
 
--- what holds of a list holds of its front, and of its last
+-- a property of all elements of a list holds of all in its front, and of its last element
 pub all_front : {X : Type 0} (P : X → Type 0) (xs ys : List X) → AllByRecursion P (xs ++ ys) → AllByRecursion P xs
 all_front P [] ys all = tt
 all_front P (x ∷ xs) ys all = (all.0, all_front P xs ys all.1)
@@ -28,7 +28,7 @@ all_last P (x ∷ xs) y all = all_last P xs y all.1
 module _ {X : Type 0} {line : X → Line} {step : List X → Line → Result (List X) Wrong} {Fits : List X → Type 0}
     (format : IsListFormat line step Fits)
   where
-    -- lines that were steps are those of the values that came
+    -- lines that were steps are those of the values read
     lines_take : (values : List X) (body : List Line) (all : List X) → Fits values → steps step values body ≡ Ok all
         → (more : List X) × (values ++ more ≡ all) × (body ≡ map line more) × Fits all
     unfolding steps
@@ -45,7 +45,7 @@ module _ {X : Type 0} {line : X → Line} {step : List X → Line → Result (Li
           later.3,
         )
 
-    -- and the lines of values that fit are steps, plain, and none is the last
+    -- the lines of values that fit are steps and plain, and none is the last line
     lines_again : (values more : List X) → Fits (values ++ more)
         → (steps step values (map line more) ≡ Ok (values ++ more))
         × AllByRecursion IsPlainLine (map line more) × AllByRecursion IsNotLast (map line more)
@@ -64,7 +64,7 @@ module _ {X : Type 0} {line : X → Line} {step : List X → Line → Result (Li
           (here.1, later.2),
         )
 
-    -- the two laws of whole texts
+    -- the laws of whole texts
 
     pub list_takes : (header : Line) (bytes : List ℕ) (values : List X) → read_format (list_format header step) (lines_of bytes) ≡ Ok values
         → Fits values × (bytes ≡ list_text header line values)
@@ -90,7 +90,7 @@ module _ {X : Type 0} {line : X → Line} {step : List X → Line → Result (Li
         let both : ◌≡◌ {A = Result (List X) Fault} (Ok values) (Ok other) = sym this ∙ that in
         cc
 
-    -- and of what reads as a text does
+    -- the results of reading agree with these laws
 
     pub found : {Y : Type 0} (view : Y → List X) (header : Line) (bytes : List ℕ) (result : Result Y Fault)
         → Reads view result (read_format (list_format header step) (lines_of bytes))
@@ -104,7 +104,7 @@ module _ {X : Type 0} {line : X → Line} {step : List X → Line → Result (Li
     only view header bytes result plain exact values fit text =
         subst (λ r. Reads view result r) (list_again header bytes values plain fit text) exact
 
--- a text whose lines tell their values is that of one list
+-- a text whose lines tell their values is the text of one list
 pub one_list : {X : Type 0} (header : Line) (line : X → Line) (P : X → Type 0) → IsPlainLine header
     → ((x : X) → P x → IsPlainLine (line x)) → ((x y : X) → P x → P y → line x ≡ line y → x ≡ y)
     → (values other : List X) → AllByRecursion P values → AllByRecursion P other

@@ -1,4 +1,4 @@
--- A name is text.
+-- That a name is text.
 use Rattle.std.{specs.Str.IsUtf8, proofs.{Common.{ℕ, ◌<◌, ◌≡◌, List, arith, true}, lemmas.Bool.{and_parts, Decides.nat_tests}}}
 use Rattle.words.{specs.Name.{is_name, is_name_byte}, proofs.Ascii.IsUtf8-from_test}
 

@@ -1,4 +1,4 @@
--- A number of one digit, before a space.
+-- Numbers of one digit before a space.
 use Rattle.std.{specs.{Char.is_ascii_digit, Int.IsInRange, List.{onto_first}}, proofs.Common.{[], ℕ, ◌-◌, ◌∙◌}}
 use Rattle.std.proofs.Common.{◌∷◌, ◌≡◌, ◌≤◌, List, Ok, Some, ap, arith, cond, drop, get_or, length, refl, sym}
 use Rattle.std.proofs.{Common.{take, true}, lemmas.{Bool.ne_eqb, Fmt.decimal_digit, List.take_rest}}
@@ -10,7 +10,7 @@ digit_of d range =
     ap (λ x. dec_of (x ∷ [])) (omega (arith, range.0))
     ∙ ap dec_of (sym (decimal_digit (d - 48) (omega (arith, range.1)))) ∙ dec_again (d - 48) (omega (arith, range.1))
 
--- the words from a digit on that a space follows
+-- the words of a line that begins with a digit and a space
 words_from : (d : ℕ) (later : List ℕ) → IsInRange 48 57 d → words_of (d ∷ 32 ∷ later) ≡ (d ∷ []) ∷ words_of later
 words_from d later range =
     ap (λ t. cond t ([] ∷ ([] ∷ words_of later)) (onto_first d ([] ∷ words_of later))) (ne_eqb d 32 (omega (arith, range.0)))

@@ -1,4 +1,4 @@
--- Parts of a line are put together: numbers and names, one part after another, a part as another type's value, a choice by a word.
+-- That parts of a line can be put together: numbers and names, a sequence of parts, a part as a value of another type, a choice by a word.
 use Rattle.std.{specs.{Bool.Decides, Fmt.decimal, List.AllByRecursion, Str.bytes_eq}, proofs.Common.{[], ℕ, ◌++◌, ◌<◌, ◌^◌, ◌∙◌, ◌∷◌, ◌≡◌}}
 use Rattle.std.proofs.Common.{Bool, List, None, Ok, Option, Result, Some, ap, append_assoc, cond, false, refl, subst, sym, true}
 use Rattle.std.proofs.lemmas.{List.append-nil, Slice.Eq.bytes_eq-Decides}
@@ -8,7 +8,7 @@ use Rattle.words.{specs.{Reading.{ended_at, or_syntax, word_at}, Text.IsPlainWor
 use Rattle.words.proofs.{Hexadecimals.{hex_again, hex_takes}, Spellings.name_iff, TextLaws.both, WordLaws.{bind_ok, ended_then}}
 use Rattle.words.proofs.WordLaws.{plain_decimal, plain_hexadecimal, plain_name, word_then}
 
--- the next word as a value: what is read of a word has to be what the word spells
+-- a part of one word, if the word that is read is spelled again
 pub word_part : {X : Type 0} (of : List ℕ → Option X) (spell : X → List ℕ) (Is : X → Type 0)
     → ((word : List ℕ) (x : X) → of word ≡ Some x → (word ≡ spell x) × Is x) → ((x : X) → Is x → of (spell x) ≡ Some x)
     → ((x : X) → Is x → IsPlainWord (spell x))
@@ -49,7 +49,7 @@ name_part =
     word_part name_of (λ name. name) (λ name. is_name name ≡ true) (λ word name h. (name_iff word name).0 h)
     (λ name is. (name_iff name name).1 (refl, is)) plain_name
 
--- a part was taken, and reading went on with the words after it
+-- a part was read, and reading went on with the words after it
 pub record ReadsPart {X Y : Type 0} (spell : X → List (List ℕ)) (Is : X → Type 0) (f : X × List (List ℕ) → Result Y Wrong)
     (words : List (List ℕ)) (y : Y) : Type 0 where
   pub value : X
@@ -66,7 +66,7 @@ part_then {read} part f words y h =
     let taken = part.takes words a.0 a.1 in
     record { value = a.0.0; rest = a.0.1; words_are = taken.0; is = taken.1; goes_on = a.2 }
 
--- one part after another
+-- a sequence of two parts
 
 in_turn_takes : {X Y : Type 0} (one : PartReader X) (other : PartReader Y) (spell : X → List (List ℕ)) (spell_other : Y → List (List ℕ))
     (Is : X → Type 0) (IsOther : Y → Type 0) → Takes one spell Is → Takes other spell_other IsOther
@@ -101,7 +101,7 @@ both_parts {X} {Y} {one} {other} {spell} {spell_other} {Is} {IsOther} first seco
         ∙ ap (λ r. bind r (λ a. bind (other a.1) (λ b. Ok ((a.0, b.0), b.1)))) (first.again p.0 (spell_other p.1 ++ rest) is.0)
         ∙ ap (λ r. bind r (λ b. Ok ((p.0, b.0), b.1))) (second.again p.1 rest is.1)
 
--- and then one that stands last
+-- a sequence of a part and a last part
 pub then_last : {X Y : Type 0} {one : PartReader X} {other : PartReader Y} {spell : X → List (List ℕ)} {spell_other : Y → List (List ℕ)}
     {Is : X → Type 0} {IsOther : Y → Type 0} → IsPart one spell Is → IsLastPart other spell_other IsOther
     → IsLastPart (in_turn one other) (λ p. spell p.0 ++ spell_other p.1) (λ p. Is p.0 × IsOther p.1)
@@ -115,7 +115,7 @@ then_last {X} {Y} {one} {other} {spell} {spell_other} {Is} {IsOther} first last 
       plain = λ p is. both IsPlainWord (spell p.0) (spell_other p.1) (first.plain p.0 is.0) (last.plain p.1 is.1);
     }
 
--- a part as another type's value
+-- a part that is read as a value of another type
 pub takes_as : {X Y : Type 0} {read : PartReader X} {spell : X → List (List ℕ)} {Is : X → Type 0} → IsPart read spell Is → (f : X → Y)
     (spell_as : Y → List (List ℕ)) (IsAs : Y → Type 0) → ((x : X) → spell_as (f x) ≡ spell x) → ((x : X) → Is x → IsAs (f x))
     → (words : List (List ℕ)) (taken : Y × List (List ℕ)) → read_as f read words ≡ Ok taken
@@ -128,7 +128,7 @@ takes_as {read} part f spell_as IsAs same_words is words taken h =
     subst (λ t. (words ≡ spell_as t.0 ++ t.1) × IsAs t.0) same
     (of_part.0 ∙ ap (λ ws. ws ++ a.0.1) (sym (same_words a.0.0)), is a.0.0 of_part.1)
 
--- and back
+-- a part as a part of another type that maps back
 pub part_as : {X Y : Type 0} {read : PartReader X} {spell : X → List (List ℕ)} {Is : X → Type 0} → IsPart read spell Is → (f : X → Y)
     (spell_as : Y → List (List ℕ)) (IsAs : Y → Type 0) → ((x : X) → spell_as (f x) ≡ spell x) → ((x : X) → Is x → IsAs (f x))
     → ((y : Y) → IsAs y → (x : X) × (f x ≡ y) × Is x) → IsPart (read_as f read) spell_as IsAs
@@ -149,13 +149,13 @@ part_as {X} {Y} {read} {spell} {Is} part f spell_as IsAs same_words is of =
           subst (λ v. AllByRecursion IsPlainWord (spell_as v)) x.1
           (subst (AllByRecursion IsPlainWord) (sym (same_words x.0)) (part.plain x.0 x.2))
 
--- a choice by a word: what is read after each word has to spell the word again
+-- a choice by a word: what is read after each word is spelled with that word
 abbrev pub IsChoice : {X : Type 0} → (X → List (List ℕ)) → (X → Type 0) → List ℕ × PartReader X → Type 0
 IsChoice {X} spell Is choice =
     (words : List (List ℕ)) (taken : X × List (List ℕ)) → choice.1 words ≡ Ok taken
     → (choice.0 ∷ words ≡ spell taken.0 ++ taken.1) × Is taken.0
 
--- what is read as a value after its word
+-- a value is read after its word
 pub takes_after_word : {X Y : Type 0} {read : PartReader X} {spell_part : X → List (List ℕ)} {IsX : X → Type 0} (key : List ℕ) (f : X → Y)
     (spell : Y → List (List ℕ)) (Is : Y → Type 0) → Takes read spell_part IsX → ((x : X) → spell (f x) ≡ key ∷ spell_part x)
     → ((x : X) → IsX x → Is (f x)) → IsChoice spell Is (key, read_as f read)
@@ -174,20 +174,20 @@ pub after_word : {X Y : Type 0} {read : PartReader X} {spell_part : X → List (
 after_word {read} {spell_part} {IsX} part key f spell Is =
     takes_after_word {read = read} {spell_part = spell_part} {IsX = IsX} key f spell Is part.takes
 
--- one that stands last, after its word
+-- a last part after its word
 pub last_after_word : {X Y : Type 0} {read : PartReader X} {spell_part : X → List (List ℕ)} {IsX : X → Type 0} → IsLastPart read spell_part IsX
     → (key : List ℕ) (f : X → Y) (spell : Y → List (List ℕ)) (Is : Y → Type 0) → ((x : X) → spell (f x) ≡ key ∷ spell_part x)
     → ((x : X) → IsX x → Is (f x)) → IsChoice spell Is (key, read_as f read)
 last_after_word {read} {spell_part} {IsX} part key f spell Is =
     takes_after_word {read = read} {spell_part = spell_part} {IsX = IsX} key f spell Is part.takes
 
--- a part as it is, after its word
+-- a part after its word, with its own type
 pub after_key : {X : Type 0} {read : PartReader X} {spell_part : X → List (List ℕ)} {Is : X → Type 0} → IsPart read spell_part Is
     → (key : List ℕ) → IsChoice (λ x. key ∷ spell_part x) Is (key, read)
 after_key part key words taken h =
     let of_part = part.takes words taken h in (ap (λ ws. key ∷ ws) of_part.0, of_part.1)
 
--- and what it is spelled as is read as it
+-- what a value of another type is spelled as is read as that value
 pub read_as_again : {X Y : Type 0} {read : PartReader X} {spell : X → List (List ℕ)} {Is : X → Type 0} → IsPart read spell Is
     → (f : X → Y) (x : X) (rest : List (List ℕ)) → Is x → read_as f read (spell x ++ rest) ≡ Ok (f x, rest)
 unfolding read_as bind
@@ -230,7 +230,7 @@ pub keyed_last : {X : Type 0} (spell : X → List (List ℕ)) (Is : X → Type 0
 keyed_last spell Is choices all again plain =
     record { takes = keyed_takes spell Is choices all; again = again; plain = plain }
 
--- words that begin with those of a value begin with those of no other
+-- words that begin with those of a value don't begin with those of another
 pub part_once : {X : Type 0} {read : PartReader X} {spell : X → List (List ℕ)} {Is : X → Type 0} → IsPart read spell Is
     → (one other : X) (rest later : List (List ℕ)) → Is one → Is other → spell one ++ rest ≡ spell other ++ later
     → (one ≡ other) × (rest ≡ later)
@@ -240,7 +240,7 @@ part_once {X} {read} part one other rest later this that same =
     let both : ◌≡◌ {A = X × List (List ℕ)} (one, rest) (other, later) = cc in
     (ap (λ (p : X × List (List ℕ)). p.0) both, ap (λ (p : X × List (List ℕ)). p.1) both)
 
--- the words of a value, where they stand last, are those of no other
+-- the words of a value that stand last are those of no other value
 pub last_once : {X : Type 0} {read : PartReader X} {spell : X → List (List ℕ)} {Is : X → Type 0} → IsLastPart read spell Is
     → (one other : X) → Is one → Is other → spell one ≡ spell other → one ≡ other
 last_once {X} {read} part one other this that same =
@@ -249,7 +249,7 @@ last_once {X} {read} part one other this that same =
     let both : ◌≡◌ {A = X × List (List ℕ)} (one, []) (other, []) = cc in
     ap (λ (p : X × List (List ℕ)). p.0) both
 
--- a part may stand last
+-- each part is a last part
 as_last : {X : Type 0} {read : PartReader X} {spell : X → List (List ℕ)} {Is : X → Type 0} → IsPart read spell Is
     → IsLastPart read spell Is
 as_last {read} {spell} part =
@@ -259,7 +259,7 @@ as_last {read} {spell} part =
       plain = part.plain;
     }
 
--- a line whose words are one part, and nothing after it
+-- a line that is the words of a last part is read as its value
 pub last_again : {X Y : Type 0} {read : PartReader X} {spell : X → List (List ℕ)} {Is : X → Type 0} → IsLastPart read spell Is
     → (next : X → Result Y Wrong) (x : X) → Is x → bind (read (spell x)) (λ x. bind (ended_at x.1) (λ _. next x.0)) ≡ next x
 unfolding bind ended_at
@@ -269,7 +269,7 @@ pub alone_again : {X Y : Type 0} {read : PartReader X} {spell : X → List (List
     → (next : X → Result Y Wrong) (x : X) → Is x → bind (read (spell x)) (λ x. bind (ended_at x.1) (λ _. next x.0)) ≡ next x
 alone_again part = last_again (as_last part)
 
--- a line whose words were one part, and nothing after it
+-- a line that was read as a last part is the words of its value
 pub last_takes : {X Y : Type 0} {read : PartReader X} {spell : X → List (List ℕ)} {Is : X → Type 0} → IsLastPart read spell Is
     → (next : X → Result Y Wrong) (words : List (List ℕ)) (y : Y) → bind (read words) (λ x. bind (ended_at x.1) (λ _. next x.0)) ≡ Ok y
     → (x : X) × (words ≡ spell x) × Is x × (next x ≡ Ok y)

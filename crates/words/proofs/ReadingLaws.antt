@@ -1,4 +1,4 @@
--- How a loop over the lines of a text keeps step with `read_lines`: one law for each place where such a loop goes on or ends.
+-- Loops over the lines of a text: that they agree with `read_lines`, by one law for each place where such a loop goes on or ends.
 use Rattle.std.proofs.Common.{[], ℕ, ◌+◌, ◌∙◌, ◌∷◌, ◌≡◌, ◌≢◌, Err, List, None, Ok, Option, Result, Some, ap, cond, false, refl, sym, true}
 use Rattle.words.specs.declared.faults.{Fault.Fault, LineError.{LineError, TheVariants.{Memory, Text}}, Wrong.{Wrong, TheVariants.Syntax}}
 use Rattle.words.specs.{Fault.{fault_at, fault_of, no_memory}, Reading.{StopsBy, Whole, as_read, at_line, bind, end_at, faulted, header_at}}
@@ -13,7 +13,7 @@ unfolding read_text bind
 begins header step finish s lines place taken =
     sym (ap (λ r. bind r (λ at. read_lines step finish at.taken s at.lines)) taken)
 
--- it wasn't: its fault is the text's
+-- the header wasn't taken: its fault is that of the text
 pub no_beginning : {S T : Type 0} (header : List (List ℕ)) (step : S → List (List ℕ) → Result S Wrong)
     (finish : S → Progress → Result T Fault) (s : S) (lines : List (Option (List (List ℕ)))) (fault : Fault)
     → header_at header (record { taken = 0; lines = lines }) ≡ Err fault → read_text header step finish s lines ≡ Err fault
@@ -21,7 +21,7 @@ unfolding read_text bind
 no_beginning header step finish s lines fault failed =
     ap (λ r. bind r (λ at. read_lines step finish at.taken s at.lines)) failed
 
--- a line that isn't the last is a step
+-- a line other than the last is a step
 pub at_step : {S T : Type 0} (step : S → List (List ℕ) → Result S Wrong) (finish : S → Progress → Result T Fault) (taken : ℕ) (s : S)
     (line : List (List ℕ)) (lines : List (Option (List (List ℕ))))
     → line_is line last_line ≡ false
@@ -47,7 +47,7 @@ goes_on step finish old new s next line read so_far taken counted other stepped 
     ∙ sym (ap (λ lines. read_lines step finish old.taken s lines) taken)
     ∙ so_far
 
--- the step found a fault: it is the text's, at the line that was taken
+-- the step found a fault: it is that of the text, at the line that was taken
 pub stops : {S T : Type 0} (step : S → List (List ℕ) → Result S Wrong) (finish : S → Progress → Result T Fault) (old new : Progress)
     (s : S) (line : List (List ℕ)) (wrong : Wrong) (fault : Fault) (read : Result T Fault)
     → read_lines step finish old.taken s old.lines ≡ read → old.lines ≡ Some line ∷ new.lines → new.taken ≡ old.taken + 1
@@ -61,7 +61,7 @@ stops step finish old new s line wrong fault read so_far taken counted other ste
     ∙ ap (λ n. Err (fault_at n wrong)) (sym counted)
     ∙ sym (ap (λ f. Err f) told)
 
--- the same of a step that takes memory, where its want is no fault of the text
+-- the step stopped: its fault is that of the text, unless memory was refused
 pub stops_by : {S T : Type 0} (step : S → List (List ℕ) → Result S Wrong) (finish : S → Progress → Result T Fault) (old new : Progress)
     (s : S) (line : List (List ℕ)) (error : LineError) (fault : Fault) (read : Result T Fault)
     → read_lines step finish old.taken s old.lines ≡ read → old.lines ≡ Some line ∷ new.lines → new.taken ≡ old.taken + 1
@@ -85,7 +85,7 @@ ends step finish old new s line read so_far taken counted last =
     (at_line (old.taken + 1) (step s line) (λ next. read_lines step finish (old.taken + 1) next new.lines))) last
     ∙ ap (λ n. finish s (record { taken = n; lines = new.lines })) (sym counted)
 
--- they give a value: it is what is read
+-- the state and the place give a value, which is the result
 pub finishes : {S T : Type 0} (step : S → List (List ℕ) → Result S Wrong) (finish : S → Progress → Result T Fault) (old new : Progress)
     (s : S) (line : List (List ℕ)) (t : T) (read : Result T Fault)
     → read_lines step finish old.taken s old.lines ≡ read → old.lines ≡ Some line ∷ new.lines → new.taken ≡ old.taken + 1
@@ -93,7 +93,7 @@ pub finishes : {S T : Type 0} (step : S → List (List ℕ) → Result S Wrong) 
 finishes step finish old new s line t read so_far taken counted last finished =
     ends step finish old new s line read so_far taken counted last ∙ finished
 
--- they give a fault: it is the text's
+-- the state and the place give a fault, which is that of the text
 pub finishes_badly : {S T : Type 0} (step : S → List (List ℕ) → Result S Wrong) (finish : S → Progress → Result T Fault)
     (old new : Progress) (s : S) (line : List (List ℕ)) (fault : Fault) (read : Result T Fault)
     → read_lines step finish old.taken s old.lines ≡ read → old.lines ≡ Some line ∷ new.lines → new.taken ≡ old.taken + 1
@@ -115,7 +115,7 @@ no_more step finish place s read so_far over = sym so_far ∙ by_lines place.lin
     by_lines (None ∷ lines) over = refl
     by_lines (Some line ∷ lines) over = absurd over
 
--- what the state comes to is judged, and nothing follows the last line: that is what is read
+-- the state is judged as a value and nothing follows the last line: the value is the result
 pub ends_judged : {S T : Type 0} (step : S → List (List ℕ) → Result S Wrong) (whole : S → Whole T) (old new : Progress) (s : S) (t : T)
     (line : List (List ℕ)) (read : Result T Fault)
     → read_lines step (judged whole) old.taken s old.lines ≡ read → old.lines ≡ Some line ∷ new.lines → new.taken ≡ old.taken + 1
@@ -125,7 +125,7 @@ ends_judged step whole old new s t line read so_far taken counted last came noth
     finishes step (judged whole) old new s line t read so_far taken counted last
     (ap (λ w. bind (faulted w) (λ t. bind (end_at new) (λ _. Ok t))) came ∙ ap (λ r. bind r (λ _. Ok t)) nothing)
 
--- it comes to no value: the fault is the text's, whatever follows
+-- the state is judged faulty: the fault is that of the text, whatever follows
 pub ends_misjudged : {S T : Type 0} (step : S → List (List ℕ) → Result S Wrong) (whole : S → Whole T) (old new : Progress) (s : S)
     (number : ℕ) (wrong : Wrong) (line : List (List ℕ)) (fault : Fault) (read : Result T Fault)
     → read_lines step (judged whole) old.taken s old.lines ≡ read → old.lines ≡ Some line ∷ new.lines → new.taken ≡ old.taken + 1
@@ -135,7 +135,7 @@ ends_misjudged step whole old new s number wrong line fault read so_far taken co
     finishes_badly step (judged whole) old new s line fault read so_far taken counted last
     (ap (λ w. bind (faulted w) (λ t. bind (end_at new) (λ _. Ok t))) came ∙ ap (λ f. Err f) (sym told))
 
--- it comes to a value, and something follows: its fault is the text's
+-- the state is judged as a value but something follows: the fault is that of the text
 pub ends_followed : {S T : Type 0} (step : S → List (List ℕ) → Result S Wrong) (whole : S → Whole T) (old new : Progress) (s : S) (t : T)
     (line : List (List ℕ)) (fault : Fault) (read : Result T Fault)
     → read_lines step (judged whole) old.taken s old.lines ≡ read → old.lines ≡ Some line ∷ new.lines → new.taken ≡ old.taken + 1
@@ -145,7 +145,7 @@ ends_followed step whole old new s t line fault read so_far taken counted last c
     finishes_badly step (judged whole) old new s line fault read so_far taken counted last
     (ap (λ w. bind (faulted w) (λ t. bind (end_at new) (λ _. Ok t))) came ∙ ap (λ r. bind r (λ _. Ok t)) something)
 
--- the same where the lines come to the state as it is
+-- the two ends of a text whose state is its value
 
 pub ends_well : {S : Type 0} (step : S → List (List ℕ) → Result S Wrong) (old new : Progress) (s : S) (line : List (List ℕ))
     (read : Result S Fault)
@@ -161,5 +161,5 @@ pub ends_badly : {S : Type 0} (step : S → List (List ℕ) → Result S Wrong) 
 ends_badly step old new s line fault read so_far taken counted last something =
     ends_followed step as_read old new s s line fault read so_far taken counted last refl something
 
--- those that a loop over lines needs
+-- the laws for a loop over lines
 pub ruleset loop_laws = (begins, no_beginning, goes_on, stops, stops_by, no_more, ends_well, ends_badly)

@@ -1,4 +1,4 @@
--- A word spells a value just where it is the value's word: numbers in decimal and in hexadecimal, and names.
+-- That a word spells a value exactly if it is the value's word: for decimal and hexadecimal numbers, and for names.
 use Rattle.std.{specs.{Char.is_ascii_digit, Fmt.decimal, List.list_all}, proofs.Common.{[], ℕ, ◌<◌, ◌^◌, ◌↔◌, ◌∙◌, ◌∷◌, ◌≡◌, ◌≢◌, List}}
 use Rattle.std.proofs.{Common.{None, Some, ap, arith, get_or, length, refl, subst, sym, true}, lemmas.Bool.{and_parts, cond-true}}
 use Rattle.std.proofs.lemmas.{Fmt.{decimal_nonempty, digits_decimal}, Option.{cond_some, none-some}}
@@ -25,7 +25,7 @@ pub hexadecimal_once : (one other : ℕ) → one < 2 ^ 64 → other < 2 ^ 64 →
 hexadecimal_once one other small_one small_other same =
     let both : Some one ≡ Some other = sym (hex_again one small_one) ∙ ap (λ w. hex_of w) same ∙ hex_again other small_other in cc
 
--- a hexadecimal word has a leading zero, so it is no decimal word
+-- a hexadecimal word begins with `0x`, so it is no decimal word
 pub hexadecimal_no_decimal : (n : ℕ) → dec_of (hexadecimal n) ≡ None
 unfolding dec_of
 hexadecimal_no_decimal n = refl
@@ -34,7 +34,7 @@ pub apart : (one other : ℕ) → one < 2 ^ 64 → decimal one ≢ hexadecimal o
 apart one other small same =
     none-some one (sym (hexadecimal_no_decimal other) ∙ ap (λ w. dec_of w) (sym same) ∙ dec_again one small)
 
--- either begins with a digit
+-- digits begin with a digit
 first_digit : (ds : List ℕ) → 0 < length ds → list_all is_ascii_digit ds ≡ true → is_ascii_digit (get_or ds 0 0) ≡ true
 first_digit [] full all = absurd (omega arith)
 first_digit (d ∷ ds) full all = (and_parts _ _ all).0

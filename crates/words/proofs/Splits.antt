@@ -1,4 +1,4 @@
--- The parts of a list of bytes round a byte, and what they say of words and lines.
+-- Lists of bytes split at a byte: their parts, and what these say of words and lines.
 use Rattle.std.{specs.{List.{join_with_byte, onto_first, position, position_or_len, slice_split}, Str.bytes_eq}, proofs.Common.{[], ℕ, ◌+◌}}
 use Rattle.std.proofs.Common.{◌-◌, ◌<◌, ◌==◌, ◌∙◌, ◌∷◌, ◌≡◌, Bool, Err, List, None, Ok, Option, Some, ap, arith, cond, drop, false, get_or}
 use Rattle.std.proofs.{Common.{length, ltb-false, ltb-true, nat_lt, refl, subst, sym, take, true}, lemmas.Bool.Decides.same_from_decides}
@@ -9,7 +9,6 @@ use Rattle.memchr.specs.Find.{IsFirstByte, is_byte}
 use Rattle.words.specs.{declared.faults.Wrong.TheVariants.Syntax, Fault.fault_at, FirstFault.{Line, TextLines}, Reading.after_line}
 use Rattle.words.specs.{Reading.{end_at, ended_at}, Text.{IsOver, Progress, line_is, lines_of, lines_of_parts, words_of}}
 
--- there is a part at least
 pub parts_some : {X : Type 0} (p : X → Bool) (xs : List X)
     → (part : List X) × (parts : List (List X)) × (slice_split p xs ≡ part ∷ parts)
 parts_some {X = X} p [] = ([], [], refl)
@@ -20,12 +19,11 @@ parts_some {X = X} p (x ∷ xs) = by_test (p x) (slice_split p xs) (parts_some p
     by_test true parts h = ([], parts, refl)
     by_test false parts h = (x ∷ h.0, h.1, ap (λ y. onto_first x y) h.2)
 
--- a line has a word at least
 pub never_ended : (line : List ℕ) → ended_at (words_of line) ≡ Err Syntax
 unfolding ended_at
 never_ended line = let h = parts_some (λ b. b == 32) line in ap ended_at h.2
 
--- the first part ends at the first place that passes
+-- the first part ends at the first byte that passes
 pub split_at_position : (p : ℕ → Bool) (bs : List ℕ) (at : ℕ) → position p bs ≡ Some at
     → slice_split p bs ≡ take at bs ∷ slice_split p (drop (at + 1) bs)
 split_at_position p bs at found = by_test (nat_lt (position_or_len p bs) (length bs)) refl found
@@ -38,12 +36,12 @@ split_at_position p bs at found = by_test (nat_lt (position_or_len p bs) (length
         first ∙ ap (λ i. take i bs ∷ slice_split p (drop (i + 1) bs)) e
     by_test false past is = absurd (none-some at is)
 
--- the same, as the code cuts the bytes
+-- the parts as the code cuts the bytes
 pub split_round : (p : ℕ → Bool) (bs : List ℕ) (at : ℕ) → position p bs ≡ Some at
     → slice_split p bs ≡ take at bs ∷ slice_split p (take (length bs - (at + 1)) (drop (at + 1) bs))
 split_round p bs at found = rw take_rest (split_at_position p bs at found)
 
--- where no place passes, the bytes are the one part
+-- the bytes are the only part if no byte passes
 pub split_nowhere : (p : ℕ → Bool) (bs : List ℕ) → position p bs ≡ None → slice_split p bs ≡ bs ∷ []
 split_nowhere p bs missing = by_test (nat_lt (position_or_len p bs) (length bs)) refl missing
   where
@@ -58,7 +56,7 @@ passes_not : (b : Bool) → (b ≡ true → ⊥) → b ≡ false
 passes_not true never = absurd (never refl)
 passes_not false never = refl
 
--- where a search for a byte ends is the first place of the list that has it
+-- a search for a byte ends at the first place that has it
 pub first_position : (byte : ℕ) (bs : List ℕ) (r : Option ℕ) → IsFirstByte (is_byte byte) bs r → r ≡ position (λ b. b == byte) bs
 first_position byte bs None nowhere =
     let whole : position_or_len (λ b. b == byte) bs ≡ length bs =
@@ -84,7 +82,7 @@ first_position byte bs (Some at) found =
     by_test true below first within = ap (λ k. Some k) (sym first)
     by_test false past first within = let reached = ltb-false _ _ past in absurd (omega (arith, reached, first, within))
 
--- `==` of two lines is `==` of their words
+-- two lines are equal as bytes exactly if their words are
 pub same_words : (a b : List ℕ) → bytes_eq a b ≡ line_is (words_of a) (words_of b)
 same_words a b =
     let bytes = bytes_eq-Decides a b in
@@ -94,14 +92,13 @@ same_words a b =
       λ e. words.1 (ap (λ line. words_of line) e),
     )
 
--- the test of a line is the line's equation
+-- lines that pass the test are equal
 pub line_same : (line other : List (List ℕ)) → line_is line other ≡ true → line ≡ other
 line_same line other = (slice_eq-Decides bytes_eq-Decides line other (line_is line other) refl).0
 
 pub same_line : (line : List (List ℕ)) → line_is line line ≡ true
 same_line line = (slice_eq-Decides bytes_eq-Decides line line (line_is line line) refl).1 refl
 
--- no line is without words
 pub never_no_words : (line : List ℕ) → line_is [] (words_of line) ≡ false
 never_no_words line = let h = parts_some (λ b. b == 32) line in ap (λ words. line_is [] words) h.2
 
@@ -113,7 +110,7 @@ line_first bytes line later e =
     let h = parts_some (λ b. b == 10) later in
     ap lines_of_parts (e ∙ ap (λ parts. line ∷ parts) h.2) ∙ ap (λ parts. Some (words_of line) ∷ lines_of_parts parts) (sym h.2)
 
--- bytes without a line feed hold no ended line
+-- bytes without a line feed have no ended line
 pub over_nowhere : (bytes : List ℕ) → slice_split (λ b. b == 10) bytes ≡ bytes ∷ [] → IsOver (lines_of bytes)
 unfolding lines_of
 over_nowhere bytes e = subst (λ parts. IsOver (lines_of_parts parts)) (sym e) (over_one bytes)
@@ -122,11 +119,10 @@ over_nowhere bytes e = subst (λ parts. IsOver (lines_of_parts parts)) (sym e) (
     over_one [] = tt
     over_one (b ∷ bs) = tt
 
--- there is a line at least, ended or not
 abbrev HasLine : TextLines → Type 0
 HasLine all = (line : Option Line) × (lines : TextLines) × (all ≡ line ∷ lines)
 
--- bytes that are there make a line
+-- bytes have a line if there are any
 lines_some : (bytes : List ℕ) → 0 < length bytes → HasLine (lines_of bytes)
 unfolding lines_of
 lines_some [] h = absurd (omega (arith, h))
@@ -142,13 +138,13 @@ lines_some (b ∷ bs) h = by_test (b == 10) (slice_split (λ x. x == 10) bs) (pa
     by_test false parts h =
         let line = by_parts h.0 h.1 in (line.0, line.1, ap (λ ps. lines_of_parts (onto_first b ps)) h.2 ∙ line.2)
 
--- nothing follows where no byte is left
+-- nothing follows if no byte is left
 pub end_none : (taken : ℕ) (bytes : List ℕ) → length bytes ≡ 0 → end_at (record { taken = taken; lines = lines_of bytes }) ≡ Ok tt
 unfolding end_at lines_of
 end_none taken [] h = refl
 end_none taken (b ∷ bs) h = absurd (omega (arith, h))
 
--- and something does where a byte is left
+-- something follows if a byte is left
 pub end_some : (taken : ℕ) (bytes : List ℕ) → 0 < length bytes
     → end_at (record { taken = taken; lines = lines_of bytes }) ≡ Err (fault_at (taken + 1) Syntax)
 unfolding end_at
@@ -156,7 +152,7 @@ end_some taken bytes h =
     let l = lines_some bytes h in
     ap (λ lines. end_at (record { taken = taken; lines = lines })) l.2
 
--- where no ended line comes next, a reader stays where it is
+-- a reader stays where it is if no ended line comes next
 stays_at : (taken : ℕ) (lines : List (Option (List (List ℕ)))) → IsOver lines
     → after_line (record { taken = taken; lines = lines }) ≡ record { taken = taken; lines = lines }
 unfolding after_line
@@ -167,7 +163,7 @@ stays_at taken (Some line ∷ lines) over = absurd over
 pub stays : (old new : Progress) → IsOver old.lines → new ≡ old → new ≡ after_line old
 stays old new over same = same ∙ sym (stays_at old.taken old.lines over)
 
--- and after a line that was taken it stands behind it
+-- a reader stands after the line that it took
 pub moves : (old new : Progress) (line : List (List ℕ)) → old.lines ≡ Some line ∷ new.lines → new.taken ≡ old.taken + 1
     → new ≡ after_line old
 unfolding after_line

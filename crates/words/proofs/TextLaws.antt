@@ -1,10 +1,10 @@
--- A text is the text of its lines, and lines of plain words are the lines of their text.
+-- That a text is the text of its lines, and that lines of plain words are the lines of their text.
 use Rattle.std.{specs.List.{AllByRecursion, join_with_byte, onto_first, slice_split}, proofs.Common.{[], ℕ, ◌++◌, ◌<◌, ◌==◌, ◌∙◌, ◌∷◌, ◌≡◌}}
 use Rattle.std.proofs.{Common.{List, Some, ap, append_assoc, arith, eq-eqb, false, map, refl, sym}, lemmas.Bool.{cond-false, cond-true}}
 use Rattle.std.proofs.lemmas.{Bool.ne_eqb, List.Splits.join_with_byte-slice_split}
 use Rattle.words.{specs.Text.{IsPlainLine, IsPlainWord, lines_of, lines_of_parts, text_of, words_of}, proofs.Splits.line_first}
 
--- from one fact of each element to another, and over two lists joined
+-- properties of all elements: weakened, and of two lists joined
 pub each : {X : Type 0} (P Q : X → Type 0) → ((x : X) → P x → Q x) → (xs : List X) → AllByRecursion P xs → AllByRecursion Q xs
 each P Q f [] h = tt
 each P Q f (x ∷ xs) h = (f x h.0, each P Q f xs h.1)
@@ -14,7 +14,7 @@ pub both : {X : Type 0} (P : X → Type 0) (xs ys : List X) → AllByRecursion P
 both P [] ys h k = k
 both P (x ∷ xs) ys h k = (h.0, both P xs ys h.1 k)
 
--- bytes without the separator are one part, and the first part before it
+-- bytes without the separator are one part, and are the first part before a separator
 pub one_part : (c : ℕ) (xs : List ℕ) → AllByRecursion (λ b. (b == c) ≡ false) xs → slice_split (λ b. b == c) xs ≡ xs ∷ []
 one_part c [] h = refl
 one_part c (x ∷ xs) h = cond-false _ _ _ h.0 ∙ ap (λ parts. onto_first x parts) (one_part c xs h.1)
@@ -31,14 +31,14 @@ not_space b h = ne_eqb b 32 (λ e. absurd (omega (arith, e)))
 not_feed : (b : ℕ) → 32 < b → (b == 10) ≡ false
 not_feed b h = ne_eqb b 10 (λ e. absurd (omega (arith, e)))
 
--- plain words, parted by spaces, are the words of that line
+-- plain words joined by spaces are the words of that line
 pub words_of-join : (line : List (List ℕ)) → IsPlainLine line → words_of (join_with_byte 32 line) ≡ line
 words_of-join [] h = absurd h
 words_of-join (word ∷ []) h = one_part 32 word (each _ _ not_space word h.0)
 words_of-join (word ∷ next ∷ words) h =
     first_part 32 word _ (each _ _ not_space word h.0) ∙ ap (λ ws. word ∷ ws) (words_of-join (next ∷ words) h.1)
 
--- such a line has no line feed
+-- a plain line has no line feed
 no_feed : (line : List (List ℕ)) → AllByRecursion IsPlainWord line
     → AllByRecursion (λ b. (b == 10) ≡ false) (join_with_byte 32 line)
 no_feed [] h = tt

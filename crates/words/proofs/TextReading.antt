@@ -1,11 +1,11 @@
--- The bytes of a text that was read are those of its lines, and the text of such lines is read.
+-- Whole texts: the bytes of a text that was read are those of its lines, and the text of such lines is read.
 use Rattle.std.{specs.List.AllByRecursion, proofs.Common.{[], ℕ, ◌++◌, ◌∙◌, ◌∷◌, ◌≡◌, ◌≢◌, List, Ok, Some, ap, sym}}
 use Rattle.std.proofs.lemmas.List.{map-append}
 use Rattle.words.specs.{FirstFault.{Line, ended}, Reading.{Format, IsNotLast, last_line, read_format, steps, whole_lines}, Text.IsPlainLine}
 use Rattle.words.{specs.Text.{line_is, lines_of, text_of}, proofs.{FirstFaults.{is_text, reads}, Splits.same_line, TextLaws.each}}
 use Rattle.words.proofs.TextLaws.{spelled, text_lines}
 
--- a line that isn't the last differs from it
+-- a line other than the last differs from it
 differs : (line : Line) → IsNotLast line → line ≢ last_line
 differs line other same = cc (sym other ∙ ap (λ l. line_is l last_line) same ∙ same_line last_line)
 
@@ -13,7 +13,7 @@ differs line other same = cc (sym other ∙ ap (λ l. line_is l last_line) same 
 whole : (header : Line) (body : List Line) → ended (whole_lines header body) ≡ ended (header ∷ body) ++ Some last_line ∷ []
 whole header body = map-append (λ (line : Line). Some line) (header ∷ body) (last_line ∷ [])
 
--- what was read are the bytes of the header, of a body whose steps gave a state that comes to the value, and of `end`
+-- the bytes of a text that was read: its header, a body whose steps lead to the value, and `end`
 pub whole_text_takes : {S T : Type 0} (f : Format S T) (value : T) (bytes : List ℕ) → read_format f (lines_of bytes) ≡ Ok value
     → (body : List Line) × (state : S) × (bytes ≡ text_of (whole_lines f.header body)) × (steps f.step f.start body ≡ Ok state)
     × (f.whole state ≡ Ok value)
@@ -27,7 +27,7 @@ whole_text_takes f value bytes read =
       text.whole,
     )
 
--- and the text of plain lines whose steps give a state that comes to a value is read
+-- the text of plain lines whose steps lead to a value is read as that value
 pub whole_text_again : {S T : Type 0} (f : Format S T) (state : S) (value : T) (body : List Line) (bytes : List ℕ)
     → AllByRecursion IsPlainLine (whole_lines f.header body) → AllByRecursion IsNotLast body
     → steps f.step f.start body ≡ Ok state → f.whole state ≡ Ok value

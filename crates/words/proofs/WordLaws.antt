@@ -1,4 +1,4 @@
--- What a line that was read says of its words, and that what is spelled is plain.
+-- The words of a line that was read, and that spelled words are plain.
 use Rattle.std.{specs.{Char.is_ascii_digit, Fmt.decimal, List.{AllByRecursion, list_all}}, proofs.Common.{[], ℕ, ◌++◌, ◌<◌, ◌^◌, ◌∷◌, ◌≡◌}}
 use Rattle.std.proofs.{Common.{Bool, Err, List, Ok, Result, arith, codes, lit<, map, nat_lt, refl, true}, lemmas.Bool.and_parts}
 use Rattle.std.proofs.lemmas.{Bool.Decides.{Decides-ltb, nat_tests}, Fmt.digits_decimal}
@@ -6,14 +6,14 @@ use Rattle.words.specs.{declared.faults.Wrong.Wrong, Name.{is_name, is_name_byte
 use Rattle.words.{specs.{Reading.{ended_at, last_line, word_at}, Text.{IsPlainLine, IsPlainWord}}, proofs.Decimals.own}
 use Rattle.words.proofs.HexLaws.{is_hexadecimal-digits}
 
--- reading in two steps that gave a value: the first gave one, and the second from there
+-- a sequence of two readers that gave a value: the first gave one, and the second the result
 pub bind_ok : {E X Y : Type 0} (r : Result X E) (f : X → Result Y E) (y : Y) → bind r f ≡ Ok y
     → (x : X) × (r ≡ Ok x) × (f x ≡ Ok y)
 unfolding bind
 bind_ok (Ok x) f y h = (x, refl, h)
 bind_ok (Err e) f y h = cc
 
--- a word was taken, and reading went on with the words after it
+-- a word was read, and reading went on with the words after it
 pub record ReadsWord {Y : Type 0} (f : List ℕ × List (List ℕ) → Result Y Wrong) (words : List (List ℕ)) (y : Y) : Type 0 where
   pub word : List ℕ
   pub rest : List (List ℕ)
@@ -33,7 +33,7 @@ unfolding bind ended_at
 ended_then f [] y h = (refl, h)
 ended_then f (word ∷ rest) y h = cc
 
--- the bytes of what is spelled are plain
+-- spelled bytes are plain
 plain_from_test : (p : ℕ → Bool) → ((b : ℕ) → p b ≡ true → 32 < b) → (bs : List ℕ) → list_all p bs ≡ true → IsPlainWord bs
 plain_from_test p high [] h = tt
 plain_from_test p high (b ∷ bs) h = let test = and_parts _ _ h in (high b test.0, plain_from_test p high bs test.1)
@@ -60,7 +60,7 @@ plain_name word h = plain_from_test is_name_byte name_byte_above word (and_parts
 pub plain_bytes : (bytes : List ℕ) → list_all (λ b. nat_lt 32 b) bytes ≡ true → IsPlainWord bytes
 plain_bytes bytes h = plain_from_test (λ b. nat_lt 32 b) (λ b. (Decides-ltb 32 b).0) bytes h
 
--- the lines of values whose lines are plain, with `end` after them
+-- the lines of values with plain lines are plain, with `end` after them
 pub plain_lines : {X : Type 0} (P : X → Type 0) (f : X → List (List ℕ)) → ((x : X) → P x → IsPlainLine (f x)) → (xs : List X)
     → AllByRecursion P xs → AllByRecursion IsPlainLine (map f xs ++ last_line ∷ [])
 plain_lines P f plain [] all = ((plain_bytes (codes "end") refl, tt), tt)

@@ -1,9 +1,8 @@
--- What a text is refused for, by number and line, and what stands for want of memory (confine's own).
+-- The faults of texts by number and line, and the fault that stands for refused memory (confine's own).
 use Rattle.std.specs.Prelude.{ℕ}
 use Rattle.words.specs.declared.faults.{Fault.Fault, LineError.{LineError, TheVariants.{Memory, Text}}, Wrong.{Wrong, TheVariants.Double}}
 use Rattle.words.specs.declared.faults.Wrong.TheVariants.{Limit, Misplaced, Syntax, Tree, UnknownName, WrongKind}
 
--- the number by which a fault is told
 abbrev pub number_of : Wrong → ℕ
 number_of Syntax = 50
 number_of UnknownName = 51
@@ -13,11 +12,10 @@ number_of Limit = 54
 number_of WrongKind = 55
 number_of Tree = 56
 
--- the fault of a line, counted from 1
 unfoldable pub fault_at : ℕ → Wrong → Fault
 fault_at line wrong = record { number = number_of wrong; line = line }
 
--- want of memory, which is the fault of no line
+-- refused memory, which is the fault of no line
 abbrev pub no_memory : Fault
 no_memory = record { number = 40; line = 0 }
 

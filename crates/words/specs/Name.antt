@@ -1,22 +1,19 @@
--- Names as texts spell them, which are confine's own: 1 to 31 lower-case letters, digits and `_`, the first a letter.
+-- Names in texts: 1 to 31 lower-case letters, digits and `_`, the first a letter (confine's own).
 use Rattle.std.specs.{Char.{is_ascii_digit, is_ascii_lowercase}, List.list_all, Prelude.{[], ℕ, ◌&&◌, ◌==◌, ◌||◌, ◌∷◌, Bool, List, None}}
 use Rattle.std.specs.Prelude.{Ok, Option, Result, Some, false, if◌then◌else◌, length, nat_le}
 use Rattle.words.specs.{declared.{faults.Wrong.Wrong, names.TheConstants.MAX_NAME_LENGTH}, Reading.{◌>>=◌, or_syntax, word_at}}
 
--- a byte that may stand in a name, where 95 is `_`
+-- a byte that may be in a name; 95 is `_`
 abbrev pub is_name_byte : ℕ → Bool
 is_name_byte b = (is_ascii_lowercase b || is_ascii_digit b) || b == 95
 
--- the first byte is a letter
 abbrev pub starts_with_letter : List ℕ → Bool
 starts_with_letter [] = false
 starts_with_letter (b ∷ bs) = is_ascii_lowercase b
 
--- a name
 abbrev pub is_name : List ℕ → Bool
 is_name word = (starts_with_letter word && nat_le (length word) MAX_NAME_LENGTH) && list_all is_name_byte word
 
--- the name that a word is
 unfoldable pub name_of : List ℕ → Option (List ℕ)
 name_of word = if is_name word then Some word else None
 

@@ -1,17 +1,16 @@
--- Numbers as texts spell them, below 2 ^ 64: decimal without a leading zero, and hexadecimal after `0x` in lower case without one
--- (confine's own).
+-- Numbers in texts, below 2 ^ 64: decimal, and hexadecimal in lower case after `0x`, both without a leading zero (confine's own).
 use Rattle.std.specs.{Char.is_ascii_digit, Fmt.digits, Int.is_in_range, List.list_all, Prelude.{[], ℕ, ◌&&◌, ◌++◌, ◌==◌, ◌^◌, ◌||◌, ◌∷◌}}
 use Rattle.std.specs.Prelude.{Bool, List, None, Ok, Option, Result, Some, codes, drop, false, if◌then◌else◌, nat_lt, not, take, true}
 use Rattle.std.specs.Str.{bytes_eq, Parse.digits_value}
 use Rattle.words.specs.{declared.faults.Wrong.Wrong, Reading.{◌>>=◌, or_syntax, word_at}}
 
--- at least one digit, and no leading zero but for the digit 0 alone
+-- at least one digit, and no leading zero unless it is the only digit
 abbrev pub has_no_leading_zero : List ℕ → Bool
 has_no_leading_zero [] = false
 has_no_leading_zero (digit ∷ []) = true
 has_no_leading_zero (digit ∷ next ∷ digits) = not (digit == 48)
 
--- the number, where 64 bits hold it
+-- the number, if 64 bits hold it
 abbrev pub below_limit : ℕ → Option ℕ
 below_limit n = if nat_lt n (2 ^ 64) then Some n else None
 
@@ -46,7 +45,7 @@ hex_digits_of digits = if is_hexadecimal digits then below_limit (digits_value 1
 unfoldable pub hex_of : List ℕ → Option ℕ
 hex_of word = if bytes_eq (take 2 word) (codes "0x") then hex_digits_of (drop 2 word) else None
 
--- how a hexadecimal word spells a number
+-- the hexadecimal word of a number
 abbrev pub hexadecimal : ℕ → List ℕ
 hexadecimal n = codes "0x" ++ digits 16 false n
 

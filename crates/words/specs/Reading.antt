@@ -1,10 +1,9 @@
--- Reading as functions on lists: the words of a line are taken one after another, and so are the lines of a text. The first fault
--- ends it. The functions are confine's own.
+-- Reading as functions on lists: of the words of a line, and of the lines of a text, up to the first fault (confine's own).
 use Rattle.std.specs.Prelude.{[], ℕ, ◌++◌, ◌+◌, ◌∷◌, ◌≡◌, ◌≢◌, Err, List, None, Ok, Option, Result, Some, codes, false, if◌then◌else◌, map}
 use Rattle.words.specs.declared.faults.{Fault.Fault, LineError.{LineError, TheVariants.{Memory, Text}}, Wrong.{Wrong, TheVariants.Syntax}}
 use Rattle.words.specs.{Fault.{fault_at, no_memory}, Text.{Progress, line_is, text_of, words_of}}
 
--- one step of reading after another: a fault ends it
+-- two steps of reading; a fault ends reading
 unfoldable pub bind : {E X Y : Type 0} → Result X E → (X → Result Y E) → Result Y E
 bind (Ok x) next = next x
 bind (Err e) next = Err e
@@ -23,7 +22,7 @@ unfoldable pub ended_at : List (List ℕ) → Result (Unit {0}) Wrong
 ended_at [] = Ok tt
 ended_at (word ∷ words) = Err Syntax
 
--- a value where there is one, else a fault of form
+-- a value if there is one, or else a fault of form
 unfoldable pub or_syntax : {X : Type 0} → Option X → Result X Wrong
 or_syntax (Some x) = Ok x
 or_syntax None = Err Syntax
@@ -32,7 +31,7 @@ or_syntax None = Err Syntax
 abbrev pub last_line : List (List ℕ)
 last_line = words_of (codes "end")
 
--- the place after the next line, which is the same place where no ended line comes next
+-- the place after the next line, or the same place if no ended line comes next
 unfoldable pub after_line : Progress → Progress
 after_line place = after place.lines
   where
@@ -61,12 +60,12 @@ header_at header place = header_of place.lines
         then Ok (record { taken = place.taken + 1; lines = lines })
         else Err (fault_at (place.taken + 1) Syntax)
 
--- a result of one line, with the line's number at its fault
+-- the result of one line, with the line's number added to its fault
 unfoldable pub at_line : {S T : Type 0} → ℕ → Result S Wrong → (S → Result T Fault) → Result T Fault
 at_line line (Ok s) next = next s
 at_line line (Err wrong) next = Err (fault_at line wrong)
 
--- the lines up to `end`, each a step of a state; then what the state and the place after `end` give
+-- reads the lines up to `end`, each a step of a state, and finishes with the state and the place after `end`
 unfoldable pub read_lines : {S T : Type 0} → (S → List (List ℕ) → Result S Wrong) → (S → Progress → Result T Fault) → ℕ → S
     → List (Option (List (List ℕ))) → Result T Fault
 read_lines step finish taken s [] = Err (fault_at (taken + 1) Syntax)
@@ -76,12 +75,11 @@ read_lines step finish taken s (Some line ∷ lines) =
     then finish s (record { taken = taken + 1; lines = lines })
     else at_line (taken + 1) (step s line) (λ next. read_lines step finish (taken + 1) next lines)
 
--- the state after a list of lines, each a step
 unfoldable pub steps : {S : Type 0} → (S → List (List ℕ) → Result S Wrong) → S → List (List (List ℕ)) → Result S Wrong
 steps step s [] = Ok s
 steps step s (line ∷ lines) = bind (step s line) (λ next. steps step next lines)
 
--- the lines of a whole text, whose body stands between its header and the line `end`
+-- the lines of a whole text: its header, its body and `end`
 abbrev pub whole_lines : List (List ℕ) → List (List (List ℕ)) → List (List (List ℕ))
 whole_lines header body = header ∷ (body ++ last_line ∷ [])
 
@@ -89,11 +87,10 @@ whole_lines header body = header ∷ (body ++ last_line ∷ [])
 abbrev pub list_text : {X : Type 0} → List (List ℕ) → (X → List (List ℕ)) → List X → List ℕ
 list_text header line values = text_of (whole_lines header (map line values))
 
--- a line other than the line `end`
 abbrev pub IsNotLast : List (List ℕ) → Type 0
 IsNotLast line = line_is line last_line ≡ false
 
--- what the lines of a text came to, or the fault of one of them
+-- the value of a state after all lines, or the fault of one of them
 abbrev pub Whole : Type 0 → Type 0
 Whole T = Result T (ℕ × Wrong)
 
@@ -101,24 +98,24 @@ abbrev pub faulted : {T : Type 0} → Whole T → Result T Fault
 faulted (Ok t) = Ok t
 faulted (Err (line, wrong)) = Err (fault_at line wrong)
 
--- what the lines came to is judged once the line `end` was read; then nothing may follow
+-- the state is judged once the line `end` is read; then nothing may follow
 unfoldable pub judged : {S T : Type 0} → (S → Whole T) → S → Progress → Result T Fault
 judged whole s place = do
   t ← faulted (whole s)
   _ ← end_at place
   Ok t
 
--- the lines come to the state as it is
+-- the value is the state itself
 abbrev pub as_read : {S : Type 0} → S → Whole S
 as_read s = Ok s
 
--- a whole text: its header, its lines, and what they give
+-- reads a whole text: its header, its lines, and what they give
 unfoldable pub read_text : {S T : Type 0} → List (List ℕ) → (S → List (List ℕ) → Result S Wrong) → (S → Progress → Result T Fault)
     → S → List (Option (List (List ℕ))) → Result T Fault
 read_text header step finish s lines =
     bind (header_at header (record { taken = 0; lines = lines })) (λ place. read_lines step finish place.taken s place.lines)
 
--- a format of texts: the header, what each line makes of the state, what the state comes to at the end, and the state before the lines
+-- a format of texts: the header, the step of each line, the value of the state at the end, and the first state
 pub record Format (S T : Type 0) : Type 0 where
   pub header : List (List ℕ)
   pub step : S → List (List ℕ) → Result S Wrong
@@ -129,26 +126,26 @@ pub record Format (S T : Type 0) : Type 0 where
 abbrev pub list_format : {X : Type 0} → List (List ℕ) → (List X → List (List ℕ) → Result (List X) Wrong) → Format (List X) (List X)
 list_format header step = record { header = header; step = step; whole = as_read; start = [] }
 
--- what a text of this format is read as, or its first fault
+-- the value of a text of this format, or its first fault
 abbrev pub read_format : {S T : Type 0} → Format S T → List (Option (List (List ℕ))) → Result T Fault
 read_format f lines = read_text f.header f.step (judged f.whole) f.start lines
 
--- a result is just what reading gives, seen by `view`
+-- a result is what reading gives, seen by `view`
 abbrev pub Gives : {E X Y : Type 0} → (X → Y) → Result X E → Result Y E → Type 0
 Gives view (Ok x) read = read ≡ Ok (view x)
 Gives view (Err e) read = read ≡ Err e
 
--- reading stops for this reason: where memory was refused, nothing is said of the text
+-- reading stops for this reason; nothing is said of the text if memory was refused
 abbrev pub StopsBy : {Y : Type 0} → LineError → Result Y Wrong → Type 0
 StopsBy Memory read = Unit {0}
 StopsBy (Text wrong) read = read ≡ Err wrong
 
--- a result of a call that takes memory is what reading gives
+-- a result is what reading gives, seen by `view`, unless memory was refused
 abbrev pub GivesOrStops : {X Y : Type 0} → (X → Y) → Result X LineError → Result Y Wrong → Type 0
 GivesOrStops view (Ok x) read = read ≡ Ok (view x)
 GivesOrStops view (Err error) read = StopsBy error read
 
--- and of a whole text
+-- the result for a whole text is what reading gives, unless memory was refused
 abbrev pub Reads : {X Y : Type 0} → (X → Y) → Result X Fault → Result Y Fault → Type 0
 Reads view (Ok x) read = read ≡ Ok (view x)
 Reads view (Err fault) read = fault ≢ no_memory → read ≡ Err fault

@@ -1,4 +1,4 @@
-//! The faults for which a text is refused.
+//! The faults for which a text is refused, by number and line.
 ghost use Rattle.std.specs.Prelude.{◌≡◌};
 ghost use Rattle.words.specs.declared.faults.LineError.TheVariants.{Memory, Text};
 ghost use Rattle.words.specs.Fault.{fault_at, no_memory, number_of};
@@ -6,7 +6,7 @@ ghost use Rattle.words.specs.Fault.{fault_at, no_memory, number_of};
 use std::alloc::{AllocError, AllocFailed};
 use thiserror::Error;
 
-/// The fault of a line of a text.
+/// The kind of fault of a line.
 ///
 /// Within a line, faults are reported in the order `Syntax`, `UnknownName`, `Double`, `WrongKind`,
 /// `Limit`, `Misplaced`. `Tree` is found once the text ended.
@@ -78,10 +78,10 @@ impl<T: Drop> From<AllocFailed<T>> for LineError {
     }
 }
 
-/// The reason why a text wasn't read.
+/// The fault for which a text is refused.
 ///
-/// A fault has its number of the fault, 50 to 56, and the line that has it, from 1; or 40 and line
-/// 0 where memory was refused.
+/// It has its number, 50 to 56, and the line that has it, from 1; or 40 and line 0 if memory was
+/// refused.
 #[derive(Clone, Copy, Debug, PartialEq, Eq, Error)]
 #[error("line {line}: fault {number}")]
 pub struct Fault {

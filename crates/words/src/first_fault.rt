@@ -1,4 +1,4 @@
-//! Laws about the first fault of a text.
+//! Laws about the first fault of a text: a text is refused for it, and so is each text that is cut.
 ghost use Rattle.std.specs.List.{count_by};
 ghost use Rattle.std.specs.Prelude.{ℕ, ◌++◌, ◌+◌, ◌<◌, ◌==◌, ◌↔◌, ◌≡◌, ◌⊎◌, Err, List, Ok, Result, length};
 ghost use Rattle.words.specs.{declared.faults.Wrong.{Wrong, TheVariants.Syntax}, Fault.fault_at};
@@ -7,8 +7,8 @@ ghost use Rattle.words.specs.Text.{lines_of};
 
 /// A law: a text is refused for its first fault, by the fault's line and by what is wrong there.
 ///
-/// A text is read exactly if it has no fault. So it is read or refused, never both, and for one
-/// fault alone.
+/// A text is read exactly if it has no fault. So it is either read or refused, and for one fault
+/// only.
 pub fn a_text_is_refused_for_its_first_fault<S, T>()
     ensures refused { (f : Format S T) (lines : TextLines)
         (line : ℕ) (wrong : Wrong)
@@ -32,7 +32,7 @@ pub fn a_text_is_refused_for_its_first_fault<S, T>()
         → (line ≡ other) × (wrong ≡ that) }
 {}
 
-/// A law: of a text that is read, each beginning but the whole is refused for its form.
+/// A law: each proper beginning of a text that is read is refused for its form.
 ///
 /// The fault is at the line after the beginning's last line feed.
 pub fn a_text_that_is_cut_is_refused<S, T>()

@@ -1,6 +1,6 @@
 //! The part that all texts share: lines of words, numbers and names, and the faults of a text by number and line.
 //!
-//! The crates that read and write texts stand on it. It knows nothing of a kernel or a policy.
+//! The crate knows nothing of a kernel or a policy.
 #![tactic(auto)]
 
 mod faults;

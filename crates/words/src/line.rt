@@ -1,4 +1,4 @@
-//! The words of a line, taken one after another.
+//! A reader of the words of a line.
 ghost use Rattle.std.specs.Prelude.{[], ◌∷◌, ◌≡◌, IfOk, IfSome, MatchOption, Ok, drop, true};
 ghost use Rattle.words.specs.{Name.{is_name, name_at}, Number.{hex_at, number_at}, Reading.{Gives, ended_at, word_at}};
 ghost use Rattle.words.specs.Text.{line_is, words_of};
@@ -13,7 +13,7 @@ use std::marker::Model;
 ///
 /// It takes no memory.
 ///
-/// A word is taken also where it isn't what was asked for.
+/// It takes a word even if the word isn't what was asked for.
 #[derive(Drop)]
 pub struct Words<'a> {
     rest: Option<&'a [u8]>,
@@ -111,7 +111,7 @@ impl<'a> Words<'a> {
         }
     }
 
-    // The next word where it is one digit before a space, as most numbers are. Any other isn't taken.
+    // The next word, if it is one digit before a space, as most numbers are. No other word is taken.
     fn one_digit(&mut self) -> Option<u64>
         ensures { MatchOption result
             (self.new ≡ self.old)
@@ -162,7 +162,7 @@ impl<'a> Words<'a> {
     }
 }
 
-// The digit that stands before a space at the beginning, and what follows the space.
+// The digit before a space at the beginning of a line, and what follows the space.
 #[tactic(auto, using(crate::proofs::OneDigit::one_digit, crate::proofs::OneDigit::one_word))]
 fn digit_before_space(bytes: &[u8]) -> Option<(u64, &[u8])>
     ensures number { IfSome result (λ taken. number_at (words_of bytes.now) ≡ Ok (taken.0, words_of taken.1.now)) }

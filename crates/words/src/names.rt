@@ -1,4 +1,4 @@
-//! Names: how they are spelled and read.
+//! The spelling of names in texts.
 ghost use Rattle.std.specs.{List.list_all, Option.option_copied, Prelude.{ℕ, ◌↔◌, ◌≡◌, IfSome, List, Some, true}};
 ghost use Rattle.words.specs.Name.{is_name, is_name_byte, name_of, starts_with_letter};
 
@@ -26,7 +26,7 @@ pub fn name_of(word: &[u8]) -> Option<&str>
     str::from_utf8(word).ok()
 }
 
-/// A law about names: a word is read as a name just where it is that name, and a name by its bytes.
+/// A law about names: a word is read as a name exactly if it is that name, and a name is read by its bytes.
 pub fn names_are_read_back()
     ensures { (word name : List ℕ)
         → (name_of word ≡ Some name) ↔ ((word ≡ name) × (is_name name ≡ true)) }

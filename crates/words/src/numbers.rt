@@ -1,4 +1,4 @@
-//! Decimal and hexadecimal numbers: how they are spelled and read.
+//! The spelling of decimal and hexadecimal numbers in texts.
 ghost use Rattle.std.specs.{Fmt.decimal, List.list_all, Prelude.{ℕ, ◌*◌, ◌+◌, ◌<◌, ◌^◌, ◌↔◌, ◌≡◌, ◌≢◌, List, Some}};
 ghost use Rattle.words.specs.Number.{below_limit, dec_of, has_no_leading_zero, hex_digits_of, hex_of, hexadecimal};
 ghost use Rattle.words.specs.Number.{is_hex_digit, is_hexadecimal};
@@ -22,7 +22,7 @@ pub fn decimal_of(word: &[u8]) -> Option<u64>
     Some(number)
 }
 
-// The number with a digit more.
+// The number with one digit more.
 fn with_digit(number: u64, digit: u8) -> Option<u64>
     ensures { result ≡ below_limit (number * 10 + digit) }
 {
@@ -71,10 +71,10 @@ fn all_hex_digits(word: &[u8]) -> bool
         .all(|byte| matches!(byte, b'0'..=b'9' | b'a'..=b'f'))
 }
 
-/// A law: a word spells a number below 2^64 exactly where it is the number's word.
+/// A law: a word spells a number below 2^64 exactly if it is the number's word.
 ///
-/// The law holds of the decimal word, and alike of the hexadecimal word. So a number has one word
-/// of each form, different numbers have different words, and no word is of both forms.
+/// The law holds of decimal and of hexadecimal words. So a number has one word of each form,
+/// different numbers have different words, and no word is of both forms.
 pub fn numbers_are_read_back()
     ensures decimal { (word : List ℕ) (n : ℕ)
         → (dec_of word ≡ Some n) ↔ ((word ≡ decimal n) × (n < 2 ^ 64)) }

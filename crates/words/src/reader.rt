@@ -1,4 +1,4 @@
-//! How a whole text is read, a line at a time.
+//! The reading of a whole text, a line at a time.
 ghost use Rattle.std.specs.Prelude.{ℕ, ◌≡◌, List, OnOk, Result};
 ghost use Rattle.words.specs.{declared.faults.Wrong.Wrong, Reading.{GivesOrStops, Reads, as_read, judged, read_text}};
 ghost use Rattle.words.specs.Text.{lines_of, words_of};
@@ -7,9 +7,9 @@ use crate::faults::{Fault, LineError, Wrong};
 use crate::line::Words;
 use crate::text::Lines;
 
-/// A thing that a text is read into, a line at a time.
+/// A value that a text is read into, a line at a time.
 pub trait Reader {
-    // What is seen of it, and which step of that a line is.
+    // The value as contracts see it, and the step of a line.
     ghost Seen: { Type 0 };
 
     ghost seen: { Self → Seen };

@@ -1,9 +1,9 @@
-//! How bytes are split at the first byte of a value, or at the first line feed.
+//! Splitting bytes at the first byte of a value, or at the first line feed.
 ghost use Rattle.std.specs.{List.slice_split, Prelude.{[], ◌<◌, ◌==◌, ◌∷◌, ◌≡◌, IfSome, MatchOption, length, position}};
 
 use memchr::memchr;
 
-/// What stands before and after the first `byte`, or `None` where there is none.
+/// The bytes before and after the first `byte`, or `None` if there is none.
 #[tactic(auto, using(crate::proofs::Splits::split_round, crate::proofs::Splits::split_nowhere))]
 pub(crate) fn split_first_at(byte: u8, bytes: &[u8]) -> Option<(&[u8], &[u8])>
     ensures parts { MatchOption result
@@ -16,7 +16,7 @@ pub(crate) fn split_first_at(byte: u8, bytes: &[u8]) -> Option<(&[u8], &[u8])>
     Some((&bytes[..at], &bytes[at + 1..]))
 }
 
-/// What stands before and after the first line feed, or `None` where there is none.
+/// The bytes before and after the first line feed, or `None` if there is none.
 #[tactic(auto, using(crate::proofs::Splits::split_round, crate::proofs::Splits::split_nowhere))]
 pub(crate) fn split_line(bytes: &[u8]) -> Option<(&[u8], &[u8])>
     ensures parts { MatchOption result
@@ -29,7 +29,7 @@ pub(crate) fn split_line(bytes: &[u8]) -> Option<(&[u8], &[u8])>
     Some((&bytes[..at], &bytes[at + 1..]))
 }
 
-// Many bytes are looked at together, since lines are longer than words.
+// Many bytes are compared at once, as lines are longer than words.
 #[tactic(auto, using(crate::proofs::Splits::first_position))]
 fn line_feed_in(bytes: &[u8]) -> Option<usize>
     ensures { result ≡ position (λ b. b == 10) bytes.now }

@@ -1,4 +1,4 @@
-//! The lines of a text, taken one after another.
+//! A reader of the lines of a text.
 ghost use Rattle.std.specs.{List.AllByRecursion, Prelude.{ℕ, ◌+◌, ◌∷◌, ◌≡◌, List, MatchOption, map}};
 ghost use Rattle.words.specs.{Fault.{fault_at, fault_of}, Reading.{Gives, after_line, end_at, header_at}};
 ghost use Rattle.words.specs.Text.{IsOver, IsPlainLine, lines_of, text_of, words_of};
@@ -46,7 +46,7 @@ impl<'a> Lines<'a> {
 
     /// Takes the next line, and returns its words.
     ///
-    /// Returns `None` where no line follows that a line feed ends.
+    /// Returns `None` if no ended line follows.
     #[tactic(auto, using(crate::proofs::Splits::line_first, crate::proofs::Splits::over_nowhere))]
     pub fn next_line(&mut self) -> Option<Words<'a>>
         ensures { MatchOption result

@@ -1,5 +1,5 @@
--- Bind and Unbind (seL4 manual, seL4_SchedContext_Bind, seL4_SchedContext_Unbind): a thread runs on a scheduling context, or no more;
--- and a thread's context goes over to another thread.
+-- Bind and Unbind (seL4 manual, seL4_SchedContext_Bind, seL4_SchedContext_Unbind): a thread starts or stops to run on a scheduling
+-- context; and a thread's context is handed to another thread.
 use Rattle.std.specs.Prelude.{ℕ, Err, None, Ok, Option, Result, Some}
 use Rattle.base.specs.declared.{ids.ObjId.ObjId, refusal.Cause.{Cause, Cause as cause}}
 use Rattle.machine.specs.declared.{call.{Answer.Answer as answer, Made.{Made, TheVariants.Done}}, object.{Object.Object}}
@@ -16,7 +16,7 @@ abbrev pub context_under : Option Object → Option ObjId
 context_under (Some (o.Tcb tcb)) = tcb.context
 context_under _ = None
 
--- a link that may be made: it isn't there yet
+-- a link that may be made: there is none yet
 abbrev pub unlinked : Option ObjId → Result (Unit {0}) Cause
 unlinked None = Ok tt
 unlinked (Some _) = Err cause.IllegalOperation

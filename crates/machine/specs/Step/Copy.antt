@@ -14,7 +14,7 @@ copyable _ = Ok tt
 abbrev pub both : Rights → Rights → Rights
 both one other = record { 0 = bit_and one.0 other.0 }
 
--- with those rights alone that are in the mask; a kind without rights stays as it is
+-- the rights that are in the mask alone; a kind without rights stays as it is
 abbrev pub masked : Rights → Detail → Detail
 masked mask (d.Endpoint end) = d.Endpoint (record end { rights = both end.rights mask })
 masked mask (d.Notification end) = d.Notification (record end { rights = both end.rights mask })

@@ -1,5 +1,5 @@
--- The delivery of a message (seL4 manual, "Endpoints"; one capability at most, to an empty slot, a copy with all its rights): who
--- waits at an endpoint, which capability arrives with the message, and how a call waits for its answer.
+-- The delivery of a message (seL4 manual, "Endpoints"; at most one capability, copied with all its rights to an empty slot): the threads
+-- that wait at an endpoint, the capability that arrives with the message, and how a call waits for its answer.
 use Rattle.std.specs.Prelude.{ℕ, ◌&&◌, ◌||◌, Bool, Err, List, None, Ok, Option, Result, Some, if◌then◌else◌, is_ok, option_and_then}
 use Rattle.std.specs.Prelude.{option_map}
 use Rattle.base.specs.declared.{ids.ObjId.ObjId, refusal.Cause.{Cause, Cause as cause}}
@@ -11,7 +11,7 @@ use Rattle.machine.specs.{Changes.first_waiting, Machine.{Machine, cap_of, objec
 use Rattle.machine.specs.{Releasing.{with_halted, with_ready}, Step.{Copy.copyable, Find.{find_cap, permitted}, Target.{target_of, vacant}}}
 use Rattle.machine.specs.Tree.{with_copy}
 
--- what is recorded of a message that is sent by a capability to an endpoint: its badge, and what its rights allow
+-- the record of a message sent by a capability to an endpoint: the badge, and what the rights allow
 abbrev pub sending_by : ObjId → Badged → Bool → List ℕ → Option ℕ → Sending
 sending_by endpoint end is_call words capability =
     record {
@@ -29,7 +29,7 @@ abbrev pub state_in : Option Object → Option RunState
 state_in (Some (o.Tcb tcb)) = Some tcb.state
 state_in _ = None
 
--- who waits first at an endpoint, and the run state in which it waits
+-- the thread that waits first at an endpoint, and the run state in which it waits
 unfoldable pub first_at : Machine → ObjId → Option (ObjId × RunState)
 first_at m id = option_and_then (λ thread. option_map (λ run. (thread, run)) (state_in (object_of m thread))) (first_waiting m id)
 
@@ -43,14 +43,13 @@ abbrev pub sender_in : Option (ObjId × RunState) → Option (ObjId × Sending)
 sender_in (Some (thread, state.Sending sending)) = Some (thread, sending)
 sender_in _ = None
 
--- an address that is given
 abbrev pub named : {A : Type 0} → Option A → Result A Cause
 named None = Err cause.InvalidArgument
 named (Some address) = Ok address
 
 -- the slots between which a message's capability travels, if one arrives: the sender's capability to the endpoint had the right
--- Grant when it was used, the sender has a capability now at the address that it gave, which isn't untyped memory's, and the
--- receiver gave a slot, which is there and empty
+-- Grant when it was used, the sender has a capability at the address that it gave, which isn't untyped memory's, and the receiver gave a
+-- slot, which is there and empty
 unfoldable pub arrival_of : Machine → ObjId → Sending → ObjId → Option SlotAddress → Result Ends Cause
 arrival_of m sender sending receiver slot = do
   _ ← permitted sending.grant
@@ -78,11 +77,11 @@ delivered m sender sending receiver receiving =
       give : Result Ends Cause → Machine
       give arrival = with_given (with_arrival m arrival) receiver (message_of sending (is_ok arrival))
 
--- the reply through which a call is answered: the one that the receiver named, where the caller's capability allows an answer
+-- the reply through which a call is answered: the one that the receiver named, if the caller's capability allows an answer
 abbrev pub answer_through : Sending → Option ObjId → Option ObjId
 answer_through sending reply = if sending.can_reply then reply else None
 
--- a thread whose call was received waits for its answer, and lends nothing; or it can't run
+-- a thread whose call was received waits for its answer and lends nothing, or can't run if there is no reply
 abbrev pub linked : Machine → ObjId → Option ObjId → Machine
 linked m caller (Some reply) = with_called (with_halted m caller) caller (record { reply = reply; lent = None })
 linked m caller None = with_halted m caller

@@ -1,4 +1,4 @@
--- Fetch (confine's own): what the thread was given and has not fetched yet.
+-- Fetch (confine's own): the caller takes what it was given and has not fetched yet.
 use Rattle.std.specs.Prelude.{Err, Ok, Option, Result, Some}
 use Rattle.base.specs.declared.{ids.ObjId.ObjId, refusal.Cause.{Cause, Cause as cause}}
 use Rattle.machine.specs.declared.{call.{Answer.{Answer, Answer as answer}, Made.{Made, TheVariants.Done}}, object.Object.Object}
@@ -17,7 +17,6 @@ abbrev pub fetched_in : Option Object → Result Answer Cause
 fetched_in (Some (o.Tcb tcb)) = fetched tcb.inbox
 fetched_in _ = Err cause.NoSuchThread
 
--- a thread's inbox becomes empty
 unfoldable pub emptied : Machine → ObjId → Machine
 emptied m thread = by_content (object_of m thread) where
   by_content : Option Object → Machine

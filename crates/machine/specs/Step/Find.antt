@@ -1,5 +1,4 @@
--- What a call finds at an address: a capability to an object of the kind that it wants (seL4 manual, "Capability Address
--- Lookup").
+-- Capabilities that a call finds at an address, for an object of the kind that it takes (seL4 manual, "Capability Address Lookup").
 use Rattle.std.specs.Prelude.{ℕ, Bool, Err, None, Ok, Option, Result, Some, if◌then◌else◌}
 use Rattle.base.specs.declared.{ids.{ObjId.ObjId, SlotRef.SlotRef}, refusal.Cause.Cause}
 use Rattle.base.specs.declared.refusal.Cause.TheVariants as cause
@@ -11,7 +10,7 @@ abbrev pub held_in : Option Cap → Result Cap Cause
 held_in None = Err cause.InvalidCapability
 held_in (Some held) = Ok held
 
--- the slot at an address and the capability that it holds; a lookup that fails refuses with its cause
+-- the slot at an address and the capability that it holds; a failed lookup refuses with its cause
 unfoldable pub find_cap : Machine → ObjId → ℕ → Result (SlotRef × Cap) Cause
 find_cap m caller address = do
   place ← lookup_of m caller address

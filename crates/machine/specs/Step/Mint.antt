@@ -7,7 +7,7 @@ use Rattle.machine.specs.declared.{cap.Detail.{Detail, Detail as d}, object.Obje
 use Rattle.machine.specs.{declared.slot_address.SlotAddress.SlotAddress, Machine.{Machine, object_of}, Refusing.◌>>=◌, Step.Copy.copyable}
 use Rattle.machine.specs.{Step.{Copy.masked, Target.ends_of}, Tree.with_copy}
 
--- a badge is given once: to a capability that has none, which is badge 0
+-- a badge is given once: to a capability with badge 0, which is none
 abbrev pub badged : (Badged → Detail) → ℕ → Badged → Result Detail Cause
 badged detail badge end =
     if end.badge == 0 then Ok (detail (record end { badge = badge })) else Err cause.IllegalOperation
@@ -19,7 +19,7 @@ guarded size value (Some (o.CNode node)) =
     then Ok (d.CNode (record { size = size; value = value % 2 ^ size })) else Err cause.IllegalOperation
 guarded size value _ = Err cause.IllegalOperation
 
--- what a capability to an object says with a badge or a guard; only endpoints and notifications have badges, and CNodes guards
+-- the detail of a capability with a badge or a guard; only endpoints and notifications have badges, and CNodes guards
 abbrev pub minted : Option Object → CapData → Detail → Result Detail Cause
 minted object (given.Badge badge) (d.Endpoint end) = badged d.Endpoint badge end
 minted object (given.Badge badge) (d.Notification end) = badged d.Notification badge end

@@ -1,4 +1,4 @@
--- Poll (seL4 manual, "Notifications"): answers the word and takes it, or answers 0 where there is none.
+-- Poll (seL4 manual, "Notifications"): answers the word and takes it, or answers 0 if there is none.
 use Rattle.std.specs.Prelude.{ℕ, None, Ok, Result, unwrap_or}
 use Rattle.base.specs.declared.{ids.ObjId.ObjId, refusal.Cause.Cause}
 use Rattle.machine.specs.declared.{call.{Answer.Answer as answer, Made.{Made, TheVariants.Done}}, object.ObjectKind.ObjectKind as kind}

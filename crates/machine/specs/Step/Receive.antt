@@ -1,5 +1,5 @@
--- Receive (seL4 manual, seL4_Recv): the message of the thread that waits first to send; where none does, the receiver waits. The
--- thread that the receiver's reply held until then is halted (confine's own).
+-- Receive (seL4 manual, seL4_Recv): the message of the thread that waits first to send; if none does, the receiver waits. The thread
+-- that the receiver's reply held until then is halted (confine's own).
 use Rattle.std.specs.Prelude.{ℕ, None, Ok, Option, Result, Some, is_ok}
 use Rattle.base.specs.declared.{ids.ObjId.ObjId, refusal.Cause.Cause}
 use Rattle.machine.specs.declared.{call.{Answer.Answer as answer, Made.{Made, TheVariants.{Blocked, Done}}}, slot_address.Ends.Ends}
@@ -38,7 +38,7 @@ received_or_waits m caller receiving (Some (sender, sending)) =
       )
 received_or_waits m caller receiving None = (Blocked, awaiting_message m caller receiving)
 
--- who waits first is looked up when the reply holds nobody any more
+-- the first waiting thread is looked up after the reply has let go of its thread
 abbrev pub received : Machine → ObjId → Receiving → Made × Machine
 received m caller receiving = received_or_waits m caller receiving (sender_in (first_at m receiving.endpoint))
 

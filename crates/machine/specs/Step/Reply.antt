@@ -1,5 +1,5 @@
--- Reply (seL4 manual, "Reply objects"): the thread that has called through the reply gets the words and can run, and the reply is
--- free; where none has, nothing changes. The scheduling context that it lent to the thread that answers goes back to it.
+-- Reply (seL4 manual, "Reply objects"): the thread that has called through the reply gets the words and can run, and the reply is free;
+-- if none has, nothing changes. The scheduling context that it lent to the thread that answers goes back to it.
 use Rattle.std.specs.Prelude.{ℕ, ◌&&◌, Bool, List, None, Ok, Option, Result, Some, false, if◌then◌else◌}
 use Rattle.base.specs.declared.{ids.ObjId.ObjId, refusal.Cause.Cause}
 use Rattle.machine.specs.declared.call.Answer.TheVariants as answer
@@ -17,7 +17,7 @@ caller_in (Some (o.Reply holding)) = by_state holding.state where
   by_state _ = None
 caller_in _ = None
 
--- what a thread lent that called and waits for its answer
+-- what a thread lent as it called, while it waits for its answer
 abbrev pub loan_in : Option Object → Option Lent
 loan_in (Some (o.Tcb tcb)) = by_state tcb.state where
   by_state : RunState → Option Lent
@@ -30,7 +30,7 @@ abbrev pub has_on_loan : ObjId → Option ObjId → Option Lent → Option ObjId
 has_on_loan borrower (Some context) (Some lent) None = same_id lent.borrower borrower && same_id lent.context context
 has_on_loan borrower _ _ _ = false
 
--- whether a thread that answers gives its context back: the called thread lent it to it, and has none now
+-- a thread that answers gives its context back if the called thread lent it to it, and has none now
 abbrev pub gives_back : Machine → ObjId → ObjId → Bool
 gives_back m invoker called =
     has_on_loan invoker (context_under (object_of m invoker)) (loan_in (object_of m called)) (context_under (object_of m called))

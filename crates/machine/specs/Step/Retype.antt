@@ -1,5 +1,5 @@
--- Retype (seL4 manual, seL4_Untyped_Retype): untyped memory becomes objects of one kind, whose capabilities come into the slots of
--- a window of a CNode.
+-- Retype (seL4 manual, seL4_Untyped_Retype): untyped memory becomes objects of one kind, whose capabilities fill the slots of a window
+-- of a CNode.
 use Rattle.std.specs.{List.range_with_len, Prelude.{[], ℕ, ◌&&◌, ◌*◌, ◌+◌, ◌^◌, ◌∷◌, Err, List, None, Ok, Option, Result, Some}}
 use Rattle.std.specs.Prelude.{if◌then◌else◌, map, nat_le, nat_lt}
 use Rattle.base.specs.declared.{ids.{ObjId.ObjId, SlotRef.SlotRef}, limits.TheConstants.{MAX_MADE, MAX_PRESENT, MAX_RADIX, MAX_SLOTS}}
@@ -17,7 +17,6 @@ abbrev pub memory_in : Option Object → Result Untyped Cause
 memory_in (Some (o.Untyped memory)) = Ok memory
 memory_in _ = Err cause.InvalidCapability
 
--- the untyped memory at an address
 unfoldable pub find_untyped : Machine → ObjId → ℕ → Result Source Cause
 find_untyped m caller address = do
   found ← find object_kind.Untyped m caller address
@@ -35,7 +34,7 @@ sized kind.Untyped bits = between 4 47 bits
 sized kind.CNode bits = between 1 MAX_RADIX bits
 sized _ bits = Ok tt
 
--- so many objects are made at a time
+-- the number of objects made at a time has a limit
 abbrev pub a_few : ℕ → Result (Unit {0}) Cause
 a_few count = if nat_le 1 count && nat_le count MAX_MADE then Ok tt else Err cause.RangeError
 
@@ -64,12 +63,10 @@ all_vacant m (slot ∷ slots) = do
   _ ← vacant (cap_of m slot)
   all_vacant m slots
 
--- memory that has room for so many objects of a size
 abbrev pub roomy : Untyped → ℕ → ℕ → Result (Unit {0}) Cause
 roomy memory size count =
     if nat_le (all_taken count size memory).watermark (end_of (o.Untyped memory)) then Ok tt else Err cause.NotEnoughMemory
 
--- a machine that may have so many more of such objects
 abbrev pub within_limits : Machine → Object → ℕ → Result (Unit {0}) Cause
 within_limits m object count =
     if nat_le (objects_in m + count) MAX_PRESENT

@@ -6,7 +6,7 @@ use Rattle.machine.specs.declared.{call.{Answer.Answer as answer, Made.{Made, Th
 use Rattle.machine.specs.{declared.slot_address.SlotAddress.SlotAddress, Below.is_below, Machine.{Machine, cap_of}, Refusing.◌>>=◌}
 use Rattle.machine.specs.{Removal.removed, Step.Target.target_of}
 
--- from an empty slot nothing descends
+-- nothing descends from an empty slot
 abbrev pub revoked : Machine → SlotRef → Option Cap → Machine
 revoked m slot None = m
 revoked m slot (Some _) = removed m (is_below m slot)

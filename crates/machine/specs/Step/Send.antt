@@ -1,5 +1,5 @@
--- Send and Call (seL4 manual, seL4_Send and seL4_Call): the message goes to the thread that waits first to receive; where none does,
--- the sender waits. A call waits for its answer, and lends its scheduling context to a receiver that has none ("Scheduling Contexts",
+-- Send and Call (seL4 manual, seL4_Send and seL4_Call): the message goes to the thread that waits first to receive; if none does, the
+-- sender waits. A call waits for its answer, and lends its scheduling context to a receiver that has none ("Scheduling Contexts",
 -- passive servers).
 use Rattle.std.specs.Prelude.{ℕ, Bool, List, None, Ok, Option, Result, Some}
 use Rattle.base.specs.declared.{ids.ObjId.ObjId, refusal.Cause.Cause}
@@ -25,16 +25,16 @@ send_of m caller address words capability = do
       (sent_or_waits m caller (sending_by found.1.object (badged_of found.1.detail) Bool.false words capability)
       (receiver_in (first_at m found.1.object)))
 
--- what goes as a loan from a thread's context to a borrower that has none
+-- the loan of a thread's context to a borrower that has none
 abbrev pub loan : Option ObjId → Option ObjId → ObjId → Option Lent
 loan (Some context) None borrower = Some (record { context = context; borrower = borrower })
 loan _ _ borrower = None
 
--- what a caller lends to a receiver: the scheduling context that it runs on, where the receiver has none
+-- what a caller lends to a receiver: the scheduling context that it runs on, if the receiver has none
 abbrev pub loan_made : Machine → ObjId → ObjId → Option Lent
 loan_made m caller receiver = loan (context_under (object_of m caller)) (context_under (object_of m receiver)) receiver
 
--- the context that is lent, if one is, goes over from the caller to its borrower
+-- the context that is lent, if any, goes over from the caller to its borrower
 abbrev pub with_lent : Machine → ObjId → Option Lent → Machine
 with_lent m caller None = m
 with_lent m caller (Some lent) = with_handed m caller lent.borrower

@@ -12,7 +12,7 @@ abbrev pub rooted : Option Level → Result Level Cause
 rooted None = Err (cause.FailedLookup InvalidRoot)
 rooted (Some level) = Ok level
 
--- so many bits of an index can be looked up
+-- this many bits of an index can be looked up
 abbrev pub in_depth : ℕ → Result (Unit {0}) Cause
 in_depth depth = if nat_le 1 depth && nat_le depth 64 then Ok tt else Err cause.RangeError
 

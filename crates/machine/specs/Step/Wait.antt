@@ -1,5 +1,4 @@
--- Wait (seL4 manual, "Notifications"): answers the word and takes it; where there is none, the thread waits for one, after those
--- that wait already.
+-- Wait (seL4 manual, "Notifications"): answers the word and takes it; if there is none, the thread waits for one, after those that wait.
 use Rattle.std.specs.Prelude.{ℕ, None, Ok, Option, Result, Some}
 use Rattle.base.specs.declared.{ids.ObjId.ObjId, refusal.Cause.Cause}
 use Rattle.machine.specs.declared.call.{Answer.Answer as answer, Made.{Made, TheVariants.{Blocked, Done}}}

@@ -9,7 +9,6 @@ use Rattle.machine.specs.{Refusing.◌>>=◌, Step.Find.{find, permitted}}
 abbrev pub in_frame : ℕ → Result (Unit {0}) Cause
 in_frame index = if nat_lt index 512 then Ok tt else Err cause.RangeError
 
--- one of an object's words
 abbrev pub word_in : Option (List ℕ) → ℕ → ℕ
 word_in None index = 0
 word_in (Some words) index = slice_index words index

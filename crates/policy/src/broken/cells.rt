@@ -1,4 +1,4 @@
-//! The first kind at which there are labels, and the least of these.
+//! The search for the first kind with labels.
 ghost use Rattle.std.specs.Prelude.{ℕ, ◌≡◌};
 ghost use Rattle.policy.specs.Search.{FindsCell};
 

@@ -1,4 +1,4 @@
-//! Where each of the rules P1 to P8 is broken, at a label or at a pair of labels.
+//! The rules P1 to P8 at a label or at a pair of labels: where each is broken.
 ghost use Rattle.std.specs.Prelude.{[], ℕ, ◌↔◌, ◌∷◌, ◌≡◌, ◌≢◌, IsTrue, false, true};
 ghost use Rattle.base.specs.{Kinds.is_structural, Labels.is_in};
 ghost use Rattle.policy.specs.{Broken.{IsBrokenAt, p1, p2, p3, p4, p5, p6, p7, p8}, Closed.IsGivenByControl};

@@ -1,4 +1,4 @@
-//! The steps from label to label that the rules name: to a domain, and by a grant.
+//! Steps from label to label that the rules name: to a domain, and by a grant.
 ghost use Rattle.std.specs.Prelude.{ℕ, ◌↔◌, ◌≡◌, IsTrue, true};
 ghost use Rattle.base.specs.Labels.{is_in};
 ghost use Rattle.policy.specs.{Closed.MayBeGranted, Domain.IsInDomain, Policy.allows};
@@ -9,7 +9,7 @@ use base::{Kind, Label, Labels};
 /// The kinds of edge from a label to those in its domain.
 pub const DOMAIN: [Kind; 2] = [Kind::Space, Kind::Control];
 
-/// The labels in the domain of one of these.
+/// The labels in the domain of a label of the set.
 pub(crate) fn domain(policy: &Policy, subjects: Labels) -> Labels
     ensures { (label : ℕ) → (is_in result label ≡ true)
         ↔ ((subject : ℕ) × (is_in subjects subject ≡ true) × IsInDomain (allows policy.now) subject label) }

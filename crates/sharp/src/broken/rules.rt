@@ -1,4 +1,4 @@
-//! Where each of the sharp rules S1 to S8 is broken, at a label or at a pair of labels.
+//! The search for broken places of each of the sharp rules S1 to S8, at a label or at a pair of labels.
 ghost use Rattle.std.specs.Prelude.{[], ℕ, ◌↔◌, ◌∷◌, ◌≡◌, ◌⊎◌, IsTrue, false, true};
 ghost use Rattle.base.specs.declared.kind.Kind.TheVariants as kinds;
 ghost use Rattle.base.specs.{Kinds.is_structural, Labels.is_in};
@@ -11,7 +11,7 @@ use crate::asked::{controlled, held, lent};
 use base::{Kind, Label, Labels};
 use policy::{Policy, is_in_domain, may_be_granted, subjects};
 
-/// S1 at a subject.
+/// The first place with this subject where S1 is broken.
 pub(crate) fn subject_lacks(policy: &Policy, keeping: Labels, subject: Label) -> Option<SharpBroken>
     ensures { FindsSharply (allows policy.now) (Told (is_in keeping)) (s1 ∷ subject ∷ []) result }
 {
@@ -23,7 +23,7 @@ pub(crate) fn subject_lacks(policy: &Policy, keeping: Labels, subject: Label) ->
     None
 }
 
-// S1 at a pair of labels.
+// The first place with this pair of labels where S1 is broken.
 fn subject_lacks_of(
     policy: &Policy,
     keeping: Labels,
@@ -59,7 +59,7 @@ fn gives_use(policy: &Policy, keeping: Labels, subject: Label, other: Label) -> 
         || (keeping.has(other) && policy.row(other, Kind::Control).has(subject))
 }
 
-// The labels to which the giver has an edge of this kind of use, and the taker hasn't.
+// The labels to which the giver has an edge of this kind of use that the taker lacks.
 fn use_lacks(policy: &Policy, giver: Label, taker: Label, kind: Kind) -> Labels
     ensures { (target : ℕ) → (is_in result target ≡ true)
         ↔ ((is_structural kind ≡ false) × (allows policy.now giver kind target ≡ true)
@@ -71,7 +71,7 @@ fn use_lacks(policy: &Policy, giver: Label, taker: Label, kind: Kind) -> Labels
     policy.row(giver, kind).difference(policy.row(taker, kind))
 }
 
-/// S2 at a subject.
+/// The first place with this subject where S2 is broken.
 pub(crate) fn control_lacks(policy: &Policy, keeping: Labels, subject: Label) -> Option<SharpBroken>
     ensures { FindsSharply (allows policy.now) (Told (is_in keeping)) (s2 ∷ subject ∷ []) result }
 {
@@ -96,7 +96,7 @@ fn not_controlled(policy: &Policy, keeping: Labels, subject: Label, kind: Kind) 
     controlled(policy, keeping, subject, kind).difference(policy.row(subject, kind))
 }
 
-/// S3 at a giver.
+/// The first place with this giver where S3 is broken.
 pub(crate) fn grant_lacks(policy: &Policy, keeping: Labels, giver: Label) -> Option<SharpBroken>
     ensures { FindsSharply (allows policy.now) (Told (is_in keeping)) (s3 ∷ giver ∷ []) result }
 {
@@ -108,7 +108,7 @@ pub(crate) fn grant_lacks(policy: &Policy, keeping: Labels, giver: Label) -> Opt
     None
 }
 
-// S3 at a pair of labels.
+// The first place with this pair of labels where S3 is broken.
 fn grant_lacks_of(
     policy: &Policy,
     keeping: Labels,
@@ -133,7 +133,7 @@ fn grant_lacks_of(
     None
 }
 
-/// S4 at a parent.
+/// The first place with this parent where S4 is broken.
 pub(crate) fn domain_lacks(policy: &Policy, keeping: Labels, parent: Label) -> Option<SharpBroken>
     ensures { FindsSharply (allows policy.now) (Told (is_in keeping)) (s4 ∷ parent ∷ []) result }
 {
@@ -153,7 +153,7 @@ fn not_put(policy: &Policy, keeping: Labels, parent: Label) -> Labels
         .difference(policy.row(parent, Kind::Derive))
 }
 
-/// S5 at a parent.
+/// The first place with this parent where S5 is broken.
 pub(crate) fn derive_lacks(policy: &Policy, keeping: Labels, parent: Label) -> Option<SharpBroken>
     ensures { FindsSharply (allows policy.now) (Told (is_in keeping)) (s5 ∷ parent ∷ []) result }
 {
@@ -178,7 +178,7 @@ fn not_derived(policy: &Policy, keeping: Labels, parent: Label) -> Labels
         .difference(derived)
 }
 
-/// S6 at a subject, whichever labels keep.
+/// The first place with this subject where S6 is broken. It doesn't depend on the keepers.
 pub(crate) fn context_lacks(policy: &Policy, subject: Label) -> Option<SharpBroken>
     ensures { (keeps : KeeperTest) → FindsSharply (allows policy.now) (Told keeps) (s6 ∷ subject ∷ []) result }
 {
@@ -197,7 +197,7 @@ fn not_bound(policy: &Policy, subject: Label) -> Labels
         .difference(policy.row(subject, Kind::Runs))
 }
 
-/// S7 at a reply, whichever labels keep.
+/// The first place with this reply where S7 is broken. It doesn't depend on the keepers.
 pub(crate) fn reply_lacks(policy: &Policy, reply: Label) -> Option<SharpBroken>
     ensures { (keeps : KeeperTest) → FindsSharply (allows policy.now) (Told keeps) (s7 ∷ reply ∷ []) result }
 {
@@ -213,7 +213,7 @@ fn not_held(policy: &Policy, reply: Label) -> Labels
     held(policy, reply).difference(policy.row(reply, Kind::Holds))
 }
 
-/// S8 at a borrower, whichever labels keep.
+/// The first place with this borrower where S8 is broken. It doesn't depend on the keepers.
 pub(crate) fn lent_lacks(policy: &Policy, borrower: Label) -> Option<SharpBroken>
     ensures { (keeps : KeeperTest) → FindsSharply (allows policy.now) (Told keeps) (s8 ∷ borrower ∷ []) result }
 {

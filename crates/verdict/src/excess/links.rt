@@ -1,4 +1,4 @@
-//! Where the links of a thread or a reply lie outside a policy, by the rules A4 to A6.
+//! The links of a thread or a reply that lie outside a policy, by the rules A4 to A6.
 ghost use Rattle.std.specs.Prelude.{[], ℕ, ◌↔◌, ◌∷◌, ◌≡◌, ◌≤◌, ◌⊎◌, Some, false, true};
 ghost use Rattle.base.specs.{declared.ids.ObjId.ObjId as Id, Kinds.kind_number};
 ghost use Rattle.base.specs.declared.kind.Kind.TheVariants as authority;
@@ -15,8 +15,8 @@ use objects::State;
 use policy::Policy;
 use table::Table;
 
-/// The first place of this thread where A4 is broken: of the contexts that it is bound to and that it
-/// lent the one with the lesser number.
+/// The first place of this thread where A4 is broken: the lesser of the context that it is bound to
+/// and the context that it lent.
 pub(crate) fn binding_at(
     table: &Table,
     policy: &Policy,
@@ -51,7 +51,7 @@ fn lacking(
     Some(context)
 }
 
-// Of two contexts the one with the lesser number.
+// The context with the lesser number.
 fn lesser(one: Option<ObjId>, other: Option<ObjId>) -> Option<ObjId>
     ensures is_one { (id : Id) → result ≡ Some id → (one ≡ Some id) ⊎ (other ≡ Some id) }
     ensures is_lesser { (id : Id) → (one ≡ Some id) ⊎ (other ≡ Some id)
@@ -141,7 +141,7 @@ fn lent_context(state: &State, thread: ObjId) -> Option<ObjId>
     }
 }
 
-// The same of what it waits for.
+// The context that a thread in this run state lent.
 fn context_lent(state: &RunState) -> Option<ObjId>
     ensures { result ≡ context_lent state.now }
 {
@@ -164,7 +164,7 @@ fn held_by(state: &State, reply: ObjId) -> Option<ObjId>
     }
 }
 
-// What a blocked thread keeps this kind of authority over.
+// The object over which a blocked thread keeps this kind of authority.
 fn kept_by(state: &State, thread: ObjId, kind: Kind) -> Option<ObjId>
     ensures { (end : Id) → (result ≡ Some end) ↔ (keeps_in (object_of state.now thread) kind end ≡ true) }
 {
@@ -174,7 +174,7 @@ fn kept_by(state: &State, thread: ObjId, kind: Kind) -> Option<ObjId>
     }
 }
 
-// The same of what it waits for.
+// The object over which a thread in this run state keeps this kind of authority.
 fn kept_in(state: &RunState, kind: Kind) -> Option<ObjId>
     ensures { (end : Id) → (result ≡ Some end) ↔ (state_links state.now kind end ≡ true) }
 {
@@ -191,7 +191,7 @@ fn kept_in(state: &RunState, kind: Kind) -> Option<ObjId>
     }
 }
 
-/// The label of an object to which the policy doesn't have the edge.
+/// The label of an object, if the policy doesn't have the edge to it.
 pub(crate) fn missing_label(
     table: &Table,
     policy: &Policy,

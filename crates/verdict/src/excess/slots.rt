@@ -1,4 +1,4 @@
-//! Where the slots of an object lie outside a policy, by the rules A1 to A3.
+//! The slots of an object that lie outside a policy, by the rules A1 to A3.
 ghost use Rattle.std.specs.Prelude.{[], ◌∷◌, ◌≡◌, Some};
 ghost use Rattle.base.specs.Kinds.{kind_number};
 ghost use Rattle.machine.specs.declared.object.ObjectKind.TheVariants as kinds;
@@ -106,7 +106,7 @@ pub(crate) fn root_at(
     Some(Denial::Root { slot, label })
 }
 
-/// The first place where A3 is broken of a child in this object's slots.
+/// The first place in this object's slots where A3 is broken of a child.
 pub(crate) fn first_pair(
     table: &Table,
     policy: &Policy,

@@ -1,4 +1,3 @@
--- The words that were read are terms.
 use Rattle.captext.proofs.TermLaws.{terms_part}
 use Rattle.captext.proofs.caps.cap_line.Goals as goal
 

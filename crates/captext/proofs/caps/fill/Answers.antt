@@ -1,4 +1,4 @@
--- What the tests found is what the table asks of a capability.
+-- The tests of a capability's line give what the table asks of a capability.
 use Rattle.std.proofs.Common.{◌∙◌, ◌≡◌, ap, false, sym, true}
 use Rattle.table.specs.{Building.declares_slot, Rules.kind_at}
 use Rattle.captext.{specs.Tables.{is_claimed, may_fill}, proofs.{Admits.admits_cap, CapLines.target_takes}}

@@ -1,4 +1,3 @@
--- What is read is what the definition says, and what that means.
 use Rattle.words.{specs.Text.lines_of, proofs.FirstFaults.{faults, refused_for}}
 use Rattle.captext.{specs.Drafts.{draft_format, read_draft_of}, proofs.DraftLaws.draft_ok}
 use Rattle.captext.proofs.drafts.read_draft.Goals as goal

@@ -1,4 +1,3 @@
--- What a kind's own words tell is an object at boot.
 use Rattle.std.proofs.Common.{◌∙◌, Ok, ap}
 use Rattle.captext.proofs.ObjectParts.{object_takes}
 use Rattle.captext.proofs.objects.object_line.Goals as goal

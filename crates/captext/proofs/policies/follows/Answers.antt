@@ -1,4 +1,3 @@
--- The code's order of edges is that of the definition.
 use Rattle.std.{specs.Ordering.{is_lt, is_some_and}, proofs.Common.{◌∙◌, ap}}
 use Rattle.policy.proofs.Order.{partial_cmp-of_code}
 use Rattle.captext.proofs.policies.follows.Goals as goal

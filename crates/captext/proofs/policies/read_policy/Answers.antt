@@ -1,4 +1,4 @@
--- What is read is what the definition says, and the laws of that.
+-- The policy that is read is the one that the definition reads, and the laws of policies and their texts hold of it.
 use Rattle.words.{specs.Text.lines_of, proofs.{FirstFaults.{faults, refused_for}, ListLaws.{found, only}}}
 use Rattle.captext.{specs.{Policies.{policy_format, read_policy_of}, PolicyText.policy_header}, proofs.PolicyLaws.{format, plain_header}}
 use Rattle.captext.proofs.policies.read_policy.Goals as goal

@@ -1,4 +1,4 @@
--- The number of a pair is small enough to count its line.
+-- The number of a pair is small enough to number its line.
 use Rattle.std.proofs.Common.{rules}
 use Rattle.captext.proofs.TableLaws.{fault_within}
 use Rattle.captext.proofs.tables.grown.Goals as goal

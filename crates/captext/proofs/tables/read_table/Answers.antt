@@ -1,4 +1,4 @@
--- What is read is tied to its text by the law of texts, and what isn't to its first fault.
+-- A table that is read is tied to its text by the law of texts, and a refused text to its first fault.
 use Rattle.words.{specs.Text.lines_of, proofs.FirstFaults.{faults, refused_for}}
 use Rattle.captext.{specs.Tables.{read_table_of, table_format}, proofs.TableLaws.{found, only}}
 use Rattle.captext.proofs.tables.read_table.Goals as goal

@@ -1,4 +1,4 @@
--- The places where the reading begins and ends, each by its law.
+-- The beginning and the ends of the reading of a table's text, each by its law.
 use Rattle.std.proofs.{Common.{ℕ, ◌+◌, ◌∙◌, ◌≡◌, Err, List, Ok, Option, Result, ap, subst, sym}, lemmas.Result.err_from_is_err_and}
 use Rattle.machine.specs.{declared.layout.Version.Version, Layout.{Layout, empty_layout}}
 use Rattle.words.specs.{declared.faults.{Fault.Fault, Wrong.TheVariants.{Syntax, Tree}}, Fault.fault_at, Reading.{header_at, judged}}

@@ -1,4 +1,4 @@
--- What the lines left make of the draft so far is what the whole text makes.
+-- The draft so far and the lines left make what the whole text makes.
 use Rattle.std.proofs.Common.{◌≡◌, length}
 use Rattle.words.specs.Reading.{judged, read_lines}
 use Rattle.captext.specs.Tables.{grown, read_table_of, table_line}

@@ -1,4 +1,3 @@
--- By the law of tables, that they are built up item by item.
 use Rattle.captext.proofs.TableLaws.{table_iff, table_once}
 use Rattle.captext.proofs.tables.tables_are_read_back.Goals as goal
 

@@ -1,4 +1,4 @@
--- One name more is written after a comma, but for the first.
+-- Each turn writes one name more, after a comma, but for the first.
 use Rattle.std.proofs.Common.{[], ◌++◌, ◌+◌, ◌∙◌, ◌∷◌, ◌≡◌, Bool, ap, cond, false, filter, get_or, map, string_bytes, sym, take, true}
 use Rattle.std.proofs.lemmas.List.{append-nil, map-append, Elements.filter_more}
 use Rattle.base.specs.{declared.kind.{Kind.TheVariants.Control, TheConstants.Kind.ALL}, Kinds.{is_among, kind_name}}

@@ -1,4 +1,4 @@
--- What is read is what the definition says, and the laws of that.
+-- The certificate that is read is the one that the definition reads, and the laws of certificates and their texts hold of it.
 use Rattle.words.{specs.Text.lines_of, proofs.{FirstFaults.{faults, refused_for}, ListLaws.{found, only}}}
 use Rattle.certificate.specs.{Certificate.certificate_header, Reading.{certificate_format, read_certificate_of}}
 use Rattle.certificate.proofs.Certificates.{format, plain_header}

@@ -1,4 +1,4 @@
--- Past the shorter list, the lists are one or the longer one has a line more.
+-- Two lists that agree up to the end of the shorter one are the same, or the longer one has a line more.
 use Rattle.std.proofs.Common.{◌≡◌, arith, length, min}
 use Rattle.checker.proofs.Differences.{differ_at_end, same_lists}
 use Rattle.checker.proofs.verifying.first_difference.Goals as goal

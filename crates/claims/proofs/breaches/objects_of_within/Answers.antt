@@ -1,4 +1,4 @@
--- Where the label is the one that `within` bounds, its objects are those of the others that aren't named.
+-- The objects of the label that `within` bounds are those of the others that aren't named.
 use Rattle.std.proofs.Common.{◌&&◌, ◌∙◌, ◌≡◌, ap, not, rules}
 use Rattle.base.specs.Labels.{is_in}
 use Rattle.claims.proofs.FirstBreach.{outside}

@@ -1,4 +1,4 @@
--- What holds of a table is kept, and in a fixed system also by what calls return.
+-- Claims that hold of a table are kept, in a fixed system also by what calls return.
 use Rattle.std.proofs.Common.{[], refl, subst}
 use Rattle.reach.specs.Extents.{limits_of}
 use Rattle.claims.specs.{Claims.is_one_of, Holding.AreBroken}

@@ -1,4 +1,4 @@
--- Line by line.
+-- Each turn adds the claim of one line more, if it doesn't hold.
 use Rattle.std.proofs.{Common.{[], ◌++◌, ◌+◌, ◌∙◌, ◌∷◌, ◌≡◌, ap, arith, get_or, refl, subst, sym, take}, lemmas.Grind.common_steps}
 use Rattle.std.proofs.lemmas.List.{append-nil}
 use Rattle.reach.specs.Extents.{limits_of}

@@ -1,4 +1,4 @@
--- Where no failure is told, the claim holds.
+-- A claim holds if no failure is told of it.
 use Rattle.std.proofs.Common.{subst}
 use Rattle.machine.specs.Layout.{Layout}
 use Rattle.policy.specs.Policy.{allows}

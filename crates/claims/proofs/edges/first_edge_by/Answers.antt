@@ -1,4 +1,4 @@
--- Of `readers`, an edge by which one of the labels that it bars reads.
+-- The first edge that `readers` excludes is one by which a label that it bars reads.
 use Rattle.machine.specs.Layout.{Layout}
 use Rattle.policy.specs.Policy.{allows}
 use Rattle.table.specs.Names.{AreLabelsOf}

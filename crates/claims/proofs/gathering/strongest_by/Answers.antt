@@ -1,4 +1,4 @@
--- By the rows, of which each label has one.
+-- The strongest claims are made by the rows, of which each label has one.
 use Rattle.std.proofs.{Common.{◌∙◌, ◌≡◌, ◌≤◌, arith, length}, lemmas.Grind.common_steps}
 use Rattle.base.specs.declared.label.TheConstants.Label as Label
 use Rattle.machine.specs.{declared.layout.Version.{Version, Version as version}, Layout.most_labels}

@@ -1,4 +1,4 @@
--- Label by label.
+-- Each turn adds one label more, if it may change or shrink the object.
 use Rattle.std.proofs.{Common.{ℕ, ◌∙◌, Bool, ap, arith, sym}, lemmas.Bool.false≢true}
 use Rattle.summary.proofs.Pieces.{number_fails, number_passes}
 use Rattle.claims.{specs.{Rows.extents_of, Strongest.is_user}, proofs.{StrongestLaws.row_at, gathering.users_of.Goals.in-Some+else-is_user}}

@@ -1,4 +1,4 @@
--- Those of the labels so far that may.
+-- The users among the labels so far.
 use Rattle.std.{specs.List.range_with_len, proofs.Common.◌≡◌}
 use Rattle.claims.specs.{Rows.extents_of, Strongest.users_of}
 use Rattle.claims.proofs.gathering.users_of.Given as goal

@@ -1,4 +1,3 @@
--- What was read of the lines is what the definition says, from no line on.
 use Rattle.claims.specs.Reading.{read_claims_of}
 use Rattle.claims.proofs.reading.body_of.Goals as goal
 

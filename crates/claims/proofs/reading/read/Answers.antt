@@ -1,4 +1,3 @@
--- What isn't read is refused for its first fault.
 use Rattle.words.{specs.Text.lines_of, proofs.FirstFaults.{faults, refused_for}}
 use Rattle.claims.specs.Reading.{read_claims_of, claims_format}
 use Rattle.claims.proofs.reading.read.Goals as goal

@@ -1,4 +1,4 @@
--- One word more.
+-- Each turn writes one word more.
 use Rattle.std.{specs.List.join_with_byte, proofs.Common.{◌++◌, ◌<◌, ◌∙◌, ◌∷◌, ◌≡◌, ap, append-nil, arith, get_or, length, string_bytes, sym}}
 use Rattle.captext.specs.PolicyText.{label_name}
 use Rattle.claims.proofs.Joined.{joined_more}

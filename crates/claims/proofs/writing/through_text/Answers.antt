@@ -1,4 +1,4 @@
--- The names follow the first three words, where there are some.
+-- The names follow the first three words, if there are some.
 use Rattle.std.{specs.List.join_with_byte, proofs.{Common.{[], ℕ, ◌==◌, ◌∙◌, ◌∷◌, ◌≡◌, List, ap, codes, false, length, map, refl, rules, string_bytes}}}
 use Rattle.std.proofs.{Common.sym, lemmas.Bool.false≢true}
 use Rattle.machine.specs.Layout.{Layout}

@@ -1,4 +1,4 @@
--- Of a file whose bytes are known to be the text.
+-- The system that is loaded is that of the text, which the file's bytes are known to be.
 use Rattle.std.proofs.Common.{IfSome, List, ℕ, ◌≡◌, subst, sym}
 use Rattle.commands.specs.declared.choices.Taken.{Taken as taken}
 use Rattle.commands.proofs.Following.{named_heard}

@@ -1,4 +1,4 @@
--- One seat more is dealt.
+-- Each turn deals one seat more.
 use Rattle.std.{specs.Prelude.slice_get, proofs.Common.{ℕ, ◌+◌, ◌∙◌, ◌≡◌, List, Some, ap, arith, length, refl, subst, sym}}
 use Rattle.std.proofs.lemmas.{List.length_push, Option.{slice_get_read, slice_get_within}}
 use Rattle.atomic_table.specs.Seated.{TableId}

@@ -1,4 +1,4 @@
--- One seat more has seen the whole history.
+-- Each turn, one seat more has seen the whole history.
 use Rattle.std.proofs.{Common.{◌<◌, ◌∙◌, ◌≡◌, arith, length, slice_index_or, subst, sym}, lemmas.List.{get_or_default, length-set}}
 use Rattle.cores.{specs.Seats.{Known, Looks}, proofs.Closing.{done_further, left_further}}
 use Rattle.cores.proofs.running.show_all.Goals as goal

@@ -1,4 +1,3 @@
--- Of each change of a word, and one signal.
 use Rattle.counterexamples.proofs.Unallowed.{unallowed_signal, word_unallowed}
 use Rattle.counterexamples.proofs.laws.a_signal_needs_authority.Goals as goal
 

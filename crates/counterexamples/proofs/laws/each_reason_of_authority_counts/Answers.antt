@@ -1,4 +1,4 @@
--- Reason by reason.
+-- Each reason of authority has its state that leaves a policy.
 use Rattle.counterexamples.proofs.LinkReasons as by
 use Rattle.counterexamples.proofs.{Reasons.{capability_counts, m, node_kind, pair_counts, root_counts, thread_kind, within}, SmallSystem.id}
 use Rattle.counterexamples.proofs.{SmallSystem.{signal_cap, signalling, slot, space_cap}, Unsafe.parted}

@@ -1,4 +1,3 @@
--- The system whose thread has the capability space of another label.
 use Rattle.counterexamples.proofs.Unsafe.{unsafe_without_agreeing_subjects}
 use Rattle.counterexamples.proofs.laws.safety_needs_agreeing_subjects.Goals as goal
 

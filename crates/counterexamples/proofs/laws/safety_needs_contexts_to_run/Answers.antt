@@ -1,4 +1,3 @@
--- The system whose policy lacks that who may bind a context may run on it.
 use Rattle.counterexamples.proofs.ContextUnsafe.{unsafe_without_running}
 use Rattle.counterexamples.proofs.laws.safety_needs_contexts_to_run.Goals as goal
 

@@ -1,4 +1,3 @@
--- The system whose policy gives nothing by control.
 use Rattle.counterexamples.proofs.ControlUnsafe.{unsafe_without_control}
 use Rattle.counterexamples.proofs.laws.safety_needs_control_to_give_all.Goals as goal
 

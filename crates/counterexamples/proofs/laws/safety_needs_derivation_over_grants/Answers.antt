@@ -1,4 +1,3 @@
--- The system of a giver and a taker, whose policy lacks that the one derives on the other.
 use Rattle.counterexamples.proofs.GrantUnsafe.{unsafe_without_granted_derivation}
 use Rattle.counterexamples.proofs.laws.safety_needs_derivation_over_grants.Goals as goal
 

@@ -1,4 +1,3 @@
--- The system of a giver and a taker, whose policy lacks what the taker is granted.
 use Rattle.counterexamples.proofs.GrantUnsafe.{unsafe_without_sharing}
 use Rattle.counterexamples.proofs.laws.safety_needs_grants_to_share.Goals as goal
 

@@ -1,4 +1,3 @@
--- The system whose policy lacks that who may be lent a context may run on it.
 use Rattle.counterexamples.proofs.LendingUnsafe.{unsafe_without_lending}
 use Rattle.counterexamples.proofs.laws.safety_needs_lenders_to_share.Goals as goal
 

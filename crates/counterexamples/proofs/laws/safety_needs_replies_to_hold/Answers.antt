@@ -1,4 +1,3 @@
--- The system whose policy lacks that replies hold threads.
 use Rattle.counterexamples.proofs.ReplyUnsafe.{unsafe_without_holding}
 use Rattle.counterexamples.proofs.laws.safety_needs_replies_to_hold.Goals as goal
 

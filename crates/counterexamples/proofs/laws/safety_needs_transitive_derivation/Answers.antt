@@ -1,4 +1,3 @@
--- The system whose policy lacks one derive edge.
 use Rattle.counterexamples.proofs.GapUnsafe.{unsafe_without_derivation}
 use Rattle.counterexamples.proofs.laws.safety_needs_transitive_derivation.Goals as goal
 

@@ -1,4 +1,3 @@
--- The systems without the rules of closed policies.
 use Rattle.counterexamples.proofs.SharpUnsafe.{unsafe_without_each, unsafe_without_granted, unsafe_without_rise, unsafe_without_transitive}
 use Rattle.counterexamples.proofs.laws.sharp_safety_needs_each_rule.Goals as goal
 

@@ -1,4 +1,4 @@
--- Each way a lookup ends, from the walk's and the chain's.
+-- A lookup ends in each way just as its chain does.
 use Rattle.cspace.proofs.{EndLemmas.{empty_found, never_both, never_missing, unique, unique_failure}, LookupLemmas.{ends, failed, fails}}
 use Rattle.cspace.proofs.LookupLemmas.{finds, found}
 use Rattle.cspace.proofs.chain.lookup_follows_a_chain.Goals as goal

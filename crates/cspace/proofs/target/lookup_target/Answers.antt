@@ -1,4 +1,4 @@
--- What a result says, once its cause is written as a refusal.
+-- A refusal tells as much of a lookup as the cause for which it is written.
 use Rattle.std.proofs.{Common.{◌∙◌, Err, Ok, ap, refl}, lemmas.Result.err_from_is_err_and}
 use Rattle.cspace.proofs.TargetLemmas.{target_refused_failed, target_refused_found}
 use Rattle.cspace.proofs.target.lookup_target.Goals as goal

@@ -1,4 +1,4 @@
--- The walk's end, with no bits left.
+-- The slot is the walk's end, if no bits are left there.
 use Rattle.std.proofs.Common.{ℕ, ◌∙◌, ◌≡◌, Ok, ap, arith, sym}
 use Rattle.base.specs.declared.ids.SlotRef.{SlotRef}
 use Rattle.machine.specs.{Bits.bits, Lookup.{counted, walk}}

@@ -1,4 +1,3 @@
--- A shifted word, masked by as many ones as the field has bits.
 use Rattle.std.proofs.{Common.{◌-◌, ◌/◌, ◌^◌, ◌∙◌, ◌≡◌, ◌≤◌, ap, arith, bit_and}, lemmas.Nat.{and_mask, Bits.ones_shr}}
 use Rattle.cspace.proofs.word.field.Goals as goal
 

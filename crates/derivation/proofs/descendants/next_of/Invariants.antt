@@ -1,4 +1,4 @@
--- No slot of a lower index is one.
+-- No slot of a lower index is a descendant behind the last.
 use Rattle.std.specs.Prelude.{◌<◌, ◌≡◌}
 use Rattle.base.specs.declared.ids.SlotRef.{SlotRef}
 use Rattle.machine.specs.WellFormed.{Descends}

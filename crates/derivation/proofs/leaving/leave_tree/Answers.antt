@@ -1,4 +1,3 @@
--- The slots have been raised, and then leave.
 use Rattle.derivation.{specs.{OwnSlots.is_going_slot, Raising.IsOnWay}, proofs.GoingSlots.{empties_are_going, going_same, left_once_raised}}
 use Rattle.derivation.proofs.Leavings.{left_alike}
 use Rattle.derivation.proofs.leaving.leave_tree.Goals as goal

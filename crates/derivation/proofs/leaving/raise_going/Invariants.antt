@@ -1,4 +1,4 @@
--- Raising what is left is raising all.
+-- All slots are raised once those of the objects that remain are.
 use Rattle.std.proofs.Common.{◌≡◌, drop}
 use Rattle.machine.specs.Machine.{Machine}
 use Rattle.derivation.specs.{OwnSlots.{is_going_slot, is_slot_among}, Raising.AreRaisedFrom}

@@ -1,4 +1,4 @@
--- Each turn the slots of one object leave, in the order of the list.
+-- Each turn, the slots of one object leave, in the order of the list.
 use Rattle.std.{specs.Prelude.{None, Some, slice_get}, proofs.Common.{◌∙◌, ◌≡◌, ◌≤◌, ap, arith, length, sym}}
 use Rattle.derivation.proofs.GoingSlots.{left_all, left_on, listed_same, none_found, rest_again}
 use Rattle.derivation.proofs.leaving.remove_going.Goals as goal

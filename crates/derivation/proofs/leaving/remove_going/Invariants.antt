@@ -1,4 +1,4 @@
--- Where what is left leaves, all have left.
+-- All slots have left once those of the objects that remain have.
 use Rattle.std.proofs.Common.{◌≡◌, drop}
 use Rattle.machine.specs.Machine.{Machine}
 use Rattle.derivation.specs.{OwnSlots.{is_going_slot, is_slot_among}, Removing.HaveLeft}

@@ -1,4 +1,4 @@
--- From an empty slot the way goes on from its parent, and at a filled one it ends.
+-- The way up goes on from an empty slot to its parent, and ends at a filled one.
 use Rattle.std.{specs.Prelude.{None, Option, Some}, proofs.Common.{subst, sym}}
 use Rattle.base.specs.declared.ids.SlotRef.{SlotRef}
 use Rattle.machine.specs.{Machine.parent_of, Orphans.{Nearest, climbs, no_ancestor, survives}}

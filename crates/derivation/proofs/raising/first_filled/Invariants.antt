@@ -1,4 +1,4 @@
--- Where the way from the slot that was come to ends, that from the first one ends.
+-- The way from the first slot ends where that from the present slot does.
 use Rattle.std.specs.Prelude.{Option, Some}
 use Rattle.base.specs.declared.ids.SlotRef.{SlotRef}
 use Rattle.machine.specs.{Machine.parent_of, Orphans.Nearest}

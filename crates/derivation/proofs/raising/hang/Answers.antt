@@ -1,4 +1,4 @@
--- What a slot descends from is above it, so it may come below that.
+-- A slot may come below what it descends from, since that stands above it.
 use Rattle.std.{specs.Prelude.{None, Option, Some}, proofs.Common.{◌∙◌, ap, subst, sym}}
 use Rattle.base.specs.declared.ids.SlotRef.{SlotRef}
 use Rattle.machine.specs.{Machine.with_parent, Tree.IsRanked}

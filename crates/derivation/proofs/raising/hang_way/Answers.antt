@@ -1,4 +1,4 @@
--- Each turn hangs one slot, and its parent at first is the next.
+-- Each turn hangs one slot, and goes on to the parent that it had.
 use Rattle.std.{specs.Prelude.Some, proofs.Common.{◌∙◌, ◌≡◌, sym, true}}
 use Rattle.machine.specs.Machine.{parent_of}
 use Rattle.objects.proofs.Ways.{way_shortens}

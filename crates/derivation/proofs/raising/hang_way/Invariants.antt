@@ -1,4 +1,4 @@
--- Raising what is left is raising all. What has been hung is below the slot that was come to.
+-- All are raised once those from the present slot upwards are. What has been hung is below that slot.
 use Rattle.std.{specs.Prelude.Some, proofs.Common.{◌≡◌, ◌⊎◌}}
 use Rattle.base.specs.declared.ids.SlotRef.{SlotRef}
 use Rattle.machine.specs.{Machine.{Machine, parent_of, same_slot}, Orphans.Nearest, WellFormed.Descends}

@@ -1,4 +1,4 @@
--- Each turn raises the slot of the next index, and at the end all of the object's have had theirs.
+-- Each turn raises the slot of the next index, until all slots of the object have had their turn.
 use Rattle.std.proofs.{Common.{◌+◌, ◌||◌, ◌∙◌, ◌≡◌, ap, arith, sym}, lemmas.Bool.false≢true}
 use Rattle.machine.specs.Machine.{same_slot}
 use Rattle.derivation.{specs.OwnSlots.{is_slot_below, is_slot_of}, proofs.{Hangs.nothing_raised, OwnSlots.{none_below, one_below}}}

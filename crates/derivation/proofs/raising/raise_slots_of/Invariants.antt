@@ -1,4 +1,4 @@
--- The slots of the object that come before have been raised.
+-- The object's slots of lower indices have been raised.
 use Rattle.derivation.specs.{OwnSlots.is_slot_below, Raising.AreRaisedFrom}
 use Rattle.derivation.proofs.raising.raise_slots_of.Given as goal
 

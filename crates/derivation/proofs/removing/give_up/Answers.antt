@@ -1,4 +1,4 @@
--- The parent is filled and stands above, so it may have the children.
+-- A slot's parent may have its children, since it is filled and stands above them.
 use Rattle.std.proofs.Common.{subst, sym}
 use Rattle.derivation.{specs.{Moving.handed_over, Removing.{HasParents, parent_past}}, proofs.Removals.{above_apart, above_no_lower}}
 use Rattle.derivation.proofs.Removals.{handed_has}

@@ -1,4 +1,4 @@
--- Once all are given up, the tree is as if all had been at first. Each turn leaves one less.
+-- The tree, once all children are given up, is the one that it would be if all had been at first. Each turn leaves one less.
 use Rattle.std.{specs.{FinMap.keys, Prelude.{None, Some}}, proofs.Common.◌≡◌}
 use Rattle.base.specs.declared.ids.SlotRef.{SlotRef}
 use Rattle.machine.specs.Machine.{parent_of}

@@ -1,4 +1,3 @@
--- The slot has given its children up, and then leaves.
 use Rattle.std.proofs.Common.{subst, sym}
 use Rattle.derivation.{specs.Removing.{HasParents, parent_past, parent_without}, proofs.Removals.leaves}
 use Rattle.derivation.proofs.removing.remove_node.Goals as goal

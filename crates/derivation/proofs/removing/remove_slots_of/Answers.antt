@@ -1,4 +1,4 @@
--- Each turn the slot of the next index leaves, and at the end all of the object's have left.
+-- Each turn, the slot of the next index leaves, until all slots of the object have left.
 use Rattle.std.proofs.Common.{◌+◌, ◌||◌, ◌∙◌, ◌≡◌, ap, arith, false, sym}
 use Rattle.machine.specs.Machine.{same_slot}
 use Rattle.derivation.{specs.OwnSlots.{is_slot_below, is_slot_of}, proofs.Leavings.{left_alike, left_more, none_left}}

@@ -1,4 +1,4 @@
--- The slots of the object that come before have left.
+-- The object's slots of lower indices have left.
 use Rattle.derivation.specs.{OwnSlots.is_slot_below, Removing.HaveLeft}
 use Rattle.derivation.proofs.removing.remove_slots_of.Given as goal
 

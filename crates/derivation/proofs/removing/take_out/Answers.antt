@@ -1,4 +1,3 @@
--- A slot isn't its own parent, so its children come to another.
 use Rattle.machine.specs.WellFormed.{child}
 use Rattle.derivation.proofs.Leavings.{node_left}
 use Rattle.derivation.proofs.removing.take_out.Goals as goal

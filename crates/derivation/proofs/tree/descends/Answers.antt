@@ -1,4 +1,4 @@
--- Up the tree each step is shorter, and what a slot descends from is its parent or above that.
+-- Each step up the tree leaves a shorter way, and a slot descends from its parent and from what stands above that.
 use Rattle.std.proofs.Common.{◌∙◌, inl, inr, refl, subst, sym}
 use Rattle.machine.{specs.WellFormed.{Descends, child, further}, proofs.Ids.slots_same}
 use Rattle.objects.proofs.Ways.{way_shortens}

@@ -1,4 +1,4 @@
--- The slot descends from the other where the one that was come to does.
+-- The slot descends from the other exactly if the present slot does.
 use Rattle.std.specs.Prelude.{◌↔◌}
 use Rattle.machine.specs.WellFormed.{Descends}
 use Rattle.objects.proofs.Ways.{steps_up}

@@ -1,4 +1,4 @@
--- Each child that is left comes from the one parent to the other, which is no lower.
+-- Each turn, a child is handed over from the one parent to the other, which is no lower.
 use Rattle.std.{specs.FinMap.keys, proofs.Common.{◌<◌, ◌∙◌, ap, subst, sym}}
 use Rattle.machine.specs.{Machine.{with_parent, without_parent}, Tree.IsRanked}
 use Rattle.objects.proofs.PairLemmas.{place-with_parent, place-without_parent}

@@ -1,4 +1,4 @@
--- Once all are handed over, the tree is as if all had been at first. Each turn leaves one less.
+-- The tree, once all children are handed over, is the one that it would be if all had been at first. Each turn leaves one less.
 use Rattle.std.{specs.{FinMap.keys, Prelude.IsTrue}, proofs.Common.◌≡◌}
 use Rattle.machine.specs.Machine.{has_slot}
 use Rattle.objects.specs.Pairs.{IsFilledOrGoing}

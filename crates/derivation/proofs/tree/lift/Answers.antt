@@ -1,4 +1,4 @@
--- The parent of one slot becomes that of another, whose rank is then that of the first.
+-- The parent of one slot becomes that of another, which gets the rank of the first.
 use Rattle.std.proofs.Common.{◌∙◌, ap, subst, sym}
 use Rattle.machine.specs.{Machine.with_parent, Tree.IsRanked}
 use Rattle.objects.proofs.PairLemmas.{place-without_parent}

@@ -1,4 +1,4 @@
--- The two steps make the exchange.
+-- The two steps exchange the places of the two slots.
 use Rattle.std.proofs.Common.{◌∙◌, ap, inl, sym}
 use Rattle.machine.specs.Machine.{parent_of}
 use Rattle.derivation.{specs.Moving.handed_over, proofs.Moves.{apart_lifted, place_lifted, slot_filled, slot_lifted, taken_over}}

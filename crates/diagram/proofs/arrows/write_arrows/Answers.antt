@@ -1,4 +1,4 @@
--- the arrows from one program more are written
+-- Each turn writes the arrows from one program more.
 use Rattle.std.{specs.List.flat_map, proofs.Common.{ℕ, ◌++◌, ◌∙◌, List, ap, string_bytes}}
 use Rattle.policy.specs.Policy.{allows}
 use Rattle.matrix.proofs.Pieces.{piece_more}

@@ -1,4 +1,4 @@
--- Of the labels that act so far all changes are added.
+-- All changes of the labels that act so far are added.
 use Rattle.std.{specs.List.flat_map, proofs.Common.{◌++◌, ◌≡◌, take}}
 use Rattle.diff.specs.Changes.{actor_change}
 use Rattle.diff.proofs.comparing.push_actors.Given as goal

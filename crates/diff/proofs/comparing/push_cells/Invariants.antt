@@ -1,4 +1,4 @@
--- Of the rows so far all changes are added.
+-- All changes of the rows so far are added.
 use Rattle.std.{specs.List.flat_map, proofs.Common.{◌++◌, ◌≡◌, take}}
 use Rattle.diff.specs.Changes.{cell_change}
 use Rattle.diff.proofs.comparing.push_cells.Given as goal

@@ -1,4 +1,4 @@
--- Of the cells so far all changes are added.
+-- All changes of the cells so far are added.
 use Rattle.std.{specs.List.flat_map, proofs.Common.{◌++◌, ◌≡◌, take}}
 use Rattle.diff.specs.Changes.{cell_change}
 use Rattle.diff.proofs.comparing.push_cells_of.Given as goal

@@ -1,4 +1,4 @@
--- Of the keepers so far all changes are added.
+-- All changes of the keepers so far are added.
 use Rattle.std.{specs.List.flat_map, proofs.Common.{◌++◌, ◌≡◌, take}}
 use Rattle.diff.specs.Changes.{keeper_change}
 use Rattle.diff.proofs.comparing.push_keepers.Given as goal

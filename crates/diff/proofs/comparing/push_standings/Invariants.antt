@@ -1,4 +1,4 @@
--- Of what labels are so far all changes are added.
+-- All changes of what labels are so far are added.
 use Rattle.std.{specs.List.flat_map, proofs.Common.{◌++◌, ◌≡◌, take}}
 use Rattle.diff.specs.Changes.{standing_change}
 use Rattle.diff.proofs.comparing.push_standings.Given as goal

@@ -1,4 +1,4 @@
--- Of the uses so far all changes are added.
+-- All changes of the uses so far are added.
 use Rattle.std.{specs.List.flat_map, proofs.Common.{◌++◌, ◌≡◌, take}}
 use Rattle.diff.specs.Changes.{use_changes}
 use Rattle.diff.proofs.comparing.push_uses.Given as goal

@@ -1,4 +1,4 @@
--- Of the edges so far all changes are added.
+-- All changes of the edges so far are added.
 use Rattle.std.{specs.List.flat_map, proofs.Common.{◌++◌, ◌≡◌, take}}
 use Rattle.diff.specs.Changes.{lost_edge}
 use Rattle.diff.proofs.edges.push_lost_among.Given as goal

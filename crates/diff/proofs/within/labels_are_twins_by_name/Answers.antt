@@ -1,4 +1,3 @@
--- Name by name.
 use Rattle.diff.proofs.Namesakes.{are_twins}
 use Rattle.diff.proofs.within.labels_are_twins_by_name.Goals as goal
 

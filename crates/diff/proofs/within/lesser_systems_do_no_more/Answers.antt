@@ -1,4 +1,4 @@
--- Edge by edge.
+-- A lesser system's labels change, shrink and see no more, and no more flows between them.
 use Rattle.diff.proofs.{WithinChanges.{changes, shrinks}, WithinFlows.{apart, leads, sees}}
 use Rattle.diff.proofs.within.lesser_systems_do_no_more.Goals as goal
 

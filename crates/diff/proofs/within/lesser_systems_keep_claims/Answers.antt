@@ -1,4 +1,3 @@
--- Form by form.
 use Rattle.diff.proofs.WithinClaims.{unbroken}
 use Rattle.diff.proofs.within.lesser_systems_keep_claims.Goals as goal
 

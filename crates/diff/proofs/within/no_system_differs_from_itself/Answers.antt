@@ -1,4 +1,3 @@
--- Label by label, and edge by edge.
 use Rattle.diff.proofs.Unchanged.{unchanged}
 use Rattle.diff.proofs.within.no_system_differs_from_itself.Goals as goal
 

@@ -1,4 +1,4 @@
--- Change by change.
+-- A system that gains nothing by any change lies within the old one.
 use Rattle.reach.specs.Extents.{limits_of}
 use Rattle.diff.specs.Twins.{twin_by_name}
 use Rattle.diff.proofs.{LesserReaches.{keep, lies, twins_there}, WithinClaims.unbroken}

@@ -1,4 +1,4 @@
--- What is read is what the definition says, and the laws of that.
+-- The log that is read is the one that the definition reads, and the laws of logs and their texts hold of it.
 use Rattle.words.{specs.Text.lines_of, proofs.{FirstFaults.{faults, refused_for}, ListLaws.{found, only}}}
 use Rattle.evtext.{specs.Log.{log_format, log_header, read_log_of}, proofs.LogTexts.{format, plain_header}}
 use Rattle.evtext.proofs.log.read_log.Goals as goal

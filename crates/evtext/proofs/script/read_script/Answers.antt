@@ -1,4 +1,4 @@
--- What is read is what the definition says, and the laws of that.
+-- The script that is read is the one that the definition reads, and the laws of scripts and their texts hold of it.
 use Rattle.words.{specs.Text.lines_of, proofs.{FirstFaults.{faults, refused_for}, ListLaws.{found, only}}}
 use Rattle.evtext.{specs.Script.{read_script_of, script_format, script_header}, proofs.Scripts.{format, plain_header}}
 use Rattle.evtext.proofs.script.read_script.Goals as goal

@@ -1,4 +1,4 @@
--- The digits but the last two are those of a hundredth of the number.
+-- The digits of a number: those of a hundredth of it, and then the last two.
 use Rattle.std.{specs.Fmt.decimal, proofs.{Common.{[], ◌%◌, ◌+◌, ◌/◌, ◌∷◌, append_assoc, arith, refl}, lemmas.Fmt.decimal_digit}}
 use Rattle.evtext.proofs.PairsOfDigits.{joined, many, many_length, one_length, two, two_length}
 use Rattle.evtext.proofs.writing.+put_digits.Goals.{else-number-ge100, then-number-ge100}

@@ -1,4 +1,4 @@
--- one row more, that of the label whose number is next
+-- Each turn adds one row more, that of the label with the next number.
 use Rattle.std.proofs.{Common.{[], ℕ, ◌++◌, ◌+◌, ◌<◌, ◌∷◌, ◌≡◌, arith, subst, sym, true}, lemmas.{Bool.false≢true, Grind.common_steps}}
 use Rattle.base.specs.{declared.labels.Labels.Labels, Labels.is_in}
 use Rattle.reach.specs.Extents.{limits_of}

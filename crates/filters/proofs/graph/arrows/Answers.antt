@@ -1,4 +1,4 @@
--- Flows by objects of the label itself, or of none that acts, and those by objects of the other label.
+-- The arrows are the flows by objects of the label itself, or of none that acts, and those by objects of the other label.
 use Rattle.std.proofs.Common.{ap, not, ◌&&◌, ◌∙◌, ◌==◌, ◌↔◌, ◌≡◌, subst, true}
 use Rattle.base.specs.{declared.labels.Labels.Labels, Labels.is_in}
 use Rattle.reach.specs.{Extents.limits_of, Reach.TableReach}

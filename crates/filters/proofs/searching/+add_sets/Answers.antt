@@ -1,4 +1,4 @@
--- None, what is chosen, or the sets with the first label and then those without it.
+-- The sets that complete a stage: none, what is chosen, or those with the first label and then those without it.
 use Rattle.std.proofs.Common.{ℕ, ◌&&◌, ◌+◌, ◌-◌, ◌==◌, ◌||◌, ◌∙◌, ◌≡◌, None, Option, Some, ap, arith, not, subst, sym}
 use Rattle.std.{specs.Option.MatchOption, proofs.lemmas.Result.IfOk-weaker}
 use Rattle.base.specs.{declared.labels.Labels.Labels, Labels.is_in}

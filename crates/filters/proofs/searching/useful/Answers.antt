@@ -1,4 +1,4 @@
--- Way by way, each without the labels of those before.
+-- Each turn finds one way more, without the labels of those before.
 use Rattle.std.proofs.Common.{ℕ, ◌≡◌, None, Option, Some, arith, subst, sym}
 use Rattle.std.specs.Option.{MatchOption}
 use Rattle.base.specs.{declared.labels.Labels.Labels, Labels.is_in}

@@ -1,4 +1,4 @@
--- So many ways were found that have no label in common.
+-- This number of ways was found that have no label in common.
 use Rattle.filters.proofs.Staging.{ArePacked}
 use Rattle.filters.proofs.searching.useful.Given as goal
 

@@ -1,4 +1,4 @@
--- A size more at a time, where no set has fewer labels.
+-- Each turn looks for sets of one label more, while no set has fewer.
 use Rattle.std.proofs.{Common.{◌<◌, ◌∙◌, ◌≡◌, arith, length, sym}, lemmas.{Bool.eqb-true, Grind.common_steps}}
 use Rattle.base.specs.{declared.labels.Labels.Labels, Labels.is_in}
 use Rattle.filters.specs.{Smallest.HasSize, Stages.Completes, Ways.Separates}

@@ -1,4 +1,4 @@
--- Step by step, until one leads to the end, or all are done.
+-- Each turn takes a step, until one leads to the end, or all are done.
 use Rattle.std.proofs.Common.{[], ℕ, ◌&&◌, ◌*◌, ◌++◌, ◌+◌, ◌-◌, ◌<◌, ◌==◌, ◌||◌, ◌∙◌, ◌∷◌, ◌≡◌, ◌≤◌, List, ap, arith, get_or, length, not, refl, subst, sym}
 use Rattle.std.proofs.lemmas.{Bool.{and_parts, eq-eqb, or_left, or_right}, Grind.common_steps, List.get_or_default}
 use Rattle.base.specs.{declared.labels.Labels.Labels, Labels.{is_in, no_labels}}

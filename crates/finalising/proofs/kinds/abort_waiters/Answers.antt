@@ -1,4 +1,4 @@
--- The first that waits is aborted, and the others are left to be; where nobody waits, all were.
+-- Each turn aborts the first that waits, and leaves the others to be, until nobody waits.
 use Rattle.std.{specs.Prelude.{None, Some}, proofs.Common.{◌<◌, ◌∙◌, ◌≡◌, ap, length, subst, sym}}
 use Rattle.machine.specs.{Changes.first_waiting, Machine.{Machine, queue_of}, WellFormed.LinksAgree}
 use Rattle.finalising.{specs.Finalised.{members, with_waiters_aborted}, proofs.Waiters.{FirstAborted, first_aborted, none_left}}

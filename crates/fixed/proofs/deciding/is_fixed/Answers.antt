@@ -1,4 +1,4 @@
--- slot by slot
+-- A system is fixed if no filled slot is loose, slot by slot.
 use Rattle.std.proofs.Common.{◌∙◌, ap, arith, below_more, length, refl, sym}
 use Rattle.std.proofs.lemmas.Option.{same_Some}
 use Rattle.machine.specs.declared.layout.Filled.{Filled}

@@ -1,4 +1,4 @@
--- none of the first filled slots is loose
+-- None of the first filled slots is loose.
 use Rattle.fixed.proofs.LooseSlots.{NoneLoose}
 use Rattle.fixed.proofs.deciding.is_fixed.Given as goal
 

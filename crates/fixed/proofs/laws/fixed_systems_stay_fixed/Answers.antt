@@ -1,4 +1,4 @@
--- By induction over the events of the run.
+-- Runs of a fixed system leave it as it is, by induction over their events.
 use Rattle.fixed.proofs.{RunsStay.{boot_fixed, run_refuses, run_stays}, SameFinds.find_alike}
 use Rattle.fixed.proofs.laws.fixed_systems_stay_fixed.Goals as goal
 

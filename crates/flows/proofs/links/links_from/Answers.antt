@@ -1,4 +1,4 @@
--- Link by link, from the last one on.
+-- Each turn goes one link back, from the last one on.
 use Rattle.std.proofs.{Common.{[], ◌++◌, ◌+◌, ◌-◌, ◌<◌, ◌∷◌, ◌≡◌, ◌≢◌, Some, arith, length, refl, slice_get, subst}, lemmas.Grind.common_steps}
 use Rattle.std.proofs.lemmas.Option.{slice_get_read}
 use Rattle.flows.proofs.Searching.{IsOnTheWay, arrived, begun, link_left, link_taken}

@@ -1,4 +1,4 @@
--- Of the rows so far, those that have a label of the set are found.
+-- The labels that are found are those whose row, of the rows so far, has a label of the set.
 use Rattle.std.proofs.Common.{ℕ, ◌↔◌, ◌≡◌, true}
 use Rattle.base.specs.Labels.{is_in}
 use Rattle.policy.proofs.Stepping.{IsBelow}

@@ -1,4 +1,4 @@
--- one row more, that of the label whose number is next
+-- Each turn adds one row more, that of the label with the next number.
 use Rattle.std.proofs.{Common.{[], ◌++◌, ◌+◌, ◌∷◌, ◌≡◌, arith, subst, sym}, lemmas.{Bool.false≢true, Grind.common_steps}}
 use Rattle.reach.specs.Extents.{limits_of}
 use Rattle.flows.{specs.Flowing.MayAffect, proofs.RowByRow.{AreRowsBelow, IsRowOf, all_rows, row_more}}

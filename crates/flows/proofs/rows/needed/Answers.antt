@@ -1,4 +1,3 @@
--- the label itself, or one that it sees
 use Rattle.base.specs.Labels.{is_in}
 use Rattle.policy.proofs.Gathering.{either, only_tells}
 use Rattle.flows.proofs.rows.needed.Goals as goal

@@ -1,4 +1,4 @@
--- Of the labels so far, those for whose notifications one waits are known, and those for which two wait.
+-- The labels are known for whose notifications one of the labels so far waits, and those for which two do.
 use Rattle.std.proofs.Common.{ℕ, ◌↔◌, ◌≡◌, true}
 use Rattle.base.specs.Labels.{is_in}
 use Rattle.policy.specs.Policy.{allows}

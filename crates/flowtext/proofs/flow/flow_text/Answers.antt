@@ -1,4 +1,4 @@
--- Nothing flows, or the smallest sets are told, and a chain.
+-- The text says that nothing flows, or tells the smallest sets and a chain.
 use Rattle.std.{specs.Option.MatchOption, proofs.Common.{◌≡◌, codes, rules, subst}}
 use Rattle.base.specs.{Labels.is_in}
 use Rattle.reach.specs.{Extents.limits_of, Reach.TableReach}

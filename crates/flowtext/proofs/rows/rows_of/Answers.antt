@@ -1,4 +1,4 @@
--- row by row
+-- Each turn adds one row more.
 use Rattle.std.proofs.Common.{◌+◌, arith, refl}
 use Rattle.reach.specs.Extents.{limits_of}
 use Rattle.matrix.proofs.Pieces.{each_more, labels_more, numbers_more}

@@ -1,4 +1,4 @@
--- Of the names so far none is this number of edits away.
+-- None of the names so far is this number of edits away.
 use Rattle.std.proofs.Common.{◌≡◌, drop, find, map}
 use Rattle.forms.specs.Nearest.{is_at}
 use Rattle.forms.proofs.nearest.first_at.Given as goal

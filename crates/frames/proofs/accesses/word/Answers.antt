@@ -1,4 +1,3 @@
--- Past the end of the words, and where there are none, 0 is read.
 use Rattle.std.{specs.{Option.unwrap_or, Prelude.{None, Option, Some, option_and_then, slice_get}}, proofs.Common.{ℕ, ◌∙◌, ◌≡◌, List, ap}}
 use Rattle.std.proofs.{Common.refl, lemmas.Option.unwrap_or-slice_get}
 use Rattle.machine.specs.{Machine.words_of, Step.Words.word_in}

@@ -1,4 +1,4 @@
--- What was found, and what the maps that are left add, is all there is.
+-- The regions found so far, and those that the maps left add, are all.
 use Rattle.std.proofs.Common.{[], ◌++◌, ◌≡◌, drop, map, take}
 use Rattle.importing.specs.Maps.{frame_held, regions_from}
 use Rattle.importing.proofs.maps.maps_held.Given as goal

@@ -1,4 +1,4 @@
--- The capabilities that are left, behind the table so far, come to what all of them come to.
+-- The capabilities that are left, added to the table so far, give what all of them give.
 use Rattle.std.proofs.Common.{◌≡◌, drop}
 use Rattle.microkit.specs.View.{description_of}
 use Rattle.importing.specs.Tables.{grants_added}

@@ -1,4 +1,3 @@
--- Edge by edge.
 use Rattle.integrity.proofs.NoBudget.{no_context, no_schedcontrol}
 use Rattle.integrity.proofs.laws.a_budget_needs_authority.Goals as goal
 

@@ -1,4 +1,4 @@
--- Part by part of the path.
+-- Cut authority along a path, part by part.
 use Rattle.std.proofs.{Common.{[], ℕ, ◌∷◌, ◌≡◌, ◌⊎◌, inl, inr, refl, true}, lemmas.List.Elements.All-from_recursion}
 use Rattle.base.specs.declared.kind.Kind.{Kind, Kind as authority}
 use Rattle.policy.specs.{Cut.{IsNear, is_link, IsNear.{against, along, stays}}, Domain.EdgeTest}

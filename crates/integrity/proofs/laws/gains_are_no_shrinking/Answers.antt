@@ -1,4 +1,4 @@
--- What grows doesn't shrink.
+-- Each gain, of a machine that differs in it alone, is no shrinking.
 use Rattle.integrity.proofs.Gains.{budget_grows, capability_grows, context_grows, holding_grows, inbox_grows, made_grows, mark_grows}
 use Rattle.integrity.proofs.Gains.{memory_grows, queue_grows, runner_grows, state_grows, wait_grows, word_grows}
 use Rattle.integrity.proofs.laws.gains_are_no_shrinking.Goals as goal

@@ -1,4 +1,4 @@
--- Loss by loss.
+-- Each loss, by itself, is a shrinking.
 use Rattle.std.proofs.Common.{inl, inr, refl}
 use Rattle.machine.specs.declared.object.Object.{Object as o}
 use Rattle.integrity.{specs.Shrinks.{Lessens.{freed, released, unbound}, Stops.{aborted, goes_on, halted}}, proofs.Losses.blocked}

@@ -1,4 +1,4 @@
--- By what a made retype keeps.
+-- A made retype stays within authority, by what it keeps.
 use Rattle.std.proofs.Common.{ℕ, ◌≡◌, Ok, Some}
 use Rattle.base.specs.declared.ids.ObjId.{ObjId}
 use Rattle.machine.specs.{declared.{call.Made.Made, object.MemoryKind.MemoryKind}, Authority.label_of, Layout.Layout, Machine.Machine}

@@ -1,4 +1,3 @@
--- Step by step of a run.
 use Rattle.integrity.proofs.Aparts.{never_changes, only_takes}
 use Rattle.integrity.proofs.safe.bounded_systems_keep_labels_apart.Goals as goal
 

@@ -1,4 +1,3 @@
--- A refused step changes nothing.
 use Rattle.integrity.proofs.Actors.{change_acts, idle_changes_nothing}
 use Rattle.integrity.proofs.safe.changes_are_of_labels_that_act.Goals as goal
 

@@ -1,4 +1,3 @@
--- A closed policy is sharply closed, whichever labels keep.
 use Rattle.policy.proofs.Sharpness.{closed_sharply}
 use Rattle.integrity.specs.Keeping.{MayKeep}
 use Rattle.integrity.proofs.{Runs.safe_from, Starting.starts_kept}

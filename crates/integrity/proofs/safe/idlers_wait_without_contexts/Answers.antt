@@ -1,4 +1,3 @@
--- Both are parts of what every state of a run keeps.
 use Rattle.integrity.proofs.{Runs.sound_at, Starting.starts_kept}
 use Rattle.integrity.proofs.safe.idlers_wait_without_contexts.Goals as goal
 

@@ -1,4 +1,4 @@
--- It is a part of what every state of a run keeps.
+-- Keepers alone hold capabilities for CNodes, in every state of a run.
 use Rattle.std.proofs.Common.{ℕ}
 use Rattle.machine.specs.Layout.{Layout}
 use Rattle.policy.specs.Domain.{EdgeTest}
@@ -17,7 +17,7 @@ returns-clause-finds c = λ t allowed lawful sharp confined m thread address nod
     found_keeps t allowed m (held_of t allowed m sound) sharp.uses_rise a thread address found.slot found.left found.held labelled
     found.found found.filled found.is_of
 
--- only keepers make others keepers
+-- there are no keepers if no label holds a capability for a CNode at boot
 nobody : (t : Layout) (allowed : EdgeTest) → ((a : ℕ) → ¬ HoldsNode t a) → (a : ℕ) → MayKeep t allowed a → ⊥
 nobody t allowed none a (holds has) = none a has
 nobody t allowed none a (finds keeps there) = nobody t allowed none _ keeps

@@ -1,4 +1,3 @@
--- A label controls what a label that it controls controls.
 use Rattle.integrity.proofs.Actors.{acts_by_control, control_acts}
 use Rattle.integrity.proofs.safe.labels_act_from_boot_or_by_control.Goals as goal
 

@@ -1,4 +1,3 @@
--- From what is known of boot states, by induction over runs.
 use Rattle.policy.{specs.Sharp.Told, proofs.Sharpness.fewer_keepers}
 use Rattle.integrity.specs.Keeping.{MayKeep}
 use Rattle.integrity.proofs.{Runs.safe_from, Starting.starts_kept}

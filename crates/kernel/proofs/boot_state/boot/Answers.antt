@@ -1,4 +1,3 @@
--- A boot state of a lawful table is well formed.
 use Rattle.kernel.proofs.boot_state.boot.Goals as goal
 
 pub returns-clause-well_formed : goal.returns-clause-well_formed

@@ -3,7 +3,7 @@ use Rattle.machine.specs.declared.call.Outcome.{Outcome}
 use Rattle.kernel.specs.Legal.{Follows}
 use Rattle.kernel.proofs.replaying.follow.Goals as goal
 
--- the log tells that memory was lacking
+-- the log claims that memory was lacking
 pub returns-then-is_lack-clause-followed : goal.returns-then-is_lack-clause-followed
 returns-then-is_lack-clause-followed c =
     subst (λ (told : Outcome). Follows c.args.state.now c.args.event.now told c.args.state.now c.could_lack.result)

@@ -64,12 +64,12 @@ pub returns-in_err-follow-clause-reached : goal.returns-in_err-follow-clause-rea
 returns-in_err-follow-clause-reached c =
     left_is_reached c.args.state.now c.follow.new.state c.args.entries.now c.from_residual.result (returns-in_err-follow-clause-left c)
 
--- how the entries end that are steps
+-- the ends of the entries that are steps
 pub returns-then-not-branch-clause-ends : goal.returns-then-not-branch-clause-ends
 returns-then-not-branch-clause-ends c =
     legal_ends c.args.state.now c.loop-index.state (take c.loop-index.index c.args.entries.now) c.loop-index.invariant.led
 
--- at the end all entries are steps
+-- all entries are steps
 pub returns-clause-left : goal.returns-clause-left
 returns-clause-left c =
     let entries : List Entry = c.args.entries.now in

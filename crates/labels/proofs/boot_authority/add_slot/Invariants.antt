@@ -3,7 +3,6 @@ use Rattle.base.specs.declared.kind.Kind.{Kind}
 use Rattle.policy.specs.Policy.{allows}
 use Rattle.labels.proofs.boot_authority.add_slot.Given as goal
 
--- the edges so far are added
 abbrev pub invariant-loop-edge : goal.invariant-loop-edge
 invariant-loop-edge l =
     (from : ℕ) (kind : Kind) (to : ℕ) → allows l.found from kind to

@@ -1,4 +1,3 @@
--- Reason by reason.
 use Rattle.machine.proofs.AuthorityLemmas.{authority_grows}
 use Rattle.machine.proofs.authority_laws.authority_grows_with_capabilities.Goals as goal
 

@@ -1,4 +1,3 @@
--- Kind by kind.
 use Rattle.machine.proofs.AuthorityLemmas.{cnode_alike, endpoint_badge, gives_fewer, gives_no_structure, gives_some, notification_badge}
 use Rattle.machine.proofs.authority_laws.rights_alone_decide_kinds.Goals as goal
 

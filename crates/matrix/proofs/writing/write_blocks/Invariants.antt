@@ -2,7 +2,6 @@ use Rattle.std.{specs.List.{flat_map, range_with_len}, proofs.Common.{◌++◌, 
 use Rattle.matrix.specs.Matrix.{block_from}
 use Rattle.matrix.proofs.writing.write_blocks.Given as goal
 
--- the blocks so far are written
 abbrev pub invariant-loop-first : goal.invariant-loop-first
 invariant-loop-first g l =
     string_bytes l.text ≡ string_bytes l.fn.text ++ flat_map (block_from g.R.MatrixRow.cells l.table l.fn.page l.rows) (range_with_len 0 l.first)

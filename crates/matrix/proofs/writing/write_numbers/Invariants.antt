@@ -2,6 +2,5 @@ use Rattle.std.{specs.List.flat_map, proofs.Common.{◌++◌, ◌≡◌, string_
 use Rattle.matrix.specs.Matrix.{number_text}
 use Rattle.matrix.proofs.writing.write_numbers.Given as goal
 
--- the numbers so far are written
 abbrev pub invariant-loop-row : goal.invariant-loop-row
 invariant-loop-row g l = string_bytes l.text ≡ string_bytes l.fn.text ++ flat_map (number_text g.R.MatrixRow.cells) (take l.row-index l.shown)

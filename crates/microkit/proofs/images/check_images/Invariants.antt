@@ -1,4 +1,4 @@
--- The elements that are left decide what all of them do.
+-- The elements that are left decide the result.
 use Rattle.std.proofs.Common.{◌≡◌, drop}
 use Rattle.microkit.specs.Images.{images_at}
 use Rattle.xml.specs.View.{nodes_of}

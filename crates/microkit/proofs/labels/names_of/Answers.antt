@@ -1,4 +1,4 @@
--- The next label has its name, or none.
+-- The next label has a name, or none can be found.
 use Rattle.std.proofs.{Common.{◌∙◌, sym}, lemmas.Result.err_from_is_err_and}
 use Rattle.microkit.{specs.{LabelView.bytes_of, View.description_of}, proofs.LabelSteps.{one_named, one_refused}}
 use Rattle.microkit.proofs.labels.names_of.Goals as goal

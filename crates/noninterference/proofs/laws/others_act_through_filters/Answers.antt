@@ -1,4 +1,4 @@
--- Event by event; and a set that is closed off by filters is closed beside them.
+-- Runs that differ beside filters, event by event; and a set that is closed off by filters is closed beside them.
 use Rattle.base.specs.Labels.{is_in}
 use Rattle.policy.specs.Policy.{allows}
 use Rattle.reach.proofs.LeastReach.{actors_told}

@@ -1,4 +1,4 @@
--- Without filters there is nothing that filters show.
+-- Runs without filters, for which filters show nothing; and the closed set between two labels.
 use Rattle.base.specs.Labels.{is_in}
 use Rattle.policy.specs.Policy.{allows}
 use Rattle.reach.proofs.LeastReach.{actors_told}

@@ -1,4 +1,3 @@
--- Whether the label acts or not.
 use Rattle.std.proofs.Common.{inl, refl}
 use Rattle.noninterference.proofs.Looking.{looks_alike}
 use Rattle.noninterference.proofs.laws.steps_look_alike.Goals as goal

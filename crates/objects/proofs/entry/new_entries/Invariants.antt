@@ -2,7 +2,6 @@ use Rattle.std.{specs.List.AllByRecursion, proofs.Common.{◌≡◌, map, take}}
 use Rattle.objects.specs.{Entries.new_entry, Radices.HasRadix}
 use Rattle.objects.proofs.entry.new_entries.Given as goal
 
--- the entries so far are made
 abbrev pub invariant-loop-object : goal.invariant-loop-object
 invariant-loop-object l =
     let before = take l.object-index l.objects in

@@ -3,7 +3,7 @@ use Rattle.std.{specs.Prelude.slice_get, proofs.Common.{◌∙◌, ap}}
 use Rattle.objects.{specs.{declared.numbers.Places.Places, Places.{from_either, places_in}}, proofs.NumberLemmas.widened}
 use Rattle.objects.proofs.numbers.widen.Goals as goal
 
--- a table that is wider, or stays as it is, tells the same
+-- a table that is wider, or stays as it is, gives the same places
 by_result :
     {X E : Type 0} (places : Places) (early : List (Option ℕ)) (count other : ℕ) → length places.late.entries ≡ 0 → (r : Result X E)
     → OnOk r (early ≡ places.early ++ replicate count None) → OnErr r (early ≡ places.early)

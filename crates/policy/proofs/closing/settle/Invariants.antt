@@ -1,7 +1,7 @@
 use Rattle.policy.{specs.{Closed.IsClosed, Closing.IsWithin, Domain.EdgeTest, Policy.allows}, proofs.ClosingGrowth.absent_count}
 use Rattle.policy.proofs.closing.settle.Given as goal
 
--- what was there is there, and every closed policy that has it has what is there now
+-- the old edges are there, and every closed policy that has them has the edges that are there now
 abbrev pub invariant-loop-policy : goal.invariant-loop-policy
 invariant-loop-policy l = record {
   has : IsWithin (allows l.initial.policy) (allows l.policy);

@@ -1,4 +1,3 @@
--- Rule by rule.
 use Rattle.policy.specs.Sharp.{Told}
 use Rattle.policy.proofs.Sharpness.{closed_sharply, fewer_keepers}
 use Rattle.policy.proofs.laws.closed_policies_are_sharply_closed.Goals as goal

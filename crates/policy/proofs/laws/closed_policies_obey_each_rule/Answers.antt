@@ -1,4 +1,3 @@
--- Rule by rule.
 use Rattle.policy.proofs.Needs.{full_closed, needed, obeys_each}
 use Rattle.policy.proofs.laws.closed_policies_obey_each_rule.Goals as goal
 

@@ -1,4 +1,3 @@
--- Where uses rise, a label that may act starts, or one that starts controls it.
 use Rattle.policy.specs.Policy.{allows}
 use Rattle.reach.proofs.WhoActs.{found_actors}
 use Rattle.reach.proofs.acting.labels_that_act.Goals as goal

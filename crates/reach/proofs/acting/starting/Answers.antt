@@ -1,4 +1,4 @@
--- binding by binding
+-- The labels of ready threads, binding by binding.
 use Rattle.std.proofs.Common.{◌+◌, ◌↔◌, ◌∙◌, ◌||◌, ◌≡◌, ap, arith, length, subst, sym, true}
 use Rattle.base.specs.Labels.{is_in}
 use Rattle.policy.proofs.Stepping.{IsBelow}

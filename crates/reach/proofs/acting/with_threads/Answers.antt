@@ -1,4 +1,4 @@
--- object by object
+-- The labels of threads and of untyped memory, object by object.
 use Rattle.std.proofs.Common.{◌+◌, ◌↔◌, ◌∙◌, ◌||◌, ◌≡◌, Some, ap, arith, length, subst, sym, true}
 use Rattle.base.specs.Labels.{is_in}
 use Rattle.policy.proofs.Stepping.{IsBelow}

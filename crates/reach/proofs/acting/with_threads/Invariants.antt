@@ -1,4 +1,3 @@
--- the labels of the threads and of the untyped memory among the first objects
 use Rattle.std.proofs.Common.{ℕ, ◌↔◌, ◌≡◌, true}
 use Rattle.base.specs.Labels.{is_in}
 use Rattle.policy.proofs.Stepping.{IsBelow}

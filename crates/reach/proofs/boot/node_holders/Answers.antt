@@ -1,4 +1,4 @@
--- slot by slot
+-- The labels of CNodes that hold a CNode's capability, slot by slot.
 use Rattle.std.proofs.Common.{◌+◌, ◌↔◌, ◌∙◌, ◌||◌, ◌≡◌, ap, arith, length, subst, sym, true}
 use Rattle.base.specs.Labels.{is_in}
 use Rattle.policy.proofs.Stepping.{IsBelow}

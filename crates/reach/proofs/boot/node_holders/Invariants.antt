@@ -1,4 +1,3 @@
--- the labels that the first filled slots tell
 use Rattle.std.proofs.Common.{ℕ, ◌↔◌, ◌≡◌, true}
 use Rattle.base.specs.Labels.{is_in}
 use Rattle.policy.proofs.Stepping.{IsBelow}

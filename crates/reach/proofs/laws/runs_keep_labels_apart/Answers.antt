@@ -1,4 +1,3 @@
--- Every run is safe, and so keeps to the bounds.
 use Rattle.policy.specs.Policy.{allows}
 use Rattle.reach.proofs.laws.runs_keep_labels_apart.Goals as goal
 

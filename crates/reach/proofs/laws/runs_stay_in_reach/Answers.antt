@@ -1,4 +1,3 @@
--- From what least says, and the headline over the sharp rules.
 use Rattle.policy.specs.Policy.{allows}
 use Rattle.reach.proofs.LeastReach.{closed_within, one_reach}
 use Rattle.reach.proofs.laws.runs_stay_in_reach.Goals as goal

@@ -1,4 +1,3 @@
--- The boot state's edges are all that it begins with.
 use Rattle.std.proofs.Common.{List}
 use Rattle.std.proofs.lemmas.Result.{IfOk-weaker}
 use Rattle.base.specs.declared.edge.Edge.{Edge}

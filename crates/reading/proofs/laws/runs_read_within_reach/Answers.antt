@@ -1,4 +1,4 @@
--- In each machine that a run reaches, whose capabilities lie within the edges.
+-- Reads and writes need an edge of the reach, or of any policy that has the boot state's authority.
 use Rattle.policy.specs.Policy.{allows}
 use Rattle.integrity.proofs.{Runs.sound_at, Starting.starts_kept}
 use Rattle.reading.proofs.ReadEdges.{never_uses}

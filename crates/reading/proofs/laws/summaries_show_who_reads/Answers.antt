@@ -1,4 +1,4 @@
--- What is written or read is so by an edge, and what is written is memory of the table.
+-- Reads and writes that a summary doesn't show never happen: each is by an edge, and what is written is memory of the table.
 use Rattle.std.proofs.Common.{◌||◌, ◌≡◌, Bool, false, inl, refl, sym}
 use Rattle.base.specs.declared.kind.Kind.{Kind, Kind as authority}
 use Rattle.machine.specs.{Machine.Machine}
@@ -24,7 +24,6 @@ returns-clause-memory c = λ t edges a l lawful reach none region apart writes r
       };
     })
 
--- none of three
 none_of : (a b c : Bool) → ((a || b) || c) ≡ false → (a ≡ false) × ((b ≡ false) × (c ≡ false))
 none_of false false false is = (refl, (refl, refl))
 none_of _ _ _ is = cc

@@ -1,4 +1,4 @@
--- There is room for what has lost its last capability, and it comes to be going as the others are.
+-- An object that has lost its last capability is going too, and there is room for it.
 use Rattle.std.proofs.Common.{◌∙◌, sym}
 use Rattle.machine.specs.Machine.{object_of, without_cap}
 use Rattle.removal.proofs.Going.{one_more_going, room_in, same_going}

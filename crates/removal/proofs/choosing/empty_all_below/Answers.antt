@@ -1,4 +1,4 @@
--- Each turn takes out one that descends, and none is left where the slot has no child.
+-- Each turn takes out one slot that descends, and none is left when the slot has no child.
 use Rattle.std.{specs.FinMap.keys, proofs.Common.◌∙◌}
 use Rattle.machine.specs.Below.{is_below}
 use Rattle.removal.proofs.{Chosen.same_parents, Clearing.{below_empty, cleared_more, clearing_begun, fewer_pairs, node_listed}}

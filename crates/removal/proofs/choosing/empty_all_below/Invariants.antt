@@ -1,4 +1,4 @@
--- What descends from the slot is out of the tree and empty, or still descends from it. Each turn leaves one pair less.
+-- Slots that descended are out of the tree and empty, or still descend. Each turn leaves one pair less.
 use Rattle.std.specs.{FinMap.keys, List.count_by, Prelude.is_some}
 use Rattle.machine.specs.Machine.{parent_of}
 use Rattle.removal.proofs.Clearing.{Clears}

@@ -1,4 +1,4 @@
--- A slot that has left the tree is emptied as it would have been there.
+-- A slot that has left the tree is emptied as it would have been in it.
 use Rattle.std.proofs.Common.{◌∙◌, ap, inl}
 use Rattle.machine.{specs.{Machine.{Machine, parent_of, same_slot}, WellFormed.child}, proofs.Exchange.slot_itself}
 use Rattle.derivation.proofs.Leavings.{left_alone, node_left}

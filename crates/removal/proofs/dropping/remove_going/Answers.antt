@@ -1,4 +1,4 @@
--- Each that is going is cut off when its turn comes.
+-- Each object that is going is cut off when its turn comes.
 use Rattle.std.{specs.Prelude.slice_get, proofs.Common.{◌∙◌, ap, arith, refl, sym}}
 use Rattle.machine.{specs.Changes.without_object, proofs.ObjectGone.going-without_object}
 use Rattle.removal.{specs.Dropping.without_objects, proofs.Dropped.{all_taken, cut_off_stays, listed_at, none_past, one_more_gone}}

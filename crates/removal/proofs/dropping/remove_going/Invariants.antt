@@ -1,4 +1,4 @@
--- Those before have gone, and nothing holds to those that are left.
+-- The objects before have gone, and nothing holds to those that are left.
 use Rattle.std.proofs.Common.{◌≡◌, Contains, take}
 use Rattle.base.specs.declared.ids.ObjId.{ObjId}
 use Rattle.removal.specs.Dropping.{IsCutOff, without_objects}

@@ -1,4 +1,4 @@
--- Each pass finds what the one before left.
+-- The passes of a sweep, each of which finds what the one before left.
 use Rattle.std.proofs.Common.{◌∙◌}
 use Rattle.removal.proofs.Swept.{all_removed, going_cut_off, links_agree}
 use Rattle.removal.proofs.sweeping.sweep.Goals as goal

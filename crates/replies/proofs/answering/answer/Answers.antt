@@ -1,4 +1,4 @@
--- Who waits stands in a queue of a well-formed machine.
+-- A thread that waits is in a queue of a well-formed machine.
 use Rattle.replies.proofs.answering.answer.Goals as goal
 
 pub give-requires : goal.give-requires

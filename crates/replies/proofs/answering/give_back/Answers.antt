@@ -1,4 +1,4 @@
--- What was lent may be handed over where it is given back.
+-- The conditions of a handover hold for a context that is given back.
 use Rattle.std.proofs.Common.{◌∙◌, sym}
 use Rattle.replies.proofs.Returning.{called_free, called_there, invoker_runs}
 use Rattle.replies.proofs.answering.give_back.Goals as goal

@@ -1,4 +1,4 @@
--- By what is asked.
+-- That each question is answered as it asks.
 use Rattle.report.proofs.asking.ask_policy.Goals as goal
 
 pub returns-in-Close-clause-asked : goal.returns-in-Close-clause-asked

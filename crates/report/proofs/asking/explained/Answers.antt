@@ -1,4 +1,4 @@
--- What is told is of the reach of the table.
+-- That the explanation is by the reach of the table.
 use Rattle.std.proofs.Common.{◌∙◌, arith, sym}
 use Rattle.report.proofs.asking.explained.Goals as goal
 

@@ -1,4 +1,4 @@
--- What is told is of the policy, in which each label counts as one that acts.
+-- That the explanation is by the policy, with each label as one that acts.
 use Rattle.std.proofs.Common.{◌∙◌, arith, refl, sym}
 use Rattle.reach.specs.Extents.{limits_by}
 use Rattle.report.proofs.asking.explained_by.Goals as goal

@@ -1,4 +1,3 @@
--- By what is asked.
 use Rattle.report.proofs.Retold.{said}
 use Rattle.report.proofs.asking.policy_answer.Goals as goal
 

@@ -1,4 +1,3 @@
--- The picture is of the policy, in which each label counts as one that acts.
 use Rattle.std.proofs.{Common.refl, lemmas.Result.IfOk-weaker}
 use Rattle.reach.specs.Extents.{limits_by}
 use Rattle.report.proofs.asking.policy_picture.Goals as goal

@@ -1,4 +1,3 @@
--- The picture is of the reach of the table.
 use Rattle.std.proofs.lemmas.Result.{IfOk-weaker}
 use Rattle.report.proofs.asking.reach_picture.Goals as goal
 

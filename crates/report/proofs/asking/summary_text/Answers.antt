@@ -1,4 +1,3 @@
--- The summary is that of the reach of the table.
 use Rattle.std.proofs.lemmas.Result.{IfOk-weaker}
 use Rattle.report.proofs.asking.summary_text.Goals as goal
 

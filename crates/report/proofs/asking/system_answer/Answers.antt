@@ -1,4 +1,4 @@
--- By what is asked.
+-- That each question is answered as it asks.
 use Rattle.std.proofs.Common.{subst}
 use Rattle.report.{specs.Closings.Closes, proofs.Retold.said}
 use Rattle.report.proofs.asking.system_answer.Goals as goal

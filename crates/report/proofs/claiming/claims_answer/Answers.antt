@@ -1,4 +1,3 @@
--- Of the reach of the table.
 use Rattle.std.proofs.Common.{IfOk, subst}
 use Rattle.machine.specs.Layout.{Layout}
 use Rattle.report.specs.Claimed as claimed

@@ -1,4 +1,4 @@
--- Of a reach that is that of its table.
+-- That the answer to claims is by the reach of the table.
 use Rattle.std.proofs.Common.{[], ℕ, ◌==◌, ◌∙◌, ◌∷◌, ◌≡◌, List, Option, ap, arith, false, length, refl, subst, suc, true}
 use Rattle.std.{specs.{declared.alloc.Global.Global, Prelude.Vec}, proofs.lemmas.Bool.Decides.nat_tests}
 use Rattle.machine.specs.Layout.{Layout}
@@ -13,7 +13,6 @@ use Rattle.commands.specs.Commands.{Finds}
 use Rattle.report.proofs.Retold.{finding_retold, plain_retold}
 use Rattle.report.specs.Claimed as claimed
 
--- some claims are broken
 some : (t : Layout) (lines : List (Option Claim)) (reach : TableReach) → IsReachOf t reach → (v : Vec Broken Global) → (all : List Broken)
     → v.items ≡ all → AreBroken t (limits_of reach) ClaimLines.FIRST lines all → (all ≡ [] → ⊥)
     → (kept : Kept) → claimed.AreKept t (limits_of reach) (Holds t (limits_of reach)) kept
@@ -27,7 +26,6 @@ some t lines reach is_reach v (first ∷ more) same are has kept keeps answer fi
 not_zero : (n : ℕ) → (suc n == 0) ≡ true → ⊥
 not_zero n is = grind (arith, nat_tests)
 
--- a list is empty just where it has no element
 none_of : {X : Type 0} (xs : List X) → (length xs == 0) ≡ true → xs ≡ []
 none_of [] is = refl
 none_of (x ∷ xs) is = absurd (not_zero (length xs) is)

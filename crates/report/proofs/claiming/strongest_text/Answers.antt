@@ -1,11 +1,10 @@
--- The strongest claims are those of the reach, whose labels have their names in the table.
+-- That the text is of the strongest claims by the reach, whose labels have their names in the table.
 use Rattle.std.{specs.{declared.alloc.Global.Global, Prelude.Vec}, proofs.Common.{ℕ, ◌≡◌, Err, IfOk, Ok, Result, refl, subst, sym}}
 use Rattle.machine.specs.Layout.{Layout}
 use Rattle.claims.specs.Text.{lines_text}
 use Rattle.report.specs.Claimed.{TellsStrongest}
 use Rattle.report.proofs.claiming.strongest_text.Goals as goal
 
--- of a value a fact gives another
 follows : {X E : Type 0} (result : Result X E) (P Q : X → Type 0) → ((x : X) → P x → Q x) → IfOk result P → IfOk result Q
 follows (Ok x) P Q gives one = gives x one
 follows (Err e) P Q gives one = tt

@@ -1,4 +1,4 @@
--- The policy that was closed has the authority of the boot state.
+-- That the policy to be closed has the authority of the boot state.
 use Rattle.std.proofs.Common.{◌++◌, subst}
 use Rattle.report.{specs.Closings.IsLeastBy, proofs.ClosedText.{accepted_as, is_closing}}
 use Rattle.report.proofs.closing.least.Goals as goal

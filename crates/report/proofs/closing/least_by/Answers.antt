@@ -1,4 +1,4 @@
--- What closing gives is the least policy by each set of rules.
+-- That closing gives the least policy by each set of rules.
 use Rattle.std.proofs.{Common.{◌++◌}, lemmas.Result.IfOk-weaker}
 use Rattle.base.specs.{Labels.is_in}
 use Rattle.policy.specs.Closing.{IsLeastClosed}

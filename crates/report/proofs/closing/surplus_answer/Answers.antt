@@ -1,4 +1,3 @@
--- The least policy for the table alone is the least that has no edge given.
 use Rattle.std.proofs.Common.{subst}
 use Rattle.report.{specs.Closings.IsClosing, proofs.ClosedText.{accepted_as, surplus_told}}
 use Rattle.report.proofs.closing.surplus_answer.Goals as goal

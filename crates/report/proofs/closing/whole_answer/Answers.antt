@@ -1,4 +1,3 @@
--- The edges of the least policy join labels of the table, so that its text is read back.
 use Rattle.report.proofs.ClosedText.{policy_told}
 use Rattle.report.proofs.closing.whole_answer.Goals as goal
 

@@ -1,4 +1,3 @@
--- The names are those of the table's labels.
 use Rattle.std.proofs.Common.{◌∙◌, ap}
 use Rattle.microkit.specs.{LabelView.bytes_of, View.description_of}
 use Rattle.separation.specs.Claims.{claims_text}

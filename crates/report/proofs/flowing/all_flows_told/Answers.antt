@@ -1,4 +1,3 @@
--- The matrix is that of the reach of the table.
 use Rattle.std.proofs.lemmas.Result.{IfOk-weaker}
 use Rattle.report.proofs.flowing.all_flows_told.Goals as goal
 

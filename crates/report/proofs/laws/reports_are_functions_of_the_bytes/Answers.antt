@@ -1,4 +1,4 @@
--- Command by command.
+-- That each command has one answer, by the lemma of its kind.
 use Rattle.evtext.specs.{Log.read_log_of, Script.read_script_of}
 use Rattle.certificate.specs.Reading.{read_certificate_of}
 use Rattle.forms.specs.declared.file.File.{File as file}

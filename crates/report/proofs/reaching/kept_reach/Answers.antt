@@ -1,4 +1,3 @@
--- Runs stay within the reach of their table.
 use Rattle.std.proofs.Common.{subst}
 use Rattle.machine.specs.Layout.{Layout}
 use Rattle.reach.{specs.Extents.limits_of, proofs.Extents.kept_to}

@@ -1,7 +1,7 @@
 use Rattle.std.proofs.{Common.{inr, refl}, lemmas.Option.slice_get_read}
 use Rattle.report.proofs.replaying.answer_at.Goals as goal
 
--- the entry is there, and the kernel makes its step where those before lead
+-- the entry exists, and its step is made in the state to which those before lead
 pub returns-in-Ok-None : goal.returns-in-Ok-None
 returns-in-Ok-None c = record {
   entry = c.in-Some.field-0.now;

@@ -1,4 +1,4 @@
--- What is told is of the reach of the table.
+-- That the answer is by the reach of the table.
 use Rattle.std.proofs.{Common.{ℕ, refl, subst}, lemmas.Result.IfOk-weaker}
 use Rattle.machine.specs.Layout.{Layout}
 use Rattle.report.proofs.showing.run_answer.Goals as goal

@@ -1,4 +1,4 @@
--- What is told is of the labels of the two names.
+-- That the answer is about the labels of the two names.
 use Rattle.std.proofs.Common.{◌∙◌, subst, sym}
 use Rattle.machine.specs.Layout.{Layout}
 use Rattle.report.specs.Shows as shows

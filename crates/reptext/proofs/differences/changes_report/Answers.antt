@@ -1,4 +1,3 @@
--- No change has a number with a fraction.
 use Rattle.std.proofs.Common.{◌∙◌, ap}
 use Rattle.serde_json.specs.Written.{has_float}
 use Rattle.reptext.proofs.ChangeValues.{changes_have_no_float}

@@ -1,4 +1,4 @@
--- Where a label has authority on another, the reason has a first edge.
+-- That each arrow has the first edge of the reason for an authority.
 use Rattle.std.proofs.Common.{◌<◌, ◌∙◌, List, length, string_bytes, subst, sym}
 use Rattle.base.specs.declared.edge.Edge.{Edge}
 use Rattle.policy.specs.{ActorReasons.{IsChangeBy, IsShrinkBy, IsWhyAmong}, Places.IsLeast, Reasons.reason_place}

@@ -1,4 +1,4 @@
--- The arrows from the next label come after those before.
+-- That the arrows from the next label are written after those from the labels before.
 use Rattle.std.proofs.Common.{arith, length, string_bytes, subst, sym}
 use Rattle.reach.specs.Extents.{limits_by}
 use Rattle.reptext.{specs.Drawing.{AddsArrows, pairs_with}, proofs.Arrows.{adds_label, label_is, label_there}}

@@ -1,4 +1,3 @@
--- the report tells the rule's name and the names at the place
 use Rattle.std.proofs.{Common.{◌∙◌, ap, map, string_bytes}, lemmas.Result.IfOk-weaker}
 use Rattle.verdict.specs.Verdict.{rule_name}
 use Rattle.reptext.specs.Reports.{denial_report}

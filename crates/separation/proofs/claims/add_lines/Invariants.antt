@@ -1,4 +1,3 @@
--- the lines of the pairs so far are written
 use Rattle.std.proofs.Common.{◌++◌, ◌≡◌, take}
 use Rattle.microkit.specs.LabelView.{bytes_of}
 use Rattle.separation.specs.Claims.{lines_of}

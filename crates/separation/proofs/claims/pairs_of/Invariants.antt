@@ -1,4 +1,3 @@
--- The pairs so far are those of the first labels.
 use Rattle.std.{specs.List.{flat_map, range_with_len}, proofs.Common.◌≡◌}
 use Rattle.microkit.specs.{LabelView.bytes_of, View.description_of}
 use Rattle.separation.specs.Claims.{pairs_at}

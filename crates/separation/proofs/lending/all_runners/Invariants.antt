@@ -1,4 +1,3 @@
--- Those found so far are those of the first domains.
 use Rattle.std.{specs.List.range_with_len, proofs.Common.{◌≡◌, map}}
 use Rattle.microkit.specs.{LabelView.bytes_of, View.description_of}
 use Rattle.separation.specs.Lending.{runners_of}

@@ -1,4 +1,3 @@
--- No call is made first, and then one more each time.
 use Rattle.std.proofs.Common.{◌∙◌, ap}
 use Rattle.microkit.specs.View.{description_of}
 use Rattle.separation.{specs.Lending.with_called, proofs.Levels.{called_more, called_none}}

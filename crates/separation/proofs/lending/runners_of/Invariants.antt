@@ -1,4 +1,4 @@
--- Those found so far may run on the domain's time by as many calls.
+-- The domains found so far run on the domain's time by at most this number of calls.
 use Rattle.std.proofs.Common.{◌≡◌}
 use Rattle.microkit.specs.View.{description_of}
 use Rattle.separation.specs.Lending.{runners_by}

@@ -1,4 +1,4 @@
--- A domain is within itself, and any other one as its parent is.
+-- That a domain is within itself, and any other is within a domain if its parent is.
 use Rattle.std.proofs.Common.{◌-◌, ◌∙◌, ◌≡◌, ◌≤◌, ap, arith, eq-eqb, sym}
 use Rattle.microkit.specs.View.{description_of}
 use Rattle.separation.{specs.Users.is_within, proofs.Levels.{within_else, within_here}}

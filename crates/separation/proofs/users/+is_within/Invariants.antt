@@ -1,4 +1,3 @@
--- each level up leaves one less
 use Rattle.separation.proofs.users.+is_within.Given as goal
 
 abbrev pub decreases-is_within : goal.decreases-is_within

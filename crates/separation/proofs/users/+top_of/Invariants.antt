@@ -1,4 +1,3 @@
--- each level up leaves one less
 use Rattle.separation.proofs.users.+top_of.Given as goal
 
 abbrev pub decreases-top_of : goal.decreases-top_of

@@ -1,4 +1,4 @@
--- The status is that of how the request ended, unless the lines can't be written.
+-- That the status is that of the request's end, unless the lines can't be written.
 use Rattle.std.{specs.Global.Vec, proofs.Common.{ℕ, ◌<◌, ◌∙◌, ◌≡◌, ◌⊎◌, ap, inl, inr, subst, sym}}
 use Rattle.devices.specs.{declared.watched.Watched.Watched, Watched.device_of}
 use Rattle.commands.specs.{declared.end.End.End, Ends.status_of}

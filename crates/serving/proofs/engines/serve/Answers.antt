@@ -1,4 +1,4 @@
--- What is asked of a system and a policy ends with a status of at most 2.
+-- That a question about a system and a policy ends with a status of at most 2.
 use Rattle.std.proofs.Common.{◌≤◌}
 use Rattle.commands.specs.declared.{choices.{OfPolicy.{OfPolicy, TheVariants.{Close, Draw, Why}}, Taken.Taken}, end.End.End}
 use Rattle.commands.specs.{Commands.{Input, Output}, Ends.status_of}

@@ -1,7 +1,6 @@
 use Rattle.std.proofs.Common.{refl}
 use Rattle.serving.proofs.opening.open_by.Goals as goal
 
--- the file is what opening it gave
 pub returns-clause-opened : goal.returns-clause-opened
 returns-clause-opened g c = record {
   given = c.opener.result;

@@ -1,4 +1,3 @@
--- no rule so far is broken
 use Rattle.std.proofs.Common.{[]}
 use Rattle.base.specs.Labels.{is_in}
 use Rattle.policy.{specs.{Policy.allows, Sharp.Told}, proofs.Places.NoneSoFar}

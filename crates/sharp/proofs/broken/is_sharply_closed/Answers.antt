@@ -6,7 +6,7 @@ use Rattle.sharp.proofs.Unbroken.{sharply_closed_if, unbroken}
 use Rattle.sharp.proofs.broken.is_sharply_closed.Goals as goal
 use mathlib.Core.Bool.{false≢true}
 
--- nothing is found exactly if nothing is broken
+-- no place is found exactly if no rule is broken
 decides :
     (test : EdgeTest) (Keeps : Keepers) (found : Option SharpBroken) (none : Bool) → is_some found ≡ not none
     → FindsLeast sharp_place (IsSharplyBrokenAt test Keeps) found → IsTrue none ↔ IsSharplyClosed test Keeps

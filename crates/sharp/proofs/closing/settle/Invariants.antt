@@ -5,7 +5,7 @@ use Rattle.policy.proofs.ClosingGrowth.{absent_count}
 use Rattle.sharp.specs.Keeping.{KeepsFrom}
 use Rattle.sharp.proofs.closing.settle.Given as goal
 
--- what was there is there, every sharply closed policy that has it has what is there now, and these are the keepers
+-- old edges are kept, every sharply closed policy that has them has the new ones, and these are the keepers
 abbrev pub invariant-loop-policy : goal.invariant-loop-policy
 invariant-loop-policy l = record {
   has : IsWithin (allows l.initial.policy) (allows l.policy);

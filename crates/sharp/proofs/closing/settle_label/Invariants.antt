@@ -4,7 +4,7 @@ use Rattle.policy.specs.{Policy.allows, Sharp.Told}
 use Rattle.sharp.specs.{Asked.{IsSettledAmong, SharesSharply}, Least.GrowsSharply}
 use Rattle.sharp.proofs.closing.settle_label.Given as goal
 
--- if nothing changed, no edge of the kinds so far is missing; and those that shared with the label share
+-- no edge of the kinds so far is missing if nothing changed; and the labels that shared still share
 abbrev pub invariant-loop-kind : goal.invariant-loop-kind
 invariant-loop-kind l = record {
   grows : GrowsSharply l.keeping l.initial.policy l.policy l.changed;

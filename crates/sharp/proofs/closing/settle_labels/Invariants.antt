@@ -4,7 +4,7 @@ use Rattle.policy.specs.{Policy.allows, Sharp.Told}
 use Rattle.sharp.specs.{Asked.IsSharplySettled, Least.GrowsSharply}
 use Rattle.sharp.proofs.closing.settle_labels.Given as goal
 
--- if nothing changed, no edge is missing at the labels so far
+-- no edge is missing at the labels so far if nothing changed
 abbrev pub invariant-loop-number : goal.invariant-loop-number
 invariant-loop-number l = record {
   grows : GrowsSharply l.keeping l.initial.policy l.policy l.changed;

@@ -1,4 +1,4 @@
--- Step by step, until no label keeps by a step from those found.
+-- That the search ends with all keepers: when no label keeps by one step from those found.
 use Rattle.std.proofs.{Common.{◌<◌, ◌∙◌, subst, sym}, lemmas.Bool.{false≢true, or_cases, or_left, or_right}}
 use Rattle.std.proofs.Common.{inl, inr}
 use Rattle.base.specs.Labels.{is_in}

@@ -1,4 +1,4 @@
--- Those found so far keep, and who keeps by a step from them is known.
+-- The labels found so far keep, and the labels that keep by one step from them are known.
 use Rattle.std.proofs.Common.{ℕ, ◌↔◌, ◌≡◌, true}
 use Rattle.base.specs.Labels.{is_in}
 use Rattle.policy.specs.Policy.{allows}

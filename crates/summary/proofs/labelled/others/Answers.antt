@@ -1,4 +1,4 @@
--- label by label
+-- That the loop keeps exactly the labels that have no thread.
 use Rattle.std.proofs.Common.{ℕ, ◌∙◌, Bool, ap, arith, not, sym}
 use Rattle.summary.{specs.Labelled.has_thread, proofs.Pieces.{number_fails, number_passes}}
 use Rattle.summary.proofs.labelled.others.Goals.{in-Some+else-not-has, in-Some+then-not-has+in_ok-push, in_default}

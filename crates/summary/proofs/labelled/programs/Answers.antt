@@ -1,4 +1,4 @@
--- label by label
+-- That the loop keeps exactly the labels that have a thread.
 use Rattle.std.proofs.Common.{◌∙◌, ap, arith, sym}
 use Rattle.summary.{specs.Labelled.has_thread, proofs.Pieces.{number_fails, number_passes}}
 use Rattle.summary.proofs.labelled.programs.Goals.{in-Some+else-has, in-Some+then-has+in_ok-push, in_default}

@@ -1,4 +1,4 @@
--- Way by way.
+-- That each way to change a label has one of the letters, and that a letter needs a way.
 use Rattle.std.proofs.Common.{ℕ, ◌≡◌, inl, inr, true}
 use Rattle.reach.specs.Extents.{Limits}
 use Rattle.summary.{specs.Letters.{HasLetter, Letter, by_answer, by_call, by_other, by_signal}, proofs.LetterSets.{WaysOf, lettered}}

@@ -1,4 +1,3 @@
--- the group of one label more is written
 use Rattle.std.proofs.Common.{◌++◌, ◌∙◌, ap, string_bytes}
 use Rattle.matrix.proofs.Pieces.{piece_more}
 use Rattle.summary.specs.Regions.{group_text}

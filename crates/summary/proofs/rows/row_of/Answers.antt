@@ -1,4 +1,4 @@
--- What is said of the ways is of the policy and the labels that they were made of.
+-- That a row says what its label may do, by the policy and the labels from which the ways were made.
 use Rattle.std.proofs.Common.{ℕ, ◌↔◌, ◌≡◌, subst, true}
 use Rattle.base.specs.Labels.{is_in}
 use Rattle.reach.specs.Extents.{limits_by}

@@ -1,4 +1,4 @@
--- row by row
+-- That the loop makes the row of each label with a thread.
 use Rattle.std.proofs.Common.{arith}
 use Rattle.reach.specs.Extents.{limits_by}
 use Rattle.matrix.proofs.Pieces.{each_more, labels_more, numbers_more}

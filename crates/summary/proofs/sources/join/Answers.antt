@@ -1,4 +1,4 @@
--- row by row
+-- That the loop finds exactly the labels in the rows of the set.
 use Rattle.std.proofs.Common.{[], ℕ, ◌+◌, ◌↔◌, ◌∙◌, ◌≡◌, ap, arith, get_or, refl, subst, sym, true}
 use Rattle.base.specs.{declared.labels.Labels.Labels, Labels.is_in}
 use Rattle.policy.proofs.Stepping.{IsBelow, more_below, none_more}

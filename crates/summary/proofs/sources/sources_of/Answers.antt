@@ -1,4 +1,4 @@
--- label by label
+-- That the loop finds exactly the labels with the edge.
 use Rattle.std.proofs.{Common.{ℕ, ◌+◌, ◌==◌, ◌||◌, ◌↔◌, ◌∙◌, ◌≡◌, ap, arith, refl, subst, sym, true}, lemmas.Bool.{eq-eqb, eqb-true}}
 use Rattle.base.specs.Labels.{is_in}
 use Rattle.policy.{specs.Policy.allows, proofs.Stepping.{IsBelow, more_below, none_more}}

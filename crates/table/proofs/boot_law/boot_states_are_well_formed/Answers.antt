@@ -1,4 +1,3 @@
--- Record by record.
 use Rattle.table.proofs.{BootContents.boot-parts, BootFresh.boot-fresh, BootLinks.boot-links, BootNumbers.boot-numbers}
 use Rattle.table.proofs.{BootSlots.boot-slots, BootTree.boot-ranked}
 use Rattle.table.proofs.boot_law.boot_states_are_well_formed.Goals as goal

@@ -1,4 +1,4 @@
--- A value whose bits above the guard's size are zero is below `2^size`.
+-- That a value is below `2^size` if its bits above the guard's size are zero.
 use Rattle.std.proofs.Common.{ℕ, ◌&&◌, ◌*◌, ◌+◌, ◌/◌, ◌<◌, ◌^◌, ◌↔◌, ◌∙◌, ◌≡◌, ◌≤◌, ◌⊎◌, ap, arith, inl, inr, nat_eq, nat_lt, sym}
 use Rattle.std.proofs.{Math.Nat.div-lt_iff_lt-mul, lemmas.{Bool.{cases_lt, eq-eqb, le-leb, le-ltb, lt-ltb, ne_eqb}, Nat.pow_pos}}
 use Rattle.table.proofs.draft.fits.Goals as goal

@@ -1,4 +1,4 @@
--- Starts rise, so a partition point tells those below an address.
+-- Starts rise, so a partition point counts those below an address.
 use Rattle.std.proofs.{Common.{nat_lt, rules}, lemmas.{Bool.{ltb-false, ltb-true}, List.Sorted.IsPartitionPoint-from_clause}}
 use Rattle.std.proofs.lemmas.List.Sorted.{IsPartitionedBy-ltb}
 use Rattle.table.proofs.ApartLemmas.{starts_rise}

@@ -1,4 +1,4 @@
--- Starts rise, so a partition point tells those up to an address.
+-- Starts rise, so a partition point counts those up to an address.
 use Rattle.std.proofs.{Common.{nat_le, rules}, lemmas.{Bool.{leb-false, leb-true}, List.Sorted.IsPartitionPoint-from_clause}}
 use Rattle.std.proofs.lemmas.List.Sorted.{IsPartitionedBy-leb}
 use Rattle.table.proofs.ApartLemmas.{starts_rise}

@@ -1,4 +1,4 @@
--- The extent goes behind those that start below its end.
+-- The extent is inserted after those that start below its end.
 use Rattle.std.{specs.Result.is_ok, proofs.{Common.{◌≡◌, true}, lemmas.List.Sorted.IsPermutation-insert}}
 use Rattle.table.proofs.ApartLemmas.{apart_with}
 use Rattle.table.proofs.extent.insert_within.Goals as goal

@@ -1,4 +1,4 @@
--- Up to the bits of an address the sum is compared without overflow, and more bits don't fit.
+-- The sum doesn't overflow with at most as many bits as an address has; an object with more doesn't fit.
 use Rattle.std.proofs.Common.{◌∙◌, sym}
 use Rattle.table.proofs.ExtentLemmas.{few_fit, many_exceed, shifted}
 use Rattle.table.proofs.extent.is_addressable.Goals as goal

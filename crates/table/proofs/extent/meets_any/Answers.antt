@@ -1,4 +1,4 @@
--- The last that starts below the extent's end meets it if any does.
+-- If any extent meets the new one, the last that starts below its end does.
 use Rattle.std.proofs.{Common.{ℕ, ◌∙◌, ◌≡◌, ◌≤◌, arith, false, nat_lt, sym}, lemmas.Bool.Decides.nat_tests}
 use Rattle.table.proofs.ApartLemmas.{last_below, none_below}
 use Rattle.table.proofs.extent.meets_any.Goals as goal

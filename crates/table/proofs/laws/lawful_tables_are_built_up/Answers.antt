@@ -1,4 +1,4 @@
--- The draft of a table has all its capabilities marked original.
+-- A lawful table is the marked form of the draft in which all its capabilities are original.
 use Rattle.std.proofs.{Common.{◌∙◌, ◌≡◌, ap, refl, subst, sym, true}, lemmas.List.Elements.All-map}
 use Rattle.machine.specs.{declared.layout.Filled.Filled, Layout.Layout}
 use Rattle.table.{specs.{Rules.IsLawful, Tree.tree_fault}, proofs.{BuiltUp.{built_from_draft, draft_from_built}, TreeLemmas.draft_remarked}}

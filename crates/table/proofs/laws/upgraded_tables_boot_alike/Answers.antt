@@ -1,4 +1,4 @@
--- Neither reads the version.
+-- Neither definition reads the version.
 use Rattle.std.proofs.Common.{refl}
 use Rattle.machine.specs.{Authority.{label_at, label_of}, Layout.{declared_label, initial_of}}
 use Rattle.table.proofs.Upgraded.{boots, boots_upgraded}

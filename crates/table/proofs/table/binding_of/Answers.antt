@@ -1,4 +1,4 @@
--- The threads rise, so a search among them finds the one or tells that there is none.
+-- The threads rise, so a search finds the one binding of a thread, or there is none.
 use Rattle.std.{specs.{declared.cmp.Ordering.TheVariants.Less, Cmp.nat_cmp_is}, proofs.Common.{◌<◌, ◌≡◌, AllPairs, List, rules, sym}}
 use Rattle.std.proofs.lemmas.List.Sorted.{answers_always}
 use Rattle.machine.{specs.{declared.layout.Binding.Binding, Machine.id_cmp}, proofs.LookUps.id_total}

@@ -1,4 +1,4 @@
--- The slots rise, so a search among them finds the one or tells that there is none.
+-- The slots rise, so a search finds the one entry of a slot, or there is none.
 use Rattle.std.proofs.{Common.{ap, option_map, rules}, lemmas.List.Sorted.answers_always}
 use Rattle.machine.{specs.declared.layout.Filled.Filled, proofs.LookUps.slot_total}
 use Rattle.table.proofs.SearchLemmas.{found_at, not_found, searchable}

@@ -1,4 +1,4 @@
--- The slots rise, so that which is found is the one.
+-- The slots rise, so an entry of the slot is the only one.
 use Rattle.std.{specs.Cmp.tied_itself, proofs.{Common.{◌∙◌, ap, option_map, sym}, lemmas.Bool.ltb-true}}
 use Rattle.base.specs.declared.ids.SlotRef.{SlotRef}
 use Rattle.machine.{specs.{declared.layout.Filled.Filled, Machine.slot_cmp}, proofs.{Ids.slots_same, LookUps.slot_total}}

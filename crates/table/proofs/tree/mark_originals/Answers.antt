@@ -1,4 +1,3 @@
--- Marks leave slots and details, so that slots rise and sources are found as before.
 use Rattle.std.proofs.Common.{◌<◌, arith, length}
 use Rattle.table.proofs.TreeLemmas.{mark_step, rises_same}
 use Rattle.table.proofs.tree.mark_originals.Goals as goal

@@ -1,4 +1,4 @@
--- The slots rise, so a search among them finds the one or tells that there is none.
+-- The slots rise, so a search finds the one pair of a child, or there is none.
 use Rattle.std.proofs.{Common.{ap, option_map, rules}, lemmas.List.Sorted.answers_always}
 use Rattle.machine.{specs.declared.layout.Pair.Pair, proofs.LookUps.slot_total}
 use Rattle.table.proofs.SearchLemmas.{found_at, not_found, searchable}

@@ -1,4 +1,4 @@
--- The slots rise, so that which is found is the one, and none is between two neighbours.
+-- The slots rise, so a pair of the child is the only one, and no child is between two neighbours.
 use Rattle.std.{specs.Cmp.tied_itself, proofs.{Common.{◌∙◌, ap, option_map, refl, sym}, lemmas.Bool.ltb-true}}
 use Rattle.base.specs.declared.ids.SlotRef.{SlotRef}
 use Rattle.machine.{specs.{declared.layout.Pair.Pair, Machine.slot_cmp}, proofs.{Ids.slots_same, LookUps.slot_total}}

@@ -1,4 +1,4 @@
--- The first pair that breaks a rule is told, or there is none.
+-- That the loop finds the first pair that breaks a rule, if there is one.
 use Rattle.std.proofs.{Common.{[], ◌<◌, ◌∙◌, ◌≡◌, ◌≤◌, ◌⊎◌, ap, arith, get_or, inl, inr, sym, true}, lemmas.Bool.cases_lt}
 use Rattle.std.proofs.lemmas.List.{get_or_default}
 use Rattle.table.{specs.Tree.{is_kin, tree_of}, proofs.TreeLemmas.{fault_here, fault_nowhere}}

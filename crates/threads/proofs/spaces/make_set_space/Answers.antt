@@ -1,4 +1,4 @@
--- The thread was found before the removal; where the slot with its capability is still filled, its root slot is there.
+-- That the thread and its root slot still exist after the removal, if the slot with the thread's capability is still filled.
 use Rattle.std.proofs.Common.{◌∙◌, IsTrue, ap, refl, subst, sym}
 use Rattle.machine.specs.{declared.object.ObjectKind.ObjectKind as kind, Lookup.root_of, Machine.{Machine, cap_of, has_slot}}
 use Rattle.steps.proofs.Finding.{finds}

@@ -1,4 +1,4 @@
--- The capability that arrives is copied to an empty slot that is there.
+-- That the capability that arrives is copied to an existing empty slot.
 use Rattle.std.proofs.Common.{sym}
 use Rattle.transfer.proofs.ArrivingEnds.{can_derive}
 use Rattle.transfer.proofs.arrivals.arrive.Goals as goal

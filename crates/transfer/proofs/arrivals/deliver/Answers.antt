@@ -1,4 +1,4 @@
--- The receiver stands in its queue once the capability arrived, and the state stays well formed.
+-- The receiver is still in its queue after the capability arrived.
 use Rattle.transfer.proofs.arrivals.deliver.Goals as goal
 
 pub give-requires : goal.give-requires

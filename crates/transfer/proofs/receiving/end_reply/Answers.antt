@@ -1,4 +1,4 @@
--- Who waits nowhere still does once the holder is halted.
+-- A thread that waits nowhere still waits nowhere after the holder is halted.
 use Rattle.std.proofs.Common.{subst, sym}
 use Rattle.machine.specs.Machine.{Machine}
 use Rattle.objects.specs.Waiting.{WaitsNowhere}

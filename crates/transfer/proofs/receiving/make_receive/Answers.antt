@@ -1,4 +1,3 @@
--- The caller still waits nowhere once the reply's holder is halted.
 use Rattle.transfer.proofs.receiving.make_receive.Goals as goal
 
 pub receive_or_wait-requires-clause-free : goal.receive_or_wait-requires-clause-free

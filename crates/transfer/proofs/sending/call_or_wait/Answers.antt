@@ -1,4 +1,4 @@
--- Once its message is delivered the caller and the receiver are two threads, and the reply is free; the caller waits nowhere.
+-- That the caller and the receiver differ after the message is delivered, and the reply is free; else the caller waits nowhere.
 use Rattle.std.proofs.Common.{◌∙◌, sym}
 use Rattle.steps.proofs.Threads.{ready_caller_waits_nowhere}
 use Rattle.transfer.proofs.Delivered.{apart, caller_there, receiver_there, reply_free}

@@ -1,4 +1,4 @@
--- The first filled slot refuses, and empty ones leave it to the rest.
+-- That the first filled slot refuses, and that empty ones leave the decision to the others.
 use Rattle.std.{specs.Prelude.{None, Some}, proofs.Common.{ℕ, ◌+◌, ◌-◌, ◌∙◌, ◌≡◌, Err, arith, refl, suc, sym, zero}}
 use Rattle.base.specs.declared.{ids.ObjId.ObjId, refusal.Cause.TheVariants.DeleteFirst}
 use Rattle.machine.specs.{declared.cap.Cap.Cap, Machine.{Machine, cap_of}, Step.Retype.{all_vacant, window}}

@@ -1,4 +1,4 @@
--- Each slot is filled in its turn, and the later ones stay free.
+-- That the slots are filled one by one, and that the later ones stay free.
 use Rattle.std.proofs.Common.{◌≡◌, ◌≢◌, ap, arith, suc, zero}
 use Rattle.base.specs.declared.ids.SlotRef.{SlotRef}
 use Rattle.untyped.proofs.Filled.{alone_stays, filling_stays, object_stays, other_stays, slot_stays}

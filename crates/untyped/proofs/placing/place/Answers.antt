@@ -1,4 +1,4 @@
--- One more object is written, and none is left at the end.
+-- That each round writes one more object, and that none is left at the end.
 use Rattle.std.proofs.{Common.{◌∙◌, arith, suc, sym, take, zero}, lemmas.List.{append-nil, take_all}}
 use Rattle.untyped.proofs.Placed.{one_placed}
 use Rattle.untyped.proofs.placing.place.Goals as goal

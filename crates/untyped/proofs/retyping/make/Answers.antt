@@ -1,4 +1,4 @@
--- What was there is there after objects are added, and a retype may be made at once.
+-- That the objects are added to a machine that keeps what it has, and a retype is made at once.
 use Rattle.std.proofs.{Common.{◌∙◌, ap, arith, length}, lemmas.List.length-take-le}
 use Rattle.untyped.proofs.Grown.{all_made, cap_past_news, free_past_news, length-new_objects, news_there}
 use Rattle.untyped.proofs.retyping.make.Goals as goal

@@ -1,4 +1,4 @@
--- What was found in a well-formed machine, and met each condition, can be made.
+-- That a call that met each condition in a well-formed machine can be made.
 use Rattle.std.proofs.Common.{◌∙◌, ap, refl, subst, sym}
 use Rattle.machine.specs.{declared.object.Object.Object, Memory.Source, Step.Retype.within_limits}
 use Rattle.cspace.specs.Strings.{level_shown}

@@ -1,4 +1,3 @@
--- What was planned is made, and keeps the machine well formed.
 use Rattle.std.proofs.Common.{sym}
 use Rattle.untyped.proofs.retyping.retype.Goals as goal
 

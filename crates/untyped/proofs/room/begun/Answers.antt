@@ -1,4 +1,3 @@
--- The first child says whether there is one.
 use Rattle.untyped.{specs.Shown.source_shown, proofs.Children.{begun_first, begun_later}}
 use Rattle.untyped.proofs.room.begun.Goals as goal
 

@@ -1,4 +1,4 @@
--- The watermark after all objects is below 17 * 2^48, and decides.
+-- That the watermark after all objects is below 17 * 2^48, and decides.
 use Rattle.std.proofs.{Common.{ℕ, ◌%◌, ◌*◌, ◌+◌, ◌<◌, ◌^◌, ◌≡◌, ◌≤◌, Err, Ok, arith, suc, zero}, Math.{Nat.mod-eq_of_lt, Pow.pow_mono}}
 use Rattle.std.proofs.lemmas.Bool.Decides.{nat_tests}
 use Rattle.base.specs.declared.refusal.Cause.TheVariants.{NotEnoughMemory}

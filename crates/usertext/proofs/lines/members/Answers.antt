@@ -1,4 +1,3 @@
--- The items that the iterator gives, one after another.
 use Rattle.std.proofs.{Common.ap, lemmas.Iterator.{Consumers.YieldsList-from_first, items_from_collect}}
 use Rattle.base.specs.Labels.{members_of}
 use Rattle.usertext.proofs.lines.members.Goals as goal

@@ -1,4 +1,4 @@
--- label by label
+-- That the loop finds how far each label goes.
 use Rattle.std.proofs.Common.{arith, refl}
 use Rattle.reach.specs.Extents.{GoesTo, limits_of}
 use Rattle.matrix.proofs.Pieces.{each_more, labels_more}

@@ -1,4 +1,3 @@
--- The headline, by what the types of tables and policies keep.
 use Rattle.verdict.proofs.accepted.are_safe.Goals as goal
 
 pub returns : goal.returns

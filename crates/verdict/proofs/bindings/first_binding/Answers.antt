@@ -1,4 +1,4 @@
--- the first place is at the first that has one
+-- That the loop finds the first binding that breaks A4.
 use Rattle.std.proofs.Common.{ap, arith, length}
 use Rattle.policy.{specs.Policy.allows, proofs.Places.{least_here, none_at_all, none_more}}
 use Rattle.table.proofs.Lookups.{bound_from, read_at}

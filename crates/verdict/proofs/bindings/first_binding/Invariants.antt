@@ -1,4 +1,3 @@
--- nothing is broken so far
 use Rattle.policy.specs.Policy.{allows}
 use Rattle.verdict.proofs.BindingPlaces.{NothingBroken}
 use Rattle.verdict.proofs.bindings.first_binding.Given as goal

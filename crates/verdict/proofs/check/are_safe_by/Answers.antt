@@ -1,4 +1,4 @@
--- What is accepted by either set of rules is accepted by the sharp ones.
+-- A system accepted by either set of rules is accepted by the sharp ones.
 use Rattle.policy.specs.Policy.{allows}
 use Rattle.verdict.proofs.RuleSets.{accepted_by}
 use Rattle.verdict.proofs.check.are_safe_by.Goals as goal

@@ -1,4 +1,4 @@
--- first of all by the policy's own rules, then at the slots, and then of a binding
+-- That the first denial is by the policy's own rules, or else at a slot, or else of a binding.
 use Rattle.std.proofs.Common.{subst}
 use Rattle.policy.specs.{Places.FindsLeast, Policy.allows}
 use Rattle.verdict.specs.{Slots.BreaksSlots, Verdict.place_of}

@@ -1,4 +1,4 @@
--- The labels that keep by those of the boot state are those that may keep.
+-- The keepers of the boot state are the labels that may keep.
 use Rattle.policy.specs.Policy.{allows}
 use Rattle.base.specs.Labels.{is_in}
 use Rattle.policy.specs.Sharp.{Told}

@@ -1,4 +1,4 @@
--- one object more
+-- That the loop keeps the least denial with each object.
 use Rattle.std.proofs.Common.{◌+◌, arith, subst, sym}
 use Rattle.policy.specs.{Places.FindsLeast, Policy.allows}
 use Rattle.verdict.{specs.Verdict.place_of, proofs.{LeastByRule.{least_kept, least_new}, OutsideObjects.{LiesBelow, least_of_all_objects, looks}}}

@@ -1,4 +1,3 @@
--- the least at the objects so far
 use Rattle.policy.specs.{Places.FindsLeast, Policy.allows}
 use Rattle.verdict.{specs.Verdict.place_of, proofs.OutsideObjects.LiesBelow}
 use Rattle.verdict.proofs.excess.first_outside.Given as goal

@@ -1,4 +1,4 @@
--- nothing lies outside, or the first denial names the first place
+-- That nothing lies outside, or the first denial names the first place.
 use Rattle.std.proofs.Common.{◌≡◌, IfNone, IfSome, None, Option, Some}
 use Rattle.machine.specs.{Layout.Layout, Machine.Machine}
 use Rattle.policy.specs.{Domain.EdgeTest, Places.FindsLeast, Policy.allows}

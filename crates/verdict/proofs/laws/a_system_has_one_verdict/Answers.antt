@@ -1,4 +1,3 @@
--- Of two verdicts neither comes first.
 use Rattle.verdict.proofs.OneVerdict.{one_verdict, one_verdict_by}
 use Rattle.verdict.proofs.laws.a_system_has_one_verdict.Goals as goal
 

@@ -1,4 +1,4 @@
--- A table declares what its boot state has; and it has a boot state.
+-- That the table's verdict is one on its boot state, which exists and has the authority that the table declares.
 use Rattle.policy.specs.Policy.{allows}
 use Rattle.table.proofs.BootState.{boot_state, boot_state_is}
 use Rattle.verdict.specs.declared.rules.Rules.TheVariants as rules

@@ -1,4 +1,3 @@
--- Reason by reason, and place by place.
 use Rattle.verdict.proofs.Outsides.{confined_within, within_confined}
 use Rattle.verdict.proofs.laws.confined_states_have_nothing_outside.Goals as goal
 

@@ -1,4 +1,3 @@
--- By the bounds that accepted systems keep.
 use Rattle.policy.specs.Policy.{allows}
 use Rattle.verdict.proofs.safe.accepted_systems_keep_labels_apart.Goals as goal
 

@@ -1,4 +1,3 @@
--- a search by its test
 use Rattle.std.proofs.{Common.{◌∙◌, rules, tests}, lemmas.Iterator.{YieldsList-from_slice, Search.find_from_yields_List}}
 use Rattle.policy.specs.Policy.{allows}
 use Rattle.verdict.specs.Slots.{is_missing}

@@ -1,4 +1,4 @@
--- Each clause from the lemma that says it.
+-- The clauses, by the lemmas of `FirstFaults`.
 use Rattle.words.proofs.FirstFaults.{has_first_fault, is_text, not_both, one_first_fault, read_or_refused, reads, refuses}
 use Rattle.words.proofs.first_fault.a_text_is_refused_for_its_first_fault.Goals as goal
 

@@ -1,4 +1,4 @@
--- Each place where the loop over the lines goes on or ends, by its law.
+-- The places where the loop over the lines goes on or ends, by their laws.
 use Rattle.std.proofs.{Common.{◌+◌, ◌∙◌, Err, ap, subst, sym}, lemmas.Result.err_from_is_err_and}
 use Rattle.words.specs.declared.faults.{Fault.Fault, Wrong.TheVariants.Syntax}
 use Rattle.words.specs.{Fault.fault_at, Reading.{StopsBy, as_read, header_at, judged}, Text.{Progress, lines_of, words_of}}

@@ -1,4 +1,4 @@
--- What the lines left make of what was read so far is what the whole text makes.
+-- The state so far and the lines that are left give the result of the whole text.
 use Rattle.std.proofs.Common.{◌≡◌, length}
 use Rattle.words.specs.{Reading.{as_read, judged, read_lines, read_text}, Text.{lines_of, words_of}}
 use Rattle.words.proofs.reader.read_text.Given as goal

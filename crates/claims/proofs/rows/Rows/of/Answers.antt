@@ -1,4 +1,4 @@
--- One row more, that of the label whose number is next.
+-- Each turn adds one row more, that of the label with the next number.
 use Rattle.std.proofs.{Common.{[], ◌++◌, ◌∷◌, ◌≡◌, Some, arith, length, slice_get, subst}, lemmas.{Bool.false≢true, Grind.common_steps}}
 use Rattle.reach.specs.Extents.{limits_of}
 use Rattle.claims.{specs.Rows.IsRow, proofs.{FirstBreach.row_more, rows.Rows.of.Goals.{in-Some+in_ok-push, in_default}}}

@@ -1,4 +1,3 @@
--- The call that was made is the last entry of a history that fits the log.
 use Rattle.std.proofs.Common.{arith}
 use Rattle.cores.proofs.desk.Desk.call.Goals as goal
 

@@ -1,4 +1,3 @@
--- What none of its flows leads to, it changes in no run.
 use Rattle.std.proofs.Common.{inl, inr, subst}
 use Rattle.base.specs.Labels.{is_in}
 use Rattle.reach.{specs.{Extents.limits_of, Reach.{IsTableReach, TableReach}}, proofs.LeastReach.actors_told}

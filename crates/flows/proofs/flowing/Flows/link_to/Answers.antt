@@ -1,4 +1,4 @@
--- The object is one of those between the two labels, of which there are some since the one flows to the other.
+-- The object of the link is one of those between the two labels; there are some, since the one flows to the other.
 use Rattle.std.proofs.{Common.{◌∙◌, not, refl, sym}, lemmas.Bool.{and_parts, false≢true}}
 use Rattle.base.specs.Labels.{is_in}
 use Rattle.flows.proofs.Chains.{was_not}

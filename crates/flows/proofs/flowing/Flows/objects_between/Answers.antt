@@ -1,4 +1,4 @@
--- by the rows of what the one label affects, and of what the other depends on
+-- The objects between two labels are found by the rows of what the one affects, and of what the other depends on.
 use Rattle.std.proofs.Common.{◌&&◌, ◌<◌, ◌∙◌, ◌≡◌, ap, arith, false, get_or, length, not, subst}
 use Rattle.std.proofs.lemmas.List.{get_or_default}
 use Rattle.base.specs.Labels.{is_in, no_labels}

@@ -1,4 +1,4 @@
--- by the rows of what the label depends on, and of what the others affect
+-- The previous labels are found by the rows of what the label depends on, and of what the others affect.
 use Rattle.std.proofs.Common.{ℕ, ◌&&◌, ◌<◌, ◌∙◌, ◌≡◌, List, ap, arith, get_or, length, not, subst, true}
 use Rattle.std.proofs.lemmas.List.{get_or_default}
 use Rattle.base.specs.{declared.labels.Labels.Labels, Labels.{is_in, no_labels}}

@@ -1,4 +1,4 @@
--- Link by link, until no label flows to those that were found but them.
+-- Each turn finds one link more, or is done with a label to which no other flows, until all that were found are done.
 use Rattle.std.proofs.Common.{[], ℕ, ◌&&◌, ◌++◌, ◌+◌, ◌<◌, ◌||◌, ◌∙◌, ◌∷◌, ◌≡◌, ap, arith, inl, length, not, refl, subst, sym}
 use Rattle.std.proofs.lemmas.{Bool.{and_parts, eq-eqb, eqb-true, or_left, or_right}, Grind.common_steps}
 use Rattle.base.specs.Labels.{is_in}

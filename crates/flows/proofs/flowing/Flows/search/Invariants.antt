@@ -1,4 +1,4 @@
--- A chain leads from each label that was found, by a link, and only such flow to the labels that are done.
+-- A chain leads, by a link, from each label that was found, and only such labels flow to those that are done.
 use Rattle.std.proofs.Common.{ℕ, ◌+◌, ◌≡◌, length, true}
 use Rattle.base.specs.Labels.{is_in}
 use Rattle.reach.specs.Extents.{limits_of}

@@ -1,4 +1,4 @@
--- Label by label, until those that were found are all done.
+-- Each turn is done with one label more, until all that were found are done.
 use Rattle.std.proofs.{Common.{◌&&◌, ◌<◌, ◌||◌, ◌∙◌, ◌≡◌, Bool, ap, false, not, refl, subst, sym, true}, lemmas.Bool.{and_parts, eq-eqb, or_left, or_right}}
 use Rattle.base.specs.Labels.{is_in}
 use Rattle.reach.specs.Extents.{limits_of}

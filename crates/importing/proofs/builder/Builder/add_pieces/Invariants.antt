@@ -1,4 +1,4 @@
--- The pieces that are left, behind the table so far, come to what all of them come to.
+-- The pieces that are left, added to the table so far, give what all of them give.
 use Rattle.std.proofs.Common.{◌≡◌, drop}
 use Rattle.importing.specs.{Built.{pieces_added}, PlanView.{plan_of}}
 use Rattle.importing.proofs.builder.Builder.add_pieces.Given as goal

@@ -1,4 +1,4 @@
--- A set with one more kind has that one, and of the others those that it had.
+-- A set to which one kind was added: it has that kind, and of the others those that it had.
 use Rattle.std.proofs.Common.{ℕ, ◌&&◌, ◌+◌, ◌<◌, ◌==◌, ◌^◌, ◌∙◌, ◌≡◌, ◌≢◌, Bool, ap, arith, bit_or, false, get_or, inl, inr, nat_lt, refl}
 use Rattle.std.proofs.{Common.{sym, true, zero-add}, lemmas.Bool.{eq-eqb, le-ltb, lt-ltb, Decides.{eqb_tells, nat_tests}}}
 use Rattle.std.proofs.lemmas.{List.{get_or-map, FromFn.get_or-range_with_len}, Nat.{and_or_apart, and_or_self, or_lt, pow_apart, pow_below}}
@@ -12,7 +12,7 @@ number_at i d small = sym (get_or-map kind_number ALL i d 0 small) ∙ get_or-ra
 alike : (a i : ℕ) → i ≢ a → nat_lt a (i + 1) ≡ nat_lt a i
 alike a i apart = grind (arith, nat_tests)
 
--- the kinds below one more number are that number's kind and those below
+-- the kinds below `i + 1` are kind `i` and those below it
 one_more : (given : Kind → Bool) (i set new : ℕ) (x : Kind) → kind_number x ≡ i
     → ((one other : Kind) → kind_number one ≡ kind_number other → one ≡ other)
     → ((kind : Kind) → is_among set kind ≡ (nat_lt (kind_number kind) i && given kind))

@@ -1,4 +1,3 @@
--- A radix is at most 12, so there are at most 2^12 slots.
 use Rattle.std.proofs.{Common.{◌^◌, ◌≤◌, arith}, Math.Pow.pow_mono}
 use Rattle.base.specs.declared.limits.TheConstants.{MAX_RADIX}
 use Rattle.machine.proofs.radix.Radix.slots.Goals as goal

@@ -1,4 +1,4 @@
--- Room is made for those that may be going, then the objects are added at once.
+-- Room is made for the objects that may be going, then the objects are added at once.
 use Rattle.std.{specs.{List.fold, Prelude.vec_capacity}, proofs.Common.{◌+◌, ◌^◌, ◌∙◌, ◌≤◌, ap, arith, length}}
 use Rattle.std.proofs.lemmas.Result.{err_from_is_err_and}
 use Rattle.machine.specs.Machine.{with_new}

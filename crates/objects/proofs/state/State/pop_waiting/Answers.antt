@@ -1,4 +1,4 @@
--- Who waits first waits once, so that it leaves as any other that waits.
+-- The thread that waits first waits once, so it leaves as any other does.
 use Rattle.std.proofs.Common.{◌∙◌, ◌∷◌, ◌≡◌, ap, sym}
 use Rattle.machine.{specs.{Changes.first_waiting, Machine.{Machine, queue_of}}, proofs.{Leaving.first_leaves, Queues.first_in}}
 use Rattle.machine.proofs.Queues.{nobody_leaves, queue_by_first}

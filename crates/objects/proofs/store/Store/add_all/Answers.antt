@@ -1,4 +1,4 @@
--- The entries are added one by one, where room was found for all of them before.
+-- The entries are added one by one, after room was found for all of them.
 use Rattle.std.{specs.Vec.Iter.into_iter_items, proofs.{Common.{◌+◌, ◌∙◌, ap, arith, length, sym}, lemmas.List.length-map}}
 use Rattle.std.proofs.lemmas.{List.nil_from_length, Result.err_from_is_err_and}
 use Rattle.objects.{specs.Entries.{new_entry, with_more}, proofs.PlaceLemmas.{IsPlaced-added, IsPlaced-same, added_by_number}}

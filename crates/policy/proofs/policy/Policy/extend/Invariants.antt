@@ -3,7 +3,6 @@ use Rattle.base.specs.declared.kind.Kind.{Kind}
 use Rattle.policy.specs.Policy.{allows}
 use Rattle.policy.proofs.policy.Policy.extend.Given as goal
 
--- the edges so far are added
 abbrev pub invariant-loop-edge : goal.invariant-loop-edge
 invariant-loop-edge l =
     (from : ℕ) (kind : Kind) (to : ℕ)

@@ -1,4 +1,4 @@
--- By what the two sets of labels tell, and what every run keeps of those that aren't in them.
+-- The extents by the two sets of labels, and what every run keeps of labels in neither.
 use Rattle.std.proofs.{Common.{◌∙◌, sym}, lemmas.Bool.false≢true}
 use Rattle.reach.proofs.least.Reach.extent.Goals as goal
 

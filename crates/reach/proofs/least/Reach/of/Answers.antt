@@ -1,4 +1,4 @@
--- The keepers by the policy are those that may keep.
+-- The keepers by the policy are the labels that may keep.
 use Rattle.reach.{proofs.LeastReach.{from_may, may_from}}
 use Rattle.reach.proofs.least.Reach.of.Goals as goal
 

@@ -1,4 +1,3 @@
--- what the type keeps
 use Rattle.std.proofs.Common.{subst}
 use Rattle.reach.specs.Reach.{IsTableReach, TableReach}
 use Rattle.reach.proofs.least.Reach.policy.Goals as goal

@@ -1,4 +1,3 @@
--- Whom the label may neither change nor make smaller, no run changes.
 use Rattle.std.proofs.{Common.{◌∙◌, sym}, lemmas.Bool.false≢true}
 use Rattle.base.specs.Labels.{is_in}
 use Rattle.reach.proofs.LeastReach.{actors_told}

@@ -1,4 +1,4 @@
--- S6 to S8 ask for what they ask whichever labels keep.
+-- S6 to S8 don't depend on the keepers.
 use Rattle.base.specs.Labels.{is_in}
 use Rattle.sharp.proofs.broken.Rule.broken_at.Goals as goal
 

@@ -1,4 +1,3 @@
--- no label so far has a broken place
 use Rattle.base.specs.Labels.{is_in}
 use Rattle.policy.specs.{Policy.allows, Sharp.Told}
 use Rattle.sharp.{specs.Broken.{IsSharplyBrokenAt, sharp_place}, proofs.{PlaceSearch.NoneBelow, RulePlaces.of_rule}}

@@ -1,4 +1,3 @@
--- no kind so far has a broken place
 use Rattle.std.proofs.Common.{[], ◌∷◌}
 use Rattle.base.specs.Labels.{is_in}
 use Rattle.policy.{specs.{Policy.allows, Sharp.Told}, proofs.{KindNumbers.all_kinds, Places.NoneSoFar}}

@@ -7,7 +7,7 @@ use Rattle.summary.proofs.{LetterSets.{answer_from, answer_to}, Waiting.{held_an
 use Rattle.summary.proofs.ways.Ways.answers.Goals as goal
 use mathlib.Core.Bool.{false≢true}
 
--- one whose threads make no calls changes nothing
+-- a label whose threads make no calls changes nothing
 pub returns-then-not-has : goal.returns-then-not-has
 returns-then-not-has c l =
     subst (λ (w : WaysOf). (is_in c.none.result l ≡ true) ↔ HasLetter by_answer (limits_by w.edges w.actors) c.args.actor l) c.self.view_is (

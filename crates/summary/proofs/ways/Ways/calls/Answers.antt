@@ -6,7 +6,7 @@ use Rattle.summary.{specs.{Letters.{HasLetter, by_call}, Ways.WaysOf}, proofs.{L
 use Rattle.summary.proofs.ways.Ways.calls.Goals as goal
 use mathlib.Core.Bool.{false≢true}
 
--- one whose threads make no calls changes nothing
+-- a label whose threads make no calls changes nothing
 pub returns-then-not-has : goal.returns-then-not-has
 returns-then-not-has c l =
     subst (λ (w : WaysOf). (is_in c.none.result l ≡ true) ↔ HasLetter by_call (limits_by w.edges w.actors) c.args.actor l) c.self.view_is (

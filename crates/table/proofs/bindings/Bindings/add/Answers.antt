@@ -1,4 +1,4 @@
--- The list of threads has room for the context's number, and has the new thread there.
+-- That the list of threads has room for the context's number, and has the new thread there.
 use Rattle.std.proofs.{Common.{◌+◌, ◌<◌, ◌≡◌, ◌≤◌, None, arith, length, refl, subst, sym, vec_len}, lemmas.Grind.common_steps}
 use Rattle.table.{specs.Aims.thread_bound_to, proofs.{BindingAdded.threads_with, ListLemmas.lengthened}}
 use Rattle.table.proofs.bindings.Bindings.add.Goals.{else-context-len, then-context-len+in_ok-resize}

@@ -1,4 +1,3 @@
--- Each capability is still for its object.
 use Rattle.std.proofs.{Common.{◌++◌, ◌∙◌, ◌≡◌, List, ap, arith, drop, length, map, subst, sym, take}, Math.Seq.take-append_seam}
 use Rattle.machine.specs.declared.layout.Filled.{Filled}
 use Rattle.table.{specs.{Aims.Marks, Tree.{is_original, tree_of, with_mark}}, proofs.TreeLemmas.marks_marked}

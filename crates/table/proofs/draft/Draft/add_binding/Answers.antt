@@ -1,4 +1,3 @@
--- What is added was admitted.
 use Rattle.std.proofs.Common.{subst, sym}
 use Rattle.table.{specs.Building.AdmitsBinding, proofs.BindingAdded.{context_low, draft_binding, not_bound}}
 use Rattle.table.proofs.draft.Draft.add_binding.Goals as goal

@@ -1,4 +1,3 @@
--- What is added was admitted.
 use Rattle.std.proofs.Common.{subst, sym}
 use Rattle.table.{specs.Building.AdmitsCap, proofs.CapAdded.{aimed_low, draft_filled}}
 use Rattle.table.proofs.draft.Draft.add_cap.Goals as goal

@@ -1,4 +1,3 @@
--- What is added was admitted.
 use Rattle.std.proofs.Common.{subst, sym}
 use Rattle.table.{specs.Building.AdmitsLabel, proofs.LabelAdded.draft_label}
 use Rattle.table.proofs.draft.Draft.add_label.Goals as goal

@@ -1,4 +1,3 @@
--- What is added was admitted.
 use Rattle.std.proofs.Common.{subst, sym}
 use Rattle.table.{specs.Building.AdmitsObject, proofs.ObjectAdded.draft_initial}
 use Rattle.table.proofs.draft.Draft.add_object.Goals as goal

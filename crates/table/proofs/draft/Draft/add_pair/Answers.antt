@@ -1,4 +1,3 @@
--- What is added was admitted.
 use Rattle.std.proofs.Common.{subst, sym}
 use Rattle.table.{specs.Building.AdmitsPair, proofs.Pairs.draft_pair}
 use Rattle.table.proofs.draft.Draft.add_pair.Goals as goal

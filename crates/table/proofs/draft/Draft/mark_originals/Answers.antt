@@ -1,4 +1,4 @@
--- What is marked is a draft still, and a table where its tree has no fault.
+-- That a marked draft is still a draft, and a lawful table if its tree has no fault.
 use Rattle.std.proofs.Common.{◌∙◌, ◌≡◌, List, ap, map, subst, sym}
 use Rattle.machine.specs.{declared.layout.{Filled.Filled, Pair.Pair}, Layout.{Layout, initial_cap, initial_parent}}
 use Rattle.table.specs.{declared.draft.Draft.TheInside.Inside, Rules.{IsDraft, IsLawful}, Tree.{is_original, source_of, tree_fault}}

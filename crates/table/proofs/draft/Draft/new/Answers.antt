@@ -1,4 +1,3 @@
--- All lists are empty.
 use Rattle.table.proofs.DraftKept.{draft_empty}
 use Rattle.table.proofs.draft.Draft.new.Goals as goal
 

@@ -1,4 +1,4 @@
--- The new object's extent goes among the others', none of which it meets.
+-- That the new object's extent takes its place among the others, none of which it meets.
 use Rattle.std.{specs.List.list_any, proofs.{Common.{◌∙◌, ◌≡◌, Bool, ap, arith, false, not, true}, lemmas.Bool.false≢true}}
 use Rattle.std.proofs.lemmas.Grind.{common_steps}
 use Rattle.table.{specs.{Inventory.Inventory, Placement.{meets, touches}}, proofs.ExtentLemmas.{extents_with, meets_any-extents}}

@@ -1,4 +1,3 @@
--- The extents are those of the objects.
 use Rattle.std.{specs.List.{list_any, Sorted.IsPermutation}, proofs.Common.{◌∙◌, ap, not, subst, sym}}
 use Rattle.table.{specs.{Inventory.{Inventory, extents_from}, Placement.meets}, proofs.ExtentLemmas.meets_any-extents}
 use Rattle.table.proofs.objects.Objects.is_free.Goals as goal

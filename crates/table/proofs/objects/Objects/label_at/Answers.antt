@@ -1,4 +1,4 @@
--- The memory of the one extent that holds the address, where it is an untyped's.
+-- That the untyped memory that holds an address is the one whose extent holds it.
 use Rattle.std.{specs.{List.{find, slice_get}, Option.option_map}, proofs.Common.{ℕ, ◌∙◌, ◌≡◌, IsPermutation, None, Option, Some, ap}}
 use Rattle.std.proofs.{Common.{subst, sym}, lemmas.Option.{slice_get-get_or, slice_get_past}}
 use Rattle.machine.specs.{declared.layout.Initial.Initial, Authority.has_memory_at}

@@ -1,4 +1,3 @@
--- No objects have no extents.
 use Rattle.std.proofs.{Common.arith, lemmas.Grind.common_steps}
 use Rattle.table.proofs.ExtentLemmas.{no_extents, none_apart}
 use Rattle.table.proofs.objects.Objects.new.Goals as goal

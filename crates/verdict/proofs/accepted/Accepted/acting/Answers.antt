@@ -1,4 +1,4 @@
--- An accepted policy is closed.
+-- The labels that may act are found from the policy, which is closed as it is accepted.
 use Rattle.std.proofs.{Common.{◌∙◌, sym}, lemmas.Bool.false≢true}
 use Rattle.policy.{specs.Policy.allows, proofs.{Sharpness.closed_rises, Unbroken.closed_if}}
 use Rattle.verdict.{specs.declared.denial.Denial.Denial as denial, proofs.OthersRefused.others_refused}

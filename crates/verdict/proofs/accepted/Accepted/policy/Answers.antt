@@ -1,4 +1,3 @@
--- what the type keeps
 use Rattle.std.proofs.Common.{subst}
 use Rattle.verdict.specs.System.{IsAcceptedSystem, System}
 use Rattle.verdict.proofs.accepted.Accepted.policy.Goals as goal

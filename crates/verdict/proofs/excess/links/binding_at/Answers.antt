@@ -1,4 +1,4 @@
--- of the contexts that a thread is bound to and that it lent the lesser one to which an edge is lacking
+-- That the result is the lesser of a thread's context and the context that it lent, of those whose edge is lacking.
 use Rattle.std.{specs.Prelude.◌↔◌, proofs.Common.{[], ◌∷◌, ◌≡◌, Option, Some, subst, sym}}
 use Rattle.base.specs.declared.ids.ObjId.{ObjId}
 use Rattle.policy.specs.{Places.FindsLeast, Policy.allows}

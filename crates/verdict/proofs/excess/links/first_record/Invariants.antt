@@ -1,4 +1,3 @@
--- nothing is recorded of the kinds so far
 use Rattle.std.proofs.Common.{[], ◌∷◌}
 use Rattle.base.specs.Kinds.{kind_number}
 use Rattle.policy.{specs.Policy.allows, proofs.{KindNumbers.all_kinds, Places.NoneSoFar}}

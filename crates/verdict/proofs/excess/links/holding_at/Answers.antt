@@ -1,4 +1,3 @@
--- the one thread that a reply holds
 use Rattle.policy.specs.Policy.{allows}
 use Rattle.verdict.proofs.OutsidePlaces.{holding_by, least_lacking}
 use Rattle.verdict.proofs.excess.links.holding_at.Goals as goal

@@ -1,4 +1,4 @@
--- a context that is there, and to whose label the edge is lacking
+-- That a context is lacking exactly if it exists and the policy lacks the edge to its label.
 use Rattle.std.proofs.{Common.{◌∙◌, ap, sym}, lemmas.Option.same_Some}
 use Rattle.machine.specs.Authority.{label_of}
 use Rattle.verdict.proofs.excess.links.lacking.Goals as goal

@@ -1,4 +1,3 @@
--- what a thread keeps of one kind
 use Rattle.policy.specs.Policy.{allows}
 use Rattle.verdict.proofs.OutsidePlaces.{least_lacking, record_by}
 use Rattle.verdict.proofs.excess.links.record_at.Goals as goal

@@ -1,4 +1,3 @@
--- one kind of one capability
 use Rattle.std.proofs.Common.{◌∙◌, sym}
 use Rattle.policy.specs.Policy.{allows}
 use Rattle.verdict.proofs.OutsidePlaces.{capability_by, least_lacking, not_given}

@@ -1,4 +1,4 @@
--- the first place is in the first slot that has one
+-- That the first place is in the first slot that has one.
 use Rattle.std.proofs.{Common.{◌∙◌, ◌≡◌, Some, ap, arith, option_copied, sym}, lemmas.List.FromFn.length-range_with_len}
 use Rattle.machine.specs.{declared.object.Object.Object as o, Machine.object_of}
 use Rattle.policy.{specs.Policy.allows, proofs.{Places.{least_here, none_at_all, none_more}, Sweep.stands}}

@@ -1,4 +1,4 @@
--- the first place is at the first kind that has one
+-- That the first place is at the first kind that has one.
 use Rattle.std.proofs.{Common.arith, lemmas.Option.slice_get-get_or}
 use Rattle.policy.{specs.Policy.allows, proofs.{KindNumbers.all_kinds, Places.{least_here, none_at_all, none_more}}}
 use Rattle.verdict.proofs.OutsidePlaces.{slot_kinds}

@@ -1,4 +1,3 @@
--- no child lies outside in the slots so far
 use Rattle.std.proofs.Common.{[], ◌∷◌}
 use Rattle.policy.{specs.Policy.allows, proofs.{Places.NoneSoFar, Sweep.numbers}}
 use Rattle.verdict.specs.{Outside.LiesOutside, Rules.a3, Verdict.place_of}

@@ -1,4 +1,3 @@
--- a thread's one slot
 use Rattle.std.{specs.Option.option_map, proofs.Common.{◌∙◌, ◌≡◌, Some, ap, option_copied, refl, sym}}
 use Rattle.machine.specs.{declared.object.Object.Object as o, Machine.object_of, Objects.kind_of_object}
 use Rattle.policy.specs.Policy.{allows}

@@ -1,4 +1,4 @@
--- one slot more
+-- That the loop keeps the least denial with each slot.
 use Rattle.std.proofs.Common.{◌+◌, ◌<◌, ◌∙◌, ◌≡◌, ◌≤◌, Some, ap, arith, get_or, length, slice_get, subst, sym}
 use Rattle.std.proofs.lemmas.Option.{slice_get-get_or}
 use Rattle.machine.specs.declared.layout.Filled.{Filled}

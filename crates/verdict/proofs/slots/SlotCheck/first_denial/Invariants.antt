@@ -1,4 +1,3 @@
--- the least at the slots so far
 use Rattle.policy.specs.{Places.FindsLeast, Policy.allows}
 use Rattle.verdict.{specs.Verdict.place_of, proofs.LeastOfSlots.BrokenAmong}
 use Rattle.verdict.proofs.slots.SlotCheck.first_denial.Given as goal
