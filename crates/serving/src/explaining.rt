@@ -3,30 +3,30 @@ use crate::opening::Opened;
 use crate::sheets::{Sourced, minting_of};
 use crate::swapped::{Swapped, is_description};
 use base::Refusal;
-use breaches::{
+use captext::{PolicyDraft, object_name};
+use claims::{Broken, ClaimLines, Failure};
+use diff::changes;
+use explain_claims::{
     Judged, Lead, breach_lines, explain_breach, explain_breaches, explain_changers,
     explain_difference, explain_differences, explain_escape, explain_flows, explain_flows_beside,
     explain_readers, explain_run, explain_shared_memory, may_be_shown,
 };
-use captext::{PolicyDraft, object_name};
-use causes::{Caller, explain_illegal, explain_refusal};
-use claims::{Broken, ClaimLines, Failure};
-use diff::changes;
-use explain::{
+use explain_denials::{
     Names, explain_closing, explain_denial, explain_outside, explain_surplus, explain_unlabelled,
     explain_why, explain_why_allowed,
 };
+use explain_descriptions::{Note, explain_notes as explain_left_out, notes_of, notes_on_label};
+use explain_lines::{DroppedEdge, explain_dropped, explain_fault};
+use explain_refusals::{Caller, explain_illegal, explain_refusal};
+use explain_systems::{explain_changes, explain_notes};
 use machine::{Event, Outcome};
-use notes::{explain_changes, explain_notes};
 use policy::Policy;
 use reach::{Extent, Reach};
-use remarks::{Note, explain_notes as explain_left_out, notes_of, notes_on_label};
 use report::{
     Answer, Asked, Described, End, Fault, File, Files, Finding, Given, Listener, Made, Minting,
     OfPolicy, OfSystem, OnClose, Open, Rules, Use, answer_at,
 };
 use requests::{Format, Invocation, OfThree, Request};
-use slips::{DroppedEdge, explain_dropped, explain_fault};
 use sources::Sheet;
 use std::alloc::{AllocError, Global};
 use std::fmt;
@@ -389,8 +389,10 @@ impl<'a, R: AllocGlobal + Clock + Eprint> Explainer<'a, R> {
             return format!(in alloc; "{name}:{line}: {swapped}");
         }
         match file {
-            File::Description => remarks::explain_fault(alloc, name, text, fault),
-            File::New if is_description(text) => remarks::explain_fault(alloc, name, text, fault),
+            File::Description => explain_descriptions::explain_fault(alloc, name, text, fault),
+            File::New if is_description(text) => explain_descriptions::explain_fault(
+                alloc, name, text, fault,
+            ),
             File::New => explain_fault(alloc, File::Table, name, name, text, table, fault),
             _ => {
                 let system = request.name_of(File::Table);

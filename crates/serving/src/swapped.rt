@@ -1,5 +1,5 @@
 //! The sentences on a table in place of a description, and on a description in place of a table.
-use explain::Pasted;
+use explain_denials::Pasted;
 use report::File;
 use requests::{OfThree, Request};
 use std::fmt;

@@ -1,6 +1,6 @@
 //! The reader of XML, as system descriptions use it: elements, attributes and comments, within limits.
 //!
-//! `microkit` and `remarks` stand on it. It knows nothing of a kernel or a policy.
+//! `microkit` and `explain_descriptions` stand on it. It knows nothing of a kernel or a policy.
 #![tactic(auto)]
 
 mod characters;

@@ -4,7 +4,7 @@ use crate::scripts::push_run;
 use base::{Edge, Label, Refusal};
 use captext::label_name;
 use claims::{Breach, Broken, Claim, ClaimLines, Failure, claim_text};
-use explain::{EdgeLine, EdgeList, Origins, OtherWays};
+use explain_denials::{EdgeLine, EdgeList, Origins, OtherWays};
 use policy::Why;
 use reach::{Extent, Reach};
 use runs::Question;

@@ -3,7 +3,7 @@ use crate::scripts::push_run;
 use base::{Edge, Kind, Label, Refusal};
 use captext::label_name;
 use diff::{Change, Named, Verb, changes_text};
-use explain::{EdgeList, Origins};
+use explain_denials::{EdgeList, Origins};
 use policy::Why;
 use reach::Reach;
 use runs::Question;

@@ -3,7 +3,7 @@ use crate::broken::Judged;
 use base::{Edge, Kind, Label, Labels};
 use captext::label_name;
 use claims::{Claim, ClaimLines, Who, claim_text};
-use explain::LabelNames;
+use explain_denials::LabelNames;
 use machine::ObjectKind;
 use policy::Policy;
 use reach::Reach;

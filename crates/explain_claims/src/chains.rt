@@ -1,7 +1,7 @@
 //! The words on chains of flows from one label to another, step by step.
 use base::{Edge, Kind, Label, Labels, Refusal};
 use captext::label_name;
-use explain::{EdgeList, Origins};
+use explain_denials::{EdgeList, Origins};
 use flows::{Flows, Link};
 use policy::Why;
 use reach::Reach;

@@ -1,7 +1,8 @@
-//! Words to a person on denials, edges and labels: why a table and a policy are denied, and what may be done; where
-//! edges of the reach of a table come from, or of a policy, or why there are none; and that a word is no label.
+//! Explains why a table and a policy are denied and what may be done; and where an edge of a policy, or of the reach of
+//! a table, comes from, or why there is none.
 //!
-//! It knows no claim, no run, no device and no command.
+//! The crate also explains that a word is no label, and which edges of a policy aren't needed. It knows no claim, no
+//! run, no device and no command.
 #![tactic(auto)]
 
 mod asked;

@@ -1,6 +1,7 @@
-//! Words on claims that don't hold, on flows, on who uses a label, on what a changed system adds, and on runs.
+//! Explains why claims don't hold, how flows go from label to label, who uses a label, what a changed system adds, and
+//! what a run does.
 //!
-//! It knows no device and no command.
+//! The crate knows no device and no command.
 #![tactic(auto)]
 
 mod broken;

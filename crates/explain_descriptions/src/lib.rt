@@ -1,4 +1,4 @@
-//! Words on the description of a system: what its table doesn't show, and what is wrong with an element.
+//! Explains the description of a system: what its table doesn't show, and what is wrong with an element.
 //!
 //! The crate knows no policy and no verdict.
 #![tactic(auto)]

@@ -4,7 +4,7 @@ use crate::chains::{has_edge, programs_beside, push_link};
 use base::{Kind, Label, Labels, Refusal};
 use captext::label_name;
 use claims::{Claim, ClaimLines, Most, Who, claim_text};
-use explain::LabelNames;
+use explain_denials::LabelNames;
 use filters::{FlowGraph, Smallest};
 use flows::{Flows, Link};
 use reach::Reach;

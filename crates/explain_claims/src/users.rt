@@ -1,6 +1,6 @@
 //! The words on where the edges come from by which labels use another.
 use base::{Edge, Kind, Label, Refusal};
-use explain::Origins;
+use explain_denials::Origins;
 use reach::Reach;
 use search::edges_of;
 use sources::Sheet;

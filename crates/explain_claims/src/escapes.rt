@@ -2,7 +2,7 @@
 use crate::scripts::push_run;
 use base::{Edge, Kind, Refusal};
 use captext::label_name;
-use explain::{EdgeLine, Reason, asked_edge};
+use explain_denials::{EdgeLine, Reason, asked_edge};
 use labels::label_of;
 use machine::Event;
 use objects::State;

@@ -1,4 +1,4 @@
-//! Words on an accepted system: what each label may do, and what in its table may not be meant.
+//! Explains an accepted system: what each label may do, and what in its table may not be meant.
 //!
 //! The crate knows no claim, no run, no device and no command.
 #![tactic(auto)]

@@ -24,7 +24,7 @@ use words::Fault;
 ///
 /// `text` is the whole text of the file called `name`, and `system` the name of the system's file. `table` is the table by which
 /// any other file was read; it isn't used for a table. The faults of a description, which is XML, are explained by the crate
-/// `remarks`: no condition of its lines is known here.
+/// `explain_descriptions`: no condition of its lines is known here.
 ///
 /// If memory was refused, the sentence says so and names no line.
 ///

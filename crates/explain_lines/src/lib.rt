@@ -1,4 +1,4 @@
-//! Words on a faulty line: which condition it doesn't meet.
+//! Explains which condition a faulty line doesn't meet, and which lines of a policy `close` drops.
 //!
 //! The crate knows no policy and no verdict.
 #![tactic(auto)]

@@ -1,7 +1,7 @@
 //! Sentences on what each label of a table may do to the others.
 use base::{Label, Labels};
 use captext::label_name;
-use explain::LabelNames;
+use explain_denials::LabelNames;
 use machine::ObjectKind;
 use reach::Reach;
 use std::alloc::{AllocError, Global};
