@@ -266,56 +266,68 @@ def fault(words, file, line):
     return report(fault=int(told[2]), file="new system" if file == "new" else file, line=int(told[3] or line))
 
 
+def unshown(words):
+    bound, _, steps = words.partition(" ")
+    return 1, report(bound=bound, run="none found", steps=number_in(steps))
+
+
+def outside(words):
+    entries, _, place = words.partition(" ")
+    return 1, report(entries=number_in(entries), state="outside", verdict="legal", **place_in(place))
+
+
+def printed(words):
+    return plain(quoted(words)) + b"\n"
+
+
+# Status and standard output of each answer of one word.
+ANSWERS = {
+    "accept": (0, report(verdict="accept")),
+    "same": (0, b""),
+    "shows": (0, b"a script that shows it"),
+    "unknown": (2, b""),
+    "impossible": (1, report(bound="none", run="impossible")),
+}
+
+# By the first word of an answer, the function that gives status and standard output from the other words.
+BEGINNINGS = {
+    "matrix": lambda words: (0, HEAD.encode() + printed(words)),
+    "counts": lambda words: (0, COUNTS.encode() + printed(words)),
+    "writes": lambda words: (0, printed(words)),
+    "comes": lambda words: (0, flowing(words)),
+    "draws": lambda words: (0, drawing(words)),
+    "folds": lambda words: (0, folding(words)),
+    "full": lambda words: (0, b"full\n" + edges_in(words)),
+    "take": lambda words: (0, b"take\n" + edges_in(words)),
+    "none": lambda words: (0, b"none\n" + edges_in(words)),
+    "lacks": lambda words: (int(bool(words)), edges_in(words)),
+    "lists": lambda words: (0, changing(words)),
+    "adds": lambda words: (1, printed(words) if words.startswith("`") else changing(words)),
+    "drops": lambda words: (0, printed(words) if words.startswith("`") else changing(words)),
+    "within": lambda words: (0, report(entries=number_in(words), state="within", verdict="legal")),
+    "outside": outside,
+    "illegal": lambda words: (1, report(entry=number_in(words), verdict="illegal")),
+    "deny": lambda words: (1, report(verdict="deny", **place_in(words))),
+    "unshown": unshown,
+}
+
+
 def expected(words, system, script, kept, file, line):
-    """Status and standard output that an answer says, of a system's files, with this script, what claims bound that hold, and one of the files
-    changed in a line."""
+    """Status and standard output that an answer says, of a system's files, with this script, what claims bound that hold, and one of the
+    files changed in a line."""
     word, _, rest = words.partition(" ")
     if words in ("log", "report", "certificate", "policy", "claims", "table"):
         return 0, system.get(words, b"")
-    if word == "matrix":
-        return 0, HEAD.encode() + plain(quoted(rest)) + b"\n"
-    if word == "counts":
-        return 0, COUNTS.encode() + plain(quoted(rest)) + b"\n"
-    if word == "comes":
-        return 0, flowing(rest)
-    if words in ("shows", "unknown"):
-        return (0, b"a script that shows it") if words == "shows" else (2, b"")
-    if words == "impossible":
-        return 1, report(bound="none", run="impossible")
-    if word == "unshown":
-        bound, _, steps = rest.partition(" ")
-        return 1, report(bound=bound, run="none found", steps=number_in(steps))
-    if words == "accept":
-        return 0, report(verdict="accept")
-    if word == "writes":
-        return 0, plain(quoted(rest)) + b"\n"
-    if word in ("full", "take", "none"):
-        return 0, word.encode() + b"\n" + edges_in(rest)
-    if word == "lacks":
-        return int(bool(rest)), edges_in(rest)
-    if words == "same":
-        return 0, b""
-    if word == "lists":
-        return 0, changing(rest)
-    if word in ("adds", "drops"):
-        return int(word == "adds"), plain(quoted(rest)) + b"\n" if rest.startswith("`") else changing(rest)
-    if word in ("draws", "folds"):
-        return 0, drawing(rest) if word == "draws" else folding(rest)
+    if words in ANSWERS:
+        return ANSWERS[words]
+    if word in BEGINNINGS:
+        return BEGINNINGS[word](rest)
     if word == "each":
         return 0, each(script, rest)
     if word == "hold":
         return 0, report(claims=number_in(rest), kept=kept, verdict="hold")
     if word == "breaks":
         return 1, report(broken=list(breaches_in(rest)), kept=kept, verdict="broken")
-    if word == "within":
-        return 0, report(entries=number_in(rest), state="within", verdict="legal")
-    if word == "outside":
-        entries, _, rest = rest.partition(" ")
-        return 1, report(entries=number_in(entries), state="outside", verdict="legal", **place_in(rest))
-    if word == "illegal":
-        return 1, report(entry=number_in(rest), verdict="illegal")
-    if word == "deny":
-        return 1, report(verdict="deny", **place_in(rest))
     return 2, fault(words, file, line)
 
 
@@ -341,8 +353,8 @@ def path_of(name, file):
 
 @functools.cache
 def system_of(name):
-    """The texts of a system: an example, or one of tests/worked/systems. It may lack what the program says of it. The new system, with which
-    it is compared, is at first the same table."""
+    """The texts of a system: an example, or one of tests/worked/systems. It may lack what the program says of it. The new system, with
+    which it is compared, is at first the same table."""
     paths = {file: path_of(name, file) for file in [*TEXTS, "report"]}
     if not all(paths[file].is_file() for file in TEXTS[:3]):
         raise Wrong("a file can't be read")

@@ -9,24 +9,24 @@
 - one that begins with `{"` is the report on them, with the change that `<!-- change: .. -->` tells, or several of these;
 - one that begins with `full`, `take` or `none` is what `why` prints of the labels that `<!-- why: A B -->` tells, one that begins with
   `{"actor"` what it prints with `--format json`, and one that begins with `edge` what `close --missing` does, with that change;
-- one that begins with `<?xml` is the file description from here on; one that begins with a header after `<!-- import: RIGHTS .. -->` is what
-  `import` prints of it, with `--rights RIGHTS` and the options that follow, and that file from here on;
+- one that begins with `<?xml` is the file description from here on; one that begins with a header after `<!-- import: RIGHTS .. -->` is
+  what `import` prints of it, with `--rights RIGHTS` and the options that follow, and that file from here on;
 - one that begins with `who may change whom` is what `summary` prints of the files, one that begins with `{"cells"` what it prints with
   `--format json`, and one that begins with `{"bound"` what `show` does, of the labels that `<!-- show: A B -->` tells;
 - the one after `<!-- flows: A B -->` is what `flows` prints of these labels, with that change, and one that begins with
   `through how many other programs` what it prints of all programs;
-- one that begins with `confine-policy 1` after `<!-- close: of the table -->` is what `close` prints of the table alone, with the options that
-  follow these words, and one that begins with `confine-claims 2` after `<!-- claims: all -->` what `claims --all` prints of the files;
+- one that begins with `confine-policy 1` after `<!-- close: of the table -->` is what `close` prints of the table alone, with the options
+  that follow these words, and one that begins with `confine-claims 2` after `<!-- claims: all -->` what `claims --all` prints of the files;
 - a row of a table whose last cell is a report, or 'accepted', is the answer to these files with the
   changes that the cells before it tell, as `X` becomes `Y`; if the cell before the last is such an answer too, it is the one with
   `--rules sharp`. A fault may be written as `50 table:2`. A row with `X`, or `Y`, or `Z` is three examples: in the others Y or Z stands
   in place of X;
 - one whose last cell is a line of a file and `note`, as `table:8: note`, is a line that `check --explain` says of them on standard error,
   or the beginning of one, if it ends with ` ..`;
-- a block after `<!-- short: STATUS WORDS -->` is what the command of these words prints with `--format short` of the files, with the change that
-  `<!-- change: .. -->` tells; one after `<!-- asked: STATUS WORDS -->` what it prints without that option, on standard error with `--explain`;
-  after `<!-- new: .. -->` there is a file `new`, the table with this change; after `<!-- with: .. -->` the files have this change from
-  here on;
+- a block after `<!-- short: STATUS WORDS -->` is what the command of these words prints with `--format short` of the files, with the
+  change that `<!-- change: .. -->` tells; one after `<!-- asked: STATUS WORDS -->` what it prints without that option, on standard error
+  with `--explain`; after `<!-- new: .. -->` there is a file `new`, the table with this change; after `<!-- with: .. -->` the files have
+  this change from here on;
 - one with numbered lines is the beginning of a file of the system;
 - one that begins with a line of a file and `denied by`, as `table:8: denied by`, is what `check --explain` says of them on standard
   error, with the change that `<!-- change: .. -->` tells.
@@ -40,8 +40,9 @@ or that begins with `{"broken"`, and a fault of the claims, are those of `claims
 
 A row of a table whose last cell is empty goes on in the next row.
 
-A page of SESSIONS is one session in a folder. A block that begins with `<?xml` or `confine-claims 2` is a file that the reader writes there. In
-one that begins with `$ `, each line `$ COMMAND` is called in bash, and prints the lines that follow: on standard output and standard error.
+A page of SESSIONS is one session in a folder. A block that begins with `<?xml` or `confine-claims 2` is a file that the reader writes
+there. In one that begins with `$ `, each line `$ COMMAND` is called in bash, and prints the lines that follow: on standard output and
+standard error.
 """
 import pathlib
 import re
@@ -65,6 +66,12 @@ MARKS = str.maketrans({"␣": " ", "␍": "\r"})
 def text_of(file, lines):
     kind = "cert" if file == "certificate" else file
     return "\n".join([f"confine-{kind} 1", *lines, "end"]) + "\n"
+
+
+def file_of(text):
+    """Returns the name of the file that a text is: `description` if it has no header."""
+    kind = re.match(r"confine-(\w+)|", text)[1] or "description"
+    return "certificate" if kind == "cert" else kind
 
 
 def of_label_a(objects):
@@ -193,91 +200,163 @@ def in_one_line(text, between=""):
     return between.join(line.strip() for line in text.split("\n")[:-1]) + "\n"
 
 
+class Page:
+    """What a page has said so far. A method for a comment changes it. One for a row or a block yields the files and the answer of each
+    example there."""
+
+    def __init__(self):
+        self.files = {}
+        # The change for the next answer, and the labels that `why` and `show` are asked of from here on.
+        self.change, self.asked = "", []
+        # The texts of other comments, by their form. Each is kept until the block that it is about.
+        self.told = {}
+
+    # Comments.
+
+    def take_system(self, name):
+        folder = next(path / name for path in SYSTEMS if (path / name).is_dir())
+        self.files = {kind: (folder / kind).read_text() for kind in TEXTS if (folder / kind).exists()}
+
+    def take_labels(self, labels):
+        table = text_of("table", [f"label {label}" for label in labels.split()])
+        self.files = {kind: text_of(kind, []) for kind in KINDS} | {"table": table}
+
+    def make_new(self, change):
+        self.files = self.files | {"new": changed({"table": self.files["table"]}, change, "")["table"]}
+
+    def change_files(self, change):
+        self.files = changed(self.files, change, "")
+
+    def await_change(self, change):
+        self.change = f"{self.change} {change}"
+
+    def ask_of_labels(self, labels):
+        self.asked = labels.split()
+
+    def ask_in_short(self, words):
+        self.told["asked"] = f"{words} --format short"
+
+    # Rows.
+
+    def row(self, line):
+        *told, answer = [cell.strip() for cell in line.strip("|").split("|") if cell.strip()] or [""]
+        answer = FAULT.sub(r'`{"fault":\1,"file":"\2","line":\3}`', answer)
+        if NOTED.match(answer):
+            yield changed(self.files, " ".join(told), answer), answer + "\n"
+        elif REPORT.match(answer):
+            if told and REPORT.match(told[-1]):
+                sharp = told.pop()
+                yield changed(self.files, " ".join(told), sharp) | {"asked": SHARPLY}, sharp.strip("`") + "\n"
+            for one in alternatives(" ".join(told)):
+                yield changed(self.files, one, answer), answer.strip("`") + "\n"
+
+    # Blocks. Each method takes the block, and the text of its comment, which is empty if there is none.
+
+    def block(self, text):
+        for form, begins, examples_in in BLOCKS:
+            if form in ["", *self.told] and re.match(begins, text):
+                return examples_in(self, text, self.told.pop(form, ""))
+        return []
+
+    def keep(self, text, _=""):
+        self.files = self.files | {file_of(text): text}
+        return []
+
+    def changed(self, answer):
+        """Returns the files with the change for this answer. The next answer has none."""
+        change, self.change = self.change, ""
+        return changed(self.files, change, answer)
+
+    def command(self, text, told):
+        status, *words = told.split()
+        text = in_one_line(text) if text.startswith("{") else text.replace("\n  ", " ")
+        yield self.changed(text) | {"asked": words}, f"status {status}\n{text}"
+
+    def imported(self, text, rights):
+        yield self.files | {"asked": ["import", "description", "--rights", *rights.split()]}, text
+        self.keep(text)
+
+    def flows(self, text, labels):
+        yield self.changed(text) | {"asked": ["flows", "table", *labels.split()]}, text
+
+    def summary(self, text, _):
+        yield self.files, with_one_head(text)
+
+    def beginning(self, text, _):
+        """Yields an example that always fails, if the file doesn't begin with these lines."""
+        lines = re.sub(r"(?m)^ *\d+(?:  (.*?)(   .*)?)?$", r"\1", text)
+        if not self.files[file_of(lines)].startswith(lines):
+            yield self.files, f"the text of the system's {file_of(lines)}"
+
+    def certificate(self, text, _):
+        self.keep(text)
+        yield self.files, text
+
+    def log(self, text, _):
+        self.keep(text)
+        entries = text.split("\n")[1:-2]
+        yield self.files | {"script": text_of("script", [line.split(" = ")[0] for line in entries])}, text
+        yield self.files, f'{{"entries":{len(entries)},"state":"within","verdict":"legal"}}\n'
+
+    def closed(self, text, told):
+        self.keep(text)
+        yield self.files | {"asked": told.removeprefix("of the table").split()}, text
+
+    def strongest(self, text, _):
+        self.keep(text)
+        yield self.files | {"asked": []}, text
+
+    def report(self, text, _):
+        text = in_one_line(text) if text.startswith("{") else text
+        yield self.changed(text) | {"asked": self.asked}, text
+
+    def denial(self, text, _):
+        yield self.changed(text), in_one_line(text, " ")
+
+
+# The method for each form of a part. The comments of other forms are those of BLOCKS.
+PARTS = {
+    "system": Page.take_system,
+    "labels": Page.take_labels,
+    "new": Page.make_new,
+    "with": Page.change_files,
+    "change": Page.await_change,
+    "why": Page.ask_of_labels,
+    "show": Page.ask_of_labels,
+    "short": Page.ask_in_short,
+    "row": Page.row,
+    "block": Page.block,
+}
+
+# The form of the comment before a block, or none; what the block begins with; and its method. The first row that fits counts.
+BLOCKS = [
+    ("asked", "", Page.command),
+    ("import", "", Page.imported),
+    ("", r"<\?xml", Page.keep),
+    ("flows", "", Page.flows),
+    ("", "through how many other programs", Page.flows),
+    ("", "who may change whom", Page.summary),
+    ("", " *1  ", Page.beginning),
+    ("", "confine-cert 1\n", Page.certificate),
+    ("log", "confine-log 1\n", Page.keep),
+    ("", "confine-log 1\n", Page.log),
+    ("close", "confine-policy 1\n", Page.closed),
+    ("claims", "confine-claims 2\n", Page.strongest),
+    ("", r"confine-(table|policy|script|claims) [12]\n", Page.keep),
+    ("", '{"|full\n|take\n|none\n|edge ', Page.report),
+    ("", DENIED, Page.denial),
+]
+
+
 def examples_of(path):
-    """Where each example stands, its files, and the answer that it shows."""
-    files, change, asked, flows, imports, short, alone, closes, strongest = {}, "", [], [], "", [], False, None, False
+    """Yields where each example stands, its files, and the answer that it shows."""
+    page = Page()
     for number, form, text in parts_of(path.read_text()):
-        where = f"{path.relative_to(TOP)}:{number}"
-        kind = (re.match(r" *(?:1  )?confine-(\w+) [12]\n", text) or ["", ""])[1]
-        if form == "system":
-            folder = next(path / text for path in SYSTEMS if (path / text).is_dir())
-            files = {kind: (folder / kind).read_text() for kind in TEXTS if (folder / kind).exists()}
-        elif form == "labels":
-            files = {kind: text_of(kind, []) for kind in KINDS}
-            files["table"] = text_of("table", [f"label {label}" for label in text.split()])
-        elif form == "new":
-            files = files | {"new": changed({"table": files["table"]}, text, "")["table"]}
-        elif form == "with":
-            files = changed(files, text, "")
-        elif form == "change":
-            change = f"{change} {text}"
-        elif form in ("why", "show"):
-            asked = text.split()
-        elif form == "flows":
-            flows = text.split()
-        elif form == "import":
-            imports = text
-        elif form == "short":
-            short = [*text.split(), "--format", "short"]
-        elif form == "asked":
-            short = text.split()
-        elif form == "log":
-            alone = True
-        elif form == "close":
-            closes = text.removeprefix("of the table").split()
-        elif form == "claims":
-            strongest = True
-        elif form == "block" and short:
-            text = in_one_line(text) if text.startswith("{") else text.replace("\n  ", " ")
-            yield where, changed(files, change, text) | {"asked": short[1:]}, f"status {short[0]}\n{text}"
-            change, short = "", []
-        elif form == "block" and imports:
-            yield where, files | {"asked": ["import", "description", "--rights", *imports.split()]}, text
-            files, imports = files | {kind: text}, ""
-        elif form == "block" and text.startswith("<?xml"):
-            files = files | {"description": text}
-        elif form == "block" and (flows or text.startswith("through how many other programs")):
-            yield where, changed(files, change, text) | {"asked": ["flows", "table", *flows]}, text
-            change, flows = "", []
-        elif form == "block" and text.startswith("who may change whom"):
-            yield where, files, with_one_head(text)
-        elif form == "block" and re.match(r" *1  ", text):
-            lines = re.sub(r"(?m)^ *\d+(?:  (.*?)(   .*)?)?$", r"\1", text)
-            if not files[{"cert": "certificate"}.get(kind, kind)].startswith(lines):
-                yield where, files, f"the text of the system's {kind}"
-        elif form == "block" and kind == "cert":
-            files = files | {"certificate": text}
-            yield where, files, text
-        elif form == "block" and kind == "log":
-            entries = text.split("\n")[1:-2]
-            files = files | {"log": text}
-            if not alone:
-                yield where, files | {"script": text_of("script", [line.split(" = ")[0] for line in entries])}, text
-                yield where, files, f'{{"entries":{len(entries)},"state":"within","verdict":"legal"}}\n'
-            alone = False
-        elif form == "block" and kind in KINDS:
-            files = files | {kind: text}
-            if closes is not None or strongest:
-                yield where, files | {"asked": closes or []}, text
-            closes, strongest = None, False
-        elif form == "block" and re.match('{"|full\n|take\n|none\n|edge ', text):
-            text = in_one_line(text) if text.startswith("{") else text
-            yield where, changed(files, change, text) | {"asked": asked}, text
-            change = ""
-        elif form == "block" and DENIED.match(text):
-            yield where, changed(files, change, text), in_one_line(text, " ")
-            change = ""
-        elif form == "row":
-            *told, answer = [cell.strip() for cell in text.strip("|").split("|") if cell.strip()] or [""]
-            answer = FAULT.sub(r'`{"fault":\1,"file":"\2","line":\3}`', answer)
-            if NOTED.match(answer):
-                yield where, changed(files, " ".join(told), answer), answer + "\n"
-            elif REPORT.match(answer):
-                if told and REPORT.match(told[-1]):
-                    sharp = told.pop()
-                    yield where, changed(files, " ".join(told), sharp) | {"asked": SHARPLY}, sharp.strip("`") + "\n"
-                for one in alternatives(" ".join(told)):
-                    yield where, changed(files, one, answer), answer.strip("`") + "\n"
+        if form not in PARTS:
+            page.told[form] = text
+            continue
+        for files, answer in PARTS[form](page, text) or []:
+            yield f"{path.relative_to(TOP)}:{number}", files, answer
 
 
 def is_answered(answer, status, out):
@@ -297,43 +376,36 @@ def is_answered(answer, status, out):
     return out == answer and status == (2 if '"fault"' in answer else 1 if re.search(NOT_WELL, answer) else 0)
 
 
+# What an answer shows, and the command that prints it, where ASKED stands for the labels or options. The first row that fits counts.
+PRINTED_BY = [
+    ('"file":"description"', "import description --rights least"),
+    ("^who may change whom", "summary table"),
+    ('^{"cells"', "summary table --format json"),
+    ('^{"actor"', "why table ASKED --format json"),
+    ('^{"bound"', "show table ASKED"),
+    ("^(full|take|none)\n", "why table ASKED"),
+    (f"^({DENIED.pattern}|{NOTED.pattern})", "check table policy --explain"),
+    ("^edge ", "close table policy --missing"),
+    ("^confine-claims 2", "claims table --all"),
+    ('^{"(claims|broken)"|"file":"claims"', "claims table claims"),
+    ("^confine-policy 1", "close table ASKED"),
+    ("^confine-cert 1", "check table policy --cert"),
+    ('^{"entr|"file":"log"', "replay table policy log"),
+    ('"full"', "check table policy"),
+    (r'^{"verdict":"accept"}\n\Z|"C1"|"file":"certificate"', "verify table policy certificate"),
+]
+
+
 def commands_of(answer, asked):
-    """The commands that give such an answer."""
+    """Returns the commands that give such an answer."""
     if asked[:1] in (["import"], ["flows"]) or "--format" in asked or answer.startswith("status "):
         return [asked]
-    if '"file":"description"' in answer:
-        return [["import", "description", "--rights", "least"]]
-    if answer.startswith("who may change whom"):
-        return [["summary", "table"]]
-    if answer.startswith('{"cells"'):
-        return [["summary", "table", "--format", "json"]]
-    if answer.startswith('{"actor"'):
-        return [["why", "table", *asked, "--format", "json"]]
-    if answer.startswith('{"bound"'):
-        return [["show", "table", *asked]]
-    if re.match("full\n|take\n|none\n", answer):
-        return [["why", "table", *asked]]
-    if DENIED.match(answer) or NOTED.match(answer):
-        return [["check", "table", "policy", "--explain"]]
-    if answer.startswith("edge "):
-        return [["close", "table", "policy", "--missing"]]
-    if answer.startswith("confine-claims 2"):
-        return [["claims", "table", "--all"]]
-    if re.match('{"(claims|broken)"', answer) or '"file":"claims"' in answer:
-        return [["claims", "table", "claims"]]
-    if answer.startswith("confine-policy 1"):
-        return [["close", "table", *asked]]
-    if answer.startswith("confine-cert 1"):
-        return [["check", "table", "policy", "--cert"]]
-    if re.match('{"entr', answer) or '"file":"log"' in answer:
-        return [["replay", "table", "policy", "log"]]
-    if '"full"' in answer:
-        return [["check", "table", "policy"]]
-    if answer == '{"verdict":"accept"}\n' or '"C1"' in answer or '"file":"certificate"' in answer:
-        return [["verify", "table", "policy", "certificate"]]
+    for shows, words in PRINTED_BY:
+        if re.search(shows, answer):
+            return [words.replace("ASKED", " ".join(asked)).split()]
     options = asked if asked == SHARPLY else []
     run, check = ["run", "table", "policy", "script", *options], ["check", "table", "policy", *options]
-    return [run] if "confine-log" in answer or "accepted" in answer or '"file":"script"' in answer else [run, check]
+    return [run] if re.search('confine-log|accepted|"file":"script"', answer) else [run, check]
 
 
 def write(files, folder):
