@@ -61,10 +61,6 @@ impl Rows {
     ghost use Rattle.claims.specs.Rows.{AreRows};
 
     /// Returns how far each label goes in a system.
-    ///
-    /// # Errors
-    ///
-    /// [`AllocError`] where memory is refused.
     pub fn of(alloc: Global, reach: &Reach<'_>) -> Result<Rows, AllocError>
         ensures { IfOk result (AreRows (limits_of reach.now)) }
     {

@@ -72,10 +72,6 @@ fn through_text(
 }
 
 /// Returns a claim as it is told, with the names that its labels have in the table.
-///
-/// # Errors
-///
-/// [`AllocError`] where memory is refused.
 pub fn claim_text(alloc: Global, claim: &Claim, table: &Table) -> Result<String, AllocError>
     ensures { IfOk result (λ text. string_bytes text ≡ claim_text table.now claim.now) }
 {

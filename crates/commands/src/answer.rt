@@ -62,10 +62,6 @@ impl Answer {
 }
 
 /// Returns the answer to a denial: its report, with status 1.
-///
-/// # Errors
-///
-/// [`AllocError`] where memory is refused.
 pub fn denied(alloc: Global, table: &Table, denial: Denial) -> Result<Answer, AllocError>
     ensures { IfOk result (Denies table.now denial) }
 {

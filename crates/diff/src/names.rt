@@ -58,10 +58,6 @@ pub(crate) fn named_in_old(old: &Table, new: &Table, label: Label) -> Named
 
 /// Returns the labels of two tables by their names: those of the new one in their order, and then those that only the
 /// old one has.
-///
-/// # Errors
-///
-/// An error where memory is refused.
 pub(crate) fn names_of(alloc: Global, old: &Table, new: &Table) -> Result<Vec<Named>, AllocError>
     ensures { IfOk result (λ names. names.items ≡ names_of old.now new.now) }
 {

@@ -31,10 +31,6 @@ impl<'a> Model for Side<'a> {
 
 impl<'a> Side<'a> {
     /// Returns the side of a system with this reach.
-    ///
-    /// # Errors
-    ///
-    /// An error where memory is refused.
     pub(crate) fn of(alloc: Global, reach: &'a Reach<'a>) -> Result<Side<'a>, AllocError>
         ensures { IfOk result (λ side. side.reach ≡ reach.now) }
     {

@@ -18,10 +18,6 @@ pub fn adds_authority(changes: &[Change]) -> bool
 }
 
 /// Returns the text on the changes from one system to another: a line for each.
-///
-/// # Errors
-///
-/// An error where memory is refused.
 pub fn changes_text(
     alloc: Global,
     old: &Table,
@@ -139,10 +135,6 @@ fn write_cell(
 }
 
 /// Writes the marks of a cell, or a dot if there is none.
-///
-/// # Errors
-///
-/// An error where memory is refused.
 pub fn write_cell_marks(text: &mut String, marks: Marks) -> Result<(), AllocError>
     ensures { OnOk result (string_bytes text.new ≡ string_bytes text.old ++ cell_text marks) }
 {

@@ -118,10 +118,6 @@ pub fn write_run(alloc: Global, events: &[Event], outcomes: &[Outcome]) -> Resul
 }
 
 /// Returns the line of a log that has the event and its outcome.
-///
-/// # Errors
-///
-/// [`AllocError`] where memory is refused.
 pub fn entry_line(alloc: Global, event: &Event, outcome: &Outcome) -> Result<Vec<u8>, AllocError>
     ensures { IfOk result (λ line. line.items ≡ line_text (entry_words (event.now, outcome.now))) }
 {

@@ -36,10 +36,6 @@ struct Ends {
 ///
 /// Such a claim holds all the same, since memory is an object of its own label. Memory on which there is a claim
 /// `only` isn't told. There are at most 16 notes.
-///
-/// # Errors
-///
-/// [`AllocError`] where memory is refused.
 pub fn explain_shared_memory(
     alloc: Global,
     reach: &Reach<'_>,

@@ -185,10 +185,6 @@ impl fmt::Display for Pasted<'_> {
 
 /// Returns a sentence on the last state of a log, which lies outside a policy: the log's last line,
 /// and which edge it would take.
-///
-/// # Errors
-///
-/// [`AllocError`] where memory is refused.
 pub fn explain_outside(
     alloc: Global,
     log: &str,

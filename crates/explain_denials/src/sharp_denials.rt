@@ -11,10 +11,6 @@ use std::fmt;
 use table::Table;
 
 /// Returns the edges by which a sharp rule requires another, each once.
-///
-/// # Errors
-///
-/// [`AllocError`] where memory is refused.
 pub(crate) fn edges_of(alloc: Global, grounds: &Grounds) -> Result<Vec<Edge>, AllocError> {
     let mut edges = Vec::new(alloc);
     for ground in &grounds.edges {

@@ -8,10 +8,6 @@ use table::Table;
 /// Returns the sentence that a word is no label of a system, with the nearest label, or the first labels.
 ///
 /// `table` is the table of the system, which the file called `file` gives.
-///
-/// # Errors
-///
-/// [`AllocError`] where memory is refused.
 pub fn explain_unlabelled(
     alloc: Global,
     file: &str,

@@ -93,10 +93,6 @@ pub(crate) struct Open<'t> {
 const ENCODINGS: [&str; 4] = ["UTF-8", "utf-8", "US-ASCII", "us-ascii"];
 
 /// Returns the first thing in a text that isn't spelled as it should be.
-///
-/// # Errors
-///
-/// [`AllocError`] if memory is refused.
 pub(crate) fn first_slip<'t>(alloc: Global, text: &'t [u8]) -> Result<Slip<'t>, AllocError> {
     if text.len() > MAX_TEXT_LENGTH {
         return Ok(Slip::Limit(Limit::Text));

@@ -12,10 +12,6 @@ use xml::read_document;
 /// Says which element of a description has a fault, and what is wrong with it.
 ///
 /// `text` is all of the file called `name`. If memory was refused, the sentence says so, without a line.
-///
-/// # Errors
-///
-/// [`AllocError`] if memory is refused.
 pub fn explain_fault(
     alloc: Global,
     name: &str,

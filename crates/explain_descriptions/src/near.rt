@@ -7,10 +7,6 @@ use microkit::{Flaw, Kind, rules_of};
 use std::alloc::{AllocError, Global};
 
 /// Returns the name nearest to the one that an element gives, if this name is unknown and one is near.
-///
-/// # Errors
-///
-/// [`AllocError`] if memory is refused.
 pub(crate) fn near_name<'a>(
     alloc: Global,
     place: Place<'a, '_>,

@@ -70,10 +70,6 @@ impl Note<'_> {
 ///
 /// Notes on the whole description come first, then the others in the order of their lines. `table` is the
 /// description's, with capabilities that have the rights of `minting`.
-///
-/// # Errors
-///
-/// [`AllocError`] if memory is refused.
 pub fn notes_of<'a>(
     alloc: Global,
     description: &'a Description,
@@ -99,10 +95,6 @@ pub fn notes_of<'a>(
 /// Returns the notes on regions with this label that a device may write by itself.
 ///
 /// `table` is the description's, and its objects have these origins.
-///
-/// # Errors
-///
-/// [`AllocError`] if memory is refused.
 pub fn notes_on_label<'a>(
     alloc: Global,
     description: &'a Description,
@@ -124,10 +116,6 @@ pub fn notes_on_label<'a>(
 }
 
 /// Returns a line for each note, which begins with the file's name.
-///
-/// # Errors
-///
-/// [`AllocError`] if memory is refused.
 pub fn explain_notes(alloc: Global, file: &str, notes: &[Note<'_>]) -> Result<String, AllocError> {
     let mut lines = String::new(alloc);
     for note in notes {

@@ -19,10 +19,6 @@ struct Span {
 }
 
 /// Returns each map whose virtual addresses begin within another map of its domain or virtual machine, with that map.
-///
-/// # Errors
-///
-/// [`AllocError`] if memory is refused.
 pub(crate) fn overlaps_in(
     alloc: Global,
     description: &Description,

@@ -27,10 +27,6 @@ use words::Fault;
 /// `explain_descriptions`: no condition of its lines is known here.
 ///
 /// If memory was refused, the sentence says so and names no line.
-///
-/// # Errors
-///
-/// [`AllocError`] where memory is refused.
 pub fn explain_fault(
     alloc: Global,
     file: File,

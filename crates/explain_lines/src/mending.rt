@@ -41,10 +41,6 @@ pub struct DroppedEdge<'a> {
 }
 
 /// Says that a line of the policy called `name` was dropped, since the table lacks a label that it names.
-///
-/// # Errors
-///
-/// [`AllocError`] where memory is refused.
 pub fn explain_dropped(
     alloc: Global,
     name: &str,

@@ -8,10 +8,6 @@ use std::alloc::{AllocError, Global};
 use table::Table;
 
 /// Returns the flaw with the name that is nearest to an unknown one, if one is near.
-///
-/// # Errors
-///
-/// [`AllocError`] where memory is refused.
 pub(crate) fn near_flaw<'a>(alloc: Global, flaw: Flaw<'a>) -> Result<Flaw<'a>, AllocError> {
     Ok(match flaw {
         Flaw::Layout(file, flaw) => Flaw::Layout(file, near_layout(alloc, file, flaw)?),

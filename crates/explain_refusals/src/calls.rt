@@ -31,10 +31,6 @@ impl fmt::Display for Caller<'_> {
 /// Returns a sentence that says why a call is refused.
 ///
 /// The call is that of the line of this number in the text `name`.
-///
-/// # Errors
-///
-/// [`AllocError`] where memory is refused.
 pub fn explain_refusal(
     alloc: Global,
     caller: Caller<'_>,
@@ -58,10 +54,6 @@ pub fn explain_refusal(
 ///
 /// The entry is that of the number `entry`, from 1, in the log `name`, whose outcome is `told`
 /// there; `came` is what the kernel answers.
-///
-/// # Errors
-///
-/// [`AllocError`] where memory is refused.
 pub fn explain_illegal(
     alloc: Global,
     caller: Caller<'_>,

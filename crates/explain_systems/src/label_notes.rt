@@ -9,10 +9,6 @@ use table::Table;
 
 /// Returns lines on the labels of a table that have a thread: whose objects each of them may change by the reach of
 /// the table, and whose it may make smaller, among those with a thread. `table_file` is the name of the table's file.
-///
-/// # Errors
-///
-/// [`AllocError`] if memory is refused.
 pub fn explain_changes(
     alloc: Global,
     table_file: &str,

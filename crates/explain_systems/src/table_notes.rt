@@ -47,10 +47,6 @@ enum Matter {
 }
 
 /// Returns the notes on a table with this reach, each with its line. Those of one kind are at most 16.
-///
-/// # Errors
-///
-/// [`AllocError`] if memory is refused.
 pub fn explain_notes(
     alloc: Global,
     sheet: Sheet<'_>,

@@ -37,10 +37,6 @@ pub enum Smallest {
 impl<'a> FlowGraph<'a> {
     /// Returns the smallest sets of programs through which all flows from the label `from` to the label `to` go, at
     /// most `most` of them.
-    ///
-    /// # Errors
-    ///
-    /// [`AllocError`] where memory is refused.
     pub fn smallest_filters(
         &self,
         alloc: Global,

@@ -30,10 +30,6 @@ impl<'a> Flows<'a> {
     ///
     /// No label between the two is a filter, and no flow is by an object of a filter. No other chain has fewer
     /// links, but no contract says that.
-    ///
-    /// # Errors
-    ///
-    /// [`AllocError`] where memory is refused.
     pub fn chain(
         &self,
         alloc: Global,

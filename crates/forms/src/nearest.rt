@@ -25,10 +25,6 @@ const LONGEST: usize = 64;
 ///
 /// An edit puts in, leaves out or changes a letter, or swaps two neighbours. The word must have
 /// more bytes than there are edits. No name is near if it or the word has more than 64 bytes.
-///
-/// # Errors
-///
-/// [`AllocError`] where memory is refused.
 pub fn nearest_name<'a>(
     alloc: Global,
     word: &str,

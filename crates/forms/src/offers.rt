@@ -7,10 +7,6 @@ use crate::wanted::{KINDS, MATERIALS, WordFlaw};
 use std::alloc::{AllocError, Global};
 
 /// Returns the flaw of a layout with the word that is nearest to an unknown one, if one is near.
-///
-/// # Errors
-///
-/// [`AllocError`] where memory is refused.
 pub fn near_layout<'a>(
     alloc: Global,
     file: File,
@@ -29,10 +25,6 @@ pub fn near_layout<'a>(
 }
 
 /// Returns the flaw of a word with the kind that is nearest to an unknown one, if one is near.
-///
-/// # Errors
-///
-/// [`AllocError`] where memory is refused.
 pub fn near_word<'a>(alloc: Global, flaw: WordFlaw<'a>) -> Result<WordFlaw<'a>, AllocError> {
     let near = match flaw {
         WordFlaw::NoKind(word) => {

@@ -204,10 +204,6 @@ fn seats_of<J: Naming + Send + Sync, R: Threads + Sync>(
 }
 
 /// Returns the kernel by its name, with a caller for each seat.
-///
-/// # Errors
-///
-/// [`AllocError`] if memory is refused.
 pub fn with_callers<J: Naming + Send + Sync, R: Threads + Sync>(
     rt: &R,
     opened: Opened,

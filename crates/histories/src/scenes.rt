@@ -57,10 +57,6 @@ pub enum Plan<'a> {
 }
 
 /// Returns the cores of these numbers.
-///
-/// # Errors
-///
-/// [`AllocError`] if memory is refused.
 pub fn cores_of(alloc: Global, numbers: &[u64]) -> Result<Vec<CoreNo>, AllocError> {
     let mut cores = Vec::with_capacity(alloc, numbers.len())?;
     for number in numbers {

@@ -20,10 +20,6 @@ pub struct Origins {
 /// Returns the origins of the objects and capabilities of a description's table.
 ///
 /// The table is the one that [`table_of`](crate::table_of) returns for the same rights.
-///
-/// # Errors
-///
-/// [`AllocError`] if memory is refused.
 pub fn origins_of(
     alloc: Global,
     description: &Description,

@@ -10,10 +10,6 @@ use std::alloc::{AllocError, Global};
 use table::Table;
 
 /// Writes the matrix of these rows.
-///
-/// # Errors
-///
-/// An error if memory is refused.
 pub fn write_matrix<R: MatrixRow>(
     alloc: Global,
     text: &mut String,

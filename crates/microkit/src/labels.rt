@@ -27,10 +27,6 @@ pub enum Subject {
 ///
 /// These are each domain, each virtual machine, the time of each domain that may call another, and
 /// each region that somebody maps.
-///
-/// # Errors
-///
-/// [`AllocError`] if memory is refused.
 #[tactic(auto, unfolding(crate::specs::Labels::subjects_of))]
 pub fn subjects_of(alloc: Global, description: &Description) -> Result<Vec<Subject>, AllocError>
     ensures { IfOk result (λ subjects. subjects.items ≡ subjects_of (description_of description.now)) }

@@ -19,10 +19,6 @@ use table::Table;
 /// A claim on authority has the authority that breaks it, and the two labels if it doesn't name
 /// both. A claim that excludes edges has the first edge that breaks it, if it doesn't name that one
 /// itself.
-///
-/// # Errors
-///
-/// [`AllocError`] where memory is refused.
 pub fn breaches_report(
     alloc: Global,
     table: &Table,

@@ -13,10 +13,6 @@ use std::alloc::{AllocError, Global};
 use table::Table;
 
 /// Returns the changes from one system to another, as one JSON object on a line.
-///
-/// # Errors
-///
-/// An error where memory is refused.
 pub fn changes_report(
     alloc: Global,
     old: &Table,

@@ -45,10 +45,6 @@ impl KindsOfObjects for State {
 }
 
 /// Returns the names at the place of a denial. Slots are spelled by the kinds of their holders.
-///
-/// # Errors
-///
-/// [`AllocError`] where memory is refused.
 pub fn place_names<K: KindsOfObjects>(
     alloc: Global,
     table: &Table,

@@ -18,10 +18,6 @@ use verdict::Denial;
 
 /// Returns the report of a text that isn't one of its format: the fault's number, the file, and the
 /// line.
-///
-/// # Errors
-///
-/// [`AllocError`] where memory is refused.
 pub fn fault_report(alloc: Global, fault: u64, file: File, line: u64) -> Result<Vec<u8>, AllocError>
     ensures { IfOk result (λ report. report.items ≡ reports.fault_report fault file line) }
 {
@@ -38,10 +34,6 @@ fn denial_report(alloc: Global, rule: &str, place: &[String]) -> Result<Vec<u8>,
 }
 
 /// Returns the report of a denial: the rule that is broken, and the names at the place.
-///
-/// # Errors
-///
-/// [`AllocError`] where memory is refused.
 pub fn denial_text(alloc: Global, table: &Table, denial: &Denial) -> Result<Vec<u8>, AllocError>
     ensures { IfOk result (λ text. text.items
         ≡ reports.denial_report (rule_name denial.now) (place_names table.now denial.now)) }
@@ -52,10 +44,6 @@ pub fn denial_text(alloc: Global, table: &Table, denial: &Denial) -> Result<Vec<
 
 /// Returns the report of an acceptance: how many slots of the table are filled, and for each label
 /// the labels on whose objects it may act, by removals and in any way.
-///
-/// # Errors
-///
-/// [`AllocError`] where memory is refused.
 pub fn check_report(alloc: Global, table: &Table, policy: &Policy) -> Result<Vec<u8>, AllocError>
     ensures { IfOk result (λ report. reports.IsCheckReport table.now policy.now report.items) }
 {
@@ -66,10 +54,6 @@ pub fn check_report(alloc: Global, table: &Table, policy: &Policy) -> Result<Vec
 }
 
 /// Returns the report of an acceptance, without details.
-///
-/// # Errors
-///
-/// [`AllocError`] where memory is refused.
 pub fn accept_report(alloc: Global) -> Result<Vec<u8>, AllocError>
     ensures { IfOk result (λ report. report.items ≡ reports.line_of reports.accept_data) }
 {
@@ -78,10 +62,6 @@ pub fn accept_report(alloc: Global) -> Result<Vec<u8>, AllocError>
 
 /// Returns the report of a legal log of this number of entries, whose last state lies within the
 /// policy.
-///
-/// # Errors
-///
-/// [`AllocError`] where memory is refused.
 pub fn within_report(alloc: Global, entries: usize) -> Result<Vec<u8>, AllocError>
     ensures { IfOk result (λ report. report.items ≡ reports.line_of (reports.within_data entries)) }
 {
@@ -90,10 +70,6 @@ pub fn within_report(alloc: Global, entries: usize) -> Result<Vec<u8>, AllocErro
 
 /// Returns the report of a legal log whose last state lies outside: the rule, and the names at the
 /// place.
-///
-/// # Errors
-///
-/// [`AllocError`] where memory is refused.
 #[tactic(auto, using(crate::proofs::Names::names_have_no_float))]
 pub fn outside_report(
     alloc: Global,
@@ -108,10 +84,6 @@ pub fn outside_report(
 }
 
 /// Returns the report of a log that isn't legal: the first entry, from 1, that is no step.
-///
-/// # Errors
-///
-/// [`AllocError`] where memory is refused.
 pub fn illegal_report(alloc: Global, entry: usize) -> Result<Vec<u8>, AllocError>
     ensures { IfOk result (λ report. report.items ≡ reports.line_of (reports.illegal_data entry)) }
 {
@@ -119,10 +91,6 @@ pub fn illegal_report(alloc: Global, entry: usize) -> Result<Vec<u8>, AllocError
 }
 
 /// Returns the report of this number of claims that hold, and what those on flows bound.
-///
-/// # Errors
-///
-/// [`AllocError`] where memory is refused.
 pub fn hold_report(alloc: Global, claims: usize, kept: Kept) -> Result<Vec<u8>, AllocError>
     ensures { IfOk result (λ report. report.items ≡ reports.line_of (reports.hold_data claims kept)) }
 {
@@ -130,10 +98,6 @@ pub fn hold_report(alloc: Global, claims: usize, kept: Kept) -> Result<Vec<u8>, 
 }
 
 /// Returns the report that one label does nothing to another in any run.
-///
-/// # Errors
-///
-/// [`AllocError`] where memory is refused.
 pub fn impossible_report(alloc: Global) -> Result<Vec<u8>, AllocError>
     ensures { IfOk result (λ report. report.items ≡ reports.line_of reports.impossible_data) }
 {
@@ -142,10 +106,6 @@ pub fn impossible_report(alloc: Global) -> Result<Vec<u8>, AllocError>
 
 /// Returns the report that no run was found: how far the authority goes, and how many calls were
 /// tried.
-///
-/// # Errors
-///
-/// [`AllocError`] where memory is refused.
 pub fn unfound_report(alloc: Global, bound: Extent, steps: u64) -> Result<Vec<u8>, AllocError>
     ensures { IfOk result (λ report. report.items ≡ reports.line_of (reports.unfound_data bound steps)) }
 {

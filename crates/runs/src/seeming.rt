@@ -11,10 +11,6 @@ use std::alloc::{AllocError, Global};
 use table::Table;
 
 /// Returns the objects that seem to differ between two states, and those at which threads of them wait.
-///
-/// # Errors
-///
-/// [`AllocError`] where memory is refused.
 pub fn changes(alloc: Global, old: &State, new: &State) -> Result<Vec<ObjId>, AllocError> {
     let mut ids = Vec::new(alloc);
     for number in 0..new.next_id() {

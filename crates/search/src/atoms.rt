@@ -108,10 +108,6 @@ pub struct Known<'a> {
 
 impl<'a> Known<'a> {
     /// Returns the atoms of the boot state.
-    ///
-    /// # Errors
-    ///
-    /// [`AllocError`] where memory is refused.
     pub fn new(
         alloc: Global,
         table: &'a Table,
@@ -140,10 +136,6 @@ impl<'a> Known<'a> {
     /// Notes the atoms of the objects that a call changed, and returns whether the state is new.
     ///
     /// `earlier` are the other objects in which the state may differ from the boot state.
-    ///
-    /// # Errors
-    ///
-    /// [`AllocError`] where memory is refused.
     pub fn note(
         &mut self,
         alloc: Global,

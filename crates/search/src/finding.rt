@@ -283,10 +283,6 @@ fn kept_at(
 }
 
 /// Returns a copy of a script.
-///
-/// # Errors
-///
-/// [`AllocError`] where memory is refused.
 pub fn copied(alloc: Global, script: &[Event]) -> Result<Vec<Event>, AllocError> {
     let mut events = Vec::new(alloc);
     events.extend_from_slice(script)?;
@@ -443,10 +439,6 @@ fn joined(alloc: Global, ids: &[ObjId], others: &[ObjId]) -> Result<Vec<ObjId>, 
 }
 
 /// Returns a script with one more event.
-///
-/// # Errors
-///
-/// [`AllocError`] where memory is refused.
 pub fn longer(alloc: Global, script: &[Event], last: Event) -> Result<Vec<Event>, AllocError>
     ensures { IfOk result (λ longer. longer.items ≡ script.now ++ last ∷ []) }
 {

@@ -49,10 +49,6 @@ struct Way {
 }
 
 /// Returns what a thread finds in its capability space.
-///
-/// # Errors
-///
-/// [`AllocError`] where memory is refused.
 pub fn space_of(alloc: Global, state: &State, thread: ObjId) -> Result<Space, AllocError> {
     let mut space = Space {
         entries: Vec::new(alloc),

@@ -13,10 +13,6 @@ const MOST_FOLLOWED: usize = 16;
 ///
 /// These are the caller, the objects that its addresses lead to, those linked with them, and new
 /// objects. A call that removes capabilities can change all objects.
-///
-/// # Errors
-///
-/// [`AllocError`] where memory is refused.
 pub fn touched(
     alloc: Global,
     old: &State,
@@ -41,10 +37,6 @@ pub fn touched(
 }
 
 /// Returns the objects of a list that seem to differ between two states, and those at which threads of the list wait.
-///
-/// # Errors
-///
-/// [`AllocError`] where memory is refused.
 pub fn changes(
     alloc: Global,
     old: &State,

@@ -100,10 +100,6 @@ impl Scene<'_, '_, '_> {
 }
 
 /// Returns the calls to be tried in a state.
-///
-/// # Errors
-///
-/// [`AllocError`] where memory is refused.
 pub fn calls_in(
     alloc: Global,
     table: &Table,

@@ -21,10 +21,6 @@ pub(crate) struct Pair {
 ///
 /// It has a claim `none A B` for each label A of a domain or a virtual machine, and each label B to
 /// which A isn't joined.
-///
-/// # Errors
-///
-/// [`AllocError`] where memory is refused.
 pub fn write_claims(
     alloc: Global,
     names: &[Vec<u8>],

@@ -15,10 +15,6 @@ pub(crate) struct Sourced<'a> {
 
 impl<'a> Sourced<'a> {
     /// Returns the system that a request is about.
-    ///
-    /// # Errors
-    ///
-    /// [`AllocError`] where memory is refused.
     pub fn of(
         alloc: Global,
         request: &Request<'_, &str>,

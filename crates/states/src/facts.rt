@@ -36,10 +36,6 @@ fn tell_place(
 /// Writes the facts of a state to a text.
 ///
 /// The queues are empty afterwards: threads are taken from them to be listed.
-///
-/// # Errors
-///
-/// [`AllocError`] where memory is refused.
 pub fn tell_state(text: &mut String, table: &Table, state: &mut State) -> Result<(), AllocError> {
     let next = state.next_id();
     writeln!(text, "next number: {next}")?;

@@ -25,10 +25,6 @@ impl MatrixRow for Row {
 }
 
 /// Returns the cell of a row and another label.
-///
-/// # Errors
-///
-/// An error where memory is refused.
 pub fn marks(alloc: Global, row: &Row, label: Label) -> Result<String, AllocError>
     ensures { IfOk result (λ text. string_bytes text ≡ marks row.now label) }
 {

@@ -46,10 +46,6 @@ pub(crate) fn with_memory(table: &Table) -> Labels
 }
 
 /// Returns the labels with a thread in the table, rising.
-///
-/// # Errors
-///
-/// An error where memory is refused.
 pub fn programs(alloc: Global, table: &Table) -> Result<Vec<Label>, AllocError>
     ensures { IfOk result (λ labels. labels.items ≡ programs_of table.now) }
 {
@@ -67,10 +63,6 @@ pub fn programs(alloc: Global, table: &Table) -> Result<Vec<Label>, AllocError>
 }
 
 /// Returns the labels of the table without a thread in it, rising.
-///
-/// # Errors
-///
-/// An error where memory is refused.
 pub fn others(alloc: Global, table: &Table) -> Result<Vec<Label>, AllocError>
     ensures { IfOk result (λ labels. labels.items ≡ others_of table.now) }
 {

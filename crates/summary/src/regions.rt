@@ -115,10 +115,6 @@ fn group_of(
 }
 
 /// Returns the labels with a thread that may change a label.
-///
-/// # Errors
-///
-/// An error where memory is refused.
 #[tactic(auto, using(crate::proofs::Pieces::item_passes, crate::proofs::Pieces::item_fails))]
 pub fn changers(alloc: Global, rows: &[Row], label: Label) -> Result<Vec<Label>, AllocError>
     ensures { IfOk result (λ labels. labels.items ≡ changers rows.now label) }
@@ -133,10 +129,6 @@ pub fn changers(alloc: Global, rows: &[Row], label: Label) -> Result<Vec<Label>,
 }
 
 /// Returns the labels with a thread that read a label.
-///
-/// # Errors
-///
-/// An error where memory is refused.
 #[tactic(auto, using(crate::proofs::Pieces::item_passes, crate::proofs::Pieces::item_fails))]
 pub fn readers(alloc: Global, rows: &[Row], label: Label) -> Result<Vec<Label>, AllocError>
     ensures { IfOk result (λ labels. labels.items ≡ readers rows.now label) }
@@ -151,10 +143,6 @@ pub fn readers(alloc: Global, rows: &[Row], label: Label) -> Result<Vec<Label>, 
 }
 
 /// Returns the labels with a thread that may take from a label, and not change it otherwise.
-///
-/// # Errors
-///
-/// An error where memory is refused.
 #[tactic(auto, using(crate::proofs::Pieces::item_passes, crate::proofs::Pieces::item_fails))]
 pub fn takers(alloc: Global, rows: &[Row], label: Label) -> Result<Vec<Label>, AllocError>
     ensures { IfOk result (λ labels. labels.items ≡ takers rows.now label) }
@@ -254,10 +242,6 @@ fn is_nil(labels: &[Label]) -> bool
 }
 
 /// Writes the names of labels with commas between them.
-///
-/// # Errors
-///
-/// An error where memory is refused.
 pub fn write_names(text: &mut String, table: &Table, labels: &[Label]) -> Result<(), AllocError>
     ensures { OnOk result (string_bytes text.new ≡ string_bytes text.old ++ names_text table.now labels.now) }
 {

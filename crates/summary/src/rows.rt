@@ -38,10 +38,6 @@ pub struct Row {
 }
 
 /// Returns the rows of the labels with a thread in a table, where threads of the labels `actors` make calls.
-///
-/// # Errors
-///
-/// An error where memory is refused.
 pub fn rows_of(
     alloc: Global,
     table: &Table,
