@@ -1,8 +1,7 @@
 -- The least label of a set, which comes first in the list of its labels.
-use Rattle.std.specs.{List.{filter, range_with_len}, Prelude.{not}}
-use Rattle.std.proofs.Common.{ℕ, suc, zero, [], ◌+◌, ◌&&◌, ◌<◌, ◌==◌, ◌≡◌, ◌∷◌, Bool, arith, false, refl, true}
-use Rattle.std.proofs.lemmas.Bool.Decides.{nat_tests}
-use Rattle.base.specs.{Labels.{is_in, members_of}, declared.labels.Labels.Labels}
+use Rattle.std.specs.{List.{filter, range_with_len}, Prelude.not}
+use Rattle.std.proofs.Common.{[], ℕ, ◌&&◌, ◌+◌, ◌<◌, ◌==◌, ◌∷◌, ◌≡◌, Bool, arith, false, refl, suc, true, zero}
+use Rattle.{std.proofs.lemmas.Bool.Decides.nat_tests, base.specs.{declared.labels.Labels.Labels, Labels.{is_in, members_of}}}
 use Rattle.base.specs.declared.label.TheConstants.Label as Label
 
 -- the list of the numbers that pass a test is empty if none does

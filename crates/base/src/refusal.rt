@@ -1,7 +1,6 @@
 //! Refusals: why a call isn't done, and the numbers by which that is written.
 ghost use Rattle.std.specs.Prelude.{◌≡◌, ◌≢◌};
-ghost use Rattle.base.specs.declared.refusal.{Cause.Cause as Why, LookupFailure.LookupFailure as Failure};
-ghost use Rattle.base.specs.declared.refusal.Misuse.{Misuse as Wrong};
+ghost use Rattle.base.specs.declared.refusal.{Cause.Cause as Why, LookupFailure.LookupFailure as Failure, Misuse.Misuse as Wrong};
 ghost use Rattle.base.specs.Refusals.{IsOfCondition, failure_detail, misuse_refusal, out_of_memory, refusal_of};
 
 use std::alloc::{AllocError, AllocFailed};

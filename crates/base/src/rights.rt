@@ -1,6 +1,5 @@
 //! The rights of a capability.
-ghost use Rattle.std.specs.Int.RustNames.{bit_and};
-ghost use Rattle.std.specs.Prelude.{[], ℕ, ⊤, ◌<◌, ◌==◌, ◌↔◌, ◌∷◌, ◌≡◌, IfSome, List, None, Some, codes};
+ghost use Rattle.std.specs.{Int.RustNames.bit_and, Prelude.{[], ℕ, ⊤, ◌<◌, ◌==◌, ◌↔◌, ◌∷◌, ◌≡◌, IfSome, List, None, Some, codes}};
 ghost use Rattle.base.specs.declared.rights.Rights.{Rights as Set};
 ghost use Rattle.base.specs.Rights.{IsRights, bit_in, letter_of, rights_of_word, rights_with, rights_word};
 

@@ -1,21 +1,20 @@
 -- Lines for capabilities: such a line is read just where it is the line of a filled slot that the table takes next.
 use Rattle.std.proofs.Common.{ℕ, ◌&&◌, ◌<◌, ◌^◌, ◌∙◌, ◌∷◌, ◌≡◌, Bool, Err, List, None, Ok, Option, Result, Some, ap, codes, cond}
-use Rattle.std.proofs.{Common.{false, not, option_map, refl, subst, sym, true}, lemmas.Bool.{and_from, and_parts, false≢true, lt-ltb}}
-use Rattle.std.proofs.lemmas.Bool.{ltb-true, not-true}
-use Rattle.base.specs.declared.{ids.ObjId.ObjId, rights.Rights.Rights}
-use Rattle.machine.specs.declared.{cap.Detail.Detail, layout.Initial.Initial, object.{Object.{Object, Object as o}, ObjectKind.ObjectKind}}
-use Rattle.machine.specs.{declared.object.ObjectKind.ObjectKind as kind, Capabilities.kind_of_detail, Layout.{Layout, initial_of}}
-use Rattle.machine.specs.Objects.{kind_of_object}
-use Rattle.words.{specs.{declared.faults.Wrong.{Wrong, Wrong as wrong}, Name.is_name, Parts.IsLastPart}, proofs.Parts.last_takes}
-use Rattle.words.proofs.{Parts.{name_part, then_last}, WordLaws.bind_ok}
-use Rattle.table.specs.{Building.{declares_slot, fits, fits_target, is_above_caps, is_badged, is_fitting}, Items.CapItem}
-use Rattle.table.specs.{Names.object_named, Rules.kind_at}
+use Rattle.std.proofs.{Common.{false, not, option_map, refl, subst, sym, true}, lemmas.Bool.{and_from, and_parts, false≢true}}
+use Rattle.{std.proofs.lemmas.Bool.{lt-ltb, ltb-true, not-true}, base.specs.declared.{ids.ObjId.ObjId, rights.Rights.Rights}}
+use Rattle.words.specs.{declared.faults.Wrong.{Wrong, Wrong as wrong}, Name.is_name, Parts.IsLastPart}
+use Rattle.words.proofs.{Parts.{last_takes, name_part, then_last}, WordLaws.bind_ok}
+use Rattle.machine.specs.declared.{cap.Detail.Detail, layout.Initial.Initial}
+use Rattle.machine.specs.declared.object.{Object.{Object, Object as o}, ObjectKind.{ObjectKind, ObjectKind as kind}}
+use Rattle.machine.specs.{Capabilities.kind_of_detail, Layout.{Layout, initial_of}, Objects.kind_of_object}
+use Rattle.table.specs.Building.{declares_slot, fits, fits_target, is_above_caps, is_badged, is_fitting}
+use Rattle.table.specs.{Items.CapItem, Names.object_named, Rules.kind_at}
 use Rattle.captext.specs.{declared.shapes.{Place.Place, Term.{Term, Term as term}}, Spelling.{AreTerms, slot_word}, TableText.detail_words}
-use Rattle.captext.specs.declared.shapes.Place.TheVariants as place
 use Rattle.captext.specs.{TableText.{object_name, place_in, slot_name}, Tables.{NamedCap, cap_at, cap_line, capability, capped, detail_for}}
 use Rattle.captext.specs.Tables.{detail_of, filled, fits_holder, is_claimed, is_guard, is_plain, may_fill, rises, slot_in, takes_caps}
-use Rattle.captext.proofs.{Admits.admits_cap, LineLaws.{TakesItem, caps_take, same_ok}, NameLaws.object_takes, SlotLaws.IsSlotName}
-use Rattle.captext.proofs.{SlotLaws.slot_part, StepLaws.{demand_then, value_then}, TermLaws.{terms_part, terms_words}}
+use Rattle.captext.proofs.{Admits.admits_cap, LineLaws.{TakesItem, caps_take, same_ok}, NameLaws.object_takes}
+use Rattle.captext.proofs.{SlotLaws.{IsSlotName, slot_part}, StepLaws.{demand_then, value_then}, TermLaws.{terms_part, terms_words}}
+use Rattle.captext.specs.declared.shapes.Place.TheVariants as place
 
 -- the words of the line
 

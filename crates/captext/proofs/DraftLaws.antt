@@ -1,21 +1,19 @@
 -- Drafts of policies: what a draft that was read says of its text, and that the text of a policy is read as a draft of it.
-use Rattle.std.specs.{declared.cmp.Ordering.{Ordering, TheVariants.{Equal, Greater, Less}}, BTreeSet.insert_key, List.{AllByRecursion, list_any}}
-use Rattle.std.specs.{List.Sorted.IsStrictlySortedBy, Ordering.{is_eq, match_ordering, ordering_reverse}}
-use Rattle.std.proofs.Common.{[], ℕ, ◌++◌, ◌+◌, ◌<◌, ◌||◌, ◌∙◌, ◌∷◌, ◌≡◌, Bool, Err, IfOk, IfSome, IsOk, List, None, Ok, Option, Result, Some, ap}
-use Rattle.std.proofs.{Common.{append_assoc, false, length, refl, subst, sym, true}, lemmas.List.{append-nil, map-append}}
-use Rattle.base.specs.declared.{edge.Edge.Edge, kind.Kind.Kind}
-use Rattle.machine.specs.Layout.{Layout}
-use Rattle.words.specs.{declared.faults.{Fault.Fault, Wrong.Wrong as wrong}, FirstFault.Line, Reading.Reads}
-use Rattle.words.specs.{Reading.{bind, ended_at, last_line, steps}}
-use Rattle.words.{specs.Text.lines_of, proofs.{FirstFaults.{is_text, reads}, TextLaws.each, WordLaws.bind_ok}}
-use Rattle.policy.specs.Policy.{IsRising, allows, edge_cmp, is_edge, last_edge}
-use Rattle.policy.proofs.{KindNumbers.same_kind, Members.{IsAdded, pushed, same_rising}, Order.{edge_total, is_edge-edge_cmp}, RowEdges.same_parts}
-use Rattle.table.specs.Names.{label_named}
-use Rattle.captext.specs.Drafts.{Draft, IsDraftOf, Named, draft_format, draft_line, edge_between, is_edge_between, is_some_edge, joining, names, no_lines}
-use Rattle.captext.specs.Drafts.{read_draft_of, unknown_line, unknown_lines, unless_edge, with_line}
+use Rattle.std.specs.{declared.cmp.Ordering.{Ordering, TheVariants.{Equal, Greater, Less}}, BTreeSet.insert_key}
+use Rattle.std.specs.{List.{AllByRecursion, Sorted.IsStrictlySortedBy, list_any}, Ordering.{is_eq, match_ordering, ordering_reverse}}
+use Rattle.std.proofs.Common.{[], ℕ, ◌++◌, ◌+◌, ◌<◌, ◌||◌, ◌∙◌, ◌∷◌, ◌≡◌, Bool, Err, IfOk, IfSome, IsOk, List, None}
+use Rattle.std.proofs.Common.{Ok, Option, Result, Some, ap, append_assoc, false, length, refl, subst, sym, true}
+use Rattle.{std.proofs.lemmas.List.{append-nil, map-append}, base.specs.declared.{edge.Edge.Edge, kind.Kind.Kind}}
+use Rattle.words.specs.{declared.faults.{Fault.Fault, Wrong.Wrong as wrong}, FirstFault.Line}
+use Rattle.words.{specs.{Reading.{Reads, bind, ended_at, last_line, steps}, Text.lines_of}, proofs.FirstFaults.{is_text, reads}}
+use Rattle.{words.proofs.{TextLaws.each, WordLaws.bind_ok}, machine.specs.Layout.Layout, table.specs.Names.label_named}
+use Rattle.policy.{specs.Policy.{IsRising, allows, edge_cmp, is_edge, last_edge}, proofs.KindNumbers.same_kind}
+use Rattle.policy.proofs.{Members.{IsAdded, pushed, same_rising}, Order.{edge_total, is_edge-edge_cmp}, RowEdges.same_parts}
+use Rattle.captext.specs.Drafts.{Draft, IsDraftOf, Named, draft_format, draft_line, edge_between, is_edge_between, is_some_edge}
+use Rattle.captext.specs.Drafts.{joining, names, no_lines, read_draft_of, unknown_line, unknown_lines, unless_edge, with_line}
 use Rattle.captext.specs.Policies.{edge_line, follows, labelled_edge, may_follow, named_edge_at, policy_format, read_policy_of, with_edge}
-use Rattle.captext.{specs.PolicyText.{IsEdgeOf, IsPolicyOf, policy_header}, proofs.NameLaws.label_takes}
-use Rattle.captext.proofs.{PolicyLaws.above_from_test, StepLaws.{demand_then, value_then}}
+use Rattle.captext.specs.PolicyText.{IsEdgeOf, IsPolicyOf, policy_header}
+use Rattle.captext.proofs.{NameLaws.label_takes, PolicyLaws.above_from_test, StepLaws.{demand_then, value_then}}
 
 -- an edge takes its place
 

@@ -1,7 +1,6 @@
 -- The steps by which a table's line is read: the words it has, the tests it passed, and the item it adds.
 use Rattle.std.proofs.{Common.{[], ℕ, ◌∷◌, ◌≡◌, List, None, Ok, Option, Result, Some, ap, refl, true}, lemmas.Bool.{and_from, and_parts}}
-use Rattle.words.specs.{declared.faults.Wrong.Wrong, Reading.{bind, or_syntax}}
-use Rattle.machine.specs.Layout.{Layout}
+use Rattle.{words.specs.{declared.faults.Wrong.Wrong, Reading.{bind, or_syntax}}, machine.specs.Layout.Layout}
 use Rattle.table.specs.Items.{BeforeBindings, BeforeCaps, BeforeObjects, BeforePairs, Item}
 use Rattle.captext.specs.{TableText.IsLineOf, Tables.{is_nil, takes_caps, takes_labels, takes_objects, takes_pairs}}
 

@@ -1,12 +1,10 @@
 -- Names and their numbers: the number found for a name has that name, and a name that differs from all others is found at its number.
-use Rattle.std.{specs.{Bool.Decides, List.position_or_len, Str.bytes_eq}, proofs.Common.{[], ℕ, ◌<◌, ◌↔◌, ◌∙◌, ◌∷◌, ◌≡◌, ◌≢◌, AllPairs}}
-use Rattle.std.proofs.Common.{Bool, List, None, Option, Some, ap, arith, cond, false, get_or, length, nat_lt, not, option_map, position}
-use Rattle.std.proofs.{Common.{refl, sym, true}, lemmas.{Bool.{cond-true, lt-ltb}, List.{Quantifiers.position-Some, Sums.prefix_len_is}}}
-use Rattle.std.proofs.lemmas.Slice.Eq.{bytes_eq-Decides}
-use Rattle.base.specs.declared.ids.ObjId.{ObjId}
-use Rattle.machine.specs.Layout.{Layout}
-use Rattle.words.{specs.{Name.is_name, Parts.IsPart}, proofs.Parts.{both_parts, name_part}}
-use Rattle.table.specs.{Names.{label_named, object_named}, Rules.IsDraft}
+use Rattle.std.specs.{Bool.Decides, List.position_or_len, Str.bytes_eq}
+use Rattle.std.proofs.Common.{[], ℕ, ◌<◌, ◌↔◌, ◌∙◌, ◌∷◌, ◌≡◌, ◌≢◌, AllPairs, Bool, List, None, Option, Some, ap}
+use Rattle.std.proofs.Common.{arith, cond, false, get_or, length, nat_lt, not, option_map, position, refl, sym, true}
+use Rattle.std.proofs.lemmas.{Bool.{cond-true, lt-ltb}, List.{Quantifiers.position-Some, Sums.prefix_len_is}, Slice.Eq.bytes_eq-Decides}
+use Rattle.{base.specs.declared.ids.ObjId.ObjId, words.{specs.{Name.is_name, Parts.IsPart}, proofs.Parts.{both_parts, name_part}}}
+use Rattle.{machine.specs.Layout.Layout, table.specs.{Names.{label_named, object_named}, Rules.IsDraft}}
 use Rattle.captext.specs.{PolicyText.label_name, Shapes.names_at, TableText.object_name}
 
 -- two names

@@ -1,15 +1,14 @@
 -- Lines for pairs of the derivation tree: such a line is read just where it is the line of a pair that the table takes next.
 use Rattle.std.proofs.{Common.{[], ℕ, ◌&&◌, ◌∙◌, ◌∷◌, ◌≡◌, List, Ok, ap, codes, refl, sym, true}, lemmas.Bool.{and_from, and_parts}}
 use Rattle.base.specs.declared.ids.SlotRef.{SlotRef}
-use Rattle.machine.specs.{declared.layout.Pair.Pair, Layout.Layout}
 use Rattle.words.{specs.{declared.faults.Wrong.Wrong as wrong, Parts.IsPart, Reading.bind, Text.IsPlainLine}, proofs.Parts.alone_again}
-use Rattle.words.proofs.{Parts.{alone_takes, both_parts}, WordLaws.plain_bytes}
-use Rattle.table.specs.{Building.{AdmitsPair, declares_slot, is_above_pairs, with_pair}, Items.{BeforeBindings, PairItem}}
-use Rattle.table.specs.{Names.object_named, Rules.{IsDraft, kind_at}}
-use Rattle.captext.specs.{Shapes.NamedSlot, Spelling.slot_word, TableText.{object_name, pair_words, place_in, slot_name}, Tables.child_line}
-use Rattle.captext.{specs.Tables.{derived, fits_holder, pair_at, paired, rises, slot_in, takes_pairs}, proofs.CapLines.slot_spelled}
-use Rattle.captext.proofs.{CapTexts.placed, LineLaws.{TakesItem, pairs_again, pairs_take, same_ok}, NameLaws.object_takes}
-use Rattle.captext.proofs.{SlotLaws.{IsSlotName, slot_part}, StepLaws.{demand_then, value_then}}
+use Rattle.{words.proofs.{Parts.{alone_takes, both_parts}, WordLaws.plain_bytes}, machine.specs.{declared.layout.Pair.Pair, Layout.Layout}}
+use Rattle.table.specs.Building.{AdmitsPair, declares_slot, is_above_pairs, with_pair}
+use Rattle.table.specs.{Items.{BeforeBindings, PairItem}, Names.object_named, Rules.{IsDraft, kind_at}}
+use Rattle.captext.specs.{Shapes.NamedSlot, Spelling.slot_word, TableText.{object_name, pair_words, place_in, slot_name}}
+use Rattle.captext.specs.Tables.{child_line, derived, fits_holder, pair_at, paired, rises, slot_in, takes_pairs}
+use Rattle.captext.proofs.{CapLines.slot_spelled, CapTexts.placed, LineLaws.{TakesItem, pairs_again, pairs_take, same_ok}}
+use Rattle.captext.proofs.{NameLaws.object_takes, SlotLaws.{IsSlotName, slot_part}, StepLaws.{demand_then, value_then}}
 
 -- the words of the line
 

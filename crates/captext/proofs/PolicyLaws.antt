@@ -1,18 +1,17 @@
 -- Policies and their texts: what a policy that was read says of its text, and that the text of each policy is read back.
-use Rattle.std.specs.{declared.cmp.Ordering.{Ordering, TheVariants.{Equal, Greater, Less}}, Bool.⊤, List.Sorted.IsStrictlySortedBy}
-use Rattle.std.{specs.Ordering.{is_lt, nat_cmp, ordering_then}, proofs.Common.{[], ℕ, ◌&&◌, ◌++◌, ◌-◌, ◌==◌, ◌||◌, ◌↔◌, ◌∙◌, ◌∷◌, ◌≡◌}}
-use Rattle.std.proofs.Common.{IfSome, List, None, Ok, Option, Some, ap, arith, codes, length, nat_lt, not, refl, subst, sym, true}
-use Rattle.std.proofs.lemmas.{Bool.Decides.nat_tests, List.{get_or_append_left, get_or_push, length_push}, Map.Keys.Less-from_sorted}
-use Rattle.std.proofs.lemmas.Option.{slice_get-get_or}
-use Rattle.base.specs.{declared.{edge.Edge.Edge, kind.Kind.{Kind, TheVariants.Control}}, Kinds.{kind_name, kind_named, kind_number}}
-use Rattle.base.proofs.KindNames.{kind_again, kind_is_named}
-use Rattle.machine.specs.Layout.{Layout}
-use Rattle.words.specs.{declared.faults.Wrong.Wrong as wrong, Name.{is_name, name_at}, Parts.{IsPart, by_word, in_turn, keyed}}
-use Rattle.words.{specs.{Reading.{bind, word_at}, Text.IsPlainLine}, proofs.ListLaws.{IsListFormat, all_front, all_last, list_again}}
-use Rattle.words.proofs.{ListLaws.{list_once, list_takes}, Parts.{after_key, alone_again, alone_takes, both_parts, keyed_part, name_part}}
-use Rattle.words.proofs.{Parts.word_part, TextLaws.both, WordLaws.{plain_bytes, plain_name}}
+use Rattle.std.specs.declared.cmp.Ordering.{Ordering, TheVariants.{Equal, Greater, Less}}
+use Rattle.std.specs.{Bool.⊤, List.Sorted.IsStrictlySortedBy, Ordering.{is_lt, nat_cmp, ordering_then}}
+use Rattle.std.proofs.Common.{[], ℕ, ◌&&◌, ◌++◌, ◌-◌, ◌==◌, ◌||◌, ◌↔◌, ◌∙◌, ◌∷◌, ◌≡◌, IfSome, List, None, Ok, Option, Some}
+use Rattle.std.proofs.{Common.{ap, arith, codes, length, nat_lt, not, refl, subst, sym, true}, lemmas.Bool.Decides.nat_tests}
+use Rattle.std.proofs.lemmas.{List.{get_or_append_left, get_or_push, length_push}, Map.Keys.Less-from_sorted, Option.slice_get-get_or}
+use Rattle.base.specs.declared.{edge.Edge.Edge, kind.Kind.{Kind, TheVariants.Control}}
+use Rattle.base.{specs.Kinds.{kind_name, kind_named, kind_number}, proofs.KindNames.{kind_again, kind_is_named}}
+use Rattle.words.specs.{declared.faults.Wrong.Wrong as wrong, Name.{is_name, name_at}}
+use Rattle.words.specs.{Parts.{IsPart, by_word, in_turn, keyed}, Reading.{bind, word_at}, Text.IsPlainLine}
+use Rattle.words.proofs.ListLaws.{IsListFormat, all_front, all_last, list_again, list_once, list_takes}
+use Rattle.words.proofs.{Parts.{after_key, alone_again, alone_takes, both_parts, keyed_part, name_part, word_part}, TextLaws.both}
+use Rattle.{words.proofs.WordLaws.{plain_bytes, plain_name}, machine.specs.Layout.Layout, table.specs.{Names.label_named, Rules.IsLawful}}
 use Rattle.policy.{specs.Policy.{IsAboveLast, IsRising, edge_cmp, last_edge}, proofs.Members.rising_appended}
-use Rattle.table.specs.{Names.label_named, Rules.IsLawful}
 use Rattle.captext.specs.Policies.{edge_line, follows, kind_at, labelled_edge, may_follow, named_edge_at, read_policy_of, with_edge}
 use Rattle.captext.specs.PolicyText.{IsEdgeOf, IsPolicyOf, edge_words, label_name, policy_header, policy_text}
 use Rattle.captext.proofs.{NameLaws.{is_label_name, label_again, label_takes}, StepLaws.{demand_then, value_then}}

@@ -1,7 +1,6 @@
 -- Single steps of reading a line: what one says of the value or the test it rests on.
 use Rattle.std.proofs.Common.{◌≡◌, Bool, None, Ok, Option, Result, Some, false, refl, true}
-use Rattle.words.specs.{declared.faults.Wrong.Wrong, Reading.bind}
-use Rattle.captext.specs.Tables.{demand, value_or}
+use Rattle.{words.specs.{declared.faults.Wrong.Wrong, Reading.bind}, captext.specs.Tables.{demand, value_or}}
 
 -- a test was passed, and reading went on
 pub demand_then : {Y : Type 0} (test : Bool) (wrong : Wrong) (f : Unit {0} → Result Y Wrong) (y : Y)

@@ -1,12 +1,9 @@
 -- Policies to be mended: edges in any order, some lines dropped (confine's own).
-use Rattle.std.specs.{BTreeSet.insert_key, List.{AllByRecursion, list_any}, Prelude.{[], ℕ, ◌++◌, ◌+◌, ◌∷◌, ◌≡◌, Bool, Err, IsOk, List, None, Ok}}
-use Rattle.std.specs.Prelude.{Option, Result, Some, codes, false}
-use Rattle.base.specs.declared.{edge.Edge.Edge, kind.Kind.Kind}
-use Rattle.machine.specs.Layout.{Layout}
-use Rattle.words.specs.{declared.faults.{Fault.Fault, Wrong.Wrong}, FirstFault.{Line, ended}, Reading.{◌>>=◌, Format, as_read, ended_at, read_format}}
-use Rattle.words.specs.{Reading.whole_lines, Text.{lines_of, words_of}}
-use Rattle.policy.specs.Policy.{allows, edge_cmp, is_edge}
-use Rattle.table.specs.Names.{label_named}
+use Rattle.std.specs.{BTreeSet.insert_key, List.{AllByRecursion, list_any}, Prelude.{[], ℕ, ◌++◌, ◌+◌, ◌∷◌, ◌≡◌, Bool, Err, IsOk, List}}
+use Rattle.{std.specs.Prelude.{None, Ok, Option, Result, Some, codes, false}, base.specs.declared.{edge.Edge.Edge, kind.Kind.Kind}}
+use Rattle.words.specs.{declared.faults.{Fault.Fault, Wrong.Wrong}, FirstFault.{Line, ended}}
+use Rattle.words.specs.{Reading.{◌>>=◌, Format, as_read, ended_at, read_format, whole_lines}, Text.{lines_of, words_of}}
+use Rattle.{machine.specs.Layout.Layout, table.specs.Names.label_named, policy.specs.Policy.{allows, edge_cmp, is_edge}}
 use Rattle.captext.specs.{Policies.named_edge_at, PolicyText.{IsPolicyOf, policy_header}}
 
 -- the labels and the kind that a line names

@@ -1,13 +1,10 @@
 -- The text of a policy, line by line: each line adds an edge that rises above the one before, or is faulty.
 use Rattle.std.specs.{Ordering.is_lt, Prelude.{[], ℕ, ◌&&◌, ◌++◌, ◌==◌, ◌||◌, ◌∷◌, Bool, List, None, Ok, Option, Result, Some, codes}}
-use Rattle.std.specs.Prelude.{nat_lt, not, true}
-use Rattle.base.specs.{declared.{edge.Edge.Edge, kind.Kind.Kind}, Kinds.{kind_named, kind_number}}
-use Rattle.machine.specs.Layout.{Layout}
+use Rattle.{std.specs.Prelude.{nat_lt, not, true}, base.specs.{declared.{edge.Edge.Edge, kind.Kind.Kind}, Kinds.{kind_named, kind_number}}}
 use Rattle.words.specs.{declared.faults.{Fault.Fault, Wrong.{Wrong, Wrong as wrong}}, Name.name_at, Parts.{PartReader, in_turn, keyed}}
 use Rattle.words.specs.{Reading.{◌>>=◌, Format, ended_at, list_format, or_syntax, read_format, word_at}, Text.{lines_of, words_of}}
-use Rattle.policy.specs.Policy.{edge_cmp, last_edge}
-use Rattle.table.specs.Names.{label_named}
-use Rattle.captext.specs.Tables.{demand, value_or}
+use Rattle.{machine.specs.Layout.Layout, table.specs.Names.label_named}
+use Rattle.{policy.specs.Policy.{edge_cmp, last_edge}, captext.specs.Tables.{demand, value_or}}
 
 -- the next word as a kind of authority
 unfoldable pub kind_at : PartReader Kind

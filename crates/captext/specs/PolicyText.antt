@@ -1,10 +1,8 @@
 -- The text of a policy for a table's labels: a header, a line `edge FROM KIND TO` for each edge, and `end` (confine's own; the
 -- edges are those of 'seL4 Enforces Integrity', section 3).
 use Rattle.std.specs.{List.AllByRecursion, Prelude.{[], ℕ, ◌<◌, ◌∷◌, List, codes, length, map, slice_index_or}}
-use Rattle.base.specs.{declared.edge.Edge.Edge, Kinds.kind_name}
-use Rattle.machine.specs.Layout.{Layout}
-use Rattle.words.specs.{Reading.list_text, Text.{text_of, words_of}}
-use Rattle.policy.specs.Policy.{IsRising}
+use Rattle.{base.specs.{declared.edge.Edge.Edge, Kinds.kind_name}, words.specs.{Reading.list_text, Text.{text_of, words_of}}}
+use Rattle.{machine.specs.Layout.Layout, policy.specs.Policy.IsRising}
 
 abbrev pub policy_header : List (List ℕ)
 policy_header = words_of (codes "confine-policy 1")

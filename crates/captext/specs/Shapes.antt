@@ -1,7 +1,6 @@
 -- Parts of a table's lines: names, slots, and what may follow the object in a line for a capability.
 use Rattle.std.specs.Prelude.{[], ℕ, ◌+◌, ◌==◌, ◌∷◌, List, None, Ok, Option, Some, codes, drop, if◌then◌else◌, option_map, position, take}
-use Rattle.std.specs.Str.{bytes_eq}
-use Rattle.base.specs.{declared.rights.Rights.Rights, Rights.rights_of_word}
+use Rattle.{std.specs.Str.bytes_eq, base.specs.{declared.rights.Rights.Rights, Rights.rights_of_word}}
 use Rattle.words.specs.{Name.{name_at, name_of}, Number.{dec_of, hex_of}, Parts.{PartReader, in_turn}, Reading.{◌>>=◌, or_syntax, word_at}}
 use Rattle.captext.specs.declared.shapes.{Place.Place, Term.Term}
 use Rattle.captext.specs.declared.shapes.Place.TheVariants as place

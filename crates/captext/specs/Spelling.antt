@@ -1,7 +1,6 @@
 -- The spelling of the parts of a table's lines: slots, as `NAME.DEC` or `NAME.root`, and terms, as rights or numbers (confine's own).
 use Rattle.std.specs.{Fmt.decimal, Prelude.{[], ℕ, ⊤, ◌++◌, ◌<◌, ◌^◌, ◌∷◌, List, None, Option, Some, codes}}
-use Rattle.base.specs.Rights.{IsRights, rights_word}
-use Rattle.words.specs.Number.{hexadecimal}
+use Rattle.{base.specs.Rights.{IsRights, rights_word}, words.specs.Number.hexadecimal}
 use Rattle.captext.specs.declared.shapes.{Place.Place, Term.Term}
 use Rattle.captext.specs.declared.shapes.Place.TheVariants as place
 use Rattle.captext.specs.declared.shapes.Term.TheVariants as term

@@ -1,8 +1,6 @@
 //! The lines of a capability table from `cap` on: capabilities, pairs and bindings.
 ghost use Rattle.std.specs.Prelude.{◌≡◌, OnErr, Some, true};
-ghost use Rattle.words.specs.Reading.{GivesOrStops};
-ghost use Rattle.table.specs.Building.{is_above_caps, is_above_pairs};
-ghost use Rattle.captext.specs.Spelling.{AreTerms};
+ghost use Rattle.{words.specs.Reading.GivesOrStops, table.specs.Building.{is_above_caps, is_above_pairs}, captext.specs.Spelling.AreTerms};
 ghost use Rattle.captext.specs.Tables as text;
 
 use crate::objects::{takes_caps, takes_pairs};

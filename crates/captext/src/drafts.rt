@@ -1,12 +1,9 @@
 //! The reading of a policy that is to be mended.
-ghost use Rattle.std.specs.BTreeSet.{insert_key};
-ghost use Rattle.std.specs.Prelude.{[], ℕ, ◌≡◌, ◌≢◌, Err, IfErr, IfOk, List, Ok, OnOk};
+ghost use Rattle.std.specs.{BTreeSet.insert_key, Prelude.{[], ℕ, ◌≡◌, ◌≢◌, Err, IfErr, IfOk, List, Ok, OnOk}};
 ghost use Rattle.base.specs.declared.edge.Edge.{Edge as EdgeOf};
-ghost use Rattle.machine.specs.Layout.{Layout};
 ghost use Rattle.words.specs.{declared.faults.Wrong.Wrong, Fault.{fault_at, no_memory}, FirstFault.{IsFirstFault, TellsFirst}};
-ghost use Rattle.words.specs.{Reading.{GivesOrStops, Reads}, Text.lines_of};
-ghost use Rattle.policy.specs.Policy.{edge_cmp};
-ghost use Rattle.captext.specs.{Drafts.{Draft as DraftOf}, Policies.read_policy_of};
+ghost use Rattle.{words.specs.{Reading.{GivesOrStops, Reads}, Text.lines_of}, machine.specs.Layout.Layout};
+ghost use Rattle.{policy.specs.Policy.edge_cmp, captext.specs.{Drafts.Draft as DraftOf, Policies.read_policy_of}};
 ghost use Rattle.captext.specs.Drafts as drafts;
 
 use crate::policies::{NamedEdge, named_edge};

@@ -1,12 +1,10 @@
 //! The reading of a policy's text.
 ghost use Rattle.std.specs.Prelude.{ℕ, ◌<◌, ◌↔◌, ◌≡◌, ◌≢◌, Err, IfErr, IfOk, List, Ok, OnErr, Some, length};
 ghost use Rattle.base.specs.declared.edge.Edge.{Edge as EdgeOf};
-ghost use Rattle.machine.specs.Layout.{Layout};
 ghost use Rattle.words.specs.{declared.faults.Wrong.Wrong, Fault.{fault_at, no_memory}, FirstFault.{IsFirstFault, TellsFirst}};
-ghost use Rattle.words.specs.{Reading.{Gives, GivesOrStops, Reads}, Text.lines_of};
-ghost use Rattle.table.specs.{Names.label_named, Rules.IsLawful};
+ghost use Rattle.{words.specs.{Reading.{Gives, GivesOrStops, Reads}, Text.lines_of}, machine.specs.Layout.Layout};
+ghost use Rattle.{table.specs.{Names.label_named, Rules.IsLawful}, captext.specs.PolicyText.{IsPolicyOf, label_name, policy_text}};
 ghost use Rattle.captext.specs.Policies as policies;
-ghost use Rattle.captext.specs.PolicyText.{IsPolicyOf, label_name, policy_text};
 
 use base::{Edge, Kind, Label};
 use policy::Policy;

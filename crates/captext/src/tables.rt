@@ -1,10 +1,9 @@
 //! The reading of a capability table's text.
 ghost use Rattle.std.specs.Prelude.{[], ℕ, ◌++◌, ◌+◌, ◌<◌, ◌^◌, ◌↔◌, ◌∷◌, ◌≡◌, ◌≢◌, Err, IfErr, IfOk, List, MatchResult, Ok, OnErr, length};
-ghost use Rattle.machine.specs.Layout.{Layout};
-ghost use Rattle.words.specs.{declared.faults.Wrong.{Wrong, TheVariants.Tree}, Fault.{fault_at, no_memory}, FirstFault.IsFirstFault};
-ghost use Rattle.words.specs.{FirstFault.TellsFirst, Reading.{Gives, GivesOrStops, Reads, header_at}, Text.{line_text, lines_of, words_of}};
-ghost use Rattle.table.specs.{Items.Item, Rules.{IsDraft, IsLawful}};
-ghost use Rattle.captext.specs.TableText.{IsLineOf, table_text};
+ghost use Rattle.words.specs.{declared.faults.Wrong.{TheVariants.Tree, Wrong}, Fault.{fault_at, no_memory}};
+ghost use Rattle.words.specs.{FirstFault.{IsFirstFault, TellsFirst}, Reading.{Gives, GivesOrStops, Reads, header_at}};
+ghost use Rattle.{words.specs.Text.{line_text, lines_of, words_of}, machine.specs.Layout.Layout};
+ghost use Rattle.{table.specs.{Items.Item, Rules.{IsDraft, IsLawful}}, captext.specs.TableText.{IsLineOf, table_text}};
 ghost use Rattle.captext.specs.TableText as texts;
 ghost use Rattle.captext.specs.Tables as tables;
 

@@ -1,13 +1,11 @@
 //! The writing of capability tables and policies.
-ghost use Rattle.std.specs.{Fmt.decimal, List.AllByRecursion, Prelude.{[], ℕ, ◌++◌, ◌∷◌, ◌≡◌, IfErr, IfOk, List, Ok, OnOk, Some}};
-ghost use Rattle.std.specs.Prelude.{map, string_bytes};
-ghost use Rattle.base.specs.Refusals.{out_of_memory};
-ghost use Rattle.machine.specs.{KindWords.object_kind_word, Layout.Layout};
-ghost use Rattle.words.specs.Text.{line_text, text_of};
-ghost use Rattle.table.specs.Rules.{kind_at};
+ghost use Rattle.std.specs.{Fmt.decimal, List.AllByRecursion};
+ghost use Rattle.std.specs.Prelude.{[], ℕ, ◌++◌, ◌∷◌, ◌≡◌, IfErr, IfOk, List, Ok, OnOk, Some, map, string_bytes};
+ghost use Rattle.{base.specs.Refusals.out_of_memory, words.specs.Text.{line_text, text_of}};
+ghost use Rattle.{machine.specs.{KindWords.object_kind_word, Layout.Layout}, table.specs.Rules.kind_at};
 ghost use Rattle.captext.specs.{Policies.read_policy_of, PolicyText.{IsEdgeOf, edge_lines, edge_words, label_name, policy_text}};
-ghost use Rattle.captext.specs.{Spelling.place_word, TableText.{binding_words, cap_words, content_words, detail_words}};
-ghost use Rattle.captext.specs.TableText.{label_lines, object_lines, object_name, object_words, pair_words, place_in, share_words, slot_name};
+ghost use Rattle.captext.specs.{Spelling.place_word, TableText.{binding_words, cap_words, content_words, detail_words, label_lines}};
+ghost use Rattle.captext.specs.TableText.{object_lines, object_name, object_words, pair_words, place_in, share_words, slot_name};
 ghost use Rattle.captext.specs.{TableText.{table_header as header_words, table_lines, table_text}, Tables.read_table_of};
 
 use crate::shapes::Place;

@@ -1,13 +1,11 @@
 -- Certificates as lists of lines: the laws of their lines, and those of whole texts from them.
 use Rattle.std.proofs.Common.{[], ℕ, ◌++◌, ◌∷◌, ◌≡◌, List, Ok, ap, codes, refl, subst}
-use Rattle.machine.specs.Layout.{Layout}
-use Rattle.words.{specs.{Reading.bind, Text.IsPlainLine}, proofs.{ListLaws.{IsListFormat, all_front, all_last, list_again}, TextLaws.both}}
-use Rattle.words.proofs.WordLaws.{bind_ok, plain_bytes}
-use Rattle.table.specs.Rules.{IsLawful}
-use Rattle.captext.proofs.LineLaws.{same_ok}
-use Rattle.certificate.specs.{declared.line.Line.Line, Certificate.{IsCertificateOf, certificate_header, certificate_text}, Line.IsLineFor}
-use Rattle.certificate.{specs.{Line.line_words, Reading.{line_of, line_step, read_certificate_of}}, proofs.LineLaws.line_is_read}
-use Rattle.certificate.proofs.LineLaws.{line_read, not_last, plain}
+use Rattle.words.specs.{Reading.bind, Text.IsPlainLine}
+use Rattle.words.proofs.{ListLaws.{IsListFormat, all_front, all_last, list_again}, TextLaws.both, WordLaws.{bind_ok, plain_bytes}}
+use Rattle.{machine.specs.Layout.Layout, table.specs.Rules.IsLawful, captext.proofs.LineLaws.same_ok}
+use Rattle.certificate.specs.{declared.line.Line.Line, Certificate.{IsCertificateOf, certificate_header, certificate_text}}
+use Rattle.certificate.specs.{Line.{IsLineFor, line_words}, Reading.{line_of, line_step, read_certificate_of}}
+use Rattle.certificate.proofs.LineLaws.{line_is_read, line_read, not_last, plain}
 
 takes : (t : Layout) (lines : List Line) (words : List (List ℕ)) (next : List Line) → IsCertificateOf t lines
     → line_step t lines words ≡ Ok next

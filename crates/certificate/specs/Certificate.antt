@@ -1,8 +1,6 @@
 -- The text of a certificate for a capability table: a header, its lines, and `end` (confine's own).
-use Rattle.std.specs.{List.AllByRecursion, Prelude.{ℕ, List, codes}}
-use Rattle.machine.specs.Layout.{Layout}
-use Rattle.words.specs.{Reading.list_text, Text.words_of}
-use Rattle.certificate.specs.{declared.line.Line.Line, Line.{IsLineFor, line_words}}
+use Rattle.{std.specs.{List.AllByRecursion, Prelude.{ℕ, List, codes}}, words.specs.{Reading.list_text, Text.words_of}}
+use Rattle.{machine.specs.Layout.Layout, certificate.specs.{declared.line.Line.Line, Line.{IsLineFor, line_words}}}
 
 abbrev pub certificate_header : List (List ℕ)
 certificate_header = words_of (codes "confine-cert 1")

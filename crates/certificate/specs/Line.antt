@@ -1,12 +1,10 @@
 -- The lines of a certificate: what each slot, pair of the derivation tree and binding of a capability table gives, with the labels
 -- between which it is (confine's own; the authority is that of 'seL4 Enforces Integrity', section 3).
 use Rattle.std.specs.Prelude.{[], ℕ, ◌<◌, ◌∷◌, ◌≡◌, List, Some, codes, length, true}
-use Rattle.base.specs.declared.ids.SlotRef.{SlotRef}
-use Rattle.machine.specs.{declared.object.ObjectKind.ObjectKind, Layout.Layout}
-use Rattle.machine.specs.declared.object.ObjectKind.TheVariants as kind
-use Rattle.table.specs.{Building.declares_slot, Rules.kind_at}
-use Rattle.captext.specs.{PolicyText.label_name, TableText.{object_name, slot_name}}
+use Rattle.{base.specs.declared.ids.SlotRef.SlotRef, machine.specs.{declared.object.ObjectKind.ObjectKind, Layout.Layout}}
+use Rattle.{table.specs.{Building.declares_slot, Rules.kind_at}, captext.specs.{PolicyText.label_name, TableText.{object_name, slot_name}}}
 use Rattle.certificate.specs.{declared.line.Line.Line, Kinds.{IsKinds, kinds_word}}
+use Rattle.machine.specs.declared.object.ObjectKind.TheVariants as kind
 use Rattle.certificate.specs.declared.line.Line.TheVariants as line
 
 -- the words of a line

@@ -1,14 +1,13 @@
 -- The reading of a certificate's line: first its words, by their form, then the names in them, by a capability table (confine's own).
 use Rattle.std.specs.Prelude.{[], ℕ, ◌&&◌, ◌++◌, ◌∷◌, Bool, List, Ok, Option, Result, Some, codes, false, true}
 use Rattle.base.specs.declared.{ids.{ObjId.ObjId, SlotRef.SlotRef}, kind.Kinds.Kinds}
-use Rattle.machine.specs.{declared.object.ObjectKind.{ObjectKind, ObjectKind as kind}, Layout.Layout}
 use Rattle.words.specs.{declared.faults.{Fault.Fault, Wrong.{Wrong, Wrong as wrong}}, Name.name_at, Parts.{PartReader, in_turn, keyed}}
 use Rattle.words.specs.{Parts.read_as, Reading.{◌>>=◌, Format, ended_at, list_format, read_format}, Text.{lines_of, words_of}}
+use Rattle.machine.specs.{declared.object.ObjectKind.{ObjectKind, ObjectKind as kind}, Layout.Layout}
 use Rattle.table.specs.{Building.declares_slot, Names.label_named, Rules.kind_at}
 use Rattle.captext.specs.{declared.shapes.Place.Place, Shapes.{NamedSlot, slot_at}, Tables.{demand, fits_holder, is_thread_and_context}}
+use Rattle.{captext.specs.Tables.{named, slot_in, value_or}, certificate.specs.{declared.line.Line.Line, Kinds.kinds_at}}
 use Rattle.captext.specs.declared.shapes.Place.TheVariants as place
-use Rattle.captext.specs.Tables.{named, slot_in, value_or}
-use Rattle.certificate.specs.{declared.line.Line.Line, Kinds.kinds_at}
 use Rattle.certificate.specs.declared.line.Line.TheVariants as line
 
 -- the labels of a line, by their names

@@ -3,10 +3,9 @@
 -- read off an initial state).
 use Rattle.std.specs.Prelude.{ℕ, ◌++◌, Bool, List, Option, Some, false, filter, map, true, unwrap_or}
 use Rattle.base.specs.declared.{ids.ObjId.ObjId, kind.{Kinds.Kinds, TheConstants.Kind.ALL}}
-use Rattle.machine.specs.declared.{cap.Detail.Detail, layout.{Binding.Binding, Filled.Filled, Pair.Pair}, object.ObjectKind.ObjectKind}
-use Rattle.machine.specs.{declared.object.ObjectKind.ObjectKind as kind, Capabilities.gives, Layout.{Layout, declared_label}}
-use Rattle.table.specs.Rules.{kind_at}
-use Rattle.certificate.specs.{declared.line.Line.Line, Kinds.set_of}
+use Rattle.machine.specs.declared.{cap.Detail.Detail, layout.{Binding.Binding, Filled.Filled, Pair.Pair}}
+use Rattle.machine.specs.{declared.object.ObjectKind.{ObjectKind, ObjectKind as kind}, Capabilities.gives, Layout.{Layout, declared_label}}
+use Rattle.{table.specs.Rules.kind_at, certificate.specs.{declared.line.Line.Line, Kinds.set_of}}
 use Rattle.certificate.specs.declared.line.Line.TheVariants as line
 
 -- the label of an object; every object that a table names has one

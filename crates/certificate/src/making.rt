@@ -1,8 +1,6 @@
 //! The making of a table's certificate.
 ghost use Rattle.std.specs.Prelude.{◌++◌, ◌≡◌, IfErr, IfOk, OnOk, filter, map};
-ghost use Rattle.base.specs.Refusals.{out_of_memory};
-ghost use Rattle.table.specs.Rules.{kind_at};
-ghost use Rattle.certificate.specs.Certificate.{IsCertificateOf};
+ghost use Rattle.{base.specs.Refusals.out_of_memory, table.specs.Rules.kind_at, certificate.specs.Certificate.IsCertificateOf};
 ghost use Rattle.certificate.specs.Right as right;
 
 use crate::line::{Certificate, Line};

@@ -1,8 +1,7 @@
 //! The reading of a certificate's text.
 ghost use Rattle.std.specs.Prelude.{ℕ, ◌≡◌, ◌≢◌, Err, IfErr, IfOk, List, Ok};
 ghost use Rattle.words.specs.{declared.faults.Wrong.Wrong, Fault.{fault_at, no_memory}, FirstFault.{IsFirstFault, TellsFirst}};
-ghost use Rattle.words.specs.{Reading.Reads, Text.lines_of};
-ghost use Rattle.captext.specs.Tables.{named};
+ghost use Rattle.{words.specs.{Reading.Reads, Text.lines_of}, captext.specs.Tables.named};
 ghost use Rattle.certificate.specs.{declared.line.Line.Line as LineOf, Certificate.{IsCertificateOf, certificate_text}};
 ghost use Rattle.certificate.specs.Reading as reading;
 

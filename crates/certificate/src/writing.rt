@@ -1,7 +1,6 @@
 //! The writing of a certificate.
 ghost use Rattle.std.specs.Prelude.{◌++◌, ◌≡◌, IfErr, IfOk, Ok, OnOk, string_bytes};
-ghost use Rattle.base.specs.Refusals.{out_of_memory};
-ghost use Rattle.words.specs.Text.{line_text};
+ghost use Rattle.{base.specs.Refusals.out_of_memory, words.specs.Text.line_text};
 ghost use Rattle.certificate.specs.{Certificate.{IsCertificateOf, certificate_text}, Line.line_words, Reading.read_certificate_of};
 
 use crate::kinds::kinds_string;

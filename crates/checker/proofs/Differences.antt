@@ -1,13 +1,11 @@
 -- The first line where two lists differ, and lists that never do.
 use Rattle.std.proofs.Common.{[], ℕ, ◌+◌, ◌<◌, ◌∙◌, ◌∷◌, ◌≡◌, ◌≢◌, List, arith, inl, inr, length, min, refl, slice_get, suc, sym}
 use Rattle.std.proofs.lemmas.Option.{none-some, slice_get_cases, slice_get_past}
-use Rattle.base.specs.declared.edge.Edge.{Edge}
-use Rattle.machine.specs.Layout.{Layout}
-use Rattle.policy.specs.Policy.{allows}
-use Rattle.verdict.specs.{ByRules.IsLeastBrokenBy, declared.{denial.Denial.Denial, rules.Rules.{Rules, Rules as rules}}, Verdict.IsLeastBroken}
+use Rattle.{base.specs.declared.edge.Edge.Edge, machine.specs.Layout.Layout, policy.specs.Policy.allows}
+use Rattle.verdict.specs.declared.{denial.Denial.Denial, rules.Rules.{Rules, Rules as rules}}
+use Rattle.verdict.specs.{ByRules.IsLeastBrokenBy, Verdict.IsLeastBroken}
+use Rattle.{certificate.specs.declared.line.Line.Line, checker.specs.Verified.{DiffersFirst, IsDenied, IsDeniedBy}}
 use Rattle.verdict.specs.declared.denial.Denial.TheVariants as denial
-use Rattle.certificate.specs.declared.line.Line.{Line}
-use Rattle.checker.specs.Verified.{DiffersFirst, IsDenied, IsDeniedBy}
 
 -- lists agree below a place
 abbrev pub Agree : List Line → List Line → ℕ → Type 0

@@ -1,12 +1,11 @@
 -- Tables that are made ones of version 2: what is said of such a table is what was said of it before.
 use Rattle.std.proofs.Common.{◌↔◌, ◌≡◌, List, refl, subst, sym}
-use Rattle.machine.specs.Layout.{Layout, bound_context, declared_label, initial_cap, initial_of, initial_parent, upgraded}
 use Rattle.words.specs.Reading.{list_text}
-use Rattle.policy.specs.Domain.{EdgeTest}
-use Rattle.table.specs.Rules.{kind_at}
+use Rattle.machine.specs.Layout.{Layout, bound_context, declared_label, initial_cap, initial_of, initial_parent, upgraded}
+use Rattle.{table.specs.Rules.kind_at, policy.specs.Domain.EdgeTest}
 use Rattle.verdict.specs.{declared.denial.Denial.{Denial, Denial as denial}, Sources.{Sources, of_table}, Verdict.{Breaks, IsExceeded}}
-use Rattle.certificate.specs.{declared.line.Line.Line, Certificate.{certificate_header, certificate_text}, Line.line_words}
-use Rattle.certificate.specs.Right.{right_certificate}
+use Rattle.certificate.specs.{declared.line.Line.Line, Certificate.{certificate_header, certificate_text}}
+use Rattle.certificate.specs.{Line.line_words, Right.right_certificate}
 use Rattle.certificate.specs.declared.line.Line.TheVariants as line
 
 same_sources : (t : Layout) → of_table (upgraded t) ≡ of_table t

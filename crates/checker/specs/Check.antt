@@ -1,12 +1,10 @@
 -- Answers of the checker to a capability table and a policy (confine's own).
 use Rattle.std.specs.Prelude.{◌≡◌, Err, List, Ok}
 use Rattle.base.specs.declared.{edge.Edge.Edge, refusal.{Misuse.Misuse as misuse, Refusal.Refusal}}
+use Rattle.{machine.specs.Layout.Layout, verdict.specs.System.IsVerdict, certificate.specs.Right.right_certificate}
+use Rattle.checker.specs.declared.checking.CheckError.{CheckError, TheVariants.{NoMemory, WorkerCount}}
+use Rattle.checker.specs.declared.checking.Verdict.{TheVariants.{Accept, Deny}, Verdict}
 use Rattle.base.specs.Refusals as refusals
-use Rattle.machine.specs.Layout.{Layout}
-use Rattle.verdict.specs.System.{IsVerdict}
-use Rattle.certificate.specs.Right.{right_certificate}
-use Rattle.checker.specs.declared.checking.{CheckError.{CheckError, TheVariants.{NoMemory, WorkerCount}}, Verdict.Verdict}
-use Rattle.checker.specs.declared.checking.Verdict.TheVariants.{Accept, Deny}
 
 -- the verdict on this table and this policy, and with an acceptance the table's certificate
 abbrev pub IsCheck : Layout → List Edge → Verdict → Type 0

@@ -1,14 +1,11 @@
 -- Verdicts on a capability table, a policy and a certificate: the rules on the first two come first, then C1, that the certificate is the
 -- right one (confine's own).
 use Rattle.std.specs.Prelude.{ℕ, ◌+◌, ◌<◌, ◌≡◌, ◌≢◌, Err, List, Ok, Result, slice_get}
-use Rattle.base.specs.declared.edge.Edge.{Edge}
-use Rattle.machine.specs.Layout.{Layout}
-use Rattle.policy.specs.Policy.{allows}
-use Rattle.verdict.specs.{ByRules.{IsAcceptedBy, IsLeastBrokenBy}, declared.{denial.Denial.Denial, rules.Rules.Rules}}
-use Rattle.verdict.specs.{System.{IsVerdict, System}, Verdict.IsAccepted}
-use Rattle.verdict.specs.declared.denial.Denial.TheVariants as denial
-use Rattle.certificate.specs.{declared.line.Line.Line, Right.right_certificate}
+use Rattle.{base.specs.declared.edge.Edge.Edge, machine.specs.Layout.Layout, policy.specs.Policy.allows}
+use Rattle.verdict.specs.{declared.{denial.Denial.Denial, rules.Rules.Rules}, ByRules.{IsAcceptedBy, IsLeastBrokenBy}, System.IsVerdict}
+use Rattle.{verdict.specs.{System.System, Verdict.IsAccepted}, certificate.specs.{declared.line.Line.Line, Right.right_certificate}}
 use Rattle.checker.specs.declared.verifying.NotAccepted.{NotAccepted, TheVariants.{Denied, NoMemory}}
+use Rattle.verdict.specs.declared.denial.Denial.TheVariants as denial
 
 -- the first line, from 1, where two lists differ: those before it agree, and there the lines differ or one list has ended
 pub record DiffersFirst (line : ℕ) (one other : List Line) : Type 0 where

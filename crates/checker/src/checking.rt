@@ -1,8 +1,7 @@
 //! The verdict on a table and a policy.
 ghost use Rattle.std.specs.Prelude.{ℕ, ◌<◌, ◌↔◌, ◌≡◌, ◌≤◌, Err, IfOk};
 ghost use Rattle.policy.specs.Policy.{allows};
-ghost use Rattle.integrity.specs.Safe.{GuardsBudgets, KeepsIntegrity, KeepsNarrowBounds, LabelsObjects, RefusesOthers};
-ghost use Rattle.integrity.specs.Safe.{StaysConfined};
+ghost use Rattle.integrity.specs.Safe.{GuardsBudgets, KeepsIntegrity, KeepsNarrowBounds, LabelsObjects, RefusesOthers, StaysConfined};
 ghost use Rattle.checker.specs.Check.{IfAccepted, IsCheck, error_refusal};
 
 use base::{Misuse, Refusal};

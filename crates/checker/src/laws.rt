@@ -1,7 +1,6 @@
 //! A law about upgraded tables.
 ghost use Rattle.std.specs.Prelude.{◌↔◌, ◌≡◌, List};
-ghost use Rattle.machine.specs.Layout.{Layout, upgraded};
-ghost use Rattle.policy.specs.Domain.{EdgeTest};
+ghost use Rattle.{machine.specs.Layout.{Layout, upgraded}, policy.specs.Domain.EdgeTest};
 ghost use Rattle.verdict.specs.{declared.denial.Denial.Denial, Verdict.Breaks};
 ghost use Rattle.certificate.specs.{declared.line.Line.Line, Certificate.certificate_text, Right.right_certificate};
 

@@ -1,9 +1,8 @@
 //! The verdict on a table, a policy and a certificate.
 ghost use Rattle.std.specs.Prelude.{◌↔◌, ◌≡◌, IfNone, IfOk, IfSome, IsTrue};
 ghost use Rattle.policy.specs.Policy.{allows};
-ghost use Rattle.integrity.specs.Safe.{GuardsBudgets, KeepsIntegrity, KeepsNarrowBounds, LabelsObjects, RefusesOthers};
-ghost use Rattle.integrity.specs.Safe.{IsSafe, StaysConfined};
-ghost use Rattle.certificate.specs.Right.{right_certificate};
+ghost use Rattle.integrity.specs.Safe.{GuardsBudgets, IsSafe, KeepsIntegrity, KeepsNarrowBounds, LabelsObjects};
+ghost use Rattle.{integrity.specs.Safe.{RefusesOthers, StaysConfined}, certificate.specs.Right.right_certificate};
 ghost use Rattle.checker.specs.Verified.{DiffersFirst, IsVerified, IsVerifiedBy};
 
 use base::Refusal;

@@ -1,14 +1,13 @@
 -- The search for the first breach of a claim: which pairs it bounds, and which have more.
-use Rattle.std.{specs.List.{Contains, list_any, slice_get}, proofs.Common.{[], ℕ, ◌&&◌, ◌++◌, ◌<◌, ◌==◌, ◌||◌, ◌↔◌, ◌∙◌, ◌∷◌, ◌≡◌, ◌≢◌}}
-use Rattle.std.proofs.{Common.{Bool, List, Some, ap, arith, false, get_or, inl, inr, length, not, refl, subst, sym, true}}
+use Rattle.std.{specs.List.{Contains, list_any, slice_get}, proofs.Common.{[], ℕ, ◌&&◌, ◌++◌, ◌<◌, ◌==◌, ◌||◌, ◌↔◌, ◌∙◌, ◌∷◌}}
+use Rattle.std.proofs.Common.{◌≡◌, ◌≢◌, Bool, List, Some, ap, arith, false, get_or, inl, inr, length, not, refl, subst, sym, true}
 use Rattle.std.proofs.lemmas.Bool.{cases_order, eq-eqb, eqb-true, false≢true, not-true, or_cases, or_left, or_right}
 use Rattle.std.proofs.lemmas.List.{Folds.list_any_at, get_or_append_left, get_or_push, length_push}
 use Rattle.std.proofs.lemmas.{Map.Views.Contains-from_any, Option.{get_or_from_slice_get, slice_get-get_or, slice_get_within}}
-use Rattle.machine.specs.Layout.{Layout}
-use Rattle.reach.specs.Extents.{GoesTo, MayChangeIn, MayShrinkIn, Limits}
+use Rattle.{machine.specs.Layout.Layout, reach.specs.Extents.{GoesTo, Limits, MayChangeIn, MayShrinkIn}}
 use Rattle.claims.specs.declared.{breaches.Breach.Breach, claim.{Claim.{Claim, Claim as claim}, Most.Most as most}, rows.Row.Row}
-use Rattle.claims.specs.{Breaches.{HoldsOf, IsFirstBreachBy}, Holding.{Bounds, ComesBefore, HasAtMost, IsFirstBreach, most_of}}
-use Rattle.claims.specs.{Claims.is_one_of, Rows.IsRow}
+use Rattle.claims.specs.{Breaches.{HoldsOf, IsFirstBreachBy}, Claims.is_one_of}
+use Rattle.claims.specs.{Holding.{Bounds, ComesBefore, HasAtMost, IsFirstBreach, most_of}, Rows.IsRow}
 
 -- a row has more than a claim leaves
 

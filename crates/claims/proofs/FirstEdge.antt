@@ -1,60 +1,11 @@
 -- The search for the first edge that a claim excludes.
-use Rattle.std.proofs.{Common.{ℕ, ◌<◌, ◌↔◌, ◌∙◌, ◌≡◌, Bool, List, ap, arith, false, inl, inr, refl, subst, sym, true}}
 use Rattle.std.specs.{List.Contains, Prelude.{IfSome, None, Option, Some}}
-use Rattle.base.specs.{declared.{edge.Edge.Edge, kind.Kind.{Kind, TheVariants.{Await, Read, Receive}}, labels.Labels.Labels}, Kinds.kind_number}
-use Rattle.base.{specs.Labels.is_in, proofs.KindNames.number_once}
-use Rattle.machine.specs.Layout.{Layout}
-use Rattle.policy.specs.Domain.{EdgeTest}
+use Rattle.std.proofs.Common.{ℕ, ◌<◌, ◌↔◌, ◌∙◌, ◌≡◌, Bool, List, ap, arith, false, inl, inr, refl, subst, sym, true}
+use Rattle.base.specs.{declared.{edge.Edge.Edge, kind.Kind.Kind, labels.Labels.Labels}, Kinds.kind_number, Labels.is_in}
+use Rattle.{machine.specs.Layout.Layout, policy.specs.Domain.EdgeTest}
 use Rattle.claims.specs.declared.claim.{Claim.{Claim, Claim as claim}, Who.Who}
 use Rattle.claims.specs.Edges.{IsFirstEdgeBy, IsFirstOfKind, IsFirstRead, LacksEdgesOf, LacksKind, LacksReads}
-use Rattle.claims.specs.Holding.{AreNamed, AreTwo, ComesBefore, EdgeComesBefore, Excludes, HoldsOnEdges, IsFirstEdge, IsReading}
-
--- kind by kind
-
-module _ (test : EdgeTest) (a : ℕ) (objects : Labels) where
-  -- the first edge of a kind is the first by which the label reads, if there is none of the kinds before
-  first_read_of : (sort : Kind) (edge : Edge) → IsReading sort → IsFirstOfKind test a sort objects edge
-      → ((kind : Kind) → IsReading kind → kind_number kind < kind_number sort → LacksKind test a kind objects) → IsFirstRead test a objects edge
-  first_read_of sort edge reads is before = record {
-    by = is.by;
-    reads = subst IsReading (sym is.of_kind) reads;
-    among = is.among;
-    has = subst (λ k. test a k edge.to ≡ true) (sym is.of_kind) is.has;
-    first = λ kind l reading among comes. earlier kind l reading among comes;
-  } where
-    earlier : (kind : Kind) (l : ℕ) → IsReading kind → is_in objects l ≡ true → ComesBefore (kind_number kind) l (kind_number edge.kind) edge.to
-        → test a kind l ≡ false
-    earlier kind l reading among (inl less) = before kind reading (subst (λ k. kind_number kind < kind_number k) is.of_kind less) l among
-    earlier kind l reading among (inr (same, below)) =
-        let it : kind ≡ sort = number_once kind sort (same ∙ ap kind_number is.of_kind) in
-        subst (λ k. test a k l ≡ false) (sym it) (is.first l among below)
-
-  pub first_received : (edge : Edge) → IsFirstOfKind test a Receive objects edge → IsFirstRead test a objects edge
-  first_received edge is = first_read_of Receive edge (inl refl) is before where
-    before : (kind : Kind) → IsReading kind → kind_number kind < kind_number Receive → LacksKind test a kind objects
-    before kind (inl same) less = absurd (omega (arith, less, ap kind_number same))
-    before kind (inr (inl same)) less = absurd (omega (arith, less, ap kind_number same))
-    before kind (inr (inr same)) less = absurd (omega (arith, less, ap kind_number same))
-
-  pub first_awaited : (edge : Edge) → LacksKind test a Receive objects → IsFirstOfKind test a Await objects edge → IsFirstRead test a objects edge
-  first_awaited edge none is = first_read_of Await edge (inr (inl refl)) is before where
-    before : (kind : Kind) → IsReading kind → kind_number kind < kind_number Await → LacksKind test a kind objects
-    before kind (inl same) less = subst (λ k. LacksKind test a k objects) (sym same) none
-    before kind (inr (inl same)) less = absurd (omega (arith, less, ap kind_number same))
-    before kind (inr (inr same)) less = absurd (omega (arith, less, ap kind_number same))
-
-  pub first_of_frames : (edge : Edge) → LacksKind test a Receive objects → LacksKind test a Await objects → IsFirstOfKind test a Read objects edge
-      → IsFirstRead test a objects edge
-  first_of_frames edge none nor is = first_read_of Read edge (inr (inr refl)) is before where
-    before : (kind : Kind) → IsReading kind → kind_number kind < kind_number Read → LacksKind test a kind objects
-    before kind (inl same) less = subst (λ k. LacksKind test a k objects) (sym same) none
-    before kind (inr (inl same)) less = subst (λ k. LacksKind test a k objects) (sym same) nor
-    before kind (inr (inr same)) less = absurd (omega (arith, less, ap kind_number same))
-
-  pub lacks_reads : LacksKind test a Receive objects → LacksKind test a Await objects → LacksKind test a Read objects → LacksReads test a objects
-  lacks_reads none nor neither kind l (inl same) among = subst (λ k. test a k l ≡ false) (sym same) (none l among)
-  lacks_reads none nor neither kind l (inr (inl same)) among = subst (λ k. test a k l ≡ false) (sym same) (nor l among)
-  lacks_reads none nor neither kind l (inr (inr same)) among = subst (λ k. test a k l ≡ false) (sym same) (neither l among)
+use Rattle.claims.specs.Holding.{AreNamed, AreTwo, ComesBefore, EdgeComesBefore, Excludes, HoldsOnEdges, IsFirstEdge}
 
 -- claim by claim
 

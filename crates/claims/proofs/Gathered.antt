@@ -1,11 +1,9 @@
 -- The broken claims, gathered line by line.
-use Rattle.std.{specs.List.Contains, proofs.Common.{[], ℕ, ◌++◌, ◌+◌, ◌<◌, ◌∷◌, ◌≡◌, ◌⊎◌, List, None, Option, Some, ap, arith, get_or, inl}}
-use Rattle.std.proofs.{Common.{inr, length, subst, sym, take}, lemmas.List.{length-take-le, take_more, Elements.Contains-append_cases}}
-use Rattle.std.proofs.lemmas.List.Elements.{Contains-push_cases}
-use Rattle.machine.specs.Layout.{Layout}
-use Rattle.reach.specs.Extents.{Limits}
-use Rattle.claims.specs.{declared.{claim.Claim.Claim, deciding.Broken.Broken}, Holding.{AreBroken, Holds, AreBroken.{broke, ended, held}}}
-use Rattle.claims.specs.Holding.AreBroken.{silent}
+use Rattle.std.{specs.List.Contains, proofs.Common.{[], ℕ, ◌++◌, ◌+◌, ◌<◌, ◌∷◌, ◌≡◌, ◌⊎◌, List, None, Option, Some, ap, arith, get_or}}
+use Rattle.std.proofs.{Common.{inl, inr, length, subst, sym, take}, lemmas.List.Elements.{Contains-append_cases, Contains-push_cases}}
+use Rattle.{std.proofs.lemmas.List.{length-take-le, take_more}, machine.specs.Layout.Layout, reach.specs.Extents.Limits}
+use Rattle.claims.specs.declared.{claim.Claim.Claim, deciding.Broken.Broken}
+use Rattle.claims.specs.Holding.{AreBroken, AreBroken.{broke, ended, held, silent}, Holds}
 
 module _ (t : Layout) (limits : Limits) where
   abbrev From : ℕ → List (Option Claim) → List Broken → Type 0

@@ -1,11 +1,8 @@
 -- Claims that hold in fixed systems: what they keep of calls, by the laws on two runs.
-use Rattle.std.proofs.Common.{[], ℕ, ◌∷◌, List, refl}
-use Rattle.machine.specs.Layout.{Layout}
-use Rattle.reach.specs.Extents.{Limits}
-use Rattle.flows.specs.Flowing.{FilterTest, IsClosedOff}
-use Rattle.claims.specs.declared.claim.Claim.{Claim, Claim as claim}
-use Rattle.claims.specs.{Claims.is_one_of, Holding.Holds}
-use Rattle.claims.specs.Learning.{IsHidden, IsKeptInCalls, LearnsByFilters, LearnsNothing, LearnsThrough}
+use Rattle.std.proofs.Common.{[], ℕ, ◌∷◌, List}
+use Rattle.{machine.specs.Layout.Layout, reach.specs.Extents.Limits, flows.specs.Flowing.{FilterTest, IsClosedOff}}
+use Rattle.claims.specs.{declared.claim.Claim.{Claim, Claim as claim}, Claims.is_one_of, Holding.Holds}
+use Rattle.claims.specs.Learning.{IsKeptInCalls, LearnsByFilters, LearnsNothing, LearnsThrough}
 
 module _ (t : Layout) (limits : Limits)
     (nothing : (from to : ℕ) (off : IsClosedOff limits (is_one_of []) from to) → LearnsNothing t limits off.inside)

@@ -5,4 +5,3 @@ mod Gathered
 mod FirstBreach
 mod FirstEdge
 pub mod StrongestLaws
-pub mod OneList

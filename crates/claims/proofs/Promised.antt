@@ -1,15 +1,11 @@
 -- Claims that hold: what they keep in every run; and that a claim that fails doesn't hold.
 use Rattle.std.{specs.Prelude.IfNone, proofs.{Common.{ℕ, ◌∙◌, ◌≡◌, List, None, Option, Some, inl, inr, subst, sym}, lemmas.Bool.false≢true}}
-use Rattle.base.specs.declared.kind.Kind.{Kind}
-use Rattle.machine.specs.Layout.{Layout}
-use Rattle.policy.specs.Policy.{allows}
-use Rattle.integrity.specs.Safe.{IsSafe}
+use Rattle.{base.specs.declared.kind.Kind.Kind, machine.specs.Layout.Layout, policy.specs.Policy.allows, integrity.specs.Safe.IsSafe}
 use Rattle.reach.{specs.{Extents.{Limits, limits_of}, Reach.{IsTableReach, TableReach}}, proofs.Extents.{apart, takes}}
-use Rattle.claims.specs.declared.claim.{Claim.{Claim, Claim as claim}, Most.{Most, Most as most}, Who.Who}
-use Rattle.claims.specs.declared.deciding.Failure.{Failure, Failure as failure}
 use Rattle.flows.proofs.Leading.{no_chain, shielded}
-use Rattle.claims.specs.Claims.{is_one_of}
-use Rattle.claims.specs.Holding.{Fails, FailsOnEdge, FailsOnPair, HasAtMost, Holds, HoldsOnEdges, HoldsOnPairs, IsKept, KeepsAtMost, KeepsEdges}
+use Rattle.claims.specs.declared.claim.{Claim.{Claim, Claim as claim}, Most.{Most, Most as most}, Who.Who}
+use Rattle.claims.specs.{declared.deciding.Failure.{Failure, Failure as failure}, Claims.is_one_of, Holding.Fails}
+use Rattle.claims.specs.Holding.{FailsOnEdge, FailsOnPair, HasAtMost, Holds, HoldsOnEdges, HoldsOnPairs, IsKept, KeepsAtMost, KeepsEdges}
 
 module _ (reach : TableReach) (is : IsTableReach reach) (safe : IsSafe reach.table (allows reach.policy)) where
   abbrev t : Layout

@@ -1,19 +1,16 @@
--- The strongest claims: how rows give them, that they hold, and that there is one list of them.
-use Rattle.std.{specs.List.{AllByRecursion, Contains, filter, flat_map, range_with_len}, proofs.Common.{[], ℕ, ◌++◌, ◌+◌, ◌<◌, ◌==◌, ◌↔◌}}
-use Rattle.std.proofs.Common.{◌∙◌, ◌∷◌, ◌≡◌, ◌≢◌, ◌≤◌, Bool, List, Option, Some, ap, append_assoc, arith, cond, false, get_or}
-use Rattle.std.proofs.Common.{if◌then◌else◌, inl, inr, length, map, not, refl, slice_get, subst, suc, sym, take, true, zero}
-use Rattle.std.proofs.lemmas.{Bool.{and_from, cases_order, false≢true, ne_eqb}, List.{flat_map_more, map-append, take_more}}
-use Rattle.std.proofs.lemmas.List.Elements.{Contains-append_cases, Contains-append_right, Contains-push_cases}
-use Rattle.std.proofs.lemmas.Option.{get_or_from_slice_get, slice_get-get_or}
-use Rattle.base.specs.Labels.{is_in}
-use Rattle.machine.specs.Layout.{Layout}
-use Rattle.reach.specs.{declared.extent.Extent.{Extent, Extent as extent}, Extents.{GoesTo, MayChangeIn, MayShrinkIn, Limits}}
+-- The strongest claims: how rows give them, and that they hold.
+use Rattle.std.specs.List.{AllByRecursion, Contains, filter, flat_map, range_with_len}
+use Rattle.std.proofs.Common.{[], ℕ, ◌++◌, ◌+◌, ◌<◌, ◌==◌, ◌↔◌, ◌∙◌, ◌∷◌, ◌≡◌, ◌≢◌, ◌≤◌, Bool, List, Option, Some, ap, append_assoc, arith}
+use Rattle.std.proofs.Common.{cond, false, get_or, if◌then◌else◌, inl, inr, length, map, not, refl, slice_get, subst, suc, sym, take, true}
+use Rattle.std.proofs.{Common.zero, lemmas.{Bool.{and_from, cases_order, false≢true, ne_eqb}, List.Elements.Contains-append_cases}}
+use Rattle.std.proofs.lemmas.List.{Elements.{Contains-append_right, Contains-push_cases}, flat_map_more, map-append, take_more}
+use Rattle.{std.proofs.lemmas.Option.{get_or_from_slice_get, slice_get-get_or}, base.specs.Labels.is_in, machine.specs.Layout.Layout}
+use Rattle.reach.specs.{declared.extent.Extent.{Extent, Extent as extent}, Extents.{GoesTo, Limits, MayChangeIn, MayShrinkIn}}
 use Rattle.summary.specs.Labelled.{labels_of, others_of, programs_of}
 use Rattle.claims.specs.declared.{claim.{Claim.Claim, Most.Most as most}, rows.{Row.Row, Rows.Rows}}
-use Rattle.claims.{specs.Holding.{AreBroken, HasAtMost, Holds, AreBroken.{ended, held}}, proofs.OneList.extents_once}
-use Rattle.claims.specs.{Rows.{AreRows, IsRow, extents_of, no_row, row_extent}, Strongest.{AreExtents, AreStrongest, Extents, affects}}
-use Rattle.claims.specs.Strongest.{claim_to, claims_among, claims_for, claims_of, claims_on, is_user, only_these, pair_claims, strongest_by}
-use Rattle.claims.specs.Strongest.{users_of}
+use Rattle.claims.specs.{Holding.{AreBroken, AreBroken.{ended, held}, HasAtMost, Holds}, Rows.{AreRows, IsRow, extents_of, no_row}}
+use Rattle.claims.specs.{Rows.row_extent, Strongest.{AreExtents, AreStrongest, Extents, affects, claim_to, claims_among}}
+use Rattle.claims.specs.Strongest.{claims_for, claims_of, claims_on, is_user, only_these, pair_claims, strongest_by, users_of}
 
 -- rows
 
@@ -81,13 +78,6 @@ module _ {X : Type 0} (P : X → Type 0) where
   each_if : (b : Bool) (xs : List X) → AllByRecursion P xs → AllByRecursion P (if b then [] else xs)
   each_if true xs all = tt
   each_if false xs all = all
-
-  each_filter : (p : X → Bool) (xs : List X) → AllByRecursion P xs → AllByRecursion P (filter p xs)
-  each_filter p [] all = tt
-  each_filter p (x ∷ xs) all = by (p x) (each_filter p xs all.1) where
-    by : (b : Bool) → AllByRecursion P (filter p xs) → AllByRecursion P (cond b (x ∷ filter p xs) (filter p xs))
-    by true rest = (all.0, rest)
-    by false rest = rest
 
 -- what passes a test is kept
 in_filter : (p : ℕ → Bool) (xs : List ℕ) (a : ℕ) → p a ≡ true → Contains xs a → Contains (filter p xs) a
@@ -177,49 +167,3 @@ module _ (t : Layout) (limits : Limits) where
   strongest_hold line lines is =
       subst (λ ls. AreBroken t limits line ls []) (sym is.is)
       (none_broken line (strongest_by t is.extents) (all_hold is.extents is.are))
-
--- there is one list
-
-range_within : (first count most : ℕ) → first + count ≤ most → AllByRecursion (λ a. a < most) (range_with_len first count)
-range_within first zero most few = tt
-range_within first (suc count) most few = (omega (arith, few), range_within (first + 1) count most (omega (arith, few)))
-
-flat_same : {X : Type 0} (f g : ℕ → List X) (xs : List ℕ) → AllByRecursion (λ x. f x ≡ g x) xs → flat_map f xs ≡ flat_map g xs
-flat_same f g [] all = refl
-flat_same f g (x ∷ xs) all = (λ i. all.0 i ++ flat_same f g xs all.1 i)
-
-filter_same : (p q : ℕ → Bool) (xs : List ℕ) → AllByRecursion (λ x. p x ≡ q x) xs → filter p xs ≡ filter q xs
-filter_same p q [] all = refl
-filter_same p q (x ∷ xs) all = (λ i. cond (all.0 i) (x ∷ filter_same p q xs all.1 i) (filter_same p q xs all.1 i))
-
-each_follows : (P Q : ℕ → Type 0) → ((x : ℕ) → P x → Q x) → (xs : List ℕ) → AllByRecursion P xs → AllByRecursion Q xs
-each_follows P Q follows [] all = tt
-each_follows P Q follows (x ∷ xs) all = (follows x all.0, each_follows P Q follows xs all.1)
-
-module _ (t : Layout) (limits : Limits) (one other : Extents) (is : AreExtents t limits one) (also : AreExtents t limits other) where
-  same_of : (a : ℕ) → a < length t.labels → one a ≡ other a
-  same_of a within = (λ i l. extents_once limits a l (one a l) (other a l) (is a l within) (also a l within) i)
-
-  labels_within : AllByRecursion (λ a. a < length t.labels) (labels_of t)
-  labels_within = range_within 0 (length t.labels) (length t.labels) (omega arith)
-
-  same_among : claims_among one (programs_of t) ≡ claims_among other (programs_of t)
-  same_among =
-      flat_same (claims_of one (programs_of t)) (claims_of other (programs_of t)) (programs_of t)
-      (each_follows (λ a. a < length t.labels) (λ a. claims_of one (programs_of t) a ≡ claims_of other (programs_of t) a)
-      (λ a within. ap (λ goes. flat_map (claims_on goes a) (programs_of t)) (same_of a within)) (programs_of t)
-      (each_filter (λ a. a < length t.labels) _ (labels_of t) labels_within))
-
-  same_users : (l : ℕ) → users_of one (labels_of t) l ≡ users_of other (labels_of t) l
-  same_users l =
-      filter_same (λ a. is_user (one a) a l) (λ a. is_user (other a) a l) (labels_of t)
-      (each_follows (λ a. a < length t.labels) (λ a. is_user (one a) a l ≡ is_user (other a) a l)
-      (λ a within. ap (λ goes. is_user goes a l) (same_of a within)) (labels_of t) labels_within)
-
-  same_strongest : strongest_by t one ≡ strongest_by t other
-  same_strongest = (λ i. same_among i ++ map (λ l. only_these l (same_users l i)) (others_of t))
-
-pub strongest_once : (t : Layout) (limits : Limits) (one other : List (Option Claim)) → AreStrongest t limits one → AreStrongest t limits other
-    → one ≡ other
-strongest_once t limits one other is also =
-    is.is ∙ ap (map Some) (same_strongest t limits is.extents also.extents is.are also.are) ∙ sym also.is

@@ -1,8 +1,6 @@
 -- The search for the first breach of a claim, label by label (confine's own).
 use Rattle.std.specs.Prelude.{ℕ, ◌<◌, ◌≡◌, ◌≢◌, true}
-use Rattle.base.specs.{declared.labels.Labels.Labels, Labels.is_in}
-use Rattle.machine.specs.Layout.{Layout}
-use Rattle.reach.specs.Extents.{GoesTo, Limits}
+use Rattle.{base.specs.{declared.labels.Labels.Labels, Labels.is_in}, machine.specs.Layout.Layout, reach.specs.Extents.{GoesTo, Limits}}
 use Rattle.claims.specs.{declared.{breaches.Breach.Breach, claim.{Claim.Claim, Most.Most}}, Holding.{Bounds, HasAtMost, most_of}}
 
 -- these are the labels on which a label has more authority than this

@@ -1,9 +1,8 @@
 -- The search for the first edge that a claim excludes, label by label (confine's own).
 use Rattle.std.specs.Prelude.{ℕ, ◌<◌, ◌≡◌, false, true}
 use Rattle.base.specs.{declared.{edge.Edge.Edge, kind.Kind.Kind, labels.Labels.Labels}, Kinds.kind_number, Labels.is_in}
-use Rattle.machine.specs.Layout.{Layout}
-use Rattle.policy.specs.Domain.{EdgeTest}
-use Rattle.claims.specs.{Holding.{ComesBefore, Excludes, IsReading}, declared.claim.Claim.Claim}
+use Rattle.{machine.specs.Layout.Layout, policy.specs.Domain.EdgeTest}
+use Rattle.claims.specs.{declared.claim.Claim.Claim, Holding.{ComesBefore, Excludes, IsReading}}
 
 -- the first edge of a kind from this label to one of these
 pub record IsFirstOfKind (test : EdgeTest) (a : ℕ) (kind : Kind) (objects : Labels) (edge : Edge) : Type 0 where

@@ -3,13 +3,10 @@
 use Rattle.std.specs.{List.Contains, Prelude.{[], ℕ, ◌+◌, ◌<◌, ◌∷◌, ◌≡◌, ◌≢◌, ◌⊎◌, List, None, Option, Some, false, length, true}}
 use Rattle.base.specs.{declared.{edge.Edge.Edge, kind.Kind.{Kind, TheVariants.{Await, Read, Receive}}}, Kinds.kind_number}
 use Rattle.machine.specs.{Authority.HasAuthority, Layout.Layout, Machine.Machine}
-use Rattle.policy.specs.Domain.{EdgeTest}
-use Rattle.integrity.specs.{Apart.{NeverChanges, OnlyTakes}, Safe.IsReached}
-use Rattle.reach.specs.Extents.{GoesTo, MayChangeIn, MayShrinkIn, Limits}
-use Rattle.flows.specs.Flowing.{IsClosedOff, IsShielded, Leads}
-use Rattle.claims.specs.Claims.{is_one_of}
-use Rattle.claims.specs.declared.{breaches.Breach.Breach, claim.{Claim.{Claim, Claim as claim}, Most.{Most, Most as most}, Who.{Who, Who as who}}}
-use Rattle.claims.specs.declared.deciding.{Broken.Broken, Failure.{Failure, Failure as failure}}
+use Rattle.{policy.specs.Domain.EdgeTest, integrity.specs.{Apart.{NeverChanges, OnlyTakes}, Safe.IsReached}}
+use Rattle.{reach.specs.Extents.{GoesTo, Limits, MayChangeIn, MayShrinkIn}, flows.specs.Flowing.{IsClosedOff, IsShielded, Leads}}
+use Rattle.claims.specs.declared.{breaches.Breach.Breach, claim.{Claim.{Claim, Claim as claim}, Most.{Most, Most as most}, Who.Who}}
+use Rattle.claims.specs.{declared.{claim.Who.Who as who, deciding.{Broken.Broken, Failure.{Failure, Failure as failure}}}, Claims.is_one_of}
 
 -- what a claim says
 

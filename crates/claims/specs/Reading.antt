@@ -1,11 +1,9 @@
 -- The text of claims, line by line: each line adds a claim, or nothing where it is empty or a comment, or is faulty (confine's own).
-use Rattle.std.specs.{List.list_any, Prelude.{[], ℕ, ◌&&◌, ◌++◌, ◌==◌, ◌||◌, ◌∷◌, Bool, Err, List, None, Ok, Option, Result, Some, bytes_eq}}
-use Rattle.std.specs.Prelude.{codes, false, if◌then◌else◌, not, true}
+use Rattle.std.specs.{List.list_any, Prelude.{[], ℕ, ◌&&◌, ◌++◌, ◌==◌, ◌||◌, ◌∷◌, Bool, Err, List, None}}
+use Rattle.std.specs.Prelude.{Ok, Option, Result, Some, bytes_eq, codes, false, if◌then◌else◌, not, true}
 use Rattle.words.specs.{declared.faults.{Fault.Fault, Wrong.{Wrong, Wrong as wrong}}, Name.{name_at, name_of}, Parts.PartReader}
 use Rattle.words.specs.{Reading.{◌>>=◌, Format, ended_at, list_format, or_syntax, read_format, word_at}, Text.{line_is, lines_of, words_of}}
-use Rattle.machine.specs.Layout.{Layout}
-use Rattle.table.specs.Names.{label_named}
-use Rattle.captext.specs.{Policies.kind_at, Tables.{demand, is_nil, value_or}}
+use Rattle.{machine.specs.Layout.Layout, table.specs.Names.label_named, captext.specs.{Policies.kind_at, Tables.{demand, is_nil, value_or}}}
 use Rattle.claims.specs.declared.claim.{Claim.{Claim, Claim as claim}, Most.{Most, Most as most}, Who.{Who, Who as who}}
 use Rattle.claims.specs.Claims.{is_one_of, same_claim}
 

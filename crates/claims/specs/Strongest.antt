@@ -1,11 +1,10 @@
 -- The strongest claims that hold of a system: on each pair of labels that have a thread, and for each label without one on all others
 -- (confine's own).
-use Rattle.std.specs.{List.{filter, flat_map}, Prelude.{[], ℕ, ◌&&◌, ◌++◌, ◌<◌, ◌==◌, ◌∷◌, ◌≡◌, Bool, List, Option, Some, false, if◌then◌else◌, map, not}}
-use Rattle.std.specs.Prelude.{length, true}
-use Rattle.machine.specs.Layout.{Layout}
-use Rattle.reach.specs.{declared.extent.Extent.{Extent, Extent as extent}, Extents.{GoesTo, Limits}}
+use Rattle.std.specs.{List.{filter, flat_map}, Prelude.{[], ℕ, ◌&&◌, ◌++◌, ◌<◌, ◌==◌, ◌∷◌, ◌≡◌}}
+use Rattle.std.specs.Prelude.{Bool, List, Option, Some, false, if◌then◌else◌, length, map, not, true}
+use Rattle.{machine.specs.Layout.Layout, reach.specs.{declared.extent.Extent.{Extent, Extent as extent}, Extents.{GoesTo, Limits}}}
 use Rattle.summary.specs.Labelled.{labels_of, others_of, programs_of}
-use Rattle.claims.specs.declared.claim.{Claim.{Claim, Claim as claim}, Most.{Most as most}, Who.{Who as who}}
+use Rattle.claims.specs.declared.claim.{Claim.{Claim, Claim as claim}, Most.Most as most, Who.Who as who}
 
 -- how far each label goes with each
 abbrev pub Extents : Type 0

@@ -1,9 +1,7 @@
 -- The spelling of claims (confine's own).
 use Rattle.std.specs.{List.join_with_byte, Prelude.{[], ℕ, ◌∷◌, List, None, Option, Some, codes, map}}
-use Rattle.base.specs.Kinds.{kind_name}
-use Rattle.machine.specs.Layout.{Layout}
-use Rattle.words.specs.{Reading.list_text, Text.words_of}
-use Rattle.captext.specs.PolicyText.{label_name}
+use Rattle.{base.specs.Kinds.kind_name, words.specs.{Reading.list_text, Text.words_of}}
+use Rattle.{machine.specs.Layout.Layout, captext.specs.PolicyText.label_name}
 use Rattle.claims.specs.{declared.claim.{Claim.{Claim, Claim as claim}, Who.{Who, Who as who}}, Claims.most_word}
 
 -- an end of a claim

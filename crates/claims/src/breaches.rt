@@ -1,11 +1,8 @@
 //! The first pair of labels that has more authority than a claim leaves.
 ghost use Rattle.std.specs.{List.{Contains, list_any}, Prelude.{ℕ, ◌==◌, ◌↔◌, ◌≡◌, IfNone, IfSome, IsTrue, true}};
-ghost use Rattle.base.specs.Labels.{is_in};
-ghost use Rattle.machine.specs.Layout.{Layout};
-ghost use Rattle.table.specs.Names.{AreLabelsOf};
-ghost use Rattle.reach.specs.Extents.{Limits};
-ghost use Rattle.claims.specs.{Breaches.{AreExcess, HoldsOf, IsFirstBreachBy}, Holding.Bounds};
-ghost use Rattle.claims.specs.{Holding.{HoldsOnPairs, IsFirstBreach, IsNamed, most_of}, Rows.{AreRows, IsRow}};
+ghost use Rattle.{base.specs.Labels.is_in, machine.specs.Layout.Layout, table.specs.Names.AreLabelsOf, reach.specs.Extents.Limits};
+ghost use Rattle.claims.specs.Breaches.{AreExcess, HoldsOf, IsFirstBreachBy};
+ghost use Rattle.claims.specs.{Holding.{Bounds, HoldsOnPairs, IsFirstBreach, IsNamed, most_of}, Rows.{AreRows, IsRow}};
 
 use crate::claim::{Claim, LabelList, Most, Who};
 use crate::rows::{Row, Rows};

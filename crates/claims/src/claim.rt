@@ -1,7 +1,6 @@
 //! Claims, each on labels of a table.
 ghost use Rattle.std.specs.{Cmp.Lexicographic.pointwise, Prelude.{[], ℕ, ◌++◌, ◌==◌, ◌∷◌, ◌≡◌, OnErr, OnOk}};
-ghost use Rattle.base.specs.Labels.{is_in};
-ghost use Rattle.claims.specs.Claims.{is_one_of, most_word, same_claim, same_most, same_who};
+ghost use Rattle.{base.specs.Labels.is_in, claims.specs.Claims.{is_one_of, most_word, same_claim, same_most, same_who}};
 
 use base::{Kind, Label, Labels};
 use std::alloc::{AllocError, Global};

@@ -1,16 +1,10 @@
 //! The claims that don't hold of a table, and why.
 ghost use Rattle.std.specs.{List.Contains, Prelude.{[], ℕ, ◌≡◌, IfErr, IfNone, IfOk, IfSome, Some}};
-ghost use Rattle.base.specs.Refusals.{out_of_memory};
-ghost use Rattle.machine.specs.Layout.{Layout};
-ghost use Rattle.policy.specs.Policy.{allows};
-ghost use Rattle.table.specs.Names.{AreLabelsOf};
-ghost use Rattle.reach.specs.Extents.{Limits, limits_of};
-ghost use Rattle.fixed.specs.Fixed.{IsFixed};
-ghost use Rattle.flows.specs.Flowing.{IsClosedOff, Leads};
-ghost use Rattle.claims.specs.Claims.{is_one_of};
-ghost use Rattle.claims.specs.{declared.claim.Claim.Claim as ClaimOf, Holding.AreBroken};
-ghost use Rattle.claims.specs.Holding.{Fails, FailsOnEdge, FailsOnPair, Holds, HoldsOnEdges, HoldsOnPairs, IsKept};
-ghost use Rattle.claims.specs.{Learning.IsKeptInCalls, Rows.AreRows};
+ghost use Rattle.{base.specs.Refusals.out_of_memory, machine.specs.Layout.Layout};
+ghost use Rattle.{table.specs.Names.AreLabelsOf, policy.specs.Policy.allows, fixed.specs.Fixed.IsFixed};
+ghost use Rattle.{reach.specs.Extents.{Limits, limits_of}, flows.specs.Flowing.{IsClosedOff, Leads}};
+ghost use Rattle.claims.specs.{declared.claim.Claim.Claim as ClaimOf, Claims.is_one_of, Holding.{AreBroken, Fails, FailsOnEdge}};
+ghost use Rattle.claims.specs.{Holding.{FailsOnPair, Holds, HoldsOnEdges, HoldsOnPairs, IsKept}, Learning.IsKeptInCalls, Rows.AreRows};
 ghost use Rattle.claims.specs.declared.lines.TheConstants.ClaimLines as ClaimLines;
 
 use crate::breaches::{Breach, first_breach};

@@ -1,9 +1,6 @@
 //! The first edge that a claim excludes.
 ghost use Rattle.std.specs.Prelude.{ℕ, ◌↔◌, ◌≡◌, IfNone, IfSome, true};
-ghost use Rattle.base.specs.Labels.{is_in};
-ghost use Rattle.machine.specs.Layout.{Layout};
-ghost use Rattle.policy.specs.Policy.{allows};
-ghost use Rattle.table.specs.Names.{AreLabelsOf};
+ghost use Rattle.{base.specs.Labels.is_in, machine.specs.Layout.Layout, table.specs.Names.AreLabelsOf, policy.specs.Policy.allows};
 ghost use Rattle.claims.specs.Edges.{IsFirstEdgeBy, IsFirstOfKind, IsFirstRead, LacksEdgesOf, LacksKind, LacksReads};
 ghost use Rattle.claims.specs.Holding.{AreNamed, AreTwo, HoldsOnEdges, IsFirstEdge};
 

@@ -1,11 +1,8 @@
 //! The strongest claims that hold of a table.
 ghost use Rattle.std.specs.{List.{Contains, flat_map}, Prelude.{[], ◌++◌, ◌≡◌, IfErr, IfOk, OnOk, Some, map}};
-ghost use Rattle.base.specs.Refusals.{out_of_memory};
-ghost use Rattle.reach.specs.Extents.{limits_of};
-ghost use Rattle.summary.specs.Labelled.{labels_of};
-ghost use Rattle.claims.specs.{declared.claim.Claim.Claim as ClaimOf, Holding.{AreBroken, IsKept}, Rows.extents_of};
-ghost use Rattle.claims.specs.{Rows.row_extent, Strongest.{AreStrongest, affects, claims_among, claims_for, claims_on}};
-ghost use Rattle.claims.specs.Strongest.{is_user, only_these, users_of};
+ghost use Rattle.{base.specs.Refusals.out_of_memory, reach.specs.Extents.limits_of, summary.specs.Labelled.labels_of};
+ghost use Rattle.claims.specs.{declared.claim.Claim.Claim as ClaimOf, Holding.{AreBroken, IsKept}, Rows.{extents_of, row_extent}};
+ghost use Rattle.claims.specs.Strongest.{AreStrongest, affects, claims_among, claims_for, claims_on, is_user, only_these, users_of};
 ghost use Rattle.claims.specs.declared.lines.TheConstants.ClaimLines as ClaimLines;
 
 use crate::claim::{Claim, LabelList, Most, Who};

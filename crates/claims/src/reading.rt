@@ -1,11 +1,8 @@
 //! The reading of the text of claims.
 ghost use Rattle.std.specs.Prelude.{[], ℕ, ◌≡◌, ◌≢◌, Err, IfErr, List, Option, map, option_map};
-ghost use Rattle.words.specs.{declared.faults.Wrong.Wrong, Fault.{fault_at, no_memory}, FirstFault.IsFirstFault};
-ghost use Rattle.words.specs.{FirstFault.TellsFirst, Reading.{Gives, GivesOrStops, Reads}, Text.lines_of};
-ghost use Rattle.machine.specs.Layout.{Layout};
-ghost use Rattle.captext.specs.Policies.{kind_at};
-ghost use Rattle.claims.specs.declared.claim.Claim.{Claim as ClaimOf};
-ghost use Rattle.claims.specs.Claims.{is_one_of};
+ghost use Rattle.words.specs.{declared.faults.Wrong.Wrong, Fault.{fault_at, no_memory}, FirstFault.{IsFirstFault, TellsFirst}};
+ghost use Rattle.{words.specs.{Reading.{Gives, GivesOrStops, Reads}, Text.lines_of}, machine.specs.Layout.Layout};
+ghost use Rattle.{captext.specs.Policies.kind_at, claims.specs.{declared.claim.Claim.Claim as ClaimOf, Claims.is_one_of}};
 ghost use Rattle.claims.specs.Reading as reading;
 
 use crate::claim::{Claim, LabelList, Most, Who};

@@ -1,8 +1,7 @@
 //! Rows of labels: how far each label goes with each, found once for all claims.
 ghost use Rattle.std.specs.Prelude.{ℕ, ◌||◌, ◌≡◌, IfOk, Some, slice_get, vec_len};
+ghost use Rattle.{base.specs.Labels.is_in, reach.specs.Extents.{GoesTo, Limits, limits_of}};
 ghost use Rattle.base.specs.declared.label.TheConstants.Label as Label;
-ghost use Rattle.base.specs.Labels.{is_in};
-ghost use Rattle.reach.specs.Extents.{GoesTo, Limits, limits_of};
 
 use base::{Label, Labels};
 use reach::{Extent, Reach};

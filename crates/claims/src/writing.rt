@@ -1,8 +1,6 @@
 //! The writing of claims.
 ghost use Rattle.std.specs.{List.join_with_byte, Prelude.{[], ℕ, ◌++◌, ◌∷◌, ◌≡◌, IfErr, IfOk, List, OnOk, codes, map, string_bytes}};
-ghost use Rattle.base.specs.Refusals.{out_of_memory};
-ghost use Rattle.captext.specs.PolicyText.{label_name};
-ghost use Rattle.words.specs.Text.{line_text};
+ghost use Rattle.{base.specs.Refusals.out_of_memory, words.specs.Text.line_text, captext.specs.PolicyText.label_name};
 ghost use Rattle.claims.specs.Text.{claim_text, end_word, entry_words, lines_text, through_words};
 
 use crate::claim::{Claim, LabelList, Who};

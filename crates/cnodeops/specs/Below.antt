@@ -1,9 +1,7 @@
 -- The slot that a call names as its source below a CNode that was found (confine's own).
-use Rattle.std.specs.Prelude.{Ok, Result}
-use Rattle.base.specs.declared.{ids.SlotRef.SlotRef, refusal.Cause.Cause}
-use Rattle.machine.specs.{declared.{cap.Cap.Cap, slot_address.SlotAddress.SlotAddress}, Lookup.Level, Machine.{Machine, cap_of}}
-use Rattle.machine.specs.{Refusing.◌>>=◌, Step.Target.filled}
-use Rattle.cspace.specs.Below.{target_below}
+use Rattle.{std.specs.Prelude.{Ok, Result}, base.specs.declared.{ids.SlotRef.SlotRef, refusal.Cause.Cause}}
+use Rattle.machine.specs.{declared.{cap.Cap.Cap, slot_address.SlotAddress.SlotAddress}, Lookup.Level}
+use Rattle.{machine.specs.{Machine.{Machine, cap_of}, Refusing.◌>>=◌, Step.Target.filled}, cspace.specs.Below.target_below}
 
 -- the slot that a call names as its source below a CNode, with the capability in it
 unfoldable pub source_below : Machine → Level → SlotAddress → Result (SlotRef × Cap) Cause

@@ -1,8 +1,7 @@
 //! Copies of capabilities: what one says, and where it comes in the derivation tree.
 ghost use Rattle.std.specs.Prelude.{◌≡◌, ◌≢◌, IsTrue, None, Some};
-ghost use Rattle.machine.specs.{Capabilities.kind_of_detail, Machine.{cap_of, has_slot, parent_of}};
-ghost use Rattle.machine.specs.{Step.Copy.{copyable, masked}, Tree.{copied, parent_of_copy, with_copy}};
-ghost use Rattle.machine.specs.WellFormed.{IsWellFormed, kind_of};
+ghost use Rattle.machine.specs.{Capabilities.kind_of_detail, Machine.{cap_of, has_slot, parent_of}, Step.Copy.{copyable, masked}};
+ghost use Rattle.machine.specs.{Tree.{copied, parent_of_copy, with_copy}, WellFormed.{IsWellFormed, kind_of}};
 ghost use Rattle.machine.specs.declared.object.ObjectKind.TheVariants as kind;
 
 use base::{Cause, Rights, SlotRef};

@@ -1,7 +1,6 @@
 //! The call Move, which moves a capability.
 ghost use Rattle.std.specs.Prelude.{◌≡◌, IsTrue, None, Some};
-ghost use Rattle.machine.specs.{Machine.{cap_of, has_slot}, Makes.Makes, Step.Move.move_of, Tree.with_moved};
-ghost use Rattle.machine.specs.WellFormed.{IsWellFormed};
+ghost use Rattle.machine.specs.{Machine.{cap_of, has_slot}, Makes.Makes, Step.Move.move_of, Tree.with_moved, WellFormed.IsWellFormed};
 
 use crate::slots::ends;
 use base::{Cause, ObjId};

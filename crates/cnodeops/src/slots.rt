@@ -1,9 +1,7 @@
 //! The slots that a call names, to fill one or to take from one.
 ghost use Rattle.std.specs.Prelude.{◌≡◌, IsOkAnd, Some};
-ghost use Rattle.machine.specs.{Lookup.{level_at, lookup_of}, Machine.cap_of};
-ghost use Rattle.machine.specs.Step.Target.{ends_of, source_of, target_of, vacant};
-ghost use Rattle.cspace.specs.Strings.{level_shown};
-ghost use Rattle.cnodeops.specs.Below.{source_below};
+ghost use Rattle.machine.specs.{Lookup.{level_at, lookup_of}, Machine.cap_of, Step.Target.{ends_of, source_of, target_of, vacant}};
+ghost use Rattle.{cspace.specs.Strings.level_shown, cnodeops.specs.Below.source_below};
 
 use base::{Cause, LookupFailure, ObjId, SlotRef};
 use cspace::{Level, level_at, level_of_cap, of_kind, resolve, target_below};

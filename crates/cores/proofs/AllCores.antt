@@ -1,14 +1,13 @@
 -- The workers of all cores: what they made together is the script.
-use Rattle.std.{specs.Prelude.{map, slice_get}, proofs.Common.{[], ℕ, ◌++◌, ◌<◌, ◌==◌, ◌∙◌, ◌∷◌, ◌≡◌, ◌≤◌, ◌⊎◌, All, Bool, List, Some, ap}}
-use Rattle.std.proofs.{Common.{arith, cond, false, inl, inr, length, refl, slice_index_or, subst, sym, true}, lemmas.List.length-append}
-use Rattle.std.proofs.lemmas.{List.{length-map, Elements.{All-head, All-tail}}, Option.{get_or_from_slice_get, slice_get-get_or}}
-use Rattle.std.proofs.lemmas.Option.{slice_get_within}
-use Rattle.base.specs.declared.core_number.TheConstants.CoreNo as CoreNo
-use Rattle.machine.specs.{declared.call.Event.Event, Machine.{Machine, empty_machine}}
-use Rattle.kernel.specs.Legal.{Entry, Leads}
-use Rattle.cores.specs.{declared.view.Noted.Noted, History.{OnCores, log_of, own}, Rule.about, Seats.{AreNew, Closes, IsOf, Known, Looks}}
-use Rattle.cores.specs.{Seats.{Ticket, new_seat, no_table}, SplitRun.{IsSplitRun, on_core}, Workers.{AreAllCores, IsFresh, Worked}}
+use Rattle.std.{specs.Prelude.{map, slice_get}, proofs.Common.{[], ℕ, ◌++◌, ◌<◌, ◌==◌, ◌∙◌, ◌∷◌, ◌≡◌, ◌≤◌, ◌⊎◌, All, Bool}}
+use Rattle.std.proofs.Common.{List, Some, ap, arith, cond, false, inl, inr, length, refl, slice_index_or, subst, sym, true}
+use Rattle.std.proofs.lemmas.List.{Elements.{All-head, All-tail}, length-append, length-map}
+use Rattle.std.proofs.lemmas.Option.{get_or_from_slice_get, slice_get-get_or, slice_get_within}
+use Rattle.{machine.specs.{declared.call.Event.Event, Machine.{Machine, empty_machine}}, kernel.specs.Legal.{Entry, Leads}}
+use Rattle.cores.specs.{declared.view.Noted.Noted, History.{OnCores, log_of, own}, Rule.about, Seats.{AreNew, Closes, IsOf, Known}}
+use Rattle.cores.specs.{Seats.{Looks, Ticket, new_seat, no_table}, SplitRun.{IsSplitRun, on_core}, Workers.{AreAllCores, IsFresh, Worked}}
 use Rattle.cores.{specs.Workers.events_of, proofs.Counting.{part, parts_most, parts_whole, total, total_less, total_same}}
+use Rattle.base.specs.declared.core_number.TheConstants.CoreNo as CoreNo
 
 pub chosen : (b : Bool) (noted : Noted) (events : List Event) (rest : List Noted) → events ≡ events_of rest
     → cond b (noted.event ∷ events) events ≡ events_of (cond b (noted ∷ rest) rest)

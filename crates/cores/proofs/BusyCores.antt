@@ -1,11 +1,10 @@
 -- Busy cores, which the script has events on, and the number that a core's worker has at the gate.
 use Rattle.std.{specs.Prelude.{Bool, false, if◌then◌else◌, slice_set, true}, proofs.Common.{[], ℕ, ◌+◌, ◌<◌, ◌==◌, ◌||◌, ◌∙◌, ◌∷◌, ◌≡◌}}
 use Rattle.std.proofs.Common.{◌≢◌, List, Some, add-one, ap, arith, cond, eq-eqb, get_or, inl, inr, length, ne_eqb, refl, subst, sym, take}
-use Rattle.std.proofs.lemmas.{Bool.cases_order, List.{get_or-set_other, get_or-set_same, length-set, Folds.list_any_more}}
+use Rattle.std.proofs.lemmas.{Bool.cases_order, List.{Folds.list_any_more, get_or-set_other, get_or-set_same, length-set}}
 use Rattle.std.proofs.lemmas.Option.{get_or_from_slice_get, slice_get-get_or, slice_get_within}
+use Rattle.{machine.specs.declared.call.Event.Event, cores.specs.{SplitRun.on_core, Workers.{AreBusy, has_events, worker_number}}}
 use Rattle.base.specs.declared.core_number.TheConstants.CoreNo as CoreNo
-use Rattle.machine.specs.declared.call.Event.{Event}
-use Rattle.cores.specs.{SplitRun.on_core, Workers.{AreBusy, has_events, worker_number}}
 
 either_true : (b : Bool) → (b || true) ≡ true
 either_true true = refl

@@ -1,8 +1,7 @@
 -- The events of one core, as its worker goes through the script.
 use Rattle.std.proofs.Common.{[], ℕ, ◌++◌, ◌+◌, ◌<◌, ◌==◌, ◌∙◌, ◌∷◌, ◌≡◌, List, ap, arith, cond, drop, eq-eqb, get_or, length, subst, sym}
-use Rattle.std.proofs.{Common.take, lemmas.List.{length-append, length-map, take-append-drop, Elements.{filter-append, filter_more}}}
-use Rattle.machine.specs.declared.call.Event.{Event}
-use Rattle.cores.specs.{declared.view.Noted.Noted, SplitRun.on_core, Workers.events_of}
+use Rattle.std.proofs.{Common.take, lemmas.List.{Elements.{filter-append, filter_more}, length-append, length-map, take-append-drop}}
+use Rattle.{machine.specs.declared.call.Event.Event, cores.specs.{declared.view.Noted.Noted, SplitRun.on_core, Workers.events_of}}
 
 -- an event on the core comes after those before it
 pub one_kept : (core : ℕ) (events : List Event) (i : ℕ) (event : Event) → i < length events → event ≡ get_or events i event

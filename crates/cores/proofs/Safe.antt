@@ -1,10 +1,7 @@
 -- Legal histories from a boot state: each of their states is reached by a run, so they are safe.
-use Rattle.std.{specs.Prelude.map, proofs.Common.{ℕ, List}}
-use Rattle.machine.specs.{Boot.IsBoot, Layout.Layout, Machine.Machine}
-use Rattle.policy.specs.Policy.{allows}
-use Rattle.kernel.specs.Legal.{Entry, Leads}
-use Rattle.integrity.specs.Safe.{IsReached}
-use Rattle.verdict.specs.System.{IsAcceptedSystem, System}
+use Rattle.{std.{specs.Prelude.map, proofs.Common.{ℕ, List}}, machine.specs.{Boot.IsBoot, Layout.Layout, Machine.Machine}}
+use Rattle.{kernel.specs.Legal.{Entry, Leads}, policy.specs.Policy.allows}
+use Rattle.{integrity.specs.Safe.IsReached, verdict.specs.System.{IsAcceptedSystem, System}}
 use Rattle.cores.specs.{declared.view.Noted.Noted, History.{IsLegal, log_of}, Safety.IsSafeHistory}
 
 reached :

@@ -1,13 +1,12 @@
 -- Seats that were just dealt: what their tokens know, and what lies under the lock then.
-use Rattle.std.{specs.Prelude.{All, slice_get}, proofs.Common.{[], ℕ, ◌++◌, ◌+◌, ◌<◌, ◌∙◌, ◌∷◌, ◌≡◌, ◌≤◌, ◌⊎◌, List, Some, ap, arith, inl, inr}}
-use Rattle.std.proofs.{Common.{length, refl, slice_index_or, subst, sym}, Math.{ListN.get_or-append, Seq.get_or-append_seam}}
-use Rattle.std.proofs.lemmas.{Bool.cases_order, List.{length_push, Elements.All-nil}, Option.{get_or_from_slice_get, same_Some}}
-use Rattle.std.proofs.lemmas.Option.{slice_get-get_or, slice_get_read}
-use Rattle.machine.specs.{Machine.Machine, WellFormed.IsWellFormed}
-use Rattle.kernel.specs.Legal.{Entry, Leads}
-use Rattle.cores.specs.{declared.view.{About.About, Noted.Noted, View.View}, History.{IsLegal, log_of}, Moves.newcomer, Rule.{about, keeper_view}}
-use Rattle.cores.specs.Seats.{AreNew, CanDeal, InOrder, IsOf, IsSeated, Known, Ticket, about_in, history_of, keeping_in, new_seat}
-use Rattle.cores.specs.Tokens.{IsAt, Token}
+use Rattle.std.{specs.Prelude.{All, slice_get}, proofs.Common.{[], ℕ, ◌++◌, ◌+◌, ◌<◌, ◌∙◌, ◌∷◌, ◌≡◌, ◌≤◌}}
+use Rattle.std.proofs.Common.{◌⊎◌, List, Some, ap, arith, inl, inr, length, refl, slice_index_or, subst, sym}
+use Rattle.std.proofs.{Math.{ListN.get_or-append, Seq.get_or-append_seam}, lemmas.{Bool.cases_order, List.{Elements.All-nil, length_push}}}
+use Rattle.std.proofs.lemmas.Option.{get_or_from_slice_get, same_Some, slice_get-get_or, slice_get_read}
+use Rattle.{machine.specs.{Machine.Machine, WellFormed.IsWellFormed}, kernel.specs.Legal.{Entry, Leads}}
+use Rattle.cores.specs.{declared.view.{About.About, Noted.Noted, View.View}, History.{IsLegal, log_of}}
+use Rattle.cores.specs.{Moves.newcomer, Rule.{about, keeper_view}, Seats.{AreNew, CanDeal, InOrder, IsOf, IsSeated}}
+use Rattle.cores.specs.{Seats.{Known, Ticket, about_in, history_of, keeping_in, new_seat}, Tokens.{IsAt, Token}}
 
 -- no entry is a run of no event
 pub none_legal : (boot : Machine) (cores : List ℕ) → IsLegal boot cores []

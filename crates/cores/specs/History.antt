@@ -1,8 +1,6 @@
 -- The history of a kernel that several threads share, and what makes it legal, and exact for one seat (confine's own).
 use Rattle.std.specs.{List.filter, Prelude.{ℕ, ◌==◌, ◌≡◌, All, List, Some, map, slice_get}}
-use Rattle.machine.specs.Machine.{Machine}
-use Rattle.kernel.specs.Legal.{Entry, Leads}
-use Rattle.cores.specs.declared.view.Noted.{Noted}
+use Rattle.{machine.specs.Machine.Machine, kernel.specs.Legal.{Entry, Leads}, cores.specs.declared.view.Noted.Noted}
 
 -- the history without the seats, as a log has it
 abbrev pub log_of : List Noted → List Entry

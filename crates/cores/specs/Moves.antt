@@ -1,9 +1,8 @@
 -- Steps on the word: what they do to the views of the seats, and what they tell (confine's own).
-use Rattle.std.specs.Prelude.{[], ℕ, ◌++◌, ◌+◌, ◌∷◌, ◌≡◌, IfSome, List, None, Option, Some, length, option_map}
-use Rattle.atomic_table.specs.Table.{Me}
-use Rattle.machine.specs.declared.call.{Call.TheVariants.Fetch, Outcome.TheVariants.Blocked}
-use Rattle.cores.specs.{declared.view.{Hand.Hand, Keeping.Keeping, Noted.Noted, View.View}, History.{IsExactFor, IsLegal}}
 use mathlib.Core.List.{IsPrefix}
+use Rattle.std.specs.Prelude.{[], ℕ, ◌++◌, ◌+◌, ◌∷◌, ◌≡◌, IfSome, List, None, Option, Some, length, option_map}
+use Rattle.{atomic_table.specs.Table.Me, machine.specs.declared.call.{Call.TheVariants.Fetch, Outcome.TheVariants.Blocked}}
+use Rattle.cores.specs.{declared.view.{Hand.Hand, Keeping.Keeping, Noted.Noted, View.View}, History.{IsExactFor, IsLegal}}
 
 -- a seat that knows nothing
 abbrev pub blank : View

@@ -1,10 +1,9 @@
 -- The rule of the word that all seats share: it is the length of the history, and what each seat knows of that is true (confine's own).
-use Rattle.std.specs.Prelude.{[], ℕ, ◌*◌, ◌+◌, ◌<◌, ◌∷◌, ◌≡◌, IfSome, List, None, Some, length}
-use Rattle.machine.specs.Machine.{Machine}
-use Rattle.cores.specs.{declared.view.{About.About, Hand.Hand, Keeping.Keeping, Noted.Noted, View.View}, History.{IsExactFor, IsLegal}}
-use Rattle.atomic_table.specs.Table.{State as Table}
-use lib.ListN.{get_elem?}
 use mathlib.Core.{List.IsPrefix, Option.some}
+use Rattle.std.specs.Prelude.{[], ℕ, ◌*◌, ◌+◌, ◌<◌, ◌∷◌, ◌≡◌, IfSome, List, None, Some, length}
+use Rattle.{atomic_table.specs.Table.State as Table, machine.specs.Machine.Machine}
+use Rattle.cores.specs.{declared.view.{About.About, Hand.Hand, Keeping.Keeping, Noted.Noted, View.View}, History.{IsExactFor, IsLegal}}
+use lib.ListN.{get_elem?}
 
 abbrev pub about : Machine → List ℕ → About
 about boot cores = record { boot = boot; cores = cores }

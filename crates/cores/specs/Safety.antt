@@ -3,12 +3,9 @@
 use Rattle.std.specs.Prelude.{ℕ, ◌++◌, ◌∷◌, ◌≡◌, ◌⊎◌, List, Some}
 use Rattle.base.specs.declared.ids.ObjId.{ObjId}
 use Rattle.machine.specs.{declared.object.Object.Object, Authority.label_of, Layout.Layout, Machine.{Machine, object_of}}
-use Rattle.machine.specs.{Outcomes.IsRefused, Step.Step}
-use Rattle.kernel.specs.Legal.{Leads}
-use Rattle.policy.specs.{Change.ActorTest, Domain.EdgeTest}
+use Rattle.{machine.specs.{Outcomes.IsRefused, Step.Step}, kernel.specs.Legal.Leads, policy.specs.{Change.ActorTest, Domain.EdgeTest}}
 use Rattle.integrity.specs.{Acting.{HoldsOfActors, MayAct}, Allowed.IsAllowedStep, Altered.IsNarrowStep, Budgets.KeepsBudgets}
-use Rattle.integrity.specs.Confined.{IsConfined}
-use Rattle.cores.specs.{declared.view.Noted.Noted, History.log_of}
+use Rattle.{integrity.specs.Confined.IsConfined, cores.specs.{declared.view.Noted.Noted, History.log_of}}
 
 -- each state on it, after any of its beginnings, is confined, and its objects have labels; each step on it is allowed, keeps to the
 -- bounds and the budgets, and is refused or is of a thread whose label may act

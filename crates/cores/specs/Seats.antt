@@ -1,12 +1,11 @@
 -- Seats and kernels as contracts see them, and what a kernel's calls do to what a seat has seen and made (confine's own).
+use mathlib.Core.List.{IsPrefix}
 use Rattle.std.specs.{Coded.{Coded, code_by, coded_list, coded_ℕ, coded×}, Prelude.{[], ℕ, ◌++◌, ◌<◌, ◌^◌, ◌∷◌, ◌≡◌, ◌≤◌, List, None, Some}}
-use Rattle.std.specs.Prelude.{length, refl, slice_get, slice_index_or, unwrap_or}
-use Rattle.atomic_table.specs.Seated.{TableId, table_id_coded}
+use Rattle.{std.specs.Prelude.{length, refl, slice_get, slice_index_or, unwrap_or}, atomic_table.specs.Seated.{TableId, table_id_coded}}
 use Rattle.machine.specs.{declared.call.{Event.Event, Outcome.Outcome}, Machine.{Machine, empty_machine}, WellFormed.IsWellFormed}
 use Rattle.kernel.specs.Legal.{Entry, Leads}
-use Rattle.cores.specs.{declared.view.{About.About, Hand.Hand, Keeping.Keeping, Noted.Noted, View.View}, History.{IsExactFor, IsLegal}}
-use Rattle.cores.specs.{History.{OnCores, log_of, own}, Rule.{about, keeper_view}, Tokens.{IsAt, Token}}
-use mathlib.Core.List.{IsPrefix}
+use Rattle.cores.specs.declared.view.{About.About, Hand.Hand, Keeping.Keeping, Noted.Noted, View.View}
+use Rattle.cores.specs.{History.{IsExactFor, IsLegal, OnCores, log_of, own}, Rule.{about, keeper_view}, Tokens.{IsAt, Token}}
 
 -- a seat: which word it is of, what its kernel was opened with, the kernel's number, its own number and core, the beginning of the
 -- history that it has seen, and its own entries

@@ -1,8 +1,7 @@
 -- A run that is made of a script by several cores, each in the script's order (confine's own).
 use Rattle.std.specs.{List.filter, Prelude.{ℕ, ◌<◌, ◌==◌, ◌≡◌, List, length, map}}
+use Rattle.{machine.specs.{declared.call.Event.Event, Machine.Machine}, kernel.specs.Legal.{Entry, Leads}}
 use Rattle.base.specs.declared.core_number.TheConstants.CoreNo as CoreNo
-use Rattle.machine.specs.{declared.call.Event.Event, Machine.Machine}
-use Rattle.kernel.specs.Legal.{Entry, Leads}
 
 -- the events of this core, in their order
 abbrev pub on_core : ℕ → List Event → List Event

@@ -1,9 +1,7 @@
 //! The desk under a kernel's lock: the state and its log, with the keeper of the history.
 ghost use Rattle.std.specs.Prelude.{◌<◌, ◌^◌, ◌↔◌, ◌≡◌, ◌≢◌, ◌≤◌, Bool, length};
-ghost use Rattle.base.specs.Refusals.{plain};
-ghost use Rattle.machine.specs.{declared.call.Outcome.TheVariants.Refused, WellFormed.IsWellFormed};
-ghost use Rattle.kernel.specs.Legal.{Leads};
-ghost use Rattle.cores.specs.{History.{OnCores, log_of}, Seats.{Calls, IsAtTicket, IsOf, Looks}};
+ghost use Rattle.{base.specs.Refusals.plain, machine.specs.{declared.call.Outcome.TheVariants.Refused, WellFormed.IsWellFormed}};
+ghost use Rattle.{kernel.specs.Legal.Leads, cores.specs.{History.{OnCores, log_of}, Seats.{Calls, IsAtTicket, IsOf, Looks}}};
 
 use crate::board::{Board, Token};
 use crate::naming::Naming;

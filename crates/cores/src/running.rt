@@ -1,8 +1,6 @@
 //! A kernel that several threads call at once.
-ghost use Rattle.std.specs.Prelude.{ℕ, ◌<◌, ◌==◌, ◌↔◌, ◌≡◌, ◌≢◌, ◌≤◌, ◌⊎◌, All, Decides, IfErr, IfOk, length};
-ghost use Rattle.std.specs.Prelude.{slice_index_or};
-ghost use Rattle.base.specs.Refusals.{plain};
-ghost use Rattle.machine.specs.declared.call.Outcome.TheVariants.{Refused};
+ghost use Rattle.std.specs.Prelude.{ℕ, ◌<◌, ◌==◌, ◌↔◌, ◌≡◌, ◌≢◌, ◌≤◌, ◌⊎◌, All, Decides, IfErr, IfOk, length, slice_index_or};
+ghost use Rattle.{base.specs.Refusals.plain, machine.specs.declared.call.Outcome.TheVariants.Refused};
 ghost use Rattle.cores.specs.Seats.{Calls, Closes, IsAtBoard, IsAtTicket, IsOf, Known, Looks, Meet};
 
 use crate::board::Board;

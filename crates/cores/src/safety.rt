@@ -1,7 +1,6 @@
 //! The headline, on all that seats have seen.
 ghost use Rattle.std.specs.Prelude.{ℕ, List};
-ghost use Rattle.machine.specs.{Boot.IsBoot, Machine.Machine};
-ghost use Rattle.policy.specs.Policy.{allows};
+ghost use Rattle.{machine.specs.{Boot.IsBoot, Machine.Machine}, policy.specs.Policy.allows};
 ghost use Rattle.verdict.specs.System.{IsAcceptedSystem, System};
 ghost use Rattle.cores.specs.{declared.view.Noted.Noted as Entered, History.IsLegal, Safety.IsSafeHistory};
 

@@ -1,7 +1,6 @@
 //! A whole script, made by the workers on a kernel of its own.
 ghost use Rattle.std.specs.Prelude.{◌≡◌, ◌≤◌, All, IfErr, IfOk, length};
-ghost use Rattle.base.specs.Refusals.{out_of_memory};
-ghost use Rattle.machine.specs.{Boot.IsBoot, Machine.Machine};
+ghost use Rattle.{base.specs.Refusals.out_of_memory, machine.specs.{Boot.IsBoot, Machine.Machine}};
 ghost use Rattle.cores.specs.{Seats.{AreNew, IsOf}, SplitRun.IsSplitRun, Workers.AreAllCores};
 
 use crate::workers::{CORES, all_workers, busy_cores};

@@ -4,9 +4,8 @@
 //! loaded as a call begins and as it ends, and added to once.
 ghost use Rattle.std.specs.Prelude.{[], ◌∷◌, ◌≡◌, IfOk, IfSome, None, Some, length};
 ghost use Rattle.cores.specs.declared.view.{About.About, Hand.Hand, Keeping.Keeping};
-ghost use Rattle.cores.specs.Moves.{Sees, Shows, after_deal, after_record, guest_as_hand, hand_as_guest, newcomer};
-ghost use Rattle.cores.specs.Moves.{with_guest, with_hand, with_seen, without_guest, without_hand};
-ghost use Rattle.cores.specs.{Rule.first_view, Tokens.{CanRecord, IsAt, IsSame}};
+ghost use Rattle.cores.specs.Moves.{Sees, Shows, after_deal, after_record, guest_as_hand, hand_as_guest, newcomer, with_guest, with_hand};
+ghost use Rattle.cores.specs.{Moves.{with_seen, without_guest, without_hand}, Rule.first_view, Tokens.{CanRecord, IsAt, IsSame}};
 
 use crate::board::{Board, Deal, Key, Leave, Record, Saying, See, Token, Visit};
 use crate::view::Noted;

@@ -1,14 +1,13 @@
 -- The end of a lookup: its result says where the chain ends, if each CNode takes bits.
-use Rattle.std.proofs.Common.{[], ℕ, ◌++◌, ◌↔◌, ◌∙◌, ◌≡◌, ◌⊎◌, Bool, Err, List, None, Ok, Result, Some, ap, arith, inl, inr, length, refl}
-use Rattle.std.proofs.{Common.{subst, sym}, lemmas.Option.same_Some}
+use Rattle.std.proofs.Common.{[], ℕ, ◌++◌, ◌↔◌, ◌∙◌, ◌≡◌, ◌⊎◌, Bool, Err, List, None, Ok, Result, Some}
+use Rattle.std.proofs.{Common.{ap, arith, inl, inr, length, refl, subst, sym}, lemmas.Option.same_Some}
 use Rattle.base.specs.declared.{ids.{ObjId.ObjId, SlotRef.SlotRef}, refusal.Cause.{Cause, TheVariants.FailedLookup}}
 use Rattle.base.specs.declared.refusal.LookupFailure.{LookupFailure, TheVariants.{DepthMismatch, GuardMismatch, InvalidRoot}}
 use Rattle.base.specs.{declared.refusal.{LookupFailure.TheVariants.MissingCapability, Refusal.Refusal}, Refusals.failure_detail}
-use Rattle.base.specs.Refusals.{refusal_of}
-use Rattle.machine.specs.{Bits.bits, Lookup.{Level, level_at, lookup_of}, Machine.{Machine, cap_of}}
-use Rattle.cspace.specs.Chain.{Fails, Finds, IsWhole, Leads, Link, Misses, Resolves, TakesBits, selected, spelled, taken}
-use Rattle.cspace.{specs.Roots.root_level, proofs.{LookupLemmas.{failed, fails, finds, found}, UniqueLemmas.{not_both, same_chain}}}
-use Rattle.cspace.proofs.UniqueLemmas.{same_miss}
+use Rattle.{base.specs.Refusals.refusal_of, machine.specs.{Bits.bits, Lookup.{Level, level_at, lookup_of}, Machine.{Machine, cap_of}}}
+use Rattle.cspace.specs.Chain.{Fails, Finds, IsWhole, Leads, Link, Misses, Resolves}
+use Rattle.cspace.specs.{Chain.{TakesBits, selected, spelled, taken}, Roots.root_level}
+use Rattle.cspace.proofs.{LookupLemmas.{failed, fails, finds, found}, UniqueLemmas.{not_both, same_chain, same_miss}}
 
 -- an ordinary lookup looks for no capability, so none is missing
 pub never_missing : (m : Machine) (thread : ObjId) (address : ℕ) → Fails m thread address MissingCapability → ⊥

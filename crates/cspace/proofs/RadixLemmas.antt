@@ -1,10 +1,9 @@
 -- CNodes that capabilities show: each takes bits, if each CNode of the machine does.
 use Rattle.std.proofs.{Common.{◌<◌, ◌≡◌, ◌≤◌, Bool, None, Option, Some, refl, subst}, lemmas.Option.same_Some}
 use Rattle.base.specs.declared.ids.ObjId.{ObjId}
-use Rattle.machine.specs.declared.{cap.{Cap.Cap, Detail.{Detail, Detail as d}, Guard.Guard}, object.{CNode.CNode, Object.Object}}
-use Rattle.machine.specs.{declared.object.Object.Object as o, Lookup.{Level, level_at, level_of_cap, level_through}, Machine.Machine}
-use Rattle.machine.specs.Machine.{cap_of, object_of}
-use Rattle.cspace.specs.Chain.{TakesBits}
+use Rattle.machine.specs.declared.{cap.{Cap.Cap, Detail.{Detail, Detail as d}, Guard.Guard}, object.CNode.CNode}
+use Rattle.machine.specs.{declared.object.Object.{Object, Object as o}, Lookup.{Level, level_at, level_of_cap, level_through}}
+use Rattle.{machine.specs.Machine.{Machine, cap_of, object_of}, cspace.specs.Chain.TakesBits}
 
 pub takes_bits :
     (m : Machine) → ((id : ObjId) (node : CNode) → object_of m id ≡ Some (o.CNode node) → (0 < node.radix) × (node.radix ≤ 12))

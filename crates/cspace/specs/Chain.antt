@@ -3,8 +3,7 @@
 use Rattle.std.specs.{List.flat_map, Prelude.{[], ℕ, ◌++◌, ◌+◌, ◌<◌, ◌∷◌, ◌≡◌, ◌≤◌, ◌⊎◌, Bool, List, None, Some, length}}
 use Rattle.base.specs.declared.{ids.{ObjId.ObjId, SlotRef.SlotRef}, refusal.Cause.{Cause, TheVariants.{FailedLookup, RangeError}}}
 use Rattle.base.specs.declared.refusal.LookupFailure.{LookupFailure, TheVariants.{DepthMismatch, GuardMismatch, InvalidRoot}}
-use Rattle.machine.specs.{Bits.{bits, number}, Lookup.{Level, level_at}, Machine.Machine}
-use Rattle.cspace.specs.Roots.{root_level}
+use Rattle.{machine.specs.{Bits.{bits, number}, Lookup.{Level, level_at}, Machine.Machine}, cspace.specs.Roots.root_level}
 
 -- a CNode as a capability shows it, with the bits that select one of its slots
 pub record Link : Type 0 where

@@ -1,6 +1,5 @@
 -- The CNode where the lookup of a thread's addresses begins (seL4 manual, "Capability Address Lookup").
-use Rattle.std.specs.Prelude.{None, Option, Some}
-use Rattle.base.specs.declared.ids.ObjId.{ObjId}
+use Rattle.{std.specs.Prelude.{None, Option, Some}, base.specs.declared.ids.ObjId.ObjId}
 use Rattle.machine.specs.{declared.object.Object.{Object, Object as o}, Lookup.{Level, level_at, root_of}, Machine.{Machine, object_of}}
 
 -- the CNode at an object's root slot, if the object is a thread

@@ -1,8 +1,7 @@
 -- The strings of bits that this crate's numbers stand for in guarded lookup (seL4 manual, "Capability Address Lookup").
 use Rattle.std.specs.Prelude.{ℕ, Bool, Err, List, Ok, Result}
 use Rattle.base.specs.declared.{ids.SlotRef.SlotRef, refusal.LookupFailure.LookupFailure}
-use Rattle.machine.specs.{Bits.bits, Lookup.Level}
-use Rattle.cspace.specs.declared.level.Level.{Level as Node}
+use Rattle.{machine.specs.{Bits.bits, Lookup.Level}, cspace.specs.declared.level.Level.Level as Node}
 
 abbrev pub level_shown : Node → Level
 level_shown level = record { node = level.node; guard = bits level.guard.size level.guard.value; radix = level.radix }

@@ -1,11 +1,10 @@
 //! A law about the chain of capabilities that a look-up follows.
 ghost use Rattle.std.specs.Prelude.{ℕ, ◌++◌, ◌↔◌, ◌≡◌, ◌⊎◌, Bool, Err, List, None, Ok, Some, length};
-ghost use Rattle.base.specs.declared.ids.{ObjId.ObjId as Id, SlotRef.SlotRef as Slot};
-ghost use Rattle.base.specs.declared.refusal.{Cause.TheVariants.FailedLookup, LookupFailure.LookupFailure as Failure};
-ghost use Rattle.base.specs.declared.refusal.LookupFailure.TheVariants.{MissingCapability};
+ghost use Rattle.base.specs.declared.{ids.{ObjId.ObjId as Id, SlotRef.SlotRef as Slot}, refusal.Cause.TheVariants.FailedLookup};
+ghost use Rattle.base.specs.declared.refusal.LookupFailure.{LookupFailure as Failure, TheVariants.MissingCapability};
 ghost use Rattle.machine.specs.{Bits.bits, Lookup.{Level, lookup_of}, Machine.{Machine, cap_of}};
-ghost use Rattle.cspace.specs.Chain.{Fails, Finds, IsWhole, Leads, Link, Misses, Resolves, TakesBits, selected};
-ghost use Rattle.cspace.specs.{Chain.{spelled, taken}, Roots.root_level};
+ghost use Rattle.cspace.specs.Chain.{Fails, Finds, IsWhole, Leads, Link, Misses, Resolves};
+ghost use Rattle.cspace.specs.{Chain.{TakesBits, selected, spelled, taken}, Roots.root_level};
 
 /// A law: a lookup ends exactly where a chain of CNode capabilities ends that the address spells.
 ///

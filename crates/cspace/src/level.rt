@@ -1,7 +1,6 @@
 //! A CNode as one step of a look-up.
 ghost use Rattle.std.specs.{Option.option_map, Prelude.{◌<◌, ◌≡◌, ◌≤◌, IfOk, IfSome}};
-ghost use Rattle.machine.specs.{Bits.{after, bits}, Lookup.hop};
-ghost use Rattle.cspace.specs.Strings.{level_shown, place_shown};
+ghost use Rattle.{machine.specs.{Bits.{after, bits}, Lookup.hop}, cspace.specs.Strings.{level_shown, place_shown}};
 
 use crate::word::field;
 use base::{LookupFailure, ObjId, SlotRef};

@@ -1,7 +1,6 @@
 //! The slot that a call names by an index and a depth.
 ghost use Rattle.std.specs.Prelude.{◌↔◌, ◌≡◌, ◌≢◌, ◌⊎◌, IfErr, IfOk, IsErrAnd};
-ghost use Rattle.base.specs.declared.{ids.SlotRef.SlotRef as Slot, refusal.Cause.Cause as Why};
-ghost use Rattle.base.specs.declared.refusal.Cause.TheVariants.{FailedLookup};
+ghost use Rattle.base.specs.declared.{ids.SlotRef.SlotRef as Slot, refusal.Cause.{Cause as Why, TheVariants.FailedLookup}};
 ghost use Rattle.base.specs.{declared.refusal.LookupFailure.TheVariants.MissingCapability, Refusals.refusal_of};
 ghost use Rattle.machine.specs.Step.Target.{exactly, lookup_target_of};
 ghost use Rattle.cspace.specs.{Below.target_below, Chain.{TargetFails, TargetFinds}, Strings.level_shown};

@@ -1,8 +1,7 @@
 //! Look-ups of addresses in a thread's capability space.
 ghost use Rattle.std.specs.{Option.option_map, Prelude.{ℕ, ◌<◌, ◌↔◌, ◌≡◌, ◌≢◌, ◌≤◌, ◌⊎◌, IfErr, IfOk, IsErrAnd, Some}};
 ghost use Rattle.base.specs.declared.{ids.SlotRef.SlotRef as Slot, refusal.Cause.TheVariants.FailedLookup};
-ghost use Rattle.base.specs.declared.refusal.LookupFailure.{LookupFailure as Failure, TheVariants.MissingCapability};
-ghost use Rattle.base.specs.Refusals.{refusal_of};
+ghost use Rattle.base.specs.{declared.refusal.LookupFailure.{LookupFailure as Failure, TheVariants.MissingCapability}, Refusals.refusal_of};
 ghost use Rattle.machine.specs.{Bits.bits, Lookup.{level_at, level_of_cap, lookup_of, walk}};
 ghost use Rattle.cspace.specs.{Chain.{Fails, Finds}, Roots.root_level, Strings.{level_shown, place_shown}};
 

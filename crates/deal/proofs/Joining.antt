@@ -1,7 +1,6 @@
 -- The shares of a list, one after another: they are the list that was dealt.
-use Rattle.std.proofs.{Common.{ℕ, ◌++◌, ◌+◌, ◌∙◌, ◌≡◌, ◌≤◌, List, ap, arith, drop, length, map, slice_range, sym}, lemmas.List.append_assoc}
-use Rattle.std.proofs.lemmas.{List.{map-append, Folds.drop_split}, Nat.rows}
-use Rattle.deal.specs.Shares.{share_of, start_of}
+use Rattle.std.proofs.Common.{ℕ, ◌++◌, ◌+◌, ◌∙◌, ◌≡◌, ◌≤◌, List, ap, arith, drop, length, map, slice_range, sym}
+use Rattle.{std.proofs.lemmas.{List.{Folds.drop_split, append_assoc, map-append}, Nat.rows}, deal.specs.Shares.{share_of, start_of}}
 
 starts_rise : (items workers worker : ℕ) → start_of items workers worker ≤ start_of items workers (worker + 1)
 starts_rise items workers worker = grind (arith, rows)

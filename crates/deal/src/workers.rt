@@ -1,8 +1,6 @@
 //! The sharing of items among workers.
-ghost use Rattle.std.specs.Prelude.{ℕ, ◌%◌, ◌*◌, ◌+◌, ◌/◌, ◌<◌, ◌≡◌, ◌≤◌, IfErr, IfOk, IfSome, length, map, min};
-ghost use Rattle.std.specs.Prelude.{slice_get};
-ghost use Rattle.base.specs.Refusals.{out_of_memory};
-ghost use Rattle.deal.specs.Shares.{share_of, start_of};
+ghost use Rattle.std.specs.Prelude.{ℕ, ◌%◌, ◌*◌, ◌+◌, ◌/◌, ◌<◌, ◌≡◌, ◌≤◌, IfErr, IfOk, IfSome, length, map, min, slice_get};
+ghost use Rattle.{base.specs.Refusals.out_of_memory, deal.specs.Shares.{share_of, start_of}};
 
 use crate::{Gate, Work};
 use base::Refusal;

@@ -1,8 +1,6 @@
 -- The nearest ancestor that isn't gone: ways up a tree end at one slot, and some changes of the tree leave that slot as it was.
-use Rattle.std.{specs.Prelude.{None, Option, Some}, proofs.Common.{◌∙◌, ◌≡◌, ◌⊎◌, Bool, false, inl, inr, refl, subst, sym}}
-use Rattle.std.proofs.lemmas.Bool.{false≢true}
-use Rattle.base.specs.declared.ids.SlotRef.{SlotRef}
-use Rattle.machine.specs.Orphans.{Nearest, climbs, no_ancestor, survives}
+use Rattle.std.proofs.{Common.{◌∙◌, ◌≡◌, ◌⊎◌, Bool, None, Option, Some, false, inl, inr, refl, subst, sym}, lemmas.Bool.false≢true}
+use Rattle.{base.specs.declared.ids.SlotRef.SlotRef, machine.specs.Orphans.{Nearest, climbs, no_ancestor, survives}}
 
 -- from where a way ends no other way goes on
 pub ended :

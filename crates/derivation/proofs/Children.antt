@@ -1,12 +1,11 @@
 -- The children that a slot still has while they are handed over to another.
-use Rattle.std.{specs.{FinMap.keys, List.{count_by, list_any}, Prelude.{None, Option, Some, if◌then◌else◌, option_map}}, proofs.Common.ℕ}
-use Rattle.std.proofs.Common.{◌<◌, ◌∙◌, ◌≡◌, ◌≢◌, Bool, List, ap, cond, false, refl, subst, sym, true}
+use Rattle.std.specs.{FinMap.keys, List.{count_by, list_any}, Prelude.{None, Option, Some, if◌then◌else◌, option_map}}
+use Rattle.std.proofs.Common.{ℕ, ◌<◌, ◌∙◌, ◌≡◌, ◌≢◌, Bool, List, ap, cond, false, refl, subst, sym, true}
 use Rattle.base.specs.declared.ids.SlotRef.{SlotRef}
 use Rattle.machine.{specs.Machine.{Machine, parent_of, same_slot, with_parent, without_parent}, proofs.Exchange.slot_itself}
-use Rattle.machine.proofs.LookUps.{one_slot, parent_of-with_parent}
-use Rattle.objects.proofs.{Passing.fewer_pass, Ways.among_keys}
-use Rattle.derivation.{specs.Moving.{handed_over, in_place}, proofs.{Moves.{in_place-from, parent_of-handed_over}, Pairs.apart_slots}}
-use Rattle.derivation.proofs.Pairs.{parent_of-without_parent, taken_from_parent}
+use Rattle.{machine.proofs.LookUps.{one_slot, parent_of-with_parent}, objects.proofs.{Passing.fewer_pass, Ways.among_keys}}
+use Rattle.derivation.{specs.Moving.{handed_over, in_place}, proofs.Moves.{in_place-from, parent_of-handed_over}}
+use Rattle.derivation.proofs.Pairs.{apart_slots, parent_of-without_parent, taken_from_parent}
 
 -- whether a slot is that parent
 abbrev is_parent : SlotRef → Option SlotRef → Bool

@@ -1,8 +1,6 @@
 -- Descent by parents: a slot descends from its parent, and from what that descends from; and when two slots differ.
-use Rattle.std.{specs.Prelude.Some, proofs.Common.{ℕ, ◌&&◌, ◌≡◌, ◌≢◌, ◌⊎◌, ap, arith, eqb, false, inl, inr, subst}}
-use Rattle.std.proofs.lemmas.Bool.Decides.{nat_tests}
-use Rattle.base.specs.declared.ids.SlotRef.{SlotRef}
-use Rattle.machine.specs.{Machine.{Machine, parent_of}, WellFormed.{Descends, child, further}}
+use Rattle.std.proofs.{Common.{ℕ, ◌&&◌, ◌≡◌, ◌≢◌, ◌⊎◌, Some, ap, arith, eqb, false, inl, inr, subst}, lemmas.Bool.Decides.nat_tests}
+use Rattle.{base.specs.declared.ids.SlotRef.SlotRef, machine.specs.{Machine.{Machine, parent_of}, WellFormed.{Descends, child, further}}}
 
 -- a slot descends from its parent, and from what that descends from
 pub descends_by :

@@ -1,16 +1,14 @@
 -- Slots of the objects that a removal takes away: they are raised, and leave the tree, object by object.
-use Rattle.std.{specs.{Option.{is_none, is_some}, Prelude.{Contains, IsSome, IsTrue, None, Option, Some, slice_get}}, proofs.Common.{[], ℕ}}
-use Rattle.std.proofs.Common.{◌&&◌, ◌+◌, ◌||◌, ◌∙◌, ◌∷◌, ◌≡◌, ◌≤◌, ◌⊎◌, Bool, List, add-one, ap, arith, drop, drop-cons, false, inl, inr}
-use Rattle.std.proofs.{Common.{length, refl, suc, sym, true, zero}, lemmas.{Bool.false≢true, Option.get_or_from_slice_get}}
-use Rattle.std.proofs.lemmas.Option.{slice_get_cases, slice_get_within}
-use Rattle.base.specs.declared.ids.{ObjId.ObjId, SlotRef.SlotRef}
+use Rattle.std.specs.{Option.{is_none, is_some}, Prelude.{Contains, IsSome, IsTrue, None, Option, Some, slice_get}}
+use Rattle.std.proofs.Common.{[], ℕ, ◌&&◌, ◌+◌, ◌||◌, ◌∙◌, ◌∷◌, ◌≡◌, ◌≤◌, ◌⊎◌, Bool, List, add-one, ap, arith, drop, drop-cons, false}
+use Rattle.std.proofs.{Common.{inl, inr, length, refl, suc, sym, true, zero}, lemmas.{Bool.false≢true, Option.get_or_from_slice_get}}
+use Rattle.{std.proofs.lemmas.Option.{slice_get_cases, slice_get_within}, base.specs.declared.ids.{ObjId.ObjId, SlotRef.SlotRef}}
 use Rattle.machine.specs.{declared.cap.Cap.Cap, Machine.{Machine, cap_of, has_slot, object_of, parent_of}, Orphans.Nearest}
-use Rattle.machine.proofs.Ids.{itself}
-use Rattle.objects.specs.Pairs.{AreFilledOrGoing, IsFilledOrGoing}
-use Rattle.derivation.specs.{OwnSlots.{is_going_slot, is_slot_among, is_slot_of}, Raising.{AreRaised, AreRaisedFrom, is_empty}}
-use Rattle.derivation.{specs.Removing.HaveLeft, proofs.{Ancestors.{parents_led, same_ways}, Hangs.nothing_raised, Leavings.left_alike}}
-use Rattle.derivation.proofs.{Leavings.{left_more, none_left}, Raises.{raised_from_alike, raised_more}, TreeAfter.going_listed}
-use Rattle.derivation.proofs.TreeAfter.{listed_any}
+use Rattle.{machine.proofs.Ids.itself, objects.specs.Pairs.{AreFilledOrGoing, IsFilledOrGoing}}
+use Rattle.derivation.specs.OwnSlots.{is_going_slot, is_slot_among, is_slot_of}
+use Rattle.derivation.specs.{Raising.{AreRaised, AreRaisedFrom, is_empty}, Removing.HaveLeft}
+use Rattle.derivation.proofs.{Ancestors.{parents_led, same_ways}, Hangs.nothing_raised, Leavings.{left_alike, left_more, none_left}}
+use Rattle.derivation.proofs.{Raises.{raised_from_alike, raised_more}, TreeAfter.{going_listed, listed_any}}
 
 -- the same slots are there, of the same objects, after only pairs of the tree have changed
 pub slot_of_same :

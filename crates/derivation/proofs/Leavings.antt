@@ -1,9 +1,8 @@
 -- Slots that have left the derivation tree: one, or some and then others; they are alone, and a slot that was alone stays so.
-use Rattle.std.{specs.Prelude.{None, Option, Some, if◌then◌else◌, option_and_then}, proofs.Common.{◌||◌, ◌∙◌, ◌≡◌, ◌≢◌, Bool, ap, false}}
-use Rattle.std.proofs.{Common.{refl, subst, sym, true}, lemmas.Bool.false≢true}
-use Rattle.base.specs.declared.ids.SlotRef.{SlotRef}
-use Rattle.machine.specs.{Machine.{Machine, parent_of, same_slot}, Orphans.{Nearest, climbs, no_ancestor, past, survives}, Tree.IsAlone}
-use Rattle.machine.proofs.{LookUps.one_slot, RoundLemmas.or_second}
+use Rattle.std.{specs.Prelude.{None, Option, Some, if◌then◌else◌, option_and_then}, proofs.Common.{◌||◌, ◌∙◌, ◌≡◌, ◌≢◌, Bool, ap}}
+use Rattle.{std.proofs.{Common.{false, refl, subst, sym, true}, lemmas.Bool.false≢true}, base.specs.declared.ids.SlotRef.SlotRef}
+use Rattle.machine.specs.{Machine.{Machine, parent_of, same_slot}, Orphans.{Nearest, climbs, no_ancestor, past, survives}}
+use Rattle.machine.{specs.Tree.IsAlone, proofs.{LookUps.one_slot, RoundLemmas.or_second}}
 use Rattle.derivation.{specs.Removing.{HasParents, HaveLeft, parent_without}, proofs.{Ancestors.{end_stays, none_above}, Pairs.apart_slots}}
 
 -- one slot leaves

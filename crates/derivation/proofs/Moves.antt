@@ -1,12 +1,11 @@
 -- A place in the derivation tree that is taken over in two steps: together they exchange the two slots.
-use Rattle.std.specs.{FinMap.{entries, get-entries, get-from_entries, Entries.find}, Prelude.{IsSome, IsTrue, None, Option, Some}}
-use Rattle.std.{specs.Prelude.{if◌then◌else◌, map, option_map}, proofs.Common.{[], ◌∙◌, ◌∷◌, ◌≡◌, ◌≢◌, Bool, List, ap, cond, false, refl}}
-use Rattle.std.proofs.{Common.{sym, true}, lemmas.{Bool.false≢true, Option.same_Some}}
-use Rattle.base.specs.declared.ids.{ObjId.ObjId, SlotRef.SlotRef}
-use Rattle.machine.specs.{declared.cap.Cap.Cap, Machine.{Machine, cap_of, has_slot, object_of, parent_of, queue_of, same_slot, slot_cmp}}
-use Rattle.machine.specs.{Machine.{with_parent, without_parent, words_of}, Tree.{IsAlone, exchange, under, with_exchanged}}
-use Rattle.machine.proofs.{Exchange.{exchange_twice, parent_of-with_exchanged, slot_itself}, LookUps.{object_of-with_parent, one_slot}}
-use Rattle.machine.proofs.LookUps.{parent_of-with_parent, same_machine, slot_total}
+use Rattle.std.{specs.FinMap.{Entries.find, entries, get-entries, get-from_entries}, proofs.Common.{[], ◌∙◌, ◌∷◌, ◌≡◌, ◌≢◌, Bool}}
+use Rattle.std.proofs.Common.{IsSome, IsTrue, List, None, Option, Some, ap, cond, false, if◌then◌else◌, map, option_map, refl, sym, true}
+use Rattle.{std.proofs.lemmas.{Bool.false≢true, Option.same_Some}, base.specs.declared.ids.{ObjId.ObjId, SlotRef.SlotRef}}
+use Rattle.machine.specs.{declared.cap.Cap.Cap, Machine.{Machine, cap_of, has_slot, object_of, parent_of, queue_of, same_slot}}
+use Rattle.machine.specs.{Machine.{slot_cmp, with_parent, without_parent, words_of}, Tree.{IsAlone, exchange, under, with_exchanged}}
+use Rattle.machine.proofs.Exchange.{exchange_twice, parent_of-with_exchanged, slot_itself}
+use Rattle.machine.proofs.LookUps.{object_of-with_parent, one_slot, parent_of-with_parent, same_machine, slot_total}
 use Rattle.objects.{specs.Pairs.IsFilledOrGoing, proofs.PairLemmas.{place-with_parent, place-without_parent}}
 use Rattle.derivation.{specs.Moving.{handed_over, in_place, lifted}, proofs.Pairs.{apart_slots, parent_of-without_parent}}
 

@@ -1,9 +1,8 @@
 -- Descendants named one after another, each the next behind the one before: they are all that descend from a slot, each once.
-use Rattle.std.{specs.Prelude.{◌↔◌, AllPairs, Contains, None, Option, Some, slice_index_or}, proofs.Common.{ℕ, ◌<◌, ◌∙◌, ◌∷◌, ◌≡◌, ◌≢◌}}
-use Rattle.std.proofs.Common.{◌⊎◌, List, ap, arith, inl, inr, length, refl, subst, suc, sym, zero}
+use Rattle.std.specs.Prelude.{◌↔◌, AllPairs, Contains, None, Option, Some, slice_index_or}
+use Rattle.std.proofs.Common.{ℕ, ◌<◌, ◌∙◌, ◌∷◌, ◌≡◌, ◌≢◌, ◌⊎◌, List, ap, arith, inl, inr, length, refl, subst, suc, sym, zero}
 use Rattle.std.proofs.lemmas.List.{Elements.All-contains_itself, Kept.AllPairs-cons}
-use Rattle.base.specs.declared.ids.SlotRef.{SlotRef}
-use Rattle.machine.specs.{Machine.{Machine}, WellFormed.{Descends}}
+use Rattle.{base.specs.declared.ids.SlotRef.SlotRef, machine.specs.{Machine.Machine, WellFormed.Descends}}
 use Rattle.derivation.specs.Descendants.{AreAllDescendants, AreNamed, IsBehind, IsLower, next, none}
 
 -- numbers in order

@@ -1,10 +1,8 @@
 -- The slots of an object whose index is below a number: none at 0, and one more at the next.
 use Rattle.std.{specs.Prelude.nat_lt, proofs.Common.{ℕ, ◌&&◌, ◌+◌, ◌||◌, ◌∙◌, ◌≡◌, ◌≢◌, Bool, ap, arith, false, refl, subst, sym, true}}
-use Rattle.std.proofs.lemmas.Bool.{false≢true, Decides.nat_tests}
-use Rattle.base.specs.declared.ids.{ObjId.ObjId, SlotRef.SlotRef}
+use Rattle.{std.proofs.lemmas.Bool.{Decides.nat_tests, false≢true}, base.specs.declared.ids.{ObjId.ObjId, SlotRef.SlotRef}}
 use Rattle.machine.{specs.Machine.{same_id, same_slot}, proofs.{Exchange.slot_itself, Ids.itself, LookUps.{one_id, one_slot}}}
-use Rattle.machine.proofs.RoundLemmas.{or_second}
-use Rattle.derivation.specs.OwnSlots.{is_slot_below}
+use Rattle.{machine.proofs.RoundLemmas.or_second, derivation.specs.OwnSlots.is_slot_below}
 
 abbrev slot_at : ObjId → ℕ → SlotRef
 slot_at id i = record { holder = id; index = i }

@@ -1,10 +1,9 @@
 -- Empty slots that come below their first filled ancestor: some and then others, or all on the way up from one.
 use Rattle.std.{specs.Prelude.{Option, Some}, proofs.Common.{◌||◌, ◌∙◌, ◌≡◌, ◌⊎◌, Bool, ap, false, inl, inr, refl, subst, sym, true}}
-use Rattle.std.proofs.lemmas.Bool.{false≢true}
-use Rattle.base.specs.declared.ids.SlotRef.{SlotRef}
+use Rattle.{std.proofs.lemmas.Bool.false≢true, base.specs.declared.ids.SlotRef.SlotRef}
 use Rattle.machine.{specs.{Machine.{Machine, cap_of, parent_of}, Orphans.Nearest}, proofs.RoundLemmas.or_second}
-use Rattle.derivation.{specs.Raising.{AreRaised, AreRaisedFrom, IsOnWay, further, is_empty, start}, proofs.Ancestors.{end_stays, ended}}
-use Rattle.derivation.proofs.Ancestors.{only_nearest, ways_led}
+use Rattle.derivation.specs.Raising.{AreRaised, AreRaisedFrom, IsOnWay, further, is_empty, start}
+use Rattle.derivation.proofs.Ancestors.{end_stays, ended, only_nearest, ways_led}
 
 -- the same slots are empty after only pairs of the tree have changed
 pub same_empties : (old new : Machine) → new ≡ record old { parents = new.parents } → is_empty new ≡ is_empty old

@@ -1,11 +1,10 @@
 -- Ranks of the derivation tree after a pair comes or goes.
-use Rattle.std.{specs.Prelude.{None, Some, if◌then◌else◌}, proofs.Common.{ℕ, ◌<◌, ◌∙◌, ◌≡◌, ◌≢◌, ◌≤◌, Bool, ap, arith, cond, false, refl}}
-use Rattle.std.proofs.Common.{subst, suc, sym, true}
-use Rattle.base.specs.declared.ids.SlotRef.{SlotRef}
+use Rattle.std.{specs.Prelude.{None, Some, if◌then◌else◌}, proofs.Common.{ℕ, ◌<◌, ◌∙◌, ◌≡◌, ◌≢◌, ◌≤◌, Bool, ap, arith}}
+use Rattle.{std.proofs.Common.{cond, false, refl, subst, suc, sym, true}, base.specs.declared.ids.SlotRef.SlotRef}
 use Rattle.machine.specs.{Machine.{Machine, parent_of, same_slot, with_parent, without_parent}, Tree.{IsAlone, IsRanked}}
 use Rattle.machine.proofs.{Exchange.slot_itself, LookUps.{one_slot, parent_of-with_parent}}
-use Rattle.derivation.{specs.Moving.StandsNoLower, proofs.Pairs.{apart_slots, leaf_without_parent, parent_of-without_parent}}
-use Rattle.derivation.proofs.Pairs.{root_without_parent}
+use Rattle.derivation.specs.Moving.{StandsNoLower}
+use Rattle.derivation.proofs.Pairs.{apart_slots, leaf_without_parent, parent_of-without_parent, root_without_parent}
 
 -- one slot gets a rank of its own
 abbrev ranked_at : (SlotRef → ℕ) → SlotRef → ℕ → SlotRef → ℕ

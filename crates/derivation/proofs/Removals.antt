@@ -1,7 +1,6 @@
 -- The pairs of a derivation tree that a slot leaves.
-use Rattle.std.{specs.Prelude.{None, Option, Some, if◌then◌else◌, option_and_then, option_map}, proofs.Common.{◌<◌, ◌∙◌, ◌≡◌, ◌≢◌, Bool}}
-use Rattle.std.proofs.Common.{ap, arith, cond, false, refl, sym, true}
-use Rattle.base.specs.declared.ids.SlotRef.{SlotRef}
+use Rattle.std.{specs.Prelude.{None, Option, Some, if◌then◌else◌, option_and_then, option_map}, proofs.Common.{◌<◌, ◌∙◌, ◌≡◌, ◌≢◌}}
+use Rattle.{std.proofs.Common.{Bool, ap, arith, cond, false, refl, sym, true}, base.specs.declared.ids.SlotRef.SlotRef}
 use Rattle.machine.specs.{Machine.{Machine, parent_of, same_slot, without_parent}, Orphans.past, Tree.IsRanked}
 use Rattle.machine.proofs.{Exchange.slot_itself, LookUps.one_slot}
 use Rattle.derivation.specs.{Moving.{StandsNoLower, handed_over, in_place}, Removing.{HasParents, parent_past, parent_without}}

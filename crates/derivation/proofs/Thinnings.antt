@@ -1,10 +1,9 @@
 -- A derivation tree that slots are leaving: each step of a removal keeps it one, and once they are alone it is the tree after the removal.
-use Rattle.std.{specs.{FinMap.values, Prelude.{None, Option, Some, filter, if◌then◌else◌}}, proofs.Common.{◌∙◌, ◌≡◌, Bool, false, inl}}
-use Rattle.std.proofs.{Common.{refl, subst, sym, true}, lemmas.Bool.false≢true}
-use Rattle.base.specs.declared.ids.SlotRef.{SlotRef}
+use Rattle.std.{specs.{FinMap.values, Prelude.{None, Option, Some, filter, if◌then◌else◌}}, proofs.Common.{◌∙◌, ◌≡◌, Bool, false}}
+use Rattle.{std.proofs.{Common.{inl, refl, subst, sym, true}, lemmas.Bool.false≢true}, base.specs.declared.ids.SlotRef.SlotRef}
 use Rattle.machine.specs.{Machine.{Machine, parent_of}, Orphans.{Nearest, climbs, no_ancestor, survives, without_nodes}}
-use Rattle.machine.{specs.{Removal.parent_after, Tree.IsAlone, WellFormed.{Descends, child, further}}, proofs.OrphanLemmas.climbed}
-use Rattle.machine.proofs.{OrphanLemmas.nearest_stays, RemovalStays.further_on}
+use Rattle.machine.specs.{Removal.parent_after, Tree.IsAlone, WellFormed.{Descends, child, further}}
+use Rattle.machine.proofs.{OrphanLemmas.{climbed, nearest_stays}, RemovalStays.further_on}
 use Rattle.derivation.{specs.{Removing.HaveLeft, Thinning.IsThinned}, proofs.Ancestors.{only_nearest, parents_kept}}
 
 -- at first nothing has left

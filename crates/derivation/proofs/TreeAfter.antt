@@ -1,13 +1,12 @@
 -- The tree after a removal: once the chosen slots have left, only slots of the vanishing objects must still leave it.
-use Rattle.std.{specs.{List.list_any, Prelude.{◌↔◌, Contains, IsTrue, None, Option, Some, nat_lt, slice_index_or}}, proofs.Common.{[], ℕ}}
-use Rattle.std.proofs.Common.{◌&&◌, ◌<◌, ◌||◌, ◌∙◌, ◌∷◌, ◌≡◌, ◌⊎◌, Bool, List, ap, arith, false, inl, inr, length, refl, subst, suc, sym}
-use Rattle.std.proofs.{Common.{true, zero}, lemmas.{Bool.{false≢true, Decides.nat_tests}, List.Elements.Contains-append_left}}
-use Rattle.std.proofs.lemmas.List.Elements.{Contains-append_right, Contains-push}
-use Rattle.base.specs.declared.ids.{ObjId.ObjId, SlotRef.SlotRef}
+use Rattle.std.specs.{List.list_any, Prelude.{◌↔◌, Contains, IsTrue, None, Option, Some, nat_lt, slice_index_or}}
+use Rattle.std.proofs.Common.{[], ℕ, ◌&&◌, ◌<◌, ◌||◌, ◌∙◌, ◌∷◌, ◌≡◌, ◌⊎◌, Bool, List, ap, arith, false, inl, inr, length, refl, subst}
+use Rattle.std.proofs.{Common.{suc, sym, true, zero}, lemmas.{Bool.{Decides.nat_tests, false≢true}, List.Elements.Contains-append_left}}
+use Rattle.{std.proofs.lemmas.List.Elements.{Contains-append_right, Contains-push}, base.specs.declared.ids.{ObjId.ObjId, SlotRef.SlotRef}}
 use Rattle.machine.specs.{declared.object.Object.{Object, Object as o}, Gone.{IsGone, given, gone_of, has_slots, with_last}}
 use Rattle.machine.specs.{Machine.{Machine, has_slot, object_of, parent_of, same_id}, Removal.{parent_after, vanishes}, Tree.IsAlone}
-use Rattle.machine.{specs.WellFormed.Descends, proofs.{GoneLemmas.{gone_decided, gone_least, losing_decided}, Ids.itself, LookUps.one_id}}
-use Rattle.machine.proofs.RoundLemmas.{both_pass, or_second}
+use Rattle.machine.{specs.WellFormed.Descends, proofs.GoneLemmas.{gone_decided, gone_least, losing_decided}}
+use Rattle.machine.proofs.{Ids.itself, LookUps.one_id, RoundLemmas.{both_pass, or_second}}
 use Rattle.derivation.specs.{OwnSlots.{is_going_slot, is_slot_of}, Removing.HaveLeft, Thinning.IsThinned}
 use Rattle.derivation.proofs.{Leavings.{alone_where_left, left_alone}, Thinnings.{thinned_out, thinned_where_left}}
 

@@ -1,7 +1,6 @@
 -- The descendants of a slot in one order: by holder, then by index (seL4 manual, "Capability Derivation Tree"; the order is confine's own).
 use Rattle.std.specs.Prelude.{[], ◌<◌, ◌↔◌, ◌∷◌, ◌≡◌, ◌≢◌, ◌⊎◌, AllPairs, Contains, IfSome, List, None, Option, Some}
-use Rattle.base.specs.declared.ids.{ObjId.ObjId, SlotRef.SlotRef}
-use Rattle.machine.specs.{Machine.Machine, WellFormed.Descends}
+use Rattle.{base.specs.declared.ids.{ObjId.ObjId, SlotRef.SlotRef}, machine.specs.{Machine.Machine, WellFormed.Descends}}
 
 -- a slot is lower than another: its holder is, or it has the same holder and a lower index
 abbrev pub IsLower : SlotRef → SlotRef → Type 0

@@ -1,7 +1,6 @@
 -- The slots of one object, filled or not (seL4 manual, "Capability Spaces").
 use Rattle.std.specs.{List.list_any, Prelude.{ℕ, ◌&&◌, Bool, List, nat_lt}}
-use Rattle.base.specs.declared.ids.{ObjId.ObjId, SlotRef.SlotRef}
-use Rattle.machine.specs.Machine.{Machine, has_slot, same_id}
+use Rattle.{base.specs.declared.ids.{ObjId.ObjId, SlotRef.SlotRef}, machine.specs.Machine.{Machine, has_slot, same_id}}
 
 abbrev pub is_slot_of : Machine → ObjId → SlotRef → Bool
 is_slot_of m id slot = same_id slot.holder id && has_slot m slot

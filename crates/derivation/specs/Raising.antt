@@ -1,8 +1,7 @@
 -- Empty slots that come below their first filled ancestor (seL4 manual, "Capability Derivation Tree"; that a slot may be in the tree and
 -- empty, while its object is being removed, is confine's own).
 use Rattle.std.specs.{Option.is_none, Prelude.{◌≡◌, ◌⊎◌, Bool, Option, Some, if◌then◌else◌, true}}
-use Rattle.base.specs.declared.ids.SlotRef.{SlotRef}
-use Rattle.machine.specs.{Machine.{Machine, cap_of, parent_of, same_slot}, Orphans.Nearest}
+use Rattle.{base.specs.declared.ids.SlotRef.SlotRef, machine.specs.{Machine.{Machine, cap_of, parent_of, same_slot}, Orphans.Nearest}}
 
 -- whether a slot holds no capability
 abbrev pub is_empty : Machine → SlotRef → Bool

@@ -1,8 +1,7 @@
 -- A slot that leaves the derivation tree: its children come to its own parent (seL4 manual, "Capability Derivation Tree"; where the
 -- children go is confine's own).
 use Rattle.std.specs.Prelude.{◌≡◌, Bool, None, Option, false, option_and_then, true}
-use Rattle.base.specs.declared.ids.SlotRef.{SlotRef}
-use Rattle.machine.specs.{Machine.{Machine, parent_of}, Orphans.{Nearest, past, without_node}}
+use Rattle.{base.specs.declared.ids.SlotRef.SlotRef, machine.specs.{Machine.{Machine, parent_of}, Orphans.{Nearest, past, without_node}}}
 
 -- the parents of a tree in which one slot has given its children up
 abbrev pub parent_past : Machine → SlotRef → Option SlotRef → SlotRef → Option SlotRef

@@ -1,8 +1,7 @@
 -- A derivation tree that slots are leaving, in any order and by any steps: each slot that stays has for its nearest ancestor that
 -- stays the one that it had (seL4 manual, "Capability Derivation Tree"; where the children go is confine's own).
 use Rattle.std.specs.Prelude.{◌≡◌, Bool, Option, Some, false}
-use Rattle.base.specs.declared.ids.SlotRef.{SlotRef}
-use Rattle.machine.specs.{Machine.{Machine, parent_of}, Orphans.Nearest, WellFormed.Descends}
+use Rattle.{base.specs.declared.ids.SlotRef.SlotRef, machine.specs.{Machine.{Machine, parent_of}, Orphans.Nearest, WellFormed.Descends}}
 
 pub record IsThinned (m : Machine) (gone : SlotRef → Bool) (now : Machine) : Type 0 where
   pub nearest :

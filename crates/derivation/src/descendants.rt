@@ -1,7 +1,6 @@
 //! The descendants of a slot, one after another.
 ghost use Rattle.std.specs.Prelude.{Decides, List, None};
-ghost use Rattle.base.specs.declared.ids.SlotRef.{SlotRef as Slot};
-ghost use Rattle.machine.specs.Machine.{Machine};
+ghost use Rattle.{base.specs.declared.ids.SlotRef.SlotRef as Slot, machine.specs.Machine.Machine};
 ghost use Rattle.derivation.specs.Descendants.{AreAllDescendants, AreNamed, IsBehind, IsNextDescendant, IsNextOf};
 
 use crate::slots::slot_count;

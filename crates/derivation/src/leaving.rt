@@ -1,7 +1,6 @@
 //! The slots of objects that a removal takes away leave the derivation tree.
 ghost use Rattle.std.specs.Prelude.{◌≡◌, Contains, None, Some};
-ghost use Rattle.base.specs.declared.ids.SlotRef.{SlotRef as Slot};
-ghost use Rattle.machine.specs.Machine.{cap_of, parent_of};
+ghost use Rattle.{base.specs.declared.ids.SlotRef.SlotRef as Slot, machine.specs.Machine.{cap_of, parent_of}};
 ghost use Rattle.derivation.specs.{OwnSlots.is_going_slot, Raising.AreRaisedFrom, Removing.HaveLeft};
 
 use crate::raising::raise_slots_of;

@@ -1,8 +1,7 @@
 //! The raising of empty slots: each is put below the nearest filled slot above it.
 ghost use Rattle.std.specs.Prelude.{IfSome, Some};
 ghost use Rattle.machine.specs.{Machine.{parent_of, same_slot}, Orphans.Nearest, WellFormed.Descends};
-ghost use Rattle.derivation.specs.{OwnSlots.is_slot_of, Raising.{AreRaisedFrom, is_empty, parent_hung}};
-ghost use Rattle.derivation.specs.Removing.{HasParents};
+ghost use Rattle.derivation.specs.{OwnSlots.is_slot_of, Raising.{AreRaisedFrom, is_empty, parent_hung}, Removing.HasParents};
 
 use crate::slots::slot_count;
 use base::{ObjId, SlotRef};

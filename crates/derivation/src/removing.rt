@@ -1,7 +1,6 @@
 //! The removal of one slot from the derivation tree.
 ghost use Rattle.std.specs.Prelude.{◌≡◌, None, Some};
-ghost use Rattle.base.specs.declared.ids.SlotRef.{SlotRef as Slot};
-ghost use Rattle.machine.specs.Machine.{parent_of, same_slot};
+ghost use Rattle.{base.specs.declared.ids.SlotRef.SlotRef as Slot, machine.specs.Machine.{parent_of, same_slot}};
 ghost use Rattle.derivation.specs.{OwnSlots.is_slot_of, Removing.{HasParents, HaveLeft, parent_past, parent_without}};
 
 use crate::slots::slot_count;

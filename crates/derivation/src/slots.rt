@@ -1,7 +1,6 @@
 //! The number of slots of an object.
 ghost use Rattle.std.specs.Prelude.{◌≡◌};
-ghost use Rattle.base.specs.declared.ids.SlotRef.{SlotRef as Slot};
-ghost use Rattle.derivation.specs.OwnSlots.{is_slot_below, is_slot_of};
+ghost use Rattle.{base.specs.declared.ids.SlotRef.SlotRef as Slot, derivation.specs.OwnSlots.{is_slot_below, is_slot_of}};
 
 use base::ObjId;
 use objects::State;

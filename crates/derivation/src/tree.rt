@@ -1,10 +1,8 @@
 //! Pairs of the derivation tree: capabilities enter it and move in it.
 ghost use Rattle.std.specs.Prelude.{◌↔◌, ◌≡◌, ◌≢◌, IsSome, IsTrue, Some};
 ghost use Rattle.base.specs.declared.ids.SlotRef.{SlotRef as Slot};
-ghost use Rattle.machine.specs.{Machine.{cap_of, has_slot, parent_of, with_parent}, Tree.{IsAlone, with_exchanged}};
-ghost use Rattle.machine.specs.WellFormed.{Descends};
-ghost use Rattle.objects.specs.Pairs.{IsFilledOrGoing};
-ghost use Rattle.derivation.specs.Moving.{StandsNoLower, handed_over, lifted};
+ghost use Rattle.machine.specs.{Machine.{cap_of, has_slot, parent_of, with_parent}, Tree.{IsAlone, with_exchanged}, WellFormed.Descends};
+ghost use Rattle.{objects.specs.Pairs.IsFilledOrGoing, derivation.specs.Moving.{StandsNoLower, handed_over, lifted}};
 
 use base::SlotRef;
 use objects::State;

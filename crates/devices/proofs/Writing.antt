@@ -1,8 +1,7 @@
 -- Bytes that are written in several calls.
-use Rattle.std.{specs.Io.KnownBytes.{Appends, Keeps}, proofs.Common.{ℕ, ◌+◌, ◌-◌, ◌≤◌, List, Option, arith, drop, length, length-drop}}
-use Rattle.std.proofs.{Common.{subst, sym, take, take_all}, KnownBytes.{Appends-kept, Appends-trans}, Math.Seq.take-add}
-use Rattle.std.proofs.lemmas.List.{take_rest}
-use Rattle.devices.specs.Devices.{AppendsBeginning}
+use Rattle.std.{specs.Io.KnownBytes.{Appends, Keeps}, proofs.Common.{ℕ, ◌+◌, ◌-◌, ◌≤◌, List, Option, arith, drop}}
+use Rattle.std.proofs.{Common.{length, length-drop, subst, sym, take, take_all}, KnownBytes.{Appends-kept, Appends-trans}}
+use Rattle.{std.proofs.{Math.Seq.take-add, lemmas.List.take_rest}, devices.specs.Devices.AppendsBeginning}
 
 -- after the first `written` bytes, a call took the next `n` of them
 pub more : (a b c : Option (List ℕ)) (bytes : List ℕ) (written n : ℕ) → written ≤ length bytes → Appends a b (take written bytes)

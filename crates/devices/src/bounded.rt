@@ -1,6 +1,5 @@
 //! A reader with a limit.
-ghost use Rattle.std.specs.Io.{ReadsAtMost, KnownBytes.ReadConsumes};
-ghost use Rattle.std.specs.Prelude.{◌≡◌, IfNone, IfOk, IfSome, IsErr, OnErr};
+ghost use Rattle.std.specs.{Io.{KnownBytes.ReadConsumes, ReadsAtMost}, Prelude.{◌≡◌, IfNone, IfOk, IfSome, IsErr, OnErr}};
 
 use std::io::{self, ErrorKind, Read};
 

@@ -1,6 +1,5 @@
 //! A file as a source, also where it couldn't be opened.
-ghost use Rattle.std.specs.{Io.{ReadsAtMost, KnownBytes.ReadConsumes}, IoError.error_kind};
-ghost use Rattle.std.specs.Prelude.{◌≡◌, IsErrAnd, None};
+ghost use Rattle.std.specs.{Io.{KnownBytes.ReadConsumes, ReadsAtMost}, IoError.error_kind, Prelude.{◌≡◌, IsErrAnd, None}};
 ghost use Rattle.devices.specs.Opened.{opened, unopened};
 
 use crate::Watched;

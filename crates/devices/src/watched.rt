@@ -1,6 +1,5 @@
 //! A device that keeps whether it failed.
-ghost use Rattle.std.specs.Io.{ReadsAtMost, WritesAtMost, KnownBytes.{Keeps, ReadConsumes, WriteAppends}};
-ghost use Rattle.std.specs.IoError.{error_kind};
+ghost use Rattle.std.specs.{Io.{KnownBytes.{Keeps, ReadConsumes, WriteAppends}, ReadsAtMost, WritesAtMost}, IoError.error_kind};
 ghost use Rattle.std.specs.Prelude.{◌<◌, ◌↔◌, ◌≡◌, ◌≢◌, IfErr, IfOk, IsErr, IsErrAnd, IsOk, IsTrue, Ok, OnErr, OnOk};
 
 use crate::{ReadError, Sink, Source, WriteError};

@@ -1,12 +1,9 @@
 -- The folded drawing of a table with a reach: there is one, since programs with the same labels have the same tests.
 use Rattle.std.proofs.Common.{[], ℕ, ◌∙◌, ◌∷◌, ◌≡◌, All, Bool, List, ap, false, map, refl, subst, sym, true}
-use Rattle.std.proofs.lemmas.List.Elements.{All-head, All-tail}
-use Rattle.base.specs.declared.kind.Kind.TheVariants.{Write}
-use Rattle.machine.specs.Layout.{Layout}
-use Rattle.reach.specs.Extents.{MayChangeIn, MayShrinkIn, Limits}
+use Rattle.{std.proofs.lemmas.List.Elements.{All-head, All-tail}, base.specs.declared.kind.Kind.TheVariants.Write}
+use Rattle.{machine.specs.Layout.Layout, policy.proofs.Gathering.Tells, reach.specs.Extents.{Limits, MayChangeIn, MayShrinkIn}}
 use Rattle.summary.specs.{Labelled.others_of, Letters.{HasLetter, by_answer, by_call, by_other, by_signal}, Sharing.reads_of}
 use Rattle.diagram.specs.{Folded.{IsFoldedDrawing, folded_text}, Programs.{IsProgram, Program}}
-use Rattle.policy.proofs.Gathering.{Tells}
 
 same_answer : (one other : Bool) → (one ≡ true → other ≡ true) → (other ≡ true → one ≡ true) → one ≡ other
 same_answer true other there back = sym (there refl)

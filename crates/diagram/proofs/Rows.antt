@@ -1,9 +1,7 @@
 -- Programs and what is drawn of them, by the rows of the summary.
-use Rattle.std.{specs.List.{flat_map, list_all}, proofs.Common.{ℕ, ◌&&◌, ◌++◌, ◌==◌, ◌||◌, ◌∙◌, ◌≡◌, Bool, List, ap, codes, map, not, refl}}
-use Rattle.std.proofs.{Common.{sym, true}, lemmas.{List.{Elements.All-map, Folds.{flat_map-map, list_all-map}}, Simd.map-map}}
-use Rattle.machine.specs.Layout.{Layout}
-use Rattle.policy.specs.Domain.{EdgeTest}
-use Rattle.reach.specs.Extents.{Limits}
+use Rattle.std.{specs.List.{flat_map, list_all}, proofs.Common.{ℕ, ◌&&◌, ◌++◌, ◌==◌, ◌||◌, ◌∙◌, ◌≡◌, Bool, List, ap, codes, map, not}}
+use Rattle.std.proofs.{Common.{refl, sym, true}, lemmas.{List.{Elements.All-map, Folds.{flat_map-map, list_all-map}}, Simd.map-map}}
+use Rattle.{machine.specs.Layout.Layout, policy.specs.Domain.EdgeTest, reach.specs.Extents.Limits}
 use Rattle.summary.specs.{declared.rows.Row.Row, Labelled.others_of, Rows.{AreRowsOf, IsRowOf}}
 use Rattle.diagram.specs.{declared.drawing.TheConstants.HEAD, Folded.{IsFoldedDrawing, arrow_text, arrows_text, box_text, folded_text}}
 use Rattle.diagram.specs.{Folded.rows_text, Programs.{ArePrograms, IsProgram, Program, program_of}, Regions.{is_inside, uses}}

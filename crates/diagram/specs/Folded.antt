@@ -2,13 +2,9 @@
 -- that it alone uses, and an arrow from each to each other with what it may do there, and to which labels without a thread that the other
 -- uses (compare the integrity of 'seL4 Enforces Integrity', section 4; the drawing is confine's own).
 use Rattle.std.specs.{Fmt.decimal, List.flat_map, Prelude.{[], ℕ, ◌++◌, ◌==◌, ◌∷◌, ◌≡◌, Bool, List, codes, if◌then◌else◌, length, map, not}}
-use Rattle.machine.specs.Layout.{Layout}
-use Rattle.policy.specs.Domain.{EdgeTest}
-use Rattle.reach.specs.Extents.{Limits}
-use Rattle.captext.specs.PolicyText.{label_name}
-use Rattle.matrix.specs.Padding.{given}
-use Rattle.summary.specs.{declared.rows.Row.Row, Labelled.others_of, Regions.names_text}
-use Rattle.diagram.specs.declared.{drawing.TheConstants.HEAD, verbs.Verb.{Verb, TheVariants.{Changes, Takes, Writes}}}
+use Rattle.{machine.specs.Layout.Layout, policy.specs.Domain.EdgeTest, reach.specs.Extents.Limits, captext.specs.PolicyText.label_name}
+use Rattle.{matrix.specs.Padding.given, summary.specs.{declared.rows.Row.Row, Labelled.others_of, Regions.names_text}}
+use Rattle.diagram.specs.declared.{drawing.TheConstants.HEAD, verbs.Verb.{TheVariants.{Changes, Takes, Writes}, Verb}}
 use Rattle.diagram.specs.{Programs.{ArePrograms, Program, program_of}, Regions.{between, does, inside}}
 
 -- the names of labels inside a box, beneath the program's

@@ -1,11 +1,9 @@
 -- Programs, which are the labels with a thread in a table, and what each of them may do to objects of which labels (confine's own).
 use Rattle.std.specs.Prelude.{ℕ, ◌↔◌, ◌≡◌, All, Bool, List, map, true}
-use Rattle.base.specs.{declared.kind.Kind.TheVariants.Write, Labels.is_in}
-use Rattle.machine.specs.Layout.{Layout}
-use Rattle.policy.specs.Domain.{EdgeTest}
-use Rattle.reach.specs.Extents.{MayChangeIn, MayShrinkIn, Limits}
-use Rattle.summary.specs.{Labelled.programs_of, Letters.{HasLetter, by_answer, by_call, by_other, by_signal}, Sharing.reads_of}
-use Rattle.summary.specs.declared.rows.Row.{Row}
+use Rattle.{base.specs.{declared.kind.Kind.TheVariants.Write, Labels.is_in}, machine.specs.Layout.Layout}
+use Rattle.{policy.specs.Domain.EdgeTest, reach.specs.Extents.{Limits, MayChangeIn, MayShrinkIn}}
+use Rattle.summary.specs.{declared.rows.Row.Row, Labelled.programs_of}
+use Rattle.summary.specs.{Letters.{HasLetter, by_answer, by_call, by_other, by_signal}, Sharing.reads_of}
 
 -- a label with a thread, and tests that say for each label what threads of the one may do to objects of the other
 pub record Program : Type 0 where

@@ -1,10 +1,8 @@
 //! The arrows between programs: what one may do to objects of the other, and to labels without a thread that it uses.
 ghost use Rattle.std.specs.{List.flat_map, Prelude.{◌++◌, ◌≡◌, IfOk, OnOk, string_bytes}};
-ghost use Rattle.base.specs.Labels.{is_in};
-ghost use Rattle.policy.specs.Policy.{allows};
-ghost use Rattle.matrix.specs.Padding.{given};
-ghost use Rattle.diagram.specs.Folded.{arrow_text, between_text, more_text, phrase_text, reasons_text, style_text};
-ghost use Rattle.diagram.specs.{Folded.{worded_text, words_text}, Programs.program_of};
+ghost use Rattle.{base.specs.Labels.is_in, policy.specs.Policy.allows, matrix.specs.Padding.given};
+ghost use Rattle.diagram.specs.Folded.{arrow_text, between_text, more_text, phrase_text, reasons_text};
+ghost use Rattle.diagram.specs.{Folded.{style_text, worded_text, words_text}, Programs.program_of};
 
 use crate::verbs::{Verb, between, does, verb_word};
 use base::Label;

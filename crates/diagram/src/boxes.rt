@@ -1,8 +1,6 @@
 //! The boxes of programs, with the labels without a thread that one program alone uses.
-ghost use Rattle.std.specs.List.{flat_map, list_all};
-ghost use Rattle.std.specs.Prelude.{◌++◌, ◌==◌, ◌||◌, ◌≡◌, IfOk, OnOk, map, not, string_bytes};
-ghost use Rattle.base.specs.Labels.{is_in};
-ghost use Rattle.policy.specs.Policy.{allows};
+ghost use Rattle.std.specs.{List.{flat_map, list_all}, Prelude.{◌++◌, ◌==◌, ◌||◌, ◌≡◌, IfOk, OnOk, map, not, string_bytes}};
+ghost use Rattle.{base.specs.Labels.is_in, policy.specs.Policy.allows};
 ghost use Rattle.diagram.specs.{Folded.{box_text, inside_text}, Programs.program_of, Regions.{inside, is_inside}};
 
 use crate::verbs::uses;

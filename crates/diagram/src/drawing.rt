@@ -1,9 +1,7 @@
 //! The whole folded drawing.
 ghost use Rattle.std.specs.Prelude.{◌≡◌, IfErr, IfOk, string_bytes};
-ghost use Rattle.base.specs.Refusals.{out_of_memory};
-ghost use Rattle.policy.specs.Policy.{allows};
-ghost use Rattle.reach.specs.Extents.{limits_by};
-ghost use Rattle.diagram.specs.Folded.{IsFoldedDrawing, rows_text};
+ghost use Rattle.{base.specs.Refusals.out_of_memory, policy.specs.Policy.allows};
+ghost use Rattle.{reach.specs.Extents.limits_by, diagram.specs.Folded.{IsFoldedDrawing, rows_text}};
 
 use crate::arrows::write_arrows;
 use crate::boxes::write_boxes;

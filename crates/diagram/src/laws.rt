@@ -1,7 +1,6 @@
 //! Theorems about folded drawings, with nothing to run.
 ghost use Rattle.std.specs.Prelude.{ℕ, ◌≡◌, ◌⊎◌, List, true};
-ghost use Rattle.machine.specs.Layout.{Layout};
-ghost use Rattle.reach.specs.Extents.{Limits};
+ghost use Rattle.{machine.specs.Layout.Layout, reach.specs.Extents.Limits};
 ghost use Rattle.diagram.specs.{Folded.IsFoldedDrawing, Programs.Program, Regions.{StandsBetween, is_inside}};
 
 /// Proves that a table has one folded drawing with a reach.

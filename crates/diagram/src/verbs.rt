@@ -1,7 +1,6 @@
 //! Labels without a thread: what programs do to them, and which of them they use.
 ghost use Rattle.std.specs.Prelude.{◌||◌, ◌≡◌, IfOk};
-ghost use Rattle.base.specs.{declared.kind.Kind.TheVariants.Write, Labels.is_in};
-ghost use Rattle.policy.specs.Policy.{allows};
+ghost use Rattle.{base.specs.{declared.kind.Kind.TheVariants.Write, Labels.is_in}, policy.specs.Policy.allows};
 ghost use Rattle.diagram.specs.{Folded.verb_word, Programs.program_of, Regions.{between, does, is_between}};
 
 use base::{Edge, Kind, Label};

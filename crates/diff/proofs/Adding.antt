@@ -1,15 +1,13 @@
 -- Changes that add nothing: what such a change is about in the new system was so in the old one.
-use Rattle.std.specs.{List.{AllByRecursion, flat_map}, Prelude.not}
-use Rattle.std.proofs.Common.{[], ◌&&◌, ◌∙◌, ◌∷◌, ◌||◌, ◌≡◌, Bool, ap, false, inl, inr, refl, subst, sym, true}
-use Rattle.std.proofs.lemmas.Bool.{and_parts, and_right, cases_Bool, false_from_ne_true, false≢true, or_from, true≢false}
-use Rattle.base.specs.declared.edge.Edge.{Edge}
-use Rattle.summary.specs.Regions.{is_same}
-use Rattle.diff.specs.declared.{change.{Change.{Change, Change as change}, Marks.Marks, Role.{Role as role}, Sign.{Sign, Sign as sign}}}
+use Rattle.std.{specs.{List.{AllByRecursion, flat_map}, Prelude.not}, proofs.Common.{[], ◌&&◌, ◌||◌, ◌∙◌, ◌∷◌, ◌≡◌, Bool, ap, false}}
+use Rattle.std.proofs.{Common.{inl, inr, refl, subst, sym, true}, lemmas.Bool.{and_parts, and_right, cases_Bool, false_from_ne_true}}
+use Rattle.{std.proofs.lemmas.Bool.{false≢true, or_from, true≢false}, base.specs.declared.edge.Edge.Edge, summary.specs.Regions.is_same}
+use Rattle.diff.specs.declared.change.{Change.{Change, Change as change}, Marks.Marks, Role.Role as role, Sign.{Sign, Sign as sign}}
 use Rattle.diff.specs.declared.{change.{Standing.{Standing, Standing as stands}, Verb.Verb}, names.Named.Named}
-use Rattle.diff.specs.Changes.{actor_change, actor_change_if, adds, adds_extent, adds_letters, adds_marks, adds_standing, cell_change, end_in_new, gained_edge, gains, is_told}
-use Rattle.diff.specs.Changes.{keeper_change, same_extent, same_letters, same_marks, same_standing, shows_actor, shows_cell, shows_standing, shows_use, signs, standing_change}
-use Rattle.diff.specs.{Changes.use_change, Side.{SideOf, cell, has_role, standing, uses}}
-use Rattle.diff.proofs.Parts.{front, unless, when}
+use Rattle.diff.specs.Changes.{actor_change, actor_change_if, adds, adds_extent, adds_letters, adds_marks, adds_standing, cell_change}
+use Rattle.diff.specs.Changes.{end_in_new, gained_edge, gains, is_told, keeper_change, same_extent, same_letters, same_marks}
+use Rattle.diff.specs.Changes.{same_standing, shows_actor, shows_cell, shows_standing, shows_use, signs, standing_change, use_change}
+use Rattle.diff.{specs.Side.{SideOf, cell, has_role, standing, uses}, proofs.Parts.{front, unless, when}}
 
 -- one of two that agree adds nothing to the other
 

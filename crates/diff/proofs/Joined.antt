@@ -1,11 +1,8 @@
 -- The reach of a table joins none but its labels: the policy with every edge between these is closed, and has all authority of boot.
 use Rattle.std.{specs.List.AllByRecursion, proofs.Common.{ℕ, ◌<◌, ◌≡◌, List, get_or, length, refl, true}}
 use Rattle.std.proofs.lemmas.List.{Elements.recursion_from_All, Folds.list_any_at}
-use Rattle.base.specs.declared.{edge.Edge.Edge, kind.Kind.Kind}
-use Rattle.machine.specs.Layout.{Layout}
-use Rattle.policy.{specs.Policy.{allows, is_edge}, proofs.RowEdges.of_parts}
-use Rattle.table.specs.Rules.{IsLawful}
-use Rattle.labels.proofs.BootLabels.{authority_within}
+use Rattle.{base.specs.declared.{edge.Edge.Edge, kind.Kind.Kind}, machine.specs.Layout.Layout, table.specs.Rules.IsLawful}
+use Rattle.{policy.{specs.Policy.{allows, is_edge}, proofs.RowEdges.of_parts}, labels.proofs.BootLabels.authority_within}
 use Rattle.reach.{specs.Reach.IsReach, proofs.{Among.{all_closed, among, joined, joins}, LeastReach.closed_within}}
 
 module _ (t : Layout) (lawful : IsLawful t) (edges : List Edge) (reach : IsReach t edges) where

@@ -1,18 +1,14 @@
 -- A new system to which no change adds anything: it lies within the old one, and each of its labels has its twin there.
-use Rattle.std.specs.List.{AllByRecursion, flat_map}
-use Rattle.std.proofs.Common.{ℕ, ◌&&◌, ◌+◌, ◌++◌, ◌∙◌, ◌≡◌, ◌||◌, Bool, List, None, Option, Some, ap, false, if◌then◌else◌, length, refl, sym, true}
-use Rattle.std.{specs.Prelude.not, proofs.lemmas.Bool.{and_left, false≢true, lt-ltb, ltb-true, or_from, true≢false}}
-use Rattle.base.specs.declared.{kind.Kind.Kind}
-use Rattle.policy.specs.Policy.{allows}
+use Rattle.std.{specs.{List.{AllByRecursion, flat_map}, Prelude.not}, proofs.Common.{ℕ, ◌&&◌, ◌++◌, ◌+◌, ◌||◌, ◌∙◌, ◌≡◌, Bool, List}}
+use Rattle.std.proofs.{Common.{None, Option, Some, ap, false, if◌then◌else◌, length, refl, sym, true}, lemmas.Bool.{and_left, false≢true}}
+use Rattle.{std.proofs.lemmas.Bool.{lt-ltb, ltb-true, or_from, true≢false}, base.specs.declared.kind.Kind.Kind, policy.specs.Policy.allows}
 use Rattle.diff.specs.declared.{change.{Change.Change, Role.{Role, Role as role}, Verb.{Verb, Verb as verb}}, names.Named.Named}
-use Rattle.diff.specs.Changes.{actor_change, adds, adds_marks, adds_standing, cell_change, changes, end_in_new, gained_edge, is_reading}
-use Rattle.diff.specs.Changes.{keeper_change, lost_edge, same_named, shows_cell, shows_edge, shows_standing, shows_use, standing_change, use_change}
-use Rattle.diff.specs.Changes.{use_changes}
-use Rattle.diff.specs.{Names.{names_of, twin_of}, Side.{SideOf, cell, has_edge, has_role, is_here, standing, uses}}
-use Rattle.diff.specs.Twins.{AreAllNamed, number_or, twin_by_name}
-use Rattle.diff.proofs.Adding.{IsOf, actor_kept, keeper_kept, no_cell, no_edge, no_standing, no_use}
-use Rattle.diff.proofs.Outside.{adds_absent, is_absent, is_new, no_cell_from, no_cell_to, no_use_from, no_use_to}
-use Rattle.diff.proofs.Parts.{at_edge, at_new, back, each, front}
+use Rattle.diff.specs.Changes.{actor_change, adds, adds_marks, adds_standing, cell_change, changes, end_in_new, gained_edge}
+use Rattle.diff.specs.Changes.{is_reading, keeper_change, lost_edge, same_named, shows_cell, shows_edge, shows_standing}
+use Rattle.diff.specs.{Changes.{shows_use, standing_change, use_change, use_changes}, Names.{names_of, twin_of}}
+use Rattle.diff.specs.{Side.{SideOf, cell, has_edge, has_role, is_here, standing, uses}, Twins.{AreAllNamed, number_or, twin_by_name}}
+use Rattle.diff.proofs.{Adding.{IsOf, actor_kept, keeper_kept, no_cell, no_edge, no_standing, no_use}, Outside.{adds_absent, is_absent}}
+use Rattle.diff.proofs.{Outside.{is_new, no_cell_from, no_cell_to, no_use_from, no_use_to}, Parts.{at_edge, at_new, back, each, front}}
 
 -- the parts of all changes
 record AreParts {X : Type 0} (P : X → Type 0) (a b c d e f : List X) : Type 0 where

@@ -1,13 +1,9 @@
 -- The reaches of two tables: the second lies within the first if no change from the first to the second adds anything.
-use Rattle.std.proofs.{Common.{[], ℕ, ◌<◌, ◌∷◌, ◌≡◌, List, false, length, subst, sym, true}, lemmas.Bool.{lt-ltb, or_parts}}
-use Rattle.std.specs.List.{AllByRecursion, list_any}
-use Rattle.base.specs.Labels.{is_in}
+use Rattle.std.{specs.List.{AllByRecursion, list_any}, proofs.Common.{[], ℕ, ◌<◌, ◌∷◌, ◌≡◌, List, false, length, subst, true}}
+use Rattle.{std.proofs.lemmas.Bool.{lt-ltb, or_parts}, base.specs.Labels.is_in, table.proofs.AtBoot.initial_lawful}
 use Rattle.reach.specs.{Extents.limits_of, Reach.{IsTableReach, TableReach}}
-use Rattle.table.proofs.AtBoot.{initial_lawful}
-use Rattle.diff.specs.declared.change.Change.{Change}
-use Rattle.diff.specs.{Changes.{AreChanges, adds, changes}, Side.SideOf, Twins.twin_by_name}
-use Rattle.diff.specs.Within.{AreTwins, LiesWithin}
-use Rattle.diff.proofs.{Adding.IsOf, Lesser.{actors, edges, keepers, named}, Namesakes.are_twins}
+use Rattle.diff.specs.{declared.change.Change.Change, Changes.{AreChanges, adds, changes}, Side.SideOf, Twins.twin_by_name}
+use Rattle.diff.{specs.Within.{AreTwins, LiesWithin}, proofs.{Adding.IsOf, Lesser.{actors, edges, keepers, named}, Namesakes.are_twins}}
 
 -- a label whose threads make calls is one of the table's
 acts_here : (reach : TableReach) → IsTableReach reach → (a : ℕ) → is_in reach.actors a ≡ true → a < length reach.table.labels

@@ -1,8 +1,7 @@
 -- Labels with the same name are twins: no two labels have the same twin.
 use Rattle.std.proofs.Common.{[], ℕ, ◌+◌, ◌<◌, ◌∙◌, ◌≡◌, ◌⊎◌, None, Option, Some, ap, arith, inl, inr, length, refl, slice_get, subst, sym}
 use Rattle.std.proofs.lemmas.Option.{get_or_from_slice_get, option_and_then_some, slice_get_within}
-use Rattle.machine.specs.Layout.{Layout}
-use Rattle.table.specs.{Names.label_named, Rules.IsDraft}
+use Rattle.{machine.specs.Layout.Layout, table.specs.{Names.label_named, Rules.IsDraft}}
 use Rattle.captext.{specs.PolicyText.label_name, proofs.NameLaws.{label_again, label_takes}}
 use Rattle.diff.specs.{Names.twin_of, Twins.{AreAllNamed, number_or, twin_by_name}, Within.AreTwins}
 

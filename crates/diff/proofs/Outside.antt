@@ -1,9 +1,7 @@
 -- Labels that a system lacks: such a label is nothing there, and has no cell and no use; each label that it has stands there.
-use Rattle.std.proofs.Common.{ℕ, ◌&&◌, ◌∙◌, ◌≡◌, Bool, None, Option, Some, ap, false, if◌then◌else◌, refl, true}
-use Rattle.std.{specs.Option.{is_none, is_some}}
-use Rattle.summary.specs.declared.rows.Row.{Row}
-use Rattle.diff.specs.declared.change.{Standing.{Standing, Standing as stands}, Verb.Verb}
-use Rattle.diff.specs.Changes.{adds_standing}
+use Rattle.std.{specs.Option.{is_none, is_some}, proofs.Common.{ℕ, ◌&&◌, ◌∙◌, ◌≡◌, Bool, None, Option, Some, ap, false, if◌then◌else◌}}
+use Rattle.{std.proofs.Common.{refl, true}, summary.specs.declared.rows.Row.Row}
+use Rattle.diff.specs.{declared.change.{Standing.{Standing, Standing as stands}, Verb.Verb}, Changes.adds_standing}
 use Rattle.diff.specs.Side.{SideOf, cell, is_here, marks_between, no_marks, region_at, row_at, row_in, standing, use_between, uses}
 
 no_row : (side : SideOf) (a : ℕ) → is_here side a ≡ false → row_at side (Some a) ≡ None

@@ -1,12 +1,10 @@
 -- Lists that are put together: what holds of each element holds of each element of the parts.
-use Rattle.std.specs.List.{AllByRecursion, flat_map, list_any, range_with_len}
-use Rattle.std.proofs.Common.{[], ℕ, ◌++◌, ◌<◌, ◌∙◌, ◌∷◌, ◌≡◌, Bool, List, arith, false, if◌then◌else◌, inl, inr, length, subst, true, zero-add}
-use Rattle.std.proofs.lemmas.{Bool.{false≢true, or_cases, true≢false}, List.{Elements.All-from_recursion, FromFn.{get_or-range_with_len, length-range_with_len}}}
-use Rattle.base.specs.declared.{edge.Edge.Edge, kind.Kind.Kind}
-use Rattle.policy.{specs.Policy.{allows, is_edge}, proofs.{KindNumbers.same_kind, RowEdges.same_parts}}
-use Rattle.machine.specs.Layout.{Layout}
-use Rattle.summary.specs.Labelled.{labels_of}
-use Rattle.diff.specs.{declared.names.Named.Named, Names.{named_in_new, names_of, new_name, old_name}}
+use Rattle.std.{specs.List.{AllByRecursion, flat_map, list_any, range_with_len}, proofs.Common.{[], ℕ, ◌++◌, ◌<◌, ◌∙◌}}
+use Rattle.std.proofs.Common.{◌∷◌, ◌≡◌, Bool, List, arith, false, if◌then◌else◌, inl, inr, length, subst, true, zero-add}
+use Rattle.std.proofs.lemmas.{Bool.{false≢true, or_cases, true≢false}, List.{Elements.All-from_recursion, FromFn.get_or-range_with_len}}
+use Rattle.{std.proofs.lemmas.List.FromFn.length-range_with_len, base.specs.declared.{edge.Edge.Edge, kind.Kind.Kind}}
+use Rattle.{machine.specs.Layout.Layout, policy.{specs.Policy.{allows, is_edge}, proofs.{KindNumbers.same_kind, RowEdges.same_parts}}}
+use Rattle.{summary.specs.Labelled.labels_of, diff.specs.{declared.names.Named.Named, Names.{named_in_new, names_of, new_name, old_name}}}
 
 module _ {X : Type 0} (P : X → Type 0) where
   pub front : (xs ys : List X) → AllByRecursion P (xs ++ ys) → AllByRecursion P xs

@@ -1,16 +1,13 @@
 -- Two lists of rows of one system, which say the same.
-use Rattle.std.{specs.{List.{AllByRecursion}, Option.{is_some}}, proofs.Common.{[], ℕ, ◌&&◌, ◌==◌, ◌↔◌, ◌∙◌, ◌∷◌, ◌≡◌, Bool}}
-use Rattle.std.proofs.Common.{List, None, Option, Some, ap, cond, false, if◌then◌else◌, map, refl, subst, sym, true}
-use Rattle.std.{specs.Prelude.not, proofs.lemmas.{List.Elements.recursion_from_All}}
-use Rattle.base.specs.Labels.{is_in}
-use Rattle.machine.specs.Layout.{Layout}
+use Rattle.std.{specs.{List.AllByRecursion, Option.is_some, Prelude.not}, proofs.Common.{[], ℕ, ◌&&◌, ◌==◌, ◌↔◌, ◌∙◌, ◌∷◌}}
+use Rattle.std.proofs.Common.{◌≡◌, Bool, List, None, Option, Some, ap, cond, false, if◌then◌else◌, map, refl, subst, sym, true}
+use Rattle.{std.proofs.lemmas.List.Elements.recursion_from_All, base.specs.Labels.is_in, machine.specs.Layout.Layout}
 use Rattle.reach.specs.{Extents.{Limits, MayChangeIn, MayShrinkIn, limits_of}, Reach.TableReach}
-use Rattle.summary.specs.{declared.rows.Row.Row, Letters.{HasLetter, by_answer, by_call, by_other, by_signal}, Regions.takes_from}
-use Rattle.summary.specs.{Rows.{AreRows, IsRowOf}, Sharing.{SharesMemory, reads_of}}
+use Rattle.summary.specs.{declared.rows.Row.Row, Letters.{HasLetter, by_answer, by_call, by_other, by_signal}}
+use Rattle.summary.specs.{Regions.takes_from, Rows.{AreRows, IsRowOf}, Sharing.{SharesMemory, reads_of}}
 use Rattle.diff.specs.declared.change.{Standing.Standing as stands, Verb.{Verb, Verb as verb}}
-use Rattle.diff.specs.Side.{SideOf, cell, is_here, marks_between, marks_of, no_marks, region_at, row_at, row_in, standing, use_between, use_in}
-use Rattle.diff.specs.Side.{uses}
-use Rattle.diff.proofs.Outside.{none_from}
+use Rattle.diff.specs.Side.{SideOf, cell, is_here, marks_between, marks_of, no_marks, region_at, row_at}
+use Rattle.diff.{specs.Side.{row_in, standing, use_between, use_in, uses}, proofs.Outside.none_from}
 
 -- two tests of one condition
 same_test : (P : ℕ → Type 0) (a b : ℕ) → a ≡ b → (x y : Bool) → (x ≡ true) ↔ P a → (y ≡ true) ↔ P b → x ≡ y

@@ -1,22 +1,16 @@
 -- A system compared with itself: there is no change.
-use Rattle.std.specs.List.{AllByRecursion, flat_map, range_with_len}
+use Rattle.std.specs.{List.{AllByRecursion, flat_map, range_with_len}, Option.{is_none, option_and_then}, Prelude.not}
 use Rattle.std.proofs.Common.{[], ℕ, ◌&&◌, ◌++◌, ◌<◌, ◌∙◌, ◌∷◌, ◌≡◌, Bool, List, Some, ap, arith, false, if◌then◌else◌, length, refl}
-use Rattle.std.{specs.{Option.{is_none, option_and_then}, Prelude.not}, proofs.{Common.{subst, sym, true, zero-add}}}
-use Rattle.std.proofs.lemmas.List.{Elements.{recursion_from_All}, FromFn.{get_or-range_with_len, length-range_with_len}}
-use Rattle.std.proofs.lemmas.Option.{slice_get-get_or}
-use Rattle.base.specs.declared.{edge.Edge.Edge}
-use Rattle.machine.specs.Layout.{Layout}
-use Rattle.table.specs.{Names.label_named, Rules.IsLawful}
-use Rattle.captext.proofs.NameLaws.{label_again}
-use Rattle.reach.specs.Reach.{IsTableReach, TableReach}
-use Rattle.summary.specs.{Labelled.labels_of, Regions.is_same}
-use Rattle.diff.specs.declared.{change.{Change.{Change, Change as change}, Marks.Marks, Role.{Role as role}, Sign.{Sign as sign}}}
+use Rattle.std.proofs.{Common.{subst, sym, true, zero-add}, lemmas.List.{Elements.recursion_from_All, FromFn.get_or-range_with_len}}
+use Rattle.{std.proofs.lemmas.{List.FromFn.length-range_with_len, Option.slice_get-get_or}, base.specs.declared.edge.Edge.Edge}
+use Rattle.{machine.specs.Layout.Layout, table.specs.{Names.label_named, Rules.IsLawful}, reach.specs.Reach.{IsTableReach, TableReach}}
+use Rattle.{captext.proofs.NameLaws.label_again, summary.specs.{Labelled.labels_of, Regions.is_same}}
+use Rattle.diff.specs.declared.change.{Change.{Change, Change as change}, Marks.Marks, Role.Role as role, Sign.Sign as sign}
 use Rattle.diff.specs.declared.{change.{Standing.{Standing, Standing as stands}, Verb.{Verb, Verb as verb}}, names.Named.Named}
-use Rattle.diff.specs.Changes.{AreChanges, actor_change, actor_change_if, cell_change, end_in_new, end_in_old, gained_edge}
-use Rattle.diff.specs.Changes.{keeper_change, lost_edge, same_marks, same_standing, shows_actor, shows_edge, signs, standing_change}
-use Rattle.diff.specs.Changes.{turned, use_change, use_changes}
-use Rattle.diff.specs.{Names.{names_of, new_name, old_name, twin_of}, Side.{SideOf, cell, has_edge, has_role, standing, uses}}
-use Rattle.diff.proofs.{Joined.{IsOne, each_joins}, SameRows.{same_cell_at, same_standing_at, same_use_at}}
+use Rattle.diff.specs.Changes.{AreChanges, actor_change, actor_change_if, cell_change, end_in_new, end_in_old, gained_edge, keeper_change}
+use Rattle.diff.specs.Changes.{lost_edge, same_marks, same_standing, shows_actor, shows_edge, signs, standing_change, turned, use_change}
+use Rattle.diff.specs.{Changes.use_changes, Names.{names_of, new_name, old_name, twin_of}, Side.{SideOf, cell, has_edge, has_role}}
+use Rattle.diff.{specs.Side.{standing, uses}, proofs.{Joined.{IsOne, each_joins}, SameRows.{same_cell_at, same_standing_at, same_use_at}}}
 
 -- lists that stand one after another
 

@@ -1,14 +1,12 @@
 -- Changes in a larger system: what labels change and make smaller, their twins do in a system within which theirs lies, way by way.
 use Rattle.std.proofs.Common.{ℕ, ◌≡◌, ap, true}
 use Rattle.base.specs.declared.kind.Kind.{Kind}
-use Rattle.policy.specs.Change.{MayAnswer, MayBorrow, MayChangeContext, MayHoldCaller, MayLend, WayToChange}
-use Rattle.policy.specs.Change.{MayChangeContext.{binds, configures, lends, returns as returns_it}}
+use Rattle.policy.specs.Change.{MayAnswer, MayBorrow, MayChangeContext}
+use Rattle.policy.specs.Change.{MayChangeContext.{binds, configures, lends, returns as returns_it}, MayHoldCaller, MayLend, WayToChange}
 use Rattle.policy.specs.Change.WayToChange.{grants, links, modifies, notifies, own, receives, replies, sends, shares}
-use Rattle.policy.specs.NarrowTake.{MayHalt, MayHoldReceiver, TakesByControl, WayToShrink}
-use Rattle.policy.specs.NarrowTake.{TakesByControl.{drops, releases, removes, wakes}, WayToShrink.{controls, ends, frees, halts, stops, unbinds}}
-use Rattle.policy.specs.Sharp.{MayIdle}
-use Rattle.reach.specs.Extents.{Limits, MayChangeIn, MayShrinkIn}
-use Rattle.diff.specs.Within.{LiesWithin}
+use Rattle.policy.specs.NarrowTake.{MayHalt, MayHoldReceiver, TakesByControl, TakesByControl.{drops, releases, removes, wakes}, WayToShrink}
+use Rattle.policy.specs.{NarrowTake.WayToShrink.{controls, ends, frees, halts, stops, unbinds}, Sharp.MayIdle}
+use Rattle.{reach.specs.Extents.{Limits, MayChangeIn, MayShrinkIn}, diff.specs.Within.LiesWithin}
 
 module _ (twin : ℕ → ℕ) (inner outer : Limits) (lies : LiesWithin twin inner outer) where
   pub edge : {from to : ℕ} {kind : Kind} → inner.test from kind to ≡ true → outer.test (twin from) kind (twin to) ≡ true

@@ -1,15 +1,10 @@
 -- Claims on the labels of a system whose twins keep them in a system within which it lies.
-use Rattle.std.{specs.List.Contains, proofs.Common.{[], ℕ, ◌<◌, ◌==◌, ◌∙◌, ◌∷◌, ◌≡◌, List, ap, arith, false, get_or, length, map, refl, subst, sym}}
-use Rattle.std.proofs.lemmas.{Bool.{eqb-false, false≢true, ne_eqb, or_from, or_parts}, List.{get_or-map, length-map}}
-use Rattle.base.specs.declared.kind.Kind.{Kind}
-use Rattle.machine.specs.Layout.{Layout}
-use Rattle.reach.specs.Extents.{Limits}
-use Rattle.flows.proofs.Leading.{no_chain}
+use Rattle.std.{specs.List.Contains, proofs.Common.{[], ℕ, ◌<◌, ◌==◌, ◌∙◌, ◌∷◌, ◌≡◌, List, ap, arith, false, get_or, length, map, refl}}
+use Rattle.std.proofs.{Common.{subst, sym}, lemmas.{Bool.{eqb-false, false≢true, ne_eqb, or_from, or_parts}, List.{get_or-map, length-map}}}
+use Rattle.{base.specs.declared.kind.Kind.Kind, machine.specs.Layout.Layout, reach.specs.Extents.Limits, flows.proofs.Leading.no_chain}
 use Rattle.claims.specs.declared.claim.{Claim.{Claim, Claim as claim}, Most.{Most, Most as most}, Who.{Who, Who as who}}
-use Rattle.claims.specs.declared.deciding.Failure.{Failure, Failure as failure}
-use Rattle.claims.specs.Claims.{is_one_of}
-use Rattle.claims.specs.Holding.{AreNamed, AreTwo, Bounds, Excludes, Fails, FailsOnEdge, FailsOnPair, HasAtMost, Holds, HoldsOnEdges}
-use Rattle.claims.specs.Holding.{HoldsOnPairs, IsNamed, most_of}
+use Rattle.claims.specs.{declared.deciding.Failure.{Failure, Failure as failure}, Claims.is_one_of, Holding.{AreNamed, AreTwo, Bounds}}
+use Rattle.claims.specs.Holding.{Excludes, Fails, FailsOnEdge, FailsOnPair, HasAtMost, Holds, HoldsOnEdges, HoldsOnPairs, IsNamed, most_of}
 use Rattle.diff.{specs.Within.{AreTwins, LiesWithin, twin_claim, twin_who}, proofs.{WithinChanges.{changes, shrinks}, WithinFlows.leads}}
 
 -- lists of labels and lists of their twins

@@ -1,11 +1,9 @@
 -- Flows in a larger system: what labels see, and what flows between them, is so of their twins where their system lies within another.
 use Rattle.std.proofs.Common.{ℕ, ◌≡◌, ap, false, inl, inr, true}
-use Rattle.base.specs.declared.kind.Kind.{Kind}
-use Rattle.reach.specs.Extents.{Limits}
-use Rattle.flows.specs.Seeing.{IsContested, MayWaitFor, Sees, WayToSee}
-use Rattle.flows.specs.Seeing.WayToSee.{awaits, binds, bound, callers, finds, own, reads, receivers, receives, replies, runs, senders, sends}
-use Rattle.flows.specs.Seeing.WayToSee.{wakes}
-use Rattle.flows.specs.Flowing.{DependsOn, FilterTest, FlowsBeside, GoesOn, GoesThrough, Leads, MayAffect, Leads.{goes_on, starts}}
+use Rattle.{base.specs.declared.kind.Kind.Kind, reach.specs.Extents.Limits}
+use Rattle.flows.specs.Flowing.{DependsOn, FilterTest, FlowsBeside, GoesOn, GoesThrough, Leads, Leads.{goes_on, starts}, MayAffect}
+use Rattle.flows.specs.Seeing.{IsContested, MayWaitFor, Sees, WayToSee, WayToSee.{awaits, binds, bound, callers}}
+use Rattle.flows.specs.Seeing.WayToSee.{finds, own, reads, receivers, receives, replies, runs, senders, sends, wakes}
 use Rattle.diff.{specs.Within.LiesWithin, proofs.WithinChanges.{acts, answer, changes, edge, shrinks}}
 
 module _ (twin : ℕ → ℕ) (inner outer : Limits) (lies : LiesWithin twin inner outer) where

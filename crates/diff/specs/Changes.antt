@@ -1,10 +1,8 @@
 -- The changes from one system to another (confine's own): which there are, in their order, and which of them add authority.
-use Rattle.std.specs.{List.flat_map, Prelude.{[], ℕ, ◌&&◌, ◌++◌, ◌==◌, ◌||◌, ◌∷◌, ◌≡◌, Bool, List, Option, Some, false, if◌then◌else◌}}
-use Rattle.std.specs.Prelude.{not, true}
-use Rattle.base.specs.declared.{edge.Edge.Edge, kind.Kind.{Kind, TheVariants.{Await, Read, Receive}}}
-use Rattle.reach.specs.Reach.{TableReach}
-use Rattle.summary.specs.{declared.rows.Row.Row, Regions.is_same, Rows.AreRows}
-use Rattle.diff.specs.declared.{change.{Change.{Change, Change as change}, Marks.Marks, Role.{Role, Role as role}, Sign.{Sign, Sign as sign}}}
+use Rattle.std.specs.{List.flat_map, Prelude.{[], ℕ, ◌&&◌, ◌++◌, ◌==◌, ◌||◌, ◌∷◌, ◌≡◌, Bool, List, Option, Some, false, if◌then◌else◌, not}}
+use Rattle.{std.specs.Prelude.true, base.specs.declared.{edge.Edge.Edge, kind.Kind.{Kind, TheVariants.{Await, Read, Receive}}}}
+use Rattle.{reach.specs.Reach.TableReach, summary.specs.{declared.rows.Row.Row, Regions.is_same, Rows.AreRows}}
+use Rattle.diff.specs.declared.change.{Change.{Change, Change as change}, Marks.Marks, Role.{Role, Role as role}, Sign.{Sign, Sign as sign}}
 use Rattle.diff.specs.declared.{change.{Standing.{Standing, Standing as stands}, Verb.{Verb, Verb as verb}}, names.Named.Named}
 use Rattle.diff.specs.{Names.{named_in_new, named_in_old, names_of}, Side.{SideOf, cell, has_edge, has_role, standing, uses}}
 

@@ -1,9 +1,7 @@
 -- The labels of two systems, by their names (confine's own).
 use Rattle.std.specs.{List.flat_map, Prelude.{[], ℕ, ◌++◌, ◌∷◌, List, Option, Some, if◌then◌else◌, is_none, option_and_then, slice_get}}
-use Rattle.machine.specs.Layout.{Layout}
-use Rattle.table.specs.Names.{label_named}
-use Rattle.summary.specs.Labelled.{labels_of}
-use Rattle.diff.specs.declared.names.Named.{Named}
+use Rattle.{machine.specs.Layout.Layout, table.specs.Names.label_named}
+use Rattle.{summary.specs.Labelled.labels_of, diff.specs.declared.names.Named.Named}
 
 -- the label of another table that has the name of a label of this one
 abbrev pub twin_of : Layout → Layout → ℕ → Option ℕ

@@ -1,11 +1,9 @@
 -- A system as one side of a comparison: what its labels are, and what they may do (confine's own).
-use Rattle.std.specs.{List.find, Prelude.{ℕ, ◌&&◌, ◌==◌, Bool, List, None, Option, Some, false, if◌then◌else◌, is_none, is_some}}
-use Rattle.std.specs.Prelude.{length, nat_lt, not}
-use Rattle.base.specs.{declared.kind.Kind.Kind, Labels.is_in}
-use Rattle.policy.specs.Policy.{allows}
-use Rattle.reach.specs.Reach.{TableReach}
-use Rattle.summary.specs.{declared.rows.Row.Row, Regions.takes_from}
-use Rattle.diff.specs.declared.change.{Marks.Marks, Role.{Role, Role as role}, Standing.{Standing, Standing as stands}, Verb.{Verb, Verb as verb}}
+use Rattle.std.specs.{List.find, Prelude.{ℕ, ◌&&◌, ◌==◌, Bool, List, None, Option, Some, false, if◌then◌else◌}}
+use Rattle.{std.specs.Prelude.{is_none, is_some, length, nat_lt}, base.specs.{declared.kind.Kind.Kind, Labels.is_in}}
+use Rattle.{policy.specs.Policy.allows, reach.specs.Reach.TableReach, summary.specs.{declared.rows.Row.Row, Regions.takes_from}}
+use Rattle.diff.specs.declared.change.{Marks.Marks, Role.{Role, Role as role}}
+use Rattle.diff.specs.declared.change.{Standing.{Standing, Standing as stands}, Verb.{Verb, Verb as verb}}
 
 -- a system: its reach, and the rows of its matrix
 pub record SideOf : Type 0 where

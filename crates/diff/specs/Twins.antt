@@ -1,7 +1,6 @@
 -- The labels of two tables that have the same name, as a map of all numbers (confine's own).
 use Rattle.std.specs.Prelude.{ℕ, ◌+◌, ◌<◌, ◌≡◌, None, Option, Some, length}
-use Rattle.machine.specs.Layout.{Layout}
-use Rattle.diff.specs.Names.{twin_of}
+use Rattle.{machine.specs.Layout.Layout, diff.specs.Names.twin_of}
 
 -- a number that may be missing, or else another
 abbrev pub number_or : ℕ → Option ℕ → ℕ

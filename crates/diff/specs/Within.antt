@@ -1,8 +1,6 @@
 -- Systems within others: whatever such a system may do, the other may do too, where each label has its twin (confine's own).
 use Rattle.std.specs.Prelude.{ℕ, ◌<◌, ◌≡◌, ◌≢◌, length, map, true}
-use Rattle.base.specs.declared.kind.Kind.{Kind}
-use Rattle.machine.specs.Layout.{Layout}
-use Rattle.reach.specs.Extents.{Limits}
+use Rattle.{base.specs.declared.kind.Kind.Kind, machine.specs.Layout.Layout, reach.specs.Extents.Limits}
 use Rattle.claims.specs.declared.claim.{Claim.{Claim, Claim as claim}, Who.{Who, Who as who}}
 
 -- each edge and each label that acts has its twin in the other; labels that act and differ have different twins

@@ -1,13 +1,10 @@
 //! Theorems about a system that lies within another, with nothing to run.
 ghost use Rattle.std.specs.{List.list_any, Prelude.{[], ℕ, ◌<◌, ◌≡◌, List, false, length, true}};
-ghost use Rattle.base.specs.Labels.{is_in};
-ghost use Rattle.machine.specs.Layout.{Layout};
+ghost use Rattle.{base.specs.Labels.is_in, machine.specs.Layout.Layout, table.specs.Rules.IsDraft};
 ghost use Rattle.reach.specs.{Extents.{Limits, MayChangeIn, MayShrinkIn, limits_of}, Reach.{IsTableReach, TableReach}};
 ghost use Rattle.flows.specs.{Flowing.{FilterTest, GoesThrough, Leads}, Seeing.Sees};
-ghost use Rattle.claims.specs.declared.{claim.Claim.Claim, deciding.Failure.Failure};
-ghost use Rattle.claims.specs.Holding.{Fails, Holds};
-ghost use Rattle.table.specs.Rules.{IsDraft};
-ghost use Rattle.diff.specs.{Changes.{AreChanges, adds}, declared.change.Change.Change};
+ghost use Rattle.claims.specs.{declared.{claim.Claim.Claim, deciding.Failure.Failure}, Holding.{Fails, Holds}};
+ghost use Rattle.diff.specs.{declared.change.Change.Change, Changes.{AreChanges, adds}};
 ghost use Rattle.diff.specs.{Twins.{AreAllNamed, twin_by_name}, Within.{AreTwins, LiesWithin, twin_claim}};
 
 /// A law: labels change, shrink and see no more in a system that lies within another, and no more flows.

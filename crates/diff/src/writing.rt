@@ -2,8 +2,7 @@
 ghost use Rattle.std.specs.{List.{flat_map, list_any}, Prelude.{◌++◌, ◌≡◌, IfOk, OnOk, string_bytes}};
 ghost use Rattle.matrix.specs.Padding.{given};
 ghost use Rattle.diff.specs.Changes.{adds, sign_of_marks, sign_of_standing};
-ghost use Rattle.diff.specs.Text.{cell_line, cell_text, change_line, change_text, changes_text, extent_text, marks_text};
-ghost use Rattle.diff.specs.Text.{standing_line};
+ghost use Rattle.diff.specs.Text.{cell_line, cell_text, change_line, change_text, changes_text, extent_text, marks_text, standing_line};
 
 use crate::change::{Change, Marks, Sign, Standing, sign_of_marks, sign_of_standing};
 use crate::names::Named;

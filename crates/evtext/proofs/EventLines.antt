@@ -1,13 +1,11 @@
 -- Lines of scripts and of logs: one is read just where it spells an event, or an entry, that is within the limits.
 use Rattle.std.proofs.Common.{ℕ, ◌&&◌, ◌<◌, ◌∙◌, ◌≡◌, Bool, Err, List, Ok, ap, cond, false, lt-ltb, ltb-true, nat_lt, refl, subst, true}
-use Rattle.std.proofs.lemmas.Bool.{and_from, and_parts, cond-true}
-use Rattle.base.specs.declared.core_number.TheConstants.CoreNo as CoreNo
-use Rattle.base.specs.declared.limits.TheConstants.{MAX_EVENTS}
-use Rattle.machine.specs.declared.call.{Event.Event, Outcome.Outcome}
+use Rattle.{std.proofs.lemmas.Bool.{and_from, and_parts, cond-true}, base.specs.declared.limits.TheConstants.MAX_EVENTS}
 use Rattle.words.{specs.{declared.faults.Wrong.TheVariants.Limit, Reading.bind}, proofs.Parts.{alone_again, alone_takes, last_again}}
-use Rattle.words.proofs.{Parts.last_takes, WordLaws.bind_ok}
-use Rattle.evtext.specs.{Event.{HasNumbers, event_words, within_limits}, Log.{IsEntry, entry_words, log_line}, Script.script_line}
-use Rattle.evtext.proofs.{EntryWords.entry_part, EventWords.event_part}
+use Rattle.{words.proofs.{Parts.last_takes, WordLaws.bind_ok}, machine.specs.declared.call.{Event.Event, Outcome.Outcome}}
+use Rattle.evtext.specs.{Event.{HasNumbers, event_words, within_limits}, Log.{IsEntry, entry_words, log_line}}
+use Rattle.evtext.{specs.Script.script_line, proofs.{EntryWords.entry_part, EventWords.event_part}}
+use Rattle.base.specs.declared.core_number.TheConstants.CoreNo as CoreNo
 
 -- words that spell an event
 abbrev pub IsEventLine : List (List ℕ) → Event → Type 0

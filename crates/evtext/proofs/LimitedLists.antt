@@ -1,7 +1,6 @@
 -- Lists of at most 1,000,000 values, with a line for each: the laws of their lines are those of one line.
 use Rattle.std.{specs.List.AllByRecursion, proofs.Common.{[], ℕ, ◌++◌, ◌<◌, ◌∷◌, ◌≡◌, ◌≤◌, List, Ok, Result, ap, arith, length}}
-use Rattle.std.proofs.{Common.{length-append, subst}, lemmas.List.length_push}
-use Rattle.base.specs.declared.limits.TheConstants.{MAX_EVENTS}
+use Rattle.{std.proofs.{Common.{length-append, subst}, lemmas.List.length_push}, base.specs.declared.limits.TheConstants.MAX_EVENTS}
 use Rattle.words.specs.{declared.faults.Wrong.Wrong, FirstFault.Line, Reading.{IsNotLast, bind}, Text.IsPlainLine}
 use Rattle.words.proofs.{ListLaws.{IsListFormat, all_front, all_last}, TextLaws.both, WordLaws.bind_ok}
 

@@ -1,8 +1,7 @@
 -- Lines that are written at the end of a text, word by word.
-use Rattle.std.proofs.Common.{[], ℕ, ◌++◌, ◌+◌, ◌<◌, ◌∙◌, ◌∷◌, ◌≡◌, ◌≤◌, List, ap, append_assoc, codes, get_or, length, map}
-use Rattle.std.proofs.{Common.{refl, sym, take}, lemmas.List.{flat_map_more, map_more, take_all, Sums.fold-append}}
-use Rattle.words.specs.{Reading.{last_line, list_text}, Text.{line_text, text_of}}
-use Rattle.evtext.specs.Written.{spelled, written}
+use Rattle.std.proofs.Common.{[], ℕ, ◌++◌, ◌+◌, ◌<◌, ◌∙◌, ◌∷◌, ◌≡◌, ◌≤◌, List, ap, append_assoc, codes, get_or, length}
+use Rattle.std.proofs.{Common.{map, refl, sym, take}, lemmas.List.{Sums.fold-append, flat_map_more, map_more, take_all}}
+use Rattle.{words.specs.{Reading.{last_line, list_text}, Text.{line_text, text_of}}, evtext.specs.Written.{spelled, written}}
 
 -- words are written after a first one as they are spelled with it
 written-spelled : (text word : List ℕ) (words : List (List ℕ)) → written (text ++ word) words ≡ text ++ spelled (word ∷ words)

@@ -1,11 +1,10 @@
 -- The text of a log, which grows by a line with each entry.
-use Rattle.std.{specs.{Fmt.decimal, List.zip}, proofs.Common.{[], ℕ, ◌++◌, ◌+◌, ◌<◌, ◌∙◌, ◌∷◌, ◌≡◌, List, ap, arith, codes, get_or, length}}
-use Rattle.std.proofs.{Common.{map, min, sym, take}, lemmas.List.{flat_map_more, map-append, take_all, take_more, Sums.fold-append}}
-use Rattle.std.proofs.lemmas.Slice.Zip.{get_or-zip, length-zip}
-use Rattle.machine.specs.declared.call.{Event.Event, Outcome.Outcome}
-use Rattle.words.specs.{Reading.last_line, Text.{line_text, text_of}}
-use Rattle.evtext.specs.{Event.call_words, Log.{entry_words, log_header, log_text}, Outcome.outcome_words, Written.{spelled, written}}
-use Rattle.evtext.proofs.Lines.{line_written}
+use Rattle.std.{specs.{Fmt.decimal, List.zip}, proofs.Common.{[], ℕ, ◌++◌, ◌+◌, ◌<◌, ◌∙◌, ◌∷◌}}
+use Rattle.std.proofs.Common.{◌≡◌, List, ap, arith, codes, get_or, length, map, min, sym, take}
+use Rattle.std.proofs.lemmas.{List.{Sums.fold-append, flat_map_more, map-append, take_all, take_more}, Slice.Zip.{get_or-zip, length-zip}}
+use Rattle.{words.specs.{Reading.last_line, Text.{line_text, text_of}}, machine.specs.declared.call.{Event.Event, Outcome.Outcome}}
+use Rattle.evtext.specs.{Event.call_words, Log.{entry_words, log_header, log_text}, Outcome.outcome_words}
+use Rattle.evtext.{specs.Written.{spelled, written}, proofs.Lines.line_written}
 
 -- the line of an entry: its event, ` =`, and its outcome
 pub entry_written : (text : List ℕ) (event : Event) (outcome : Outcome)

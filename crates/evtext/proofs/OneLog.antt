@@ -1,7 +1,6 @@
 -- Texts of scripts and logs: each is the text of one only.
 use Rattle.std.{specs.List.AllByRecursion, proofs.{Common.{[], ◌∙◌, ◌≡◌, List, sym}, lemmas.List.append-nil}}
-use Rattle.machine.specs.declared.call.{Event.Event, Outcome.Outcome}
-use Rattle.words.proofs.{ListLaws.one_list, Parts.{last_once, part_once}}
+use Rattle.{words.proofs.{ListLaws.one_list, Parts.{last_once, part_once}}, machine.specs.declared.call.{Event.Event, Outcome.Outcome}}
 use Rattle.evtext.specs.{Event.{HasNumbers, event_words}, Log.{IsEntry, entry_words, log_header, log_text}, Script.script_header}
 use Rattle.evtext.{specs.Script.script_text, proofs.{EntryWords.{entry_part, plain_entry}, EventWords.{event_part, plain_event}}}
 use Rattle.evtext.proofs.LogTexts as logs

@@ -2,9 +2,8 @@
 -- (confine's own).
 use Rattle.std.specs.{List.AllByRecursion, Prelude.{[], ℕ, ◌++◌, ◌∷◌, ◌≤◌, List, Ok, Result, codes, length}}
 use Rattle.base.specs.declared.limits.TheConstants.{MAX_EVENTS}
-use Rattle.machine.specs.declared.call.Event.{Event}
 use Rattle.words.specs.{declared.faults.{Fault.Fault, Wrong.Wrong}, Reading.{◌>>=◌, Format, ended_at, list_format, list_text, read_format}}
-use Rattle.words.specs.Text.{lines_of, words_of}
+use Rattle.{words.specs.Text.{lines_of, words_of}, machine.specs.declared.call.Event.Event}
 use Rattle.evtext.specs.Event.{IsSpellable, event_at, event_words, within_limits}
 
 abbrev pub script_header : List (List ℕ)

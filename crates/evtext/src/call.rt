@@ -1,11 +1,10 @@
 //! Calls as their names and operands: how one is read off the words of a line, and how it is written.
 ghost use Rattle.std.specs.Prelude.{◌≡◌, Bool, OnOk};
-ghost use Rattle.machine.specs.Step.{takes_memory};
-ghost use Rattle.words.specs.{Parts.by_word, Reading.Gives};
+ghost use Rattle.{words.specs.{Parts.by_word, Reading.Gives}, machine.specs.Step.takes_memory};
 ghost use Rattle.evtext.specs.Event.{bind_form, by_form, call_at, call_by, call_form, call_words, clear_space_form, configure_form};
 ghost use Rattle.evtext.specs.Event.{copy_form, delete_form, fetch_form, mint_form, move_form, poll_form, read_form, receive_form};
-ghost use Rattle.evtext.specs.Event.{reply_form, resume_form, retype_form, revoke_form, send_form, set_space_form, signal_form, slot_calls};
-ghost use Rattle.evtext.specs.{Event.{suspend_form, thread_calls, unbind_form, wait_form, write_form}, Written.written};
+ghost use Rattle.evtext.specs.Event.{reply_form, resume_form, retype_form, revoke_form, send_form, set_space_form, signal_form};
+ghost use Rattle.evtext.specs.{Event.{slot_calls, suspend_form, thread_calls, unbind_form, wait_form, write_form}, Written.written};
 
 use crate::line::is;
 use crate::operands::{
@@ -21,19 +20,22 @@ use machine::{Call, CapData, SlotAddress};
 use std::alloc::AllocError;
 use words::{Words, Wrong};
 
-#[tactic(auto, unfolding(crate::specs::Event::call_at, words::specs::Parts::by_word, words::specs::Parts::keyed, words::specs::Reading::bind))]
+#[tactic(auto, unfolding(crate::specs::Event::call_at, words::specs::Parts::by_word, words::specs::Parts::keyed, words::specs::Parts::read_as, words::specs::Reading::bind))]
 pub(crate) fn next_call(words: &mut Words<'_>) -> Result<Call, Wrong>
     ensures { Gives (λ call. (call, words.new)) result (call_at words.old) }
 {
     let name = words.word()?;
     if is(name, b"signal") {
-        return next_signal(words);
+        let address = words.number()?;
+        return Ok(Call::Signal { address });
     }
     if is(name, b"poll") {
-        return next_poll(words);
+        let address = words.number()?;
+        return Ok(Call::Poll { address });
     }
     if is(name, b"wait") {
-        return next_wait(words);
+        let address = words.number()?;
+        return Ok(Call::Wait { address });
     }
     if is(name, b"send") {
         return next_send(words);
@@ -54,7 +56,7 @@ pub(crate) fn next_call(words: &mut Words<'_>) -> Result<Call, Wrong>
 }
 
 /// The next words as the operands of a call on slots, or of one after these.
-#[tactic(auto, unfolding(words::specs::Parts::by_word))]
+#[tactic(auto, unfolding(words::specs::Parts::by_word, words::specs::Parts::read_as, words::specs::Reading::bind))]
 fn next_slot_call(name: &[u8], words: &mut Words<'_>) -> Result<Call, Wrong>
     ensures { Gives (λ call. (call, words.new)) result (by_word slot_calls name.now words.old) }
 {
@@ -68,10 +70,12 @@ fn next_slot_call(name: &[u8], words: &mut Words<'_>) -> Result<Call, Wrong>
         return next_move(words);
     }
     if is(name, b"delete") {
-        return next_delete(words);
+        let slot = next_slot_address(words)?;
+        return Ok(Call::Delete { slot });
     }
     if is(name, b"revoke") {
-        return next_revoke(words);
+        let slot = next_slot_address(words)?;
+        return Ok(Call::Revoke { slot });
     }
     if is(name, b"retype") {
         return next_retype(words);
@@ -80,62 +84,45 @@ fn next_slot_call(name: &[u8], words: &mut Words<'_>) -> Result<Call, Wrong>
 }
 
 /// The next words as the operands of a call on a frame, a thread, a control or a scheduling context.
-#[tactic(auto, unfolding(crate::specs::Event::thread_calls, words::specs::Parts::by_word))]
+#[tactic(auto, unfolding(crate::specs::Event::thread_calls, words::specs::Parts::by_word, words::specs::Parts::read_as, words::specs::Reading::bind))]
 fn next_thread_call(name: &[u8], words: &mut Words<'_>) -> Result<Call, Wrong>
     ensures { Gives (λ call. (call, words.new)) result (by_word thread_calls name.now words.old) }
 {
     if is(name, b"read") {
-        return next_read(words);
+        let (address, index) = next_two(words)?;
+        return Ok(Call::Read { address, index });
     }
     if is(name, b"write") {
         return next_write(words);
     }
     if is(name, b"setspace") {
-        return next_set_space(words);
+        let (thread, space) = next_two(words)?;
+        return Ok(Call::SetSpace { thread, space });
     }
     if is(name, b"clearspace") {
-        return next_clear_space(words);
+        let thread = words.number()?;
+        return Ok(Call::ClearSpace { thread });
     }
     if is(name, b"suspend") {
-        return next_suspend(words);
+        let thread = words.number()?;
+        return Ok(Call::Suspend { thread });
     }
     if is(name, b"resume") {
-        return next_resume(words);
+        let thread = words.number()?;
+        return Ok(Call::Resume { thread });
     }
     if is(name, b"configure") {
         return next_configure(words);
     }
     if is(name, b"bind") {
-        return next_bind(words);
+        let (context, thread) = next_two(words)?;
+        return Ok(Call::Bind { context, thread });
     }
     if is(name, b"unbind") {
-        return next_unbind(words);
+        let context = words.number()?;
+        return Ok(Call::Unbind { context });
     }
     Err(Wrong::Syntax)
-}
-
-#[tactic(auto, unfolding(words::specs::Parts::read_as, words::specs::Reading::bind))]
-fn next_signal(words: &mut Words<'_>) -> Result<Call, Wrong>
-    ensures { Gives (λ call. (call, words.new)) result (call_by signal_form words.old) }
-{
-    let address = words.number()?;
-    Ok(Call::Signal { address })
-}
-
-#[tactic(auto, unfolding(words::specs::Parts::read_as, words::specs::Reading::bind))]
-fn next_poll(words: &mut Words<'_>) -> Result<Call, Wrong>
-    ensures { Gives (λ call. (call, words.new)) result (call_by poll_form words.old) }
-{
-    let address = words.number()?;
-    Ok(Call::Poll { address })
-}
-
-#[tactic(auto, unfolding(words::specs::Parts::read_as, words::specs::Reading::bind))]
-fn next_wait(words: &mut Words<'_>) -> Result<Call, Wrong>
-    ensures { Gives (λ call. (call, words.new)) result (call_by wait_form words.old) }
-{
-    let address = words.number()?;
-    Ok(Call::Wait { address })
 }
 
 #[tactic(auto, unfolding(words::specs::Parts::read_as, words::specs::Reading::bind))]
@@ -168,78 +155,6 @@ fn next_fetch(_words: &mut Words<'_>) -> Result<Call, Wrong>
     ensures { Gives (λ call. (call, _words.new)) result (call_by fetch_form _words.old) }
 {
     Ok(Call::Fetch)
-}
-
-#[tactic(auto, unfolding(words::specs::Parts::read_as, words::specs::Reading::bind))]
-fn next_delete(words: &mut Words<'_>) -> Result<Call, Wrong>
-    ensures { Gives (λ call. (call, words.new)) result (call_by delete_form words.old) }
-{
-    let slot = next_slot_address(words)?;
-    Ok(Call::Delete { slot })
-}
-
-#[tactic(auto, unfolding(words::specs::Parts::read_as, words::specs::Reading::bind))]
-fn next_revoke(words: &mut Words<'_>) -> Result<Call, Wrong>
-    ensures { Gives (λ call. (call, words.new)) result (call_by revoke_form words.old) }
-{
-    let slot = next_slot_address(words)?;
-    Ok(Call::Revoke { slot })
-}
-
-#[tactic(auto, unfolding(words::specs::Parts::read_as, words::specs::Reading::bind))]
-fn next_read(words: &mut Words<'_>) -> Result<Call, Wrong>
-    ensures { Gives (λ call. (call, words.new)) result (call_by read_form words.old) }
-{
-    let (address, index) = next_two(words)?;
-    Ok(Call::Read { address, index })
-}
-
-#[tactic(auto, unfolding(words::specs::Parts::read_as, words::specs::Reading::bind))]
-fn next_set_space(words: &mut Words<'_>) -> Result<Call, Wrong>
-    ensures { Gives (λ call. (call, words.new)) result (call_by set_space_form words.old) }
-{
-    let (thread, space) = next_two(words)?;
-    Ok(Call::SetSpace { thread, space })
-}
-
-#[tactic(auto, unfolding(words::specs::Parts::read_as, words::specs::Reading::bind))]
-fn next_clear_space(words: &mut Words<'_>) -> Result<Call, Wrong>
-    ensures { Gives (λ call. (call, words.new)) result (call_by clear_space_form words.old) }
-{
-    let thread = words.number()?;
-    Ok(Call::ClearSpace { thread })
-}
-
-#[tactic(auto, unfolding(words::specs::Parts::read_as, words::specs::Reading::bind))]
-fn next_suspend(words: &mut Words<'_>) -> Result<Call, Wrong>
-    ensures { Gives (λ call. (call, words.new)) result (call_by suspend_form words.old) }
-{
-    let thread = words.number()?;
-    Ok(Call::Suspend { thread })
-}
-
-#[tactic(auto, unfolding(words::specs::Parts::read_as, words::specs::Reading::bind))]
-fn next_resume(words: &mut Words<'_>) -> Result<Call, Wrong>
-    ensures { Gives (λ call. (call, words.new)) result (call_by resume_form words.old) }
-{
-    let thread = words.number()?;
-    Ok(Call::Resume { thread })
-}
-
-#[tactic(auto, unfolding(words::specs::Parts::read_as, words::specs::Reading::bind))]
-fn next_bind(words: &mut Words<'_>) -> Result<Call, Wrong>
-    ensures { Gives (λ call. (call, words.new)) result (call_by bind_form words.old) }
-{
-    let (context, thread) = next_two(words)?;
-    Ok(Call::Bind { context, thread })
-}
-
-#[tactic(auto, unfolding(words::specs::Parts::read_as, words::specs::Reading::bind))]
-fn next_unbind(words: &mut Words<'_>) -> Result<Call, Wrong>
-    ensures { Gives (λ call. (call, words.new)) result (call_by unbind_form words.old) }
-{
-    let context = words.number()?;
-    Ok(Call::Unbind { context })
 }
 
 #[tactic(auto, unfolding(words::specs::Parts::in_turn, words::specs::Parts::read_as, words::specs::Reading::bind))]

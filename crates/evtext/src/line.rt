@@ -1,7 +1,6 @@
 //! An event as a line of a script or a log has it.
 ghost use Rattle.std.specs.{Prelude.◌≡◌, Str.bytes_eq};
-ghost use Rattle.words.specs.Reading.{Gives};
-ghost use Rattle.evtext.specs.Event.{event_at, within_limits};
+ghost use Rattle.{words.specs.Reading.Gives, evtext.specs.Event.{event_at, within_limits}};
 
 use crate::call::next_call;
 use base::{CoreNo, MAX_EVENTS, ObjId};

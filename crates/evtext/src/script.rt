@@ -1,9 +1,8 @@
 //! The reading and the writing of scripts.
 ghost use Rattle.std.specs.Prelude.{ℕ, ◌++◌, ◌≡◌, ◌≢◌, IfErr, IfOk, List, Ok, OnOk};
 ghost use Rattle.base.specs.Refusals.{out_of_memory};
-ghost use Rattle.machine.specs.declared.call.Event.{Event as EventOf};
 ghost use Rattle.words.specs.{declared.faults.Wrong.Wrong, Fault.{fault_at, no_memory}, FirstFault.{IsFirstFault, TellsFirst}};
-ghost use Rattle.words.specs.{Reading.Reads, Text.{line_text, lines_of}};
+ghost use Rattle.{words.specs.{Reading.Reads, Text.{line_text, lines_of}}, machine.specs.declared.call.Event.Event as EventOf};
 ghost use Rattle.evtext.specs.{Event.event_words, Script.{IsScript, read_script_of, script_format, script_line, script_step, script_text}};
 
 use crate::line::next_event;

@@ -1,8 +1,7 @@
 -- Sets that are added behind those that were there: none, or one.
 use Rattle.std.proofs.Common.{[], ℕ, ◌++◌, ◌+◌, ◌<◌, ◌∷◌, ◌≡◌, ◌≤◌, Bool, List, ap, arith, false, inl, inr, length, refl, subst, sym, true}
 use Rattle.std.proofs.lemmas.{Bool.false≢true, List.{Elements.{All-nil, All-push}, Quantifiers.Any-push, append-nil, length-append}}
-use Rattle.base.specs.{declared.labels.Labels.Labels}
-use Rattle.filters.specs.{Sets.{AreFirst, IsSame, Precedes}, Stages.{AreAdded, IsTried}}
+use Rattle.{base.specs.declared.labels.Labels.Labels, filters.specs.{Sets.{IsSame, Precedes}, Stages.{AreAdded, IsTried}}}
 
 -- none is added if no set is of the kind
 pub none_added : (Is : Labels → Type 0) → ((set : Labels) → ¬ Is set) → (old : List Labels) (most : ℕ) → length old ≤ most → AreAdded Is old old most true

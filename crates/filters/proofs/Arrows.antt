@@ -1,13 +1,12 @@
 -- Arrows of the graph as flows, and its ways as chains of flows.
-use Rattle.std.proofs.Common.{ℕ, ◌&&◌, ◌<◌, ◌==◌, ◌||◌, ◌↔◌, ◌∙◌, ◌≡◌, ◌≤◌, ◌⊎◌, Bool, List, ap, arith, false, inl, inr, length, not, refl, subst, sym, true}
-use Rattle.std.proofs.lemmas.{Bool.{and_from, and_parts, cases_lt, eq-eqb, eqb-true, false≢true, or_cases, or_left, or_right}, List.get_or_past}
+use Rattle.std.proofs.Common.{ℕ, ◌&&◌, ◌<◌, ◌==◌, ◌||◌, ◌↔◌, ◌∙◌, ◌≡◌, Bool, List, ap, arith, false, inl, inr, not, refl, subst, sym, true}
+use Rattle.std.proofs.lemmas.Bool.{and_from, and_parts, cases_lt, eq-eqb, eqb-true}
+use Rattle.std.proofs.lemmas.{Bool.{false≢true, or_cases, or_left, or_right}, List.get_or_past}
 use Rattle.base.{specs.{declared.labels.Labels.Labels, Labels.{is_in, no_labels}}, proofs.LabelParts.in_no_labels}
-use Rattle.base.specs.declared.label.TheConstants.Label as Label
-use Rattle.policy.specs.Change.WayToChange.{own}
-use Rattle.reach.specs.Extents.{Limits, MayChangeIn, MayShrinkIn}
+use Rattle.{policy.specs.Change.WayToChange.own, reach.specs.Extents.{Limits, MayChangeIn, MayShrinkIn}}
 use Rattle.flows.specs.Flowing.{FilterTest, FlowsBeside, GoesOn, Leads, Leads.{goes_on as leads_on, starts as leads_from}, MayAffect}
-use Rattle.flows.specs.Rows.{row_at}
 use Rattle.filters.specs.Ways.{IsArrow, IsGraph, Way, Way.{goes_on, starts}, programs_beside}
+use Rattle.base.specs.declared.label.TheConstants.Label as Label
 
 -- what one conjunct forbids
 none_left : (b : Bool) → (false && b) ≡ false

@@ -1,7 +1,6 @@
 -- Numbers of labels that pass a test: of two tests, of a part, and of one label.
-use Rattle.std.proofs.Common.{ℕ, ◌+◌, ◌<◌, ◌==◌, ◌||◌, ◌∙◌, ◌≡◌, ◌≤◌, ◌⊎◌, Bool, ap, arith, cond, false, inl, inr, refl, suc, sym, true, zero}
-use Rattle.std.proofs.lemmas.Bool.{cases_order, eq-eqb, eqb-true, false≢true}
-use Rattle.filters.specs.Sets.{count_below}
+use Rattle.std.proofs.Common.{ℕ, ◌+◌, ◌<◌, ◌==◌, ◌||◌, ◌∙◌, ◌≡◌, ◌≤◌, ◌⊎◌, Bool, ap, arith, cond, false, inl, inr, refl, suc, sym, true}
+use Rattle.{std.proofs.{Common.zero, lemmas.Bool.{cases_order, eq-eqb, eqb-true, false≢true}}, filters.specs.Sets.count_below}
 
 -- a label passes one of two tests that none passes both
 pub count_or : (p q r : ℕ → Bool) → ((l : ℕ) → r l ≡ (p l || q l)) → ((l : ℕ) → p l ≡ true → q l ≡ false) → (n : ℕ)

@@ -1,13 +1,11 @@
 -- The smallest sets, looked for a size more at a time, while no set has fewer labels.
-use Rattle.std.proofs.Common.{ℕ, ◌&&◌, ◌==◌, ◌||◌, not, ◌+◌, ◌<◌, ◌↔◌, ◌≡◌, ◌≢◌, ◌≤◌, ◌⊎◌, Bool, List, arith, false, inl, inr, length, ap, refl, sym, true, ◌∙◌}
-use Rattle.std.proofs.lemmas.Bool.{and_from, and_parts, cases_order, eq-eqb, eqb-true, false≢true, or_left, or_right}
-use Rattle.base.specs.{declared.labels.Labels.Labels, Labels.is_in}
-use Rattle.base.specs.declared.label.TheConstants.Label as Label
-use Rattle.filters.specs.{Sets.{AreFirst, size_of}, Smallest.{HasSize, IsFilterSet, IsSmallest}, Stages.{AreBetween, Completes, IsStage}, Ways.{IsGraph, Separates, Way}}
-use Rattle.reach.specs.Extents.{Limits}
+use Rattle.std.proofs.Common.{ℕ, ◌&&◌, ◌+◌, ◌<◌, ◌==◌, ◌||◌, ◌↔◌, ◌∙◌, ◌≡◌, ◌≢◌, ◌≤◌, ◌⊎◌, Bool, List, ap, arith, false, inl, inr, length}
+use Rattle.std.proofs.{Common.{not, refl, sym, true}, lemmas.Bool.{and_from, and_parts, cases_order, eq-eqb, eqb-true, false≢true, or_left}}
+use Rattle.{std.proofs.lemmas.Bool.or_right, base.specs.{declared.labels.Labels.Labels, Labels.is_in}, reach.specs.Extents.Limits}
 use Rattle.filters.specs.declared.{searching.Stage.Stage, smallest.Smallest.{Smallest, Smallest as smallest}}
-use Rattle.filters.proofs.Arrows.{chain_of, way_of}
-use Rattle.filters.proofs.Counting.{count_nothing}
+use Rattle.filters.specs.{Sets.{AreFirst, size_of}, Smallest.{HasSize, IsFilterSet, IsSmallest}, Stages.{Completes, IsStage}}
+use Rattle.filters.{specs.Ways.{IsGraph, Separates}, proofs.{Arrows.{chain_of, way_of}, Counting.count_nothing}}
+use Rattle.base.specs.declared.label.TheConstants.Label as Label
 
 -- two kinds that are one have the same first sets
 pub first_alike : (Is Are : Labels → Type 0) → ((s : Labels) → Is s ↔ Are s) → (sets : List Labels) (all : Bool) → AreFirst Is sets all → AreFirst Are sets all
@@ -18,13 +16,6 @@ first_alike Is Are alike sets all first = record {
 }
 
 module _ (rows : List Labels) (from to : ℕ) (others : Labels) where
-  -- a way that leaves all others out: no set of them separates the two
-  pub none_separates : (between : Labels) → AreBetween rows (is_in others) from to between → (set : Labels) → ¬ Separates rows from to others set
-  none_separates between way set separates = separates.cuts (way.leads (is_in set) (λ l there. by l there (is_in set l) refl)) where
-    by : (l : ℕ) → is_in between l ≡ true → (b : Bool) → is_in set l ≡ b → is_in set l ≡ false
-    by l there false lacks = lacks
-    by l there true has = absurd (false≢true (sym (way.beside l there) ∙ separates.among l has))
-
   module _ (none : Labels) (nothing : (l : ℕ) → is_in none l ≡ false) (size : ℕ) where
     abbrev pub begun : Stage
     begun = record { chosen = none; allowed = others; room = size }

@@ -1,9 +1,8 @@
 -- Lists of sets in order: those of one kind, with those of another kind that come after.
-use Rattle.std.proofs.Common.{ℕ, ◌++◌, ◌+◌, ◌-◌, ◌<◌, ◌∙◌, ◌≡◌, ◌≤◌, ◌⊎◌, All, AllPairs, Any, List, ap, arith, false, get_or, inl, inr, length, refl}
-use Rattle.std.proofs.{Common.{subst, sym, true}, lemmas.{Bool.{cases_lt, false≢true}, List.{Elements.All-append, get_or-append-add, get_or_append_left}}}
-use Rattle.std.proofs.lemmas.List.{length-append}
-use Rattle.base.specs.{declared.labels.Labels.Labels}
-use Rattle.filters.specs.Sets.{AreFirst, IsListed, IsSame, Precedes}
+use Rattle.std.proofs.Common.{ℕ, ◌++◌, ◌+◌, ◌-◌, ◌<◌, ◌∙◌, ◌≡◌, ◌≤◌, ◌⊎◌, AllPairs, List, ap}
+use Rattle.std.proofs.Common.{arith, false, get_or, inl, inr, length, refl, subst, sym, true}
+use Rattle.std.proofs.lemmas.{Bool.{cases_lt, false≢true}, List.{Elements.All-append, get_or-append-add, get_or_append_left, length-append}}
+use Rattle.{base.specs.declared.labels.Labels.Labels, filters.specs.Sets.{AreFirst, IsListed, Precedes}}
 
 -- a relation of each element and each later one, of one list behind another
 pub pairs_append : {X : Type 0} (R : X → X → Type 0) (xs ys : List X) → AllPairs R xs → AllPairs R ys

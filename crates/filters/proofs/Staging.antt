@@ -1,13 +1,12 @@
 -- Stages of the search for sets: which labels can complete a set, and the sets with the first of them before those without it.
-use Rattle.std.proofs.Common.{[], ℕ, ◌&&◌, ◌+◌, ◌++◌, ◌-◌, ◌<◌, ◌==◌, ◌∷◌, ◌||◌, ◌∙◌, ◌≡◌, ◌≢◌, ◌≤◌, ◌⊎◌, All, Any, Bool, List, ap, arith, false, get_or}
-use Rattle.std.proofs.{Common.{inl, inr, length, not, refl, subst, sym, true}, lemmas.{Bool.{and_from, and_parts, cases_order, cases_lt, eq-eqb, eqb-true}}}
-use Rattle.std.proofs.lemmas.{Bool.{false≢true, or_cases, or_left, or_right}, List.{Elements.{All-nil, All-push}, Quantifiers.Any-push, append_assoc, append-nil, length-append}}
-use Rattle.base.specs.{declared.labels.Labels.Labels, Labels.is_in}
-use Rattle.base.specs.declared.label.TheConstants.Label as Label
-use Rattle.flows.specs.Flowing.{FilterTest}
-use Rattle.filters.specs.{Sets.{AreFirst, IsListed, IsSame, Precedes, count_below, size_of}, Ways.Way, declared.searching.Stage.Stage}
-use Rattle.filters.specs.Stages.{AreAdded, AreBetween, AreUseful, Completes, IsStage}
+use Rattle.std.proofs.Common.{ℕ, ◌&&◌, ◌++◌, ◌+◌, ◌-◌, ◌<◌, ◌==◌, ◌||◌, ◌∙◌, ◌≡◌, ◌≢◌, ◌≤◌, ◌⊎◌}
+use Rattle.std.proofs.Common.{Bool, List, ap, arith, false, inl, inr, not, refl, subst, sym, true}
+use Rattle.std.proofs.lemmas.Bool.{and_from, and_parts, cases_lt, eq-eqb, eqb-true, false≢true, or_cases, or_left, or_right}
+use Rattle.{std.proofs.lemmas.List.append_assoc, base.specs.{declared.labels.Labels.Labels, Labels.is_in}}
+use Rattle.filters.specs.{declared.searching.Stage.Stage, Sets.{IsSame, Precedes, count_below, size_of}}
+use Rattle.filters.specs.{Stages.{AreAdded, AreBetween, AreUseful, Completes, IsStage}, Ways.Way}
 use Rattle.filters.proofs.{Counting.{count_none, count_only, count_or, count_part, count_whole}, Ordering.{first_of_both, first_of_fore}}
+use Rattle.base.specs.declared.label.TheConstants.Label as Label
 
 module _ (rows : List Labels) (from to : ℕ) (stage : Stage) where
   -- of a set and the labels of ways: how many are in both
@@ -28,18 +27,6 @@ module _ (rows : List Labels) (from to : ℕ) (stage : Stage) (is : IsStage from
     | inl chosen ↦ is.chosen_few l chosen
     | inr allowed ↦ is.allowed_few l allowed
   ]
-
-  pub none_packed : (packed : Labels) → packed ≡ stage.chosen → ArePacked rows from to stage packed 0
-  none_packed packed same = record {
-    has = λ l there. ap (λ p. is_in p l) same ∙ there;
-    not_from = ap (λ p. is_in p from) same ∙ is.chosen_from;
-    not_to = ap (λ p. is_in p to) same ∙ is.chosen_to;
-    hits = λ set completes.
-        let whole = count_part (is_in stage.chosen) (λ l. is_in set l && is_in packed l)
-        (λ l there. and_from (is_in set l) (is_in packed l) (completes.has l there) (ap (λ p. is_in p l) same ∙ there)) Label.COUNT in
-        omega (arith, whole);
-    first = λ none. same;
-  }
 
   module _ (packed : Labels) (count : ℕ) (are : ArePacked rows from to stage packed count) where
     -- a set that has no label of a way beside these leaves it
@@ -135,14 +122,6 @@ module _ (rows : List Labels) (from to : ℕ) (stage : Stage) (is : IsStage from
           (omega (arith, are.hits set completes, completes.size)) l (few set completes l has) has)).1)
     ];
     done = λ nothing way. none (subst (λ p. Way rows (is_in p) from to) (sym (are.first nothing)) way);
-  }
-
-  -- fewer ways, and no further one: any label may do
-  pub any_useful : stage.room ≢ 0 → AreUseful rows from to stage stage.allowed
-  any_useful some = record {
-    among = λ l there. there;
-    enough = λ set completes l has. completes.within l has;
-    done = λ none. absurd (some none);
   }
 
 -- whether two labels are one, as a fact

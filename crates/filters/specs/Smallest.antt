@@ -1,9 +1,8 @@
 -- Sets of programs through which all flows from one label to another go, and the smallest of them (confine's own).
 use Rattle.std.specs.Prelude.{ℕ, ◌<◌, ◌≡◌, ◌≤◌, false, length, true}
-use Rattle.base.specs.{declared.labels.Labels.Labels, Labels.is_in}
-use Rattle.reach.specs.Extents.{Limits}
-use Rattle.flows.specs.Flowing.{GoesThrough}
-use Rattle.filters.specs.{Sets.{AreFirst, size_of}, declared.smallest.{Smallest.{Smallest, Smallest as smallest}, Sets.Sets, TheConstants.MOST_FILTERS}}
+use Rattle.{base.specs.{declared.labels.Labels.Labels, Labels.is_in}, reach.specs.Extents.Limits, flows.specs.Flowing.GoesThrough}
+use Rattle.filters.specs.declared.smallest.{Sets.Sets, Smallest.{Smallest, Smallest as smallest}, TheConstants.MOST_FILTERS}
+use Rattle.filters.specs.Sets.{AreFirst, size_of}
 
 -- programs, without the two labels, through which each chain of flows from the one to the other goes
 pub record IsFilterSet (limits : Limits) (from to : ℕ) (set : Labels) : Type 0 where

@@ -1,9 +1,8 @@
 -- Stages of the search for sets of a size: which labels a set has already, and which it may have besides (confine's own).
-use Rattle.std.specs.Prelude.{[], ℕ, ◌+◌, ◌<◌, ◌++◌, ◌∷◌, ◌≡◌, ◌≢◌, ◌≤◌, ◌⊎◌, Bool, List, false, length, true}
-use Rattle.base.specs.{declared.labels.Labels.Labels, Labels.is_in}
+use Rattle.std.specs.Prelude.{[], ℕ, ◌++◌, ◌+◌, ◌<◌, ◌∷◌, ◌≡◌, ◌≢◌, ◌≤◌, ◌⊎◌, Bool, List, false, length, true}
+use Rattle.{base.specs.{declared.labels.Labels.Labels, Labels.is_in}, flows.specs.Flowing.FilterTest}
+use Rattle.filters.specs.{declared.searching.Stage.Stage, Sets.{AreFirst, size_of}, Ways.Way}
 use Rattle.base.specs.declared.label.TheConstants.Label as Label
-use Rattle.flows.specs.Flowing.{FilterTest}
-use Rattle.filters.specs.{Sets.{AreFirst, size_of}, Ways.Way, declared.{searching.Stage.Stage, ways.Step.Step}}
 
 -- labels between two on a way between them, which aren't in the set: another set that has none of them leaves a way too
 pub record AreBetween (rows : List Labels) (set : FilterTest) (from to : ℕ) (between : Labels) : Type 0 where

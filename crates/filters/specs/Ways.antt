@@ -1,9 +1,8 @@
 -- Ways in the graph of flows between programs, where a set of programs is left out (vertex cuts, in the words of graph theory).
 use Rattle.std.specs.Prelude.{ℕ, ◌&&◌, ◌<◌, ◌==◌, ◌≡◌, List, not, true}
-use Rattle.base.specs.{declared.labels.Labels.Labels, Labels.is_in}
-use Rattle.base.specs.declared.label.TheConstants.Label as Label
-use Rattle.reach.specs.Extents.{Limits}
+use Rattle.{base.specs.{declared.labels.Labels.Labels, Labels.is_in}, reach.specs.Extents.Limits}
 use Rattle.flows.specs.{Flowing.{FilterTest, FlowsBeside, GoesOn}, Rows.{AreRowsOf, row_at}}
+use Rattle.base.specs.declared.label.TheConstants.Label as Label
 
 -- the row of the one label has the other
 abbrev pub IsArrow : List Labels → ℕ → ℕ → Type 0

@@ -1,9 +1,8 @@
 //! The graph of flows between programs.
 ghost use Rattle.std.specs.Prelude.{ℕ, ◌<◌, ◌↔◌, ◌≡◌, IfErr, IfOk, true};
 ghost use Rattle.base.specs.{Labels.is_in, Refusals.out_of_memory};
+ghost use Rattle.{reach.specs.Extents.limits_of, filters.specs.Ways.{FlowsDirectly, IsGraph}};
 ghost use Rattle.base.specs.declared.label.TheConstants.Label as Label;
-ghost use Rattle.reach.specs.Extents.{limits_of};
-ghost use Rattle.filters.specs.Ways.{FlowsDirectly, IsGraph};
 
 use base::{Label, Labels, Refusal};
 use flows::Flows;

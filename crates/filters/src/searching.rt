@@ -1,9 +1,8 @@
 //! The search for sets of a size that leave no way between two labels.
 ghost use Rattle.std.specs.Prelude.{◌≡◌, ◌≤◌, IfOk, MatchOption, false, length, true};
-ghost use Rattle.base.specs.Labels.{is_in};
-ghost use Rattle.base.specs.declared.label.TheConstants.Label as Label;
-ghost use Rattle.base.specs.declared.labels.Labels.{Labels};
+ghost use Rattle.base.specs.{declared.labels.Labels.Labels, Labels.is_in};
 ghost use Rattle.filters.specs.Stages.{AreAdded, AreUseful, Completes, IsStage, IsTried};
+ghost use Rattle.base.specs.declared.label.TheConstants.Label as Label;
 
 use crate::ways::way;
 use base::{Label, Labels};

@@ -1,9 +1,8 @@
 //! The smallest sets of programs through which all flows from one label to another go.
 ghost use Rattle.std.specs.Prelude.{◌<◌, ◌≡◌, ◌≢◌, ◌≤◌, IfOk, false, length};
-ghost use Rattle.base.specs.Labels.{is_in};
-ghost use Rattle.base.specs.declared.label.TheConstants.Label as Label;
-ghost use Rattle.reach.specs.Extents.{limits_of};
+ghost use Rattle.{base.specs.Labels.is_in, reach.specs.Extents.limits_of};
 ghost use Rattle.filters.specs.{Sets.AreFirst, Smallest.{IsFilterSet, IsSmallest}, Stages.{Completes, IsStage}, Ways.Separates};
+ghost use Rattle.base.specs.declared.label.TheConstants.Label as Label;
 
 use crate::graph::{FlowGraph, labels_are_few};
 use crate::searching::{Question, Stage, add_sets};

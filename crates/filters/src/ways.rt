@@ -1,8 +1,7 @@
 //! Ways in the graph of flows that leave a set of programs out.
 ghost use Rattle.std.specs.Prelude.{ℕ, ◌&&◌, ◌==◌, ◌||◌, ◌≡◌, ◌≢◌, IfOk, MatchOption, false, length, not};
-ghost use Rattle.base.specs.Labels.{is_in};
+ghost use Rattle.{base.specs.Labels.is_in, filters.specs.{Stages.AreBetween, Ways.Way}};
 ghost use Rattle.base.specs.declared.label.TheConstants.Label as Label;
-ghost use Rattle.filters.specs.{Stages.AreBetween, Ways.Way};
 
 use base::{Label, Labels};
 use std::alloc::{AllocError, Global};

@@ -1,13 +1,12 @@
 -- One more object, of any kind, that loses its links: the threads that are reached are those of the set with it.
 use Rattle.std.{specs.Prelude.{None, Option, Some, option_map}, proofs.Common.{◌||◌, ◌∙◌, ◌≡◌, ◌≢◌, Bool, ap, false, refl, subst, sym}}
-use Rattle.std.proofs.{Common.true, lemmas.Option.{none-some, same_Some}}
-use Rattle.base.specs.declared.ids.ObjId.{ObjId}
-use Rattle.machine.specs.{declared.{object.{Context.Context, Object.{Object, Object as o}, Reply.Reply}, thread.Tcb.Tcb}, Machine.Machine}
-use Rattle.machine.specs.{Machine.{object_of, same_id}, Objects.kind_of_object, Releasing.with_holder_halted, WellFormed.LinksAgree}
-use Rattle.machine.proofs.LookUps.{one_id}
-use Rattle.machine.specs.declared.object.ObjectKind.TheVariants as kind
+use Rattle.{std.proofs.{Common.true, lemmas.Option.{none-some, same_Some}}, base.specs.declared.ids.ObjId.ObjId}
+use Rattle.machine.specs.declared.{object.{Context.Context, Object.{Object, Object as o}, Reply.Reply}, thread.Tcb.Tcb}
+use Rattle.machine.specs.{Machine.{Machine, object_of, same_id}, Objects.kind_of_object}
+use Rattle.machine.{specs.{Releasing.with_holder_halted, WellFormed.LinksAgree}, proofs.LookUps.one_id}
 use Rattle.finalising.{specs.Finalised.with_links_cut, proofs.{Part.Follows, PartSteps.{context_step, no_queue_at, thread_step}}}
 use Rattle.finalising.proofs.{PartSteps.unlinked_step, Reached.object_by, Tests.{or_false, plus}, WaitersStep.waiters_step}
+use Rattle.machine.specs.declared.object.ObjectKind.TheVariants as kind
 
 module _ (old : Machine) (links : LinksAgree old) (done : ObjId → Bool) (x : ObjId) (now : Machine) (follows : Follows old done now) where
   there_now : (object : Object) → object_of old x ≡ Some object → object_of now x ≡ Some (object_by follows.reach x object)

@@ -1,15 +1,13 @@
 -- Threads that are reached where some objects have lost their links; and that all is finalised once each that goes has.
-use Rattle.std.{specs.Prelude.{Contains, None, Option, Some, option_map}, proofs.Common.{[], ℕ, ◌&&◌, ◌||◌, ◌∙◌, ◌∷◌, ◌≡◌, Bool, List, ap}}
-use Rattle.std.proofs.{Common.{cond, false, not, refl, sym, true}, lemmas.{Bool.false≢true, List.Elements.All-contains_itself}}
-use Rattle.std.proofs.lemmas.List.Elements.{All-weaker}
-use Rattle.base.specs.declared.ids.ObjId.{ObjId}
+use Rattle.std.specs.Prelude.{Contains, None, Option, Some, option_map}
+use Rattle.std.proofs.Common.{[], ℕ, ◌&&◌, ◌||◌, ◌∙◌, ◌∷◌, ◌≡◌, Bool, List, ap, cond, false, not, refl, sym, true}
+use Rattle.{std.proofs.lemmas.{Bool.false≢true, List.Elements.{All-contains_itself, All-weaker}}, base.specs.declared.ids.ObjId.ObjId}
 use Rattle.machine.specs.declared.object.{Context.Context, Object.{Object, Object as o}, ReplyState.{ReplyState, ReplyState as reply}}
 use Rattle.machine.specs.{declared.thread.Tcb.Tcb, Changes.first_waiting, Finalising.{aborted, finalised, halted, is_aborted, is_halted}}
 use Rattle.machine.specs.Finalising.{is_released, leads_nowhere, leaves, link_after, reply_after, staying_in, tcb_after, unbound}
 use Rattle.machine.specs.{Machine.{Machine, object_of, queue_of}, Objects.slot_count, Releasing.reply_by, WellFormed.{IsThread, LinksAgree}}
 use Rattle.machine.proofs.{Filters.filter_same, Queues.first_in, RemovalTable.waits_aborted}
-use Rattle.objects.specs.Waiting.{WaitsNowhere}
-use Rattle.steps.proofs.LeavingLinks.{AreReleased, member_was}
+use Rattle.{steps.proofs.LeavingLinks.{AreReleased, member_was}, objects.specs.Waiting.WaitsNowhere}
 use Rattle.finalising.{specs.Pass.IsFinalised, proofs.Linked.reached_left}
 use Rattle.finalising.proofs.Reached.{IsReached, Reach, has_left, leavers, object_by, queue_by, tcb_by}
 

@@ -1,15 +1,14 @@
 -- The two rounds of the pass: replies let go of their threads, and then all else loses its links.
-use Rattle.std.{specs.{List.list_any, Prelude.{Contains, None, Option, Some, slice_get}}, proofs.Common.{[], ℕ, ◌&&◌, ◌++◌, ◌+◌, ◌<◌, ◌||◌}}
-use Rattle.std.proofs.Common.{◌∙◌, ◌∷◌, ◌≡◌, ◌≢◌, Bool, List, add-one, ap, false, get_or, length, not, refl, subst, sym, take, true}
+use Rattle.std.{specs.{List.list_any, Prelude.{Contains, None, Option, Some, slice_get}}, proofs.Common.{[], ℕ, ◌&&◌, ◌++◌, ◌+◌, ◌<◌}}
+use Rattle.std.proofs.Common.{◌||◌, ◌∙◌, ◌∷◌, ◌≡◌, ◌≢◌, Bool, List, add-one, ap, false, get_or, length, not, refl, subst, sym, take, true}
 use Rattle.std.proofs.{Math.Seq.take-suc, lemmas.{Bool.false≢true, List.Elements.Contains-get_or, Option.get_or_from_slice_get}}
-use Rattle.std.proofs.lemmas.Option.{none-some, same_Some, slice_get-get_or, slice_get_within}
-use Rattle.base.specs.declared.ids.ObjId.{ObjId}
+use Rattle.{std.proofs.lemmas.Option.{none-some, same_Some, slice_get-get_or, slice_get_within}, base.specs.declared.ids.ObjId.ObjId}
 use Rattle.machine.specs.declared.{object.{Object.{Object, Object as o}, Reply.Reply}, thread.RunState.{RunState, RunState as state}}
 use Rattle.machine.specs.{declared.thread.Tcb.Tcb, Finalising.{is_aborted, is_halted, leads_nowhere}, Machine.{Machine, object_of, same_id}}
 use Rattle.machine.{specs.{Releasing.with_holder_halted, WellFormed.LinksAgree}, proofs.{LookUps.one_id, RoundLemmas.or_second}}
-use Rattle.finalising.{specs.{Finalised.with_links_cut, Pass.IsFinalised}, proofs.{Linked.{links_reached, reached_nobody}, Reached.nobody}}
-use Rattle.finalising.proofs.{LinksStep.{links_step, no_holder}, Part.{Follows, finalised_end}, ReplyStep.reply_step, Tests.and_false}
-use Rattle.finalising.proofs.{Tests.{or_false, plus}, WaitersStep.in_any}
+use Rattle.finalising.{specs.{Finalised.with_links_cut, Pass.IsFinalised}, proofs.Linked.{links_reached, reached_nobody}}
+use Rattle.finalising.proofs.{LinksStep.{links_step, no_holder}, Part.{Follows, finalised_end}, Reached.nobody}
+use Rattle.finalising.proofs.{ReplyStep.reply_step, Tests.{and_false, or_false, plus}, WaitersStep.in_any}
 
 -- whether an object is in a list
 abbrev pub among : List ObjId → ObjId → Bool

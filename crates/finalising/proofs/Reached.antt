@@ -3,11 +3,10 @@
 -- "Scheduling Contexts").
 use Rattle.std.specs.Prelude.{◌||◌, ◌≡◌, Bool, List, None, false, if◌then◌else◌, option_map}
 use Rattle.base.specs.declared.ids.ObjId.{ObjId}
-use Rattle.machine.specs.declared.{object.Object.Object, thread.{RunState.RunState, Tcb.Tcb}}
+use Rattle.machine.specs.{declared.{object.Object.Object, thread.{RunState.RunState, Tcb.Tcb}}, Machine.{Machine, object_of, queue_of}}
+use Rattle.{machine.specs.{Machine.same_id, Releasing.SameRest}, steps.proofs.LeavingLinks.{Leavers, object_left, queue_left}}
 use Rattle.machine.specs.declared.thread.Inbox.TheVariants as inbox
 use Rattle.machine.specs.declared.thread.RunState.TheVariants as state
-use Rattle.machine.specs.{Machine.{Machine, object_of, queue_of, same_id}, Releasing.SameRest}
-use Rattle.steps.proofs.LeavingLinks.{Leavers, object_left, queue_left}
 
 -- which threads were halted, aborted and unbound
 pub record Reach : Type 0 where

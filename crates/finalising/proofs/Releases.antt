@@ -1,17 +1,16 @@
 -- One more thread that is halted, aborted or unbound: the machine is then told by the threads so far with that one.
-use Rattle.std.{specs.Prelude.{None, Option, Some, option_map}, proofs.Common.{◌&&◌, ◌||◌, ◌∙◌, ◌≡◌, ◌≢◌, ◌⊎◌, Bool, List, ap, cond, false}}
-use Rattle.std.proofs.{Common.{inl, inr, not, refl, subst, sym, true}, lemmas.{List.Elements.filter_agree, Option.{none-some, same_Some}}}
-use Rattle.base.specs.declared.ids.ObjId.{ObjId}
+use Rattle.std.specs.Prelude.{None, Option, Some, option_map}
+use Rattle.std.proofs.Common.{◌&&◌, ◌||◌, ◌∙◌, ◌≡◌, ◌≢◌, ◌⊎◌, Bool, List, ap, cond, false, inl, inr, not, refl, subst, sym, true}
+use Rattle.{std.proofs.lemmas.{List.Elements.filter_agree, Option.{none-some, same_Some}}, base.specs.declared.ids.ObjId.ObjId}
 use Rattle.machine.specs.declared.object.{Context.Context, Object.{Object, Object as o}, ReplyState.{ReplyState, ReplyState as reply}}
 use Rattle.machine.specs.{declared.thread.Tcb.Tcb, Finalising.{aborted, halted, link_after}, Machine.{Machine, object_of, queue_of}}
 use Rattle.machine.specs.{Machine.{same_id, with_object}, Releasing.{SameRest, reply_by, with_aborted, with_halted, with_released}}
 use Rattle.machine.{specs.{Releasing.with_unbound, WellFormed.{IsThread, LinksAgree}}, proofs.{Filters.filter_twice, Ids.at_itself}}
 use Rattle.machine.proofs.{Ids.{at_other, itself, one_or_two}, Leaving.{apart_ids, freed, rest-with_object, rest_along, rest_itself}}
 use Rattle.machine.proofs.{Leaving.without, LookUps.{object_of-with_object, one_id, queue_of-with_object}, RemovalTable.one_thread}
-use Rattle.machine.proofs.RoundLemmas.{or_second}
-use Rattle.steps.proofs.{ContextsFormed.unbound_is, Releases.{IsReleased, released_is}}
-use Rattle.finalising.proofs.{Linked.{links_reached, tcb_now, thread_now}, Reached.{IsReached, Reach, and_aborted, and_halted, and_unbound}}
-use Rattle.finalising.proofs.{Reached.{has_left, object_by, queue_by, tcb_by}, Tests.or_false}
+use Rattle.{machine.proofs.RoundLemmas.or_second, steps.proofs.{ContextsFormed.unbound_is, Releases.{IsReleased, released_is}}}
+use Rattle.finalising.proofs.{Linked.{links_reached, tcb_now, thread_now}, Reached.{IsReached, Reach, and_aborted}}
+use Rattle.finalising.proofs.{Reached.{and_halted, and_unbound, has_left, object_by, queue_by, tcb_by}, Tests.or_false}
 
 -- tests of who left
 

@@ -1,18 +1,17 @@
 -- One more reply that lets go of its thread: the threads that are reached are those of the set with it.
 use Rattle.std.{specs.Prelude.{Some, option_map}, proofs.Common.{ℕ, ◌&&◌, ◌||◌, ◌∙◌, ◌≡◌, Bool, ap, false, not, refl, subst, sym, true}}
-use Rattle.std.proofs.lemmas.Bool.{false≢true}
-use Rattle.base.specs.declared.ids.ObjId.{ObjId}
-use Rattle.machine.specs.{declared.{object.{Object.Object as o, Reply.Reply, ReplyState.ReplyState}, thread.Tcb.Tcb}, Finalising.IsHolding}
-use Rattle.machine.specs.{Finalising.{is_aborted, is_halted}, Machine.{Machine, object_of, same_id}, Releasing.{reply_by, with_halted}}
-use Rattle.machine.{specs.{Releasing.with_holder_halted, WellFormed.{IsThread, LinksAgree}}, proofs.{HeldThreads.links_of, Ids.itself}}
-use Rattle.machine.proofs.{Leaving.{Names, apart_ids}, RemovalTable.one_thread, RoundLemmas.or_second}
+use Rattle.{std.proofs.lemmas.Bool.false≢true, base.specs.declared.ids.ObjId.ObjId}
+use Rattle.machine.specs.declared.{object.{Object.Object as o, Reply.Reply, ReplyState.ReplyState}, thread.Tcb.Tcb}
+use Rattle.machine.specs.{Finalising.{IsHolding, is_aborted, is_halted}, Machine.{Machine, object_of, same_id}}
+use Rattle.machine.specs.{Releasing.{reply_by, with_halted, with_holder_halted}, WellFormed.{IsThread, LinksAgree}}
+use Rattle.machine.proofs.{HeldThreads.links_of, Ids.itself, Leaving.{Names, apart_ids}, RemovalTable.one_thread, RoundLemmas.or_second}
+use Rattle.steps.proofs.LeavingLinks.{AreReleased, holder_now, holder_was}
+use Rattle.finalising.proofs.{Linked.reached_left, Part.{Follows, IsPart}}
+use Rattle.finalising.proofs.PartSteps.{NoContext, NoQueue, NoThread, no_queue_at, part_added, plain_aborted, plain_bound}
+use Rattle.finalising.proofs.{Reached.{Reach, and_halted, has_left, leavers, object_by}, Releases.halted_step}
+use Rattle.finalising.proofs.Tests.{alone, and_false, both_halted, it_is_named, names_it, or_false, plus, refuted, waited_kind, waits_in}
 use Rattle.machine.specs.declared.object.ReplyState.TheVariants as reply
 use Rattle.machine.specs.declared.thread.RunState.TheVariants as state
-use Rattle.steps.proofs.LeavingLinks.{AreReleased, holder_now, holder_was}
-use Rattle.finalising.proofs.{Linked.reached_left, Part.{Follows, IsPart}, PartSteps.{NoContext, NoQueue, NoThread, no_queue_at}}
-use Rattle.finalising.proofs.{PartSteps.{part_added, plain_aborted, plain_bound}, Reached.{Reach, and_halted, has_left, leavers, object_by}}
-use Rattle.finalising.proofs.{Releases.halted_step, Tests.{alone, and_false, both_halted, it_is_named, names_it, or_false, plus, refuted}}
-use Rattle.finalising.proofs.Tests.{waited_kind, waits_in}
 
 holder_none :
     (m : Machine) (x : ObjId) (address : ℕ) → object_of m x ≡ Some (o.Reply (record { address = address; state = reply.Free }))

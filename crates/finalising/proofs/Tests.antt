@@ -1,12 +1,11 @@
 -- Tests of which threads are reached: what one more object in a set adds to them.
 use Rattle.std.{specs.Prelude.{None, Option, Some}, proofs.Common.{◌&&◌, ◌||◌, ◌∙◌, ◌≡◌, ◌≢◌, Bool, ap, false, refl, subst, sym, true}}
-use Rattle.std.proofs.lemmas.Bool.{false≢true}
-use Rattle.base.specs.declared.ids.ObjId.{ObjId}
+use Rattle.{std.proofs.lemmas.Bool.false≢true, base.specs.declared.ids.ObjId.ObjId}
 use Rattle.machine.specs.declared.object.{Context.Context, Object.Object as o, ObjectKind.{ObjectKind, ObjectKind as kind}, Reply.Reply}
-use Rattle.machine.specs.{declared.thread.{RunState.{RunState, RunState as state}, Tcb.Tcb}, Finalising.{is_aborted, is_halted}}
-use Rattle.machine.specs.{Finalising.leads_nowhere, Machine.{Machine, object_of, same_id}, WellFormed.{IsThread, LinksAgree, WaitsAt}}
-use Rattle.machine.{specs.WellFormed.{WaitsAtKind, kind_of}, proofs.{HeldThreads.links_of, Ids.itself, Leaving.Names, LookUps.one_id}}
-use Rattle.machine.proofs.RemovalTable.{one_thread}
+use Rattle.machine.specs.declared.thread.{RunState.{RunState, RunState as state}, Tcb.Tcb}
+use Rattle.machine.specs.{Finalising.{is_aborted, is_halted, leads_nowhere}, Machine.{Machine, object_of, same_id}}
+use Rattle.machine.specs.WellFormed.{IsThread, LinksAgree, WaitsAt, WaitsAtKind, kind_of}
+use Rattle.machine.proofs.{HeldThreads.links_of, Ids.itself, Leaving.Names, LookUps.one_id, RemovalTable.one_thread}
 
 -- one object alone, and a set with one more
 abbrev pub alone : ObjId → ObjId → Bool

@@ -1,12 +1,10 @@
 -- Threads that wait at an object, to be aborted: once the first is, the others are left to be.
-use Rattle.std.{specs.{List.fold, Prelude.{None, Option, Some, option_map}}, proofs.Common.{[], ◌<◌, ◌∙◌, ◌∷◌, ◌≡◌, List, ap, arith}}
-use Rattle.std.proofs.Common.{length, refl, sym}
-use Rattle.base.specs.declared.ids.ObjId.{ObjId}
+use Rattle.std.{specs.{List.fold, Prelude.{None, Option, Some, option_map}}, proofs.Common.{[], ◌<◌, ◌∙◌, ◌∷◌, ◌≡◌}}
+use Rattle.{std.proofs.Common.{List, ap, arith, length, refl, sym}, base.specs.declared.ids.ObjId.ObjId}
 use Rattle.machine.specs.{declared.thread.Tcb.Tcb, Changes.first_waiting, Finalising.aborted, Machine.{Machine, queue_of}}
-use Rattle.machine.{specs.{Releasing.with_aborted, WellFormed.{IsThread, LinksAgree}}, proofs.{HeldThreads.links_of, Leaving.aborted_is}}
-use Rattle.machine.proofs.{Leaving.{released_queues, without, without_itself}, Queues.{first_in, once_first, queue_by_first}}
-use Rattle.steps.proofs.Releases.{links_released, released_is}
-use Rattle.finalising.specs.Finalised.{members, with_waiters_aborted}
+use Rattle.machine.{specs.{Releasing.with_aborted, WellFormed.{IsThread, LinksAgree}}, proofs.HeldThreads.links_of}
+use Rattle.machine.proofs.{Leaving.{aborted_is, released_queues, without, without_itself}, Queues.{first_in, once_first, queue_by_first}}
+use Rattle.{steps.proofs.Releases.{links_released, released_is}, finalising.specs.Finalised.{members, with_waiters_aborted}}
 
 pub record FirstAborted (m : Machine) (id first : ObjId) : Type 0 where
   pub agreed : LinksAgree (with_aborted m first)

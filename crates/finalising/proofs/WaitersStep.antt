@@ -1,16 +1,15 @@
 -- One more object at which all that wait are aborted: the threads that are reached are those of the set with it.
-use Rattle.std.{specs.{List.{fold, list_any}, Prelude.{All, Contains, None, Option, Some}}, proofs.Common.{[], ◌&&◌, ◌||◌, ◌∙◌, ◌∷◌, ◌≡◌}}
-use Rattle.std.proofs.{Common.{Bool, List, ap, false, not, refl, subst, sym, true}, lemmas.{Bool.false≢true, List.Elements.All-cons}}
-use Rattle.std.proofs.lemmas.List.Elements.{All-contains, All-nil, All-weaker}
-use Rattle.base.specs.declared.ids.ObjId.{ObjId}
+use Rattle.std.specs.{List.{fold, list_any}, Prelude.{All, Contains, None, Option, Some}}
+use Rattle.std.proofs.{Common.{[], ◌&&◌, ◌||◌, ◌∙◌, ◌∷◌, ◌≡◌, Bool, List, ap, false, not, refl, subst, sym, true}, lemmas.Bool.false≢true}
+use Rattle.{std.proofs.lemmas.List.Elements.{All-cons, All-contains, All-nil, All-weaker}, base.specs.declared.ids.ObjId.ObjId}
 use Rattle.machine.specs.{declared.thread.Tcb.Tcb, Finalising.{is_aborted, is_halted}, Machine.{Machine, queue_of, same_id}}
-use Rattle.machine.{specs.{Releasing.with_aborted, WellFormed.{IsThread, LinksAgree, WaitsAt}}, proofs.{Ids.itself, LookUps.one_id}}
-use Rattle.machine.proofs.{Queues.{first_in, other_in}, RemovalTable.{one_thread, waits_aborted}, RoundLemmas.or_second}
+use Rattle.machine.{specs.{Releasing.with_aborted, WellFormed.{IsThread, LinksAgree, WaitsAt}}, proofs.Ids.itself}
+use Rattle.machine.proofs.{LookUps.one_id, Queues.{first_in, other_in}, RemovalTable.{one_thread, waits_aborted}, RoundLemmas.or_second}
 use Rattle.steps.proofs.LeavingLinks.{AreReleased, member_now, member_was}
-use Rattle.finalising.{specs.Finalised.{members, with_waiters_aborted}, proofs.{Linked.reached_left, Part.Follows, PartSteps.NoContext}}
-use Rattle.finalising.proofs.{PartSteps.{NoReply, NoThread, part_added, plain_bound, plain_halted}, Reached.{IsReached, Reach, and_aborted}}
-use Rattle.finalising.proofs.{Reached.{has_left, leavers}, Releases.aborted_step, Tests.{alone, both_aborted, neither, or_false, plus}}
-use Rattle.finalising.proofs.Tests.{waits_there}
+use Rattle.finalising.{specs.Finalised.{members, with_waiters_aborted}, proofs.{Linked.reached_left, Part.Follows}}
+use Rattle.finalising.proofs.PartSteps.{NoContext, NoReply, NoThread, part_added, plain_bound, plain_halted}
+use Rattle.finalising.proofs.{Reached.{IsReached, Reach, and_aborted, has_left, leavers}, Releases.aborted_step}
+use Rattle.finalising.proofs.Tests.{alone, both_aborted, neither, or_false, plus, waits_there}
 
 -- who is in a list, by a test
 

@@ -1,9 +1,8 @@
 -- Changes by which an object that goes and is no reply loses its links, by its kind: who waits at an endpoint or a notification is
 -- aborted, and contexts and threads are unbound (seL4 manual, "Deletion, Revocation, and Recycling").
-use Rattle.std.specs.{List.fold, Prelude.{[], List, None, Option, Some}}
-use Rattle.base.specs.declared.ids.ObjId.{ObjId}
-use Rattle.machine.specs.{declared.object.Object.{Object, Object as o}, Machine.{Machine, object_of, queue_of}, Releasing.with_aborted}
-use Rattle.machine.specs.Releasing.{with_halted, with_unbound}
+use Rattle.{std.specs.{List.fold, Prelude.{[], List, None, Option, Some}}, base.specs.declared.ids.ObjId.ObjId}
+use Rattle.machine.specs.{declared.object.Object.{Object, Object as o}, Machine.{Machine, object_of, queue_of}}
+use Rattle.machine.specs.Releasing.{with_aborted, with_halted, with_unbound}
 
 -- the threads of a queue, if there is one
 abbrev pub members : Option (List ObjId) → List ObjId

@@ -3,8 +3,7 @@
 use Rattle.std.specs.Prelude.{◌≡◌, Bool, None, false, option_map, true}
 use Rattle.base.specs.declared.ids.ObjId.{ObjId}
 use Rattle.machine.specs.{Changes.first_waiting, Finalising.{finalised, staying_in}, Machine.{Machine, object_of, queue_of}}
-use Rattle.machine.specs.{Objects.slot_count, Releasing.SameRest}
-use Rattle.objects.specs.Waiting.{WaitsNowhere}
+use Rattle.{machine.specs.{Objects.slot_count, Releasing.SameRest}, objects.specs.Waiting.WaitsNowhere}
 
 pub record IsFinalised (old : Machine) (goes : ObjId → Bool) (now : Machine) : Type 0 where
   pub objects : (id : ObjId) → goes id ≡ false → object_of now id ≡ option_map (finalised old goes) (object_of old id)

@@ -1,7 +1,6 @@
 //! The release of who waits for objects that are going.
 ghost use Rattle.std.specs.{List.list_any, Prelude.◌≡◌};
-ghost use Rattle.machine.specs.{Machine.same_id, WellFormed.LinksAgree};
-ghost use Rattle.finalising.specs.Pass.{IsFinalised};
+ghost use Rattle.{machine.specs.{Machine.same_id, WellFormed.LinksAgree}, finalising.specs.Pass.IsFinalised};
 
 use crate::kinds::cut_links;
 use objects::State;

@@ -1,25 +1,20 @@
 -- Calls in a fixed system: each leaves it as it is, or isn't done.
 use Rattle.std.{specs.Prelude.{Err, None, Ok, Option, Result, Some, if◌then◌else◌, is_ok}, proofs.Common.{ℕ, ◌≡◌, Bool, List}}
-use Rattle.std.proofs.Common.{false, inl, inr, refl, subst, sym, true}
-use Rattle.base.specs.declared.{ids.ObjId.ObjId, refusal.Cause.Cause}
-use Rattle.machine.specs.declared.{call.Call.{Call, Call as call}, object.Object.Object as o, slot_address.Ends.Ends}
-use Rattle.machine.specs.declared.slot_address.SlotAddress.{SlotAddress}
-use Rattle.machine.specs.declared.thread.{Lent.Lent, Receiving.Receiving, RunState.RunState as state, Sending.Sending}
+use Rattle.{std.proofs.Common.{false, inl, inr, refl, subst, sym, true}, base.specs.declared.{ids.ObjId.ObjId, refusal.Cause.Cause}}
+use Rattle.machine.specs.declared.{call.Call.{Call, Call as call}, object.{Notification.Notification, Object.Object as o}}
+use Rattle.machine.specs.declared.{slot_address.{Ends.Ends, SlotAddress.SlotAddress}, thread.{Lent.Lent, Receiving.Receiving}}
+use Rattle.machine.specs.{declared.thread.{RunState.RunState as state, Sending.Sending}, Machine.{Machine, object_of, with_object}}
+use Rattle.machine.specs.Releasing.{given, ready, with_blocked, with_called, with_halted, with_ready}
+use Rattle.machine.specs.Step.{Bind.{thread_on, with_handed, without_thread}, Deliver.{answer_through, arrival_of, delivered}}
+use Rattle.machine.specs.Step.{Deliver.{linked, message_of, sent, with_arrival}, Receive.{awaiting_message, with_reply_ended}}
+use Rattle.machine.specs.Step.{Reply.{gives_back, with_returned}, Send.{called_through, loan_made, with_lent}}
+use Rattle.steps.proofs.{Arrival.arrives, Calls.CallDone, PollRow.PollDone, ReceiveRow.ReceiveDone, ReplyRow.ReplyDone}
+use Rattle.steps.proofs.{SendRow.{EndpointCallDone, SendDone}, SignalRow.{SignalDone, roused}, SlotRows.target_leads, WaitRow.WaitDone}
+use Rattle.fixed.{specs.Fixed.{NeedsNodeOrThread, StaysFixed}, proofs.Finds.{IsFixedAt, finds_no_taker, finds_no_thread, leads_nowhere}}
+use Rattle.fixed.proofs.Staying.{blocked_stays, called_stays, emptied_stays, fixed_stays, halted_stays}
+use Rattle.fixed.proofs.Staying.{handed_stays, holder_halted_stays, named_stays, object_stays, released_stays}
+use Rattle.fixed.proofs.Staying.{share_stays, stays_along, stays_itself, unbound_stays, word_stays}
 use Rattle.machine.specs.declared.object.ReplyState.TheVariants as reply
-use Rattle.machine.specs.declared.object.Notification.{Notification}
-use Rattle.machine.specs.{Machine.{Machine, object_of, with_object}, Releasing.{given, ready, with_blocked, with_called, with_halted}}
-use Rattle.machine.specs.{Releasing.with_ready, Step.Bind.{thread_on, with_handed}}
-use Rattle.machine.specs.Step.{Bind.without_thread, Deliver.{answer_through, arrival_of, delivered, linked, message_of, sent, with_arrival}}
-use Rattle.machine.specs.Step.{Receive.{awaiting_message, with_reply_ended}, Reply.{gives_back, with_returned}, Send.called_through}
-use Rattle.machine.specs.Step.Send.{loan_made, with_lent}
-use Rattle.steps.proofs.{Arrival.arrives, Calls.CallDone, PollRow.PollDone}
-use Rattle.steps.proofs.{ReceiveRow.ReceiveDone, ReplyRow.ReplyDone, SendRow.{EndpointCallDone, SendDone}}
-use Rattle.steps.proofs.{SignalRow.{SignalDone, roused}, SlotRows.target_leads, WaitRow.WaitDone}
-use Rattle.fixed.specs.Fixed.{NeedsNodeOrThread, StaysFixed}
-use Rattle.fixed.proofs.Finds.{IsFixedAt, finds_no_taker, finds_no_thread, leads_nowhere}
-use Rattle.fixed.proofs.Staying.{blocked_stays, called_stays, emptied_stays, fixed_stays, halted_stays, handed_stays, holder_halted_stays}
-use Rattle.fixed.proofs.Staying.{named_stays, object_stays, released_stays, share_stays, stays_along, stays_itself, unbound_stays}
-use Rattle.fixed.proofs.Staying.{word_stays}
 
 -- a call that needs a capability for a CNode or for a thread isn't done
 pub none_done :

@@ -1,14 +1,13 @@
 -- Lookups of threads: what one finds is in a slot of a CNode; so if no such slot holds a capability for a CNode or a thread, the thread
 -- finds none, and no slot address leads it anywhere.
-use Rattle.std.{specs.Prelude.{Err, None, Ok, Option, Result, Some, option_map}, proofs.Common.{[], ℕ, ◌∙◌, ◌∷◌, ◌≡◌, ◌≢◌, Bool, List, ap}}
-use Rattle.std.proofs.Common.{arith, length, refl, subst, suc, sym, zero}
-use Rattle.base.specs.declared.{ids.{ObjId.ObjId, SlotRef.SlotRef}, refusal.{Cause.Cause as cause, LookupFailure.LookupFailure}}
-use Rattle.base.specs.declared.refusal.LookupFailure.TheVariants.{InvalidRoot}
+use Rattle.std.specs.Prelude.{Err, None, Ok, Option, Result, Some, option_map}
+use Rattle.std.proofs.Common.{[], ℕ, ◌∙◌, ◌∷◌, ◌≡◌, ◌≢◌, Bool, List, ap, arith, length, refl, subst, suc, sym, zero}
+use Rattle.base.specs.declared.ids.{ObjId.ObjId, SlotRef.SlotRef}
+use Rattle.base.specs.declared.refusal.{Cause.Cause as cause, LookupFailure.{LookupFailure, TheVariants.InvalidRoot}}
 use Rattle.machine.specs.declared.{cap.{Cap.Cap, Detail.{Detail, Detail as d}}, object.Object.{Object, Object as o}}
-use Rattle.machine.specs.{declared.{object.ObjectKind.ObjectKind as kind, slot_address.SlotAddress.SlotAddress, thread.Tcb.Tcb}, Bits.bits}
-use Rattle.machine.specs.{Capabilities.kind_of_detail, Lookup.{Level, counted, hop, level_at, level_of_cap, lookup_of, onward}}
-use Rattle.machine.specs.Lookup.{root_of, walk}
-use Rattle.machine.specs.{Machine.{Machine, cap_of, object_of}, Objects.kind_of_object, WellFormed.kind_of}
+use Rattle.machine.specs.declared.{object.ObjectKind.ObjectKind as kind, slot_address.SlotAddress.SlotAddress, thread.Tcb.Tcb}
+use Rattle.machine.specs.{Bits.bits, Capabilities.kind_of_detail, Lookup.{Level, counted, hop, level_at, level_of_cap, lookup_of, onward}}
+use Rattle.machine.specs.{Lookup.{root_of, walk}, Machine.{Machine, cap_of, object_of}, Objects.kind_of_object, WellFormed.kind_of}
 use Rattle.steps.proofs.{Conditions.same_ok, Finding.FindsObject, LedSlots.node_at, RetypeRow.FindsTaker, SlotRows.LeadsTo}
 
 -- no slot of a CNode holds a capability for a CNode or for a thread

@@ -1,13 +1,11 @@
 -- Loose slots: a table is of a fixed system exactly if none of its filled slots is loose.
-use Rattle.std.proofs.Common.{ℕ, ◌<◌, ◌∙◌, ◌≡◌, ◌≢◌, ◌≤◌, Option, Some, ap, arith, false, length, refl, slice_get, sym, true}
-use Rattle.std.proofs.lemmas.Option.{slice_get_within}
-use Rattle.base.specs.declared.ids.SlotRef.{SlotRef}
-use Rattle.machine.specs.declared.{cap.{Cap.Cap, Detail.{Detail, Detail as d}}, layout.Filled.Filled}
-use Rattle.machine.specs.declared.object.ObjectKind.{ObjectKind, ObjectKind as kind}
-use Rattle.machine.specs.{Capabilities.kind_of_detail, Layout.{Layout, initial_cap}}
-use Rattle.table.{specs.Rules.kind_at, proofs.Lookups.filled_at}
-use Rattle.fixed.specs.{Fixed.IsFixed, Loose.{is_loose, is_loose_detail, is_loose_in}}
 use mathlib.Core.Bool.{false≢true}
+use Rattle.std.proofs.Common.{ℕ, ◌<◌, ◌∙◌, ◌≡◌, ◌≢◌, ◌≤◌, Option, Some, ap, arith, false, length, refl, slice_get, sym, true}
+use Rattle.{std.proofs.lemmas.Option.slice_get_within, base.specs.declared.ids.SlotRef.SlotRef}
+use Rattle.machine.specs.declared.{cap.{Cap.Cap, Detail.{Detail, Detail as d}}, layout.Filled.Filled}
+use Rattle.machine.specs.{declared.object.ObjectKind.{ObjectKind, ObjectKind as kind}, Capabilities.kind_of_detail}
+use Rattle.{machine.specs.Layout.{Layout, initial_cap}, table.{specs.Rules.kind_at, proofs.Lookups.filled_at}}
+use Rattle.fixed.specs.{Fixed.IsFixed, Loose.{is_loose, is_loose_detail, is_loose_in}}
 
 -- a capability that is for neither
 kept_detail :

@@ -2,11 +2,9 @@
 -- CNode or for a thread.
 use Rattle.std.proofs.Common.{[], ◌∙◌, ◌∷◌, ◌≡◌, ◌⊎◌, Err, List, Ok, Result, ap, inl, inr, refl, subst, sym}
 use Rattle.base.specs.declared.refusal.Cause.{Cause}
-use Rattle.machine.specs.declared.{call.{Event.Event, Made.Made, Outcome.Outcome}}
-use Rattle.machine.specs.{Boot.IsBoot, Layout.Layout, Machine.Machine, Outcomes.IsRefused, Run.Run, Step.{Step, made_by, settled, step_of}}
-use Rattle.machine.specs.{Step.Step.{ends, lacks}, WellFormed.IsWellFormed}
-use Rattle.steps.proofs.Calls.{EventDone, event_done, run_formed, step_done, step_formed}
-use Rattle.table.proofs.AtBoot.{boot_kind}
+use Rattle.machine.specs.{declared.call.{Event.Event, Made.Made, Outcome.Outcome}, Boot.IsBoot, Layout.Layout, Machine.Machine}
+use Rattle.machine.specs.{Outcomes.IsRefused, Run.Run, Step.{Step, Step.{ends, lacks}, made_by, settled, step_of}, WellFormed.IsWellFormed}
+use Rattle.{steps.proofs.Calls.{EventDone, event_done, run_formed, step_done, step_formed}, table.proofs.AtBoot.boot_kind}
 use Rattle.fixed.specs.Fixed.{IsFixed, NeedsNodeOrThread, StaysFixed}
 use Rattle.fixed.proofs.{CallsStay.{call_stays, none_done}, Finds.IsFixedAt, Staying.{fixed_stays, stays_along, stays_itself}}
 

@@ -1,16 +1,13 @@
 -- Lookups in a system that stays fixed: each thread finds at each address the capability that it found at boot.
-use Rattle.std.{specs.Prelude.{Err, None, Ok, Option, Result, Some, option_map}, proofs.Common.{[], ℕ, ◌∙◌, ◌∷◌, ◌≡◌, ◌≢◌, ◌⊎◌, Bool, List}}
-use Rattle.std.proofs.Common.{ap, inl, inr, refl, suc, sym, zero}
-use Rattle.base.specs.declared.{ids.{ObjId.ObjId, SlotRef.SlotRef}, refusal.{Cause.Cause as cause, LookupFailure.LookupFailure}}
-use Rattle.base.specs.declared.refusal.LookupFailure.TheVariants.{InvalidRoot}
-use Rattle.machine.specs.declared.{cap.{Cap.Cap, Detail.{Detail, Detail as d}, Guard.Guard}, object.Object.{Object, Object as o}}
-use Rattle.machine.specs.declared.object.CNode.{CNode}
-use Rattle.machine.specs.declared.{object.ObjectKind.{ObjectKind as kind}, thread.Tcb.Tcb}
+use Rattle.std.specs.Prelude.{Err, None, Ok, Option, Result, Some, option_map}
+use Rattle.std.proofs.Common.{[], ℕ, ◌∙◌, ◌∷◌, ◌≡◌, ◌≢◌, ◌⊎◌, Bool, List, ap, inl, inr, refl, suc, sym, zero}
+use Rattle.base.specs.declared.ids.{ObjId.ObjId, SlotRef.SlotRef}
+use Rattle.base.specs.declared.refusal.{Cause.Cause as cause, LookupFailure.{LookupFailure, TheVariants.InvalidRoot}}
+use Rattle.machine.specs.declared.cap.{Cap.Cap, Detail.{Detail, Detail as d}, Guard.Guard}
+use Rattle.machine.specs.declared.{object.{CNode.CNode, Object.{Object, Object as o}, ObjectKind.ObjectKind as kind}, thread.Tcb.Tcb}
 use Rattle.machine.specs.{Bits.bits, Lookup.{Level, counted, hop, level_at, level_of_cap, level_through, lookup_of, onward, root_of, walk}}
 use Rattle.machine.specs.{Machine.{Machine, cap_of, object_of}, Objects.kind_of_object, Refusing.◌>>=◌, Step.Find.{find_cap, held_in}}
-use Rattle.machine.specs.WellFormed.{kind_of}
-use Rattle.steps.proofs.FoundObjects.{tcb_of_kind}
-use Rattle.fixed.specs.Fixed.{StaysFixed}
+use Rattle.{machine.specs.WellFormed.kind_of, steps.proofs.FoundObjects.tcb_of_kind, fixed.specs.Fixed.StaysFixed}
 
 -- an object is a CNode, or it isn't
 node_or_not :

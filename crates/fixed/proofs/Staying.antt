@@ -1,20 +1,16 @@
 -- Changes that leave capabilities, the derivation tree and the next number as they are, and each object there, of its kind and where it is.
 use Rattle.std.{specs.Prelude.{None, Option, Some, option_map}, proofs.Common.{ℕ, ◌∙◌, ◌≡◌, List, ap, refl, subst, sym}}
-use Rattle.std.proofs.lemmas.Option.{none-some, same_Some}
-use Rattle.base.specs.declared.ids.{ObjId.ObjId, SlotRef.SlotRef}
-use Rattle.machine.specs.declared.object.{Context.Context, Object.{Object, Object as o}, Reply.Reply}
-use Rattle.machine.specs.declared.object.{ReplyState.ReplyState, Share.Share}
+use Rattle.{std.proofs.lemmas.Option.{none-some, same_Some}, base.specs.declared.ids.{ObjId.ObjId, SlotRef.SlotRef}}
+use Rattle.machine.specs.declared.object.{Context.Context, Object.{Object, Object as o}, Reply.Reply, ReplyState.ReplyState, Share.Share}
 use Rattle.machine.specs.declared.thread.{Calling.Calling, RunState.{RunState, RunState as state}, Tcb.Tcb}
 use Rattle.machine.specs.Changes.{with_context, with_reply, with_tcb, with_waiting, with_word, with_words, without_waiting}
 use Rattle.machine.specs.{Finalising.halted, Machine.{Machine, cap_of, object_of, parent_of, queue_of, with_object, with_queue, words_of}}
-use Rattle.machine.specs.{Objects.{address_of, kind_of_object}, WellFormed.kind_of}
-use Rattle.machine.specs.Releasing.{unblocked, with_blocked, with_called, with_halted, with_holder_halted, with_holding}
-use Rattle.machine.specs.Releasing.{with_idle_context, with_named, with_released, with_unbound}
-use Rattle.machine.specs.Step.{Bind.{context_under, with_bound, with_handed}, Configure.with_share, Fetch.emptied}
+use Rattle.machine.specs.{Objects.{address_of, kind_of_object}, Releasing.{unblocked, with_blocked, with_called, with_halted}}
+use Rattle.machine.specs.Releasing.{with_holder_halted, with_holding, with_idle_context, with_named, with_released, with_unbound}
+use Rattle.machine.specs.{Step.{Bind.{context_under, with_bound, with_handed}, Configure.with_share, Fetch.emptied}, WellFormed.kind_of}
 use Rattle.machine.proofs.LookUps.{cap_of-with_object, number_of-with_object, object_of-with_object, parent_of-with_object}
+use Rattle.{steps.proofs.{Outlines.shown_kept, SetObject.other_after}, fixed.{specs.Fixed.{IsStill, StaysFixed}, proofs.Finds.IsFixedAt}}
 use Rattle.machine.specs.declared.object.ReplyState.TheVariants as reply
-use Rattle.steps.proofs.{Outlines.shown_kept, SetObject.other_after}
-use Rattle.fixed.{specs.Fixed.{IsStill, StaysFixed}, proofs.Finds.IsFixedAt}
 
 -- nothing is there where an object of the same kind is not
 none_alike :

@@ -2,11 +2,10 @@
 -- calls they refuse (confine's own).
 use Rattle.std.specs.Prelude.{◌↔◌, ◌≡◌, ◌≢◌, None, Some, option_map}
 use Rattle.base.specs.declared.ids.{ObjId.ObjId, SlotRef.SlotRef}
-use Rattle.machine.specs.declared.{call.Call.{Call, Call as call}, cap.Cap.Cap, object.ObjectKind.ObjectKind as kind}
-use Rattle.machine.specs.declared.object.Object.{Object, Object as o}
+use Rattle.machine.specs.declared.{call.Call.{Call, Call as call}, cap.Cap.Cap}
+use Rattle.machine.specs.declared.object.{Object.{Object, Object as o}, ObjectKind.ObjectKind as kind}
 use Rattle.machine.specs.{Capabilities.kind_of_detail, Layout.{Layout, initial_cap}, Machine.{Machine, cap_of, object_of, parent_of}}
-use Rattle.machine.specs.{Objects.address_of, WellFormed.kind_of}
-use Rattle.table.specs.Rules.{kind_at}
+use Rattle.{machine.specs.{Objects.address_of, WellFormed.kind_of}, table.specs.Rules.kind_at}
 
 -- each capability in a slot of a CNode is neither for a CNode nor for a thread; the root slot of a thread holds one for a CNode, and
 -- doesn't count

@@ -1,9 +1,7 @@
 -- Loose slots of a capability table, which keep its system from being fixed (confine's own).
-use Rattle.std.specs.Prelude.{Bool, Option, Some, false, true}
-use Rattle.base.specs.declared.ids.SlotRef.{SlotRef}
+use Rattle.{std.specs.Prelude.{Bool, Option, Some, false, true}, base.specs.declared.ids.SlotRef.SlotRef}
 use Rattle.machine.specs.declared.{cap.{Cap.Cap, Detail.{Detail, Detail as d}}, object.ObjectKind.{ObjectKind, ObjectKind as kind}}
-use Rattle.machine.specs.Layout.{Layout, initial_cap}
-use Rattle.table.specs.Rules.{kind_at}
+use Rattle.{machine.specs.Layout.{Layout, initial_cap}, table.specs.Rules.kind_at}
 
 -- whether a capability is for a CNode or for a thread
 abbrev pub is_loose_detail : Detail → Bool

@@ -1,7 +1,6 @@
 //! The decision whether a capability table is of a fixed system.
 ghost use Rattle.std.specs.Prelude.{◌↔◌, ◌≡◌, IsTrue};
-ghost use Rattle.fixed.specs.Fixed.{IsFixed};
-ghost use Rattle.fixed.specs.Loose.{is_loose, is_loose_cap};
+ghost use Rattle.fixed.specs.{Fixed.IsFixed, Loose.{is_loose, is_loose_cap}};
 
 use base::SlotRef;
 use machine::{Cap, Detail, ObjectKind};

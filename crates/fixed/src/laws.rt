@@ -1,11 +1,9 @@
 //! Laws about the runs of fixed systems.
 ghost use Rattle.std.specs.Prelude.{ℕ, ◌≡◌, List};
 ghost use Rattle.base.specs.declared.ids.ObjId.{ObjId as Id};
-ghost use Rattle.machine.specs.Step.Find.{find_cap};
-ghost use Rattle.machine.specs.declared.call.{Event.Event, Outcome.Outcome};
-ghost use Rattle.machine.specs.{Boot.IsBoot, Layout.Layout, Machine.Machine, Outcomes.IsRefused, Run.Run, Step.Step};
-ghost use Rattle.table.specs.Rules.{IsLawful};
-ghost use Rattle.fixed.specs.Fixed.{IsFixed, NeedsNodeOrThread, StaysFixed};
+ghost use Rattle.machine.specs.{declared.call.{Event.Event, Outcome.Outcome}, Boot.IsBoot, Layout.Layout};
+ghost use Rattle.machine.specs.{Machine.Machine, Outcomes.IsRefused, Run.Run, Step.{Find.find_cap, Step}};
+ghost use Rattle.{table.specs.Rules.IsLawful, fixed.specs.Fixed.{IsFixed, NeedsNodeOrThread, StaysFixed}};
 
 use table::boot_states_are_well_formed;
 

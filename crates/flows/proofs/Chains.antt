@@ -1,8 +1,7 @@
 -- The search for the labels to which a chain of flows leads, label by label.
 use Rattle.std.proofs.Common.{ℕ, ◌&&◌, ◌==◌, ◌||◌, ◌↔◌, ◌∙◌, ◌≡◌, Bool, ap, false, inl, inr, not, refl, subst, sym, true}
 use Rattle.std.proofs.lemmas.Bool.{and_parts, eq-eqb, eqb-true, false≢true, or_cases, or_left, or_right}
-use Rattle.reach.specs.Extents.{Limits}
-use Rattle.flows.specs.Flowing.{FilterTest, FlowsBeside, GoesOn, Leads, Leads.{goes_on, starts}}
+use Rattle.{reach.specs.Extents.Limits, flows.specs.Flowing.{FilterTest, FlowsBeside, GoesOn, Leads, Leads.{goes_on, starts}}}
 
 pub was_not : (b : Bool) → not b ≡ true → b ≡ false
 was_not true is = sym is

@@ -1,9 +1,7 @@
 -- The labels to which a label's flows come: those that depend on one that it affects.
-use Rattle.std.proofs.{Common.{ℕ, ◌&&◌, ◌<◌, ◌∙◌, ◌≡◌, Bool, List, arith, ap, false, not, refl, subst, sym, true}, lemmas.Bool.{and_from, and_parts}}
-use Rattle.base.specs.{declared.labels.Labels.Labels, Labels.is_in}
-use Rattle.std.proofs.Common.{inl, inr}
-use Rattle.policy.proofs.Gathering.{Tells, told_as}
-use Rattle.reach.specs.Extents.{Limits}
+use Rattle.std.proofs.Common.{ℕ, ◌&&◌, ◌<◌, ◌∙◌, ◌≡◌, Bool, List, ap, arith, false, inl, inr, not, refl, subst, sym, true}
+use Rattle.{std.proofs.lemmas.Bool.{and_from, and_parts}, base.specs.{declared.labels.Labels.Labels, Labels.is_in}}
+use Rattle.{policy.proofs.Gathering.{Tells, told_as}, reach.specs.Extents.Limits}
 use Rattle.flows.specs.{Flowing.{DependsOn, FlowsBeside, FlowsBy, FlowsTo, MayAffect}, Rows.{AreFlowRows, Meets, row_at}}
 
 -- what fails where something holds

@@ -1,12 +1,9 @@
 -- The search for the labels from which a chain of flows leads to one, label by label; and what is kept of them.
 use Rattle.std.proofs.Common.{ℕ, ◌&&◌, ◌==◌, ◌||◌, ◌↔◌, ◌∙◌, ◌≡◌, Bool, ap, false, inl, inr, not, refl, subst, sym, true}
 use Rattle.std.proofs.lemmas.Bool.{and_from, and_parts, eq-eqb, eqb-true, false≢true, or_cases, or_left, or_right}
-use Rattle.machine.specs.Layout.{Layout}
-use Rattle.integrity.specs.Apart.{NeverChanges}
-use Rattle.reach.specs.Extents.{Limits}
-use Rattle.flows.specs.Flowing.{FilterTest, FlowsBeside, GoesOn, GoesThrough, IsClosedOff, IsShielded, Leads, MayAffect, NeverDisturbs}
-use Rattle.flows.specs.Flowing.Leads.{goes_on, starts}
-use Rattle.flows.proofs.Chains.{passes, stopped, was_not}
+use Rattle.{machine.specs.Layout.Layout, integrity.specs.Apart.NeverChanges, reach.specs.Extents.Limits}
+use Rattle.flows.specs.Flowing.{FilterTest, FlowsBeside, GoesOn, GoesThrough, IsClosedOff, IsShielded, Leads}
+use Rattle.flows.{specs.Flowing.{Leads.{goes_on, starts}, MayAffect, NeverDisturbs}, proofs.Chains.{passes, stopped, was_not}}
 
 -- labels from which a chain leads, with all that flow to those that are done, if a chain goes on past them
 pub record AreLeading (limits : Limits) (filters : FilterTest) (to : ℕ) (done leading : ℕ → Bool) : Type 0 where

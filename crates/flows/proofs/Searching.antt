@@ -1,12 +1,10 @@
 -- The search for the labels from which a chain leads to one, link by link; and the way from one of them along the links.
-use Rattle.std.proofs.Common.{[], ℕ, ◌++◌, ◌+◌, ◌==◌, ◌||◌, ◌∙◌, ◌∷◌, ◌≡◌, ◌≢◌, ◌≤◌, ◌⊎◌, Bool, List, Some, ap, arith, false}
-use Rattle.std.proofs.Common.{get_or, inl, inr, length, refl, slice_get, subst, sym, true}
-use Rattle.std.proofs.lemmas.{Bool.{cases_order, eqb-true, false≢true, or_cases, or_left}, List.{get_or_append_left, get_or_push, length_push}}
-use Rattle.std.proofs.lemmas.Option.{get_or_from_slice_get, slice_get-get_or, slice_get_within}
-use Rattle.reach.specs.Extents.{Limits}
-use Rattle.flows.specs.{declared.links.Link.Link, Chains.{AreFoundLinks, IsChain, IsFound, IsFoundLink, IsLink, IsChain.{goes_on, starts}}}
-use Rattle.flows.specs.Flowing.{FilterTest, FlowsBeside, GoesOn, Leads}
-use Rattle.flows.proofs.Leading.{AreLeading, leads_on}
+use Rattle.std.proofs.Common.{[], ℕ, ◌++◌, ◌+◌, ◌==◌, ◌||◌, ◌∙◌, ◌∷◌, ◌≡◌, ◌≢◌, ◌≤◌, ◌⊎◌, Bool, List, Some, ap, arith}
+use Rattle.std.proofs.{Common.{false, get_or, inl, inr, length, refl, slice_get, subst, sym, true}, lemmas.Bool.cases_order}
+use Rattle.std.proofs.lemmas.{Bool.{eqb-true, false≢true, or_cases, or_left}, List.{get_or_append_left, get_or_push, length_push}}
+use Rattle.{std.proofs.lemmas.Option.{get_or_from_slice_get, slice_get-get_or, slice_get_within}, reach.specs.Extents.Limits}
+use Rattle.flows.specs.{declared.links.Link.Link, Chains.{AreFoundLinks, IsChain, IsChain.{goes_on, starts}, IsFound, IsFoundLink, IsLink}}
+use Rattle.flows.{specs.Flowing.{FilterTest, FlowsBeside, GoesOn, Leads}, proofs.Leading.{AreLeading, leads_on}}
 
 -- no link yet
 

@@ -1,7 +1,6 @@
 -- Chains of flows, link by link, and the links by which a search from their end found the labels from which one leads (confine's own).
-use Rattle.std.specs.Prelude.{[], ℕ, ◌++◌, ◌<◌, ◌∷◌, ◌↔◌, ◌≡◌, ◌≢◌, ◌⊎◌, List, Some, false, length, slice_get, true}
-use Rattle.base.specs.Labels.{is_in}
-use Rattle.reach.specs.Extents.{Limits}
+use Rattle.std.specs.Prelude.{[], ℕ, ◌++◌, ◌<◌, ◌↔◌, ◌∷◌, ◌≡◌, ◌≢◌, ◌⊎◌, List, Some, false, length, slice_get, true}
+use Rattle.{base.specs.Labels.is_in, reach.specs.Extents.Limits}
 use Rattle.flows.specs.{declared.links.{Link.Link, Sources.Sources}, Flowing.{FilterTest, FlowsBy, GoesOn, Leads}}
 
 -- what the one label does may come to the other by objects of a label that is no filter

@@ -1,9 +1,7 @@
 -- Flows from a label to others: to whom what it does may come, through whom, and what is then kept in every run (confine's own).
 use Rattle.std.specs.Prelude.{ℕ, ◌≡◌, ◌⊎◌, Bool, false, true}
-use Rattle.machine.specs.Layout.{Layout}
-use Rattle.integrity.specs.Apart.{NeverChanges}
-use Rattle.reach.specs.Extents.{Limits, MayChangeIn, MayShrinkIn}
-use Rattle.flows.specs.Seeing.{Sees}
+use Rattle.{machine.specs.Layout.Layout, integrity.specs.Apart.NeverChanges}
+use Rattle.{reach.specs.Extents.{Limits, MayChangeIn, MayShrinkIn}, flows.specs.Seeing.Sees}
 
 -- which labels are filters
 abbrev pub FilterTest : Type 0

@@ -1,9 +1,8 @@
 -- Rows of labels: for each label, whose objects it may affect and on whose it depends; and whose row has a label of a set (confine's own).
 use Rattle.std.specs.Prelude.{ℕ, ◌<◌, ◌↔◌, ◌≡◌, List, get_or, length, true}
 use Rattle.base.specs.{declared.labels.Labels.Labels, Labels.{is_in, no_labels}}
+use Rattle.{reach.specs.Extents.Limits, flows.specs.Flowing.{DependsOn, MayAffect}}
 use Rattle.base.specs.declared.label.TheConstants.Label as Label
-use Rattle.reach.specs.Extents.{Limits}
-use Rattle.flows.specs.Flowing.{DependsOn, MayAffect}
 
 -- the row of a label
 abbrev pub row_at : List Labels → ℕ → Labels

@@ -1,9 +1,8 @@
 -- The objects on which a call of a label's thread depends: what it returns, whether the thread waits, and whom it meets (confine's own).
 use Rattle.std.specs.Prelude.{ℕ, ◌≡◌, ◌≢◌, true}
-use Rattle.base.specs.declared.kind.Kind.{Kind, TheVariants.{Await, Call, Context, Control, Notify, Read, Receive, Reply, Runs}}
-use Rattle.base.specs.declared.kind.Kind.TheVariants.{Send, Space}
-use Rattle.policy.specs.{Change.{ActorTest, MayAnswer}, Domain.EdgeTest}
-use Rattle.reach.specs.Extents.{Limits}
+use Rattle.base.specs.declared.kind.Kind.{Kind, TheVariants.{Await, Call, Context, Control, Notify}}
+use Rattle.base.specs.declared.kind.Kind.TheVariants.{Read, Receive, Reply, Runs, Send, Space}
+use Rattle.{policy.specs.{Change.{ActorTest, MayAnswer}, Domain.EdgeTest}, reach.specs.Extents.Limits}
 
 -- threads of a label act, and may wait for this notification
 abbrev pub MayWaitFor : EdgeTest → ActorTest → ℕ → ℕ → Type 0

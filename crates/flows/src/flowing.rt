@@ -1,7 +1,6 @@
 //! Flows between labels: to whom what a label does may come, and through whom.
 ghost use Rattle.std.specs.Prelude.{ℕ, ◌↔◌, ◌≡◌, IfErr, IfOk, IsTrue, false, true};
-ghost use Rattle.base.specs.{Labels.is_in, Refusals.out_of_memory};
-ghost use Rattle.reach.specs.Extents.{limits_of};
+ghost use Rattle.{base.specs.{Labels.is_in, Refusals.out_of_memory}, reach.specs.Extents.limits_of};
 ghost use Rattle.flows.specs.Flowing.{FlowsBeside, FlowsBy, FlowsTo, GoesOn, GoesThrough, IsClosedOff, IsShielded, Leads, NeverDisturbs};
 
 use crate::meeting::meeting;

@@ -1,9 +1,7 @@
 //! Shortest chains of flows, link by link.
 ghost use Rattle.std.specs.Prelude.{ℕ, ◌≡◌, IfOk, MatchOption, false, length, true};
-ghost use Rattle.base.specs.Labels.{is_in};
-ghost use Rattle.reach.specs.Extents.{Limits, limits_of};
-ghost use Rattle.flows.specs.Chains.{AreFoundLinks, AreSources, IsChain, IsFound, IsLink};
-ghost use Rattle.flows.specs.Flowing.{FilterTest, FlowsBeside, GoesThrough};
+ghost use Rattle.{base.specs.Labels.is_in, reach.specs.Extents.{Limits, limits_of}};
+ghost use Rattle.flows.specs.{Chains.{AreFoundLinks, AreSources, IsChain, IsFound, IsLink}, Flowing.{FilterTest, FlowsBeside, GoesThrough}};
 
 use crate::flowing::Flows;
 use base::{Label, Labels};

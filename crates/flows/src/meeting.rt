@@ -1,8 +1,7 @@
 //! The labels whose row has a label of a set.
 ghost use Rattle.std.specs.Prelude.{ℕ, ◌↔◌, ◌≡◌, ◌≤◌, length, true};
+ghost use Rattle.{base.specs.Labels.is_in, flows.specs.Rows.Meets};
 ghost use Rattle.base.specs.declared.label.TheConstants.Label as Label;
-ghost use Rattle.base.specs.Labels.{is_in};
-ghost use Rattle.flows.specs.Rows.{Meets};
 
 use base::{Label, Labels};
 

@@ -1,9 +1,7 @@
 //! Rows of labels: for each label, whose objects it may affect and on whose it depends.
 ghost use Rattle.std.specs.Prelude.{ℕ, ◌<◌, ◌↔◌, ◌≡◌, IfOk, true};
+ghost use Rattle.{base.specs.Labels.is_in, reach.specs.Extents.limits_of, flows.specs.{Flowing.{DependsOn, MayAffect}, Rows.AreRowsOf}};
 ghost use Rattle.base.specs.declared.label.TheConstants.Label as Label;
-ghost use Rattle.base.specs.Labels.{is_in};
-ghost use Rattle.reach.specs.Extents.{limits_of};
-ghost use Rattle.flows.specs.{Flowing.{DependsOn, MayAffect}, Rows.AreRowsOf};
 
 use crate::seeing::sees;
 use base::{Label, Labels};

@@ -1,9 +1,7 @@
 //! The labels on whose objects the calls of a label's threads depend.
 ghost use Rattle.std.specs.Prelude.{[], ℕ, ◌↔◌, ◌∷◌, ◌≡◌, true};
-ghost use Rattle.base.specs.Labels.{is_in};
-ghost use Rattle.policy.specs.{Change.{MayAnswer, MayHoldCaller}, Policy.allows, Steps.IsSource};
-ghost use Rattle.reach.specs.Extents.{limits_by, limits_of};
-ghost use Rattle.flows.specs.Seeing.{IsBeside, IsContested, Sees};
+ghost use Rattle.{base.specs.Labels.is_in, policy.specs.{Change.{MayAnswer, MayHoldCaller}, Policy.allows, Steps.IsSource}};
+ghost use Rattle.{reach.specs.Extents.{limits_by, limits_of}, flows.specs.Seeing.{IsBeside, IsContested, Sees}};
 
 use base::{Kind, Label, Labels};
 use policy::Policy;

@@ -1,12 +1,10 @@
 -- The text on what flows from one label to another: through which programs all of it goes, and a chain of flows (confine's own).
 use Rattle.std.specs.{List.flat_map, Prelude.{[], ℕ, ◌++◌, ◌∷◌, ◌≡◌, List, codes, false, if◌then◌else◌}}
 use Rattle.base.specs.{declared.labels.Labels.Labels, Labels.{is_in, members_of}}
-use Rattle.machine.specs.Layout.{Layout}
-use Rattle.captext.specs.PolicyText.{label_name}
-use Rattle.reach.specs.{Extents.{Limits, limits_of}, Reach.TableReach}
-use Rattle.flows.specs.{Chains.IsChain, Flowing.{FilterTest, GoesThrough}, declared.links.Link.Link}
-use Rattle.filters.specs.{Ways.programs_beside, Smallest.{IsFilterSet, IsSmallest}, declared.smallest.{Sets.Sets, Smallest.{Smallest, Smallest as smallest}}}
-use Rattle.flowtext.specs.declared.flow.TheConstants.{MOST_SETS}
+use Rattle.{machine.specs.Layout.Layout, reach.specs.{Extents.{Limits, limits_of}, Reach.TableReach}}
+use Rattle.flows.specs.{declared.links.Link.Link, Chains.IsChain, Flowing.{FilterTest, GoesThrough}}
+use Rattle.filters.specs.{declared.smallest.{Sets.Sets, Smallest.{Smallest, Smallest as smallest}}, Smallest.{IsFilterSet, IsSmallest}}
+use Rattle.{filters.specs.Ways.programs_beside, captext.specs.PolicyText.label_name, flowtext.specs.declared.flow.TheConstants.MOST_SETS}
 
 -- a label's name, behind a space
 abbrev pub spaced : Layout → ℕ → List ℕ

@@ -1,7 +1,6 @@
 //! The matrix of flows between programs.
 ghost use Rattle.std.specs.Prelude.{◌≡◌, IfErr, IfOk, string_bytes};
-ghost use Rattle.base.specs.Refusals.{out_of_memory};
-ghost use Rattle.flowtext.specs.FlowMatrix.{IsFlowMatrix, flow_matrix_text};
+ghost use Rattle.{base.specs.Refusals.out_of_memory, flowtext.specs.FlowMatrix.{IsFlowMatrix, flow_matrix_text}};
 
 use crate::rows::{FlowRow, flow_rows};
 use base::Refusal;

@@ -1,7 +1,6 @@
 //! The text on the flows from one label to another.
 ghost use Rattle.std.specs.Prelude.{◌≡◌, IfErr, IfOk, string_bytes};
-ghost use Rattle.base.specs.Refusals.{out_of_memory};
-ghost use Rattle.reach.specs.Extents.{limits_of};
+ghost use Rattle.{base.specs.Refusals.out_of_memory, reach.specs.Extents.limits_of};
 ghost use Rattle.flowtext.specs.FlowText.{AreAvoided, IsFlowText, reached_text};
 
 use crate::lines::{write_links, write_smallest};

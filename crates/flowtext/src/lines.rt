@@ -1,7 +1,6 @@
 //! The lines of sets of programs, and of flows.
 ghost use Rattle.std.specs.{List.flat_map, Prelude.{◌++◌, ◌≡◌, IfOk, OnOk, string_bytes}};
-ghost use Rattle.base.specs.Labels.{members_of};
-ghost use Rattle.flowtext.specs.FlowText.{link_line, set_line, smallest_text, spaced};
+ghost use Rattle.{base.specs.Labels.members_of, flowtext.specs.FlowText.{link_line, set_line, smallest_text, spaced}};
 
 use base::{Label, Labels};
 use captext::label_name;

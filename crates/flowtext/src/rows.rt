@@ -1,9 +1,8 @@
 //! The rows of the matrix of flows: through how many programs all flows from one program to each other one go.
 ghost use Rattle.std.specs.Prelude.{◌≡◌, IfOk, string_bytes};
-ghost use Rattle.reach.specs.Extents.{limits_of};
-ghost use Rattle.filters.specs.Sets.{size_of};
-ghost use Rattle.summary.specs.Labelled.{programs_of};
-ghost use Rattle.flowtext.specs.FlowMatrix.{AreFlowRows, AreSizes, IsSize, cells, count_text, first_size, size_at, size_of_smallest, size_text};
+ghost use Rattle.{reach.specs.Extents.limits_of, filters.specs.Sets.size_of, summary.specs.Labelled.programs_of};
+ghost use Rattle.flowtext.specs.FlowMatrix.{AreFlowRows, AreSizes, IsSize, cells, count_text};
+ghost use Rattle.flowtext.specs.FlowMatrix.{first_size, size_at, size_of_smallest, size_text};
 
 use crate::lines::members;
 use base::{Label, Labels};

@@ -1,7 +1,5 @@
 -- The nearest of some names to a word. The definition is confine's own.
-use Rattle.std.specs.Prelude.{ℕ, Bool, List, Option, length, find, nat_eq, nat_le, nat_lt, ◌&&◌}
-use Rattle.std.specs.Option.{option_or}
-use Rattle.std.specs.Str.{chars}
+use Rattle.std.specs.{Option.option_or, Prelude.{ℕ, ◌&&◌, Bool, List, Option, find, length, nat_eq, nat_le, nat_lt}, Str.chars}
 use Rattle.strsim.specs.Edits.{osa_table}
 
 -- how many letters are put in, left out or changed, or swapped with their neighbours, from a word to a name

@@ -1,7 +1,6 @@
 //! The calls Read and Write, on the words of a frame.
 ghost use Rattle.std.specs.Prelude.{◌≡◌};
-ghost use Rattle.machine.specs.{Machine.words_of, Makes.Makes, Step.Words.{in_frame, read_of, word_in, write_of}};
-ghost use Rattle.machine.specs.WellFormed.{IsWellFormed};
+ghost use Rattle.machine.specs.{Machine.words_of, Makes.Makes, Step.Words.{in_frame, read_of, word_in, write_of}, WellFormed.IsWellFormed};
 
 use base::{Cause, ObjId, Rights};
 use bitflags::Flags;

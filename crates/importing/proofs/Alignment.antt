@@ -1,7 +1,6 @@
 -- The next multiple of a power of two: it is a multiple, and isn't below the number.
-use Rattle.std.proofs.{Common.{ℕ, ◌%◌, ◌*◌, ◌+◌, ◌-◌, ◌/◌, ◌<◌, ◌^◌, ◌≡◌, ◌≤◌, arith}, Math.Nat.{div-add-mod, mod-lt, mul-mod_left}}
-use Rattle.std.proofs.{Math.Nat.mul_comm, lemmas.Nat.pow_pos}
-use Rattle.importing.specs.Objects.{aligned_up}
+use Rattle.std.proofs.Common.{ℕ, ◌%◌, ◌*◌, ◌+◌, ◌-◌, ◌/◌, ◌<◌, ◌^◌, ◌≡◌, ◌≤◌, arith}
+use Rattle.{std.proofs.{Math.Nat.{div-add-mod, mod-lt, mul-mod_left, mul_comm}, lemmas.Nat.pow_pos}, importing.specs.Objects.aligned_up}
 
 pub is_multiple : (next bits : ℕ) → aligned_up next bits % 2 ^ bits ≡ 0
 is_multiple next bits = mul-mod_left ((next + (2 ^ bits - 1)) / 2 ^ bits) (2 ^ bits)

@@ -1,12 +1,9 @@
 -- Filled slots of a table that is built up: they come from the capabilities of its description, one from each.
-use Rattle.std.{specs.{List.AllZip, Prelude.unwrap_or}, proofs.Common.{[], ℕ, ◌++◌, ◌∙◌, ◌∷◌, ◌≡◌, List, Ok, Option, Some, ap}}
-use Rattle.std.proofs.{Common.{map, refl, subst, sym}}
-use Rattle.machine.specs.{declared.layout.Filled.Filled, Layout.Layout}
-use Rattle.microkit.specs.Description.{Description}
-use Rattle.importing.specs.declared.pieces.{Grant.Grant, Minting.Minting, Piece.Piece}
-use Rattle.importing.specs.{Grants.{grants_of, roots_of}, Origins.{ComesFrom, origins_of}, Pieces.pieces_of}
-use Rattle.importing.specs.Tables.{filled_up, grant_added, grants_added, piece_number, plan_for, table_at, table_by}
-use Rattle.importing.{specs.Whole.filled_at, proofs.Whole.{found, planned_was, stepped, table_whole}}
+use Rattle.std.{specs.List.AllZip, proofs.Common.{[], ℕ, ◌++◌, ◌∙◌, ◌∷◌, ◌≡◌, List, Ok, Option, Some, ap, map, refl, subst, sym, unwrap_or}}
+use Rattle.{microkit.specs.Description.Description, machine.specs.{declared.layout.Filled.Filled, Layout.Layout}}
+use Rattle.importing.specs.{declared.pieces.{Grant.Grant, Minting.Minting, Piece.Piece}, Grants.{grants_of, roots_of}, Origins.ComesFrom}
+use Rattle.importing.specs.{Origins.origins_of, Pieces.pieces_of, Tables.{filled_up, grant_added, grants_added, piece_number, plan_for}}
+use Rattle.importing.{specs.{Tables.{table_at, table_by}, Whole.filled_at}, proofs.Whole.{found, planned_was, stepped, table_whole}}
 
 -- what is there is found with any default
 there : (o : Option ℕ) (n : ℕ) → o ≡ Some n → o ≡ Some (unwrap_or o 0)

@@ -1,13 +1,11 @@
 -- Objects that end below an address, and one that lies above it.
-use Rattle.std.specs.{List.{list_any}}
-use Rattle.std.proofs.Common.{[], ℕ, ◌&&◌, ◌++◌, ◌<◌, ◌∙◌, ◌∷◌, ◌≡◌, ◌≤◌, Bool, List, ap, arith, false, is_some, length, nat_lt, not, refl, subst, true}
-use Rattle.std.proofs.lemmas.{Bool.{Decides.nat_tests, or_from}}
+use Rattle.std.{specs.List.list_any, proofs.Common.{[], ℕ, ◌&&◌, ◌++◌, ◌<◌, ◌∙◌, ◌∷◌, ◌≡◌, ◌≤◌, Bool, List, ap, arith, false}}
+use Rattle.std.proofs.{Common.{is_some, length, nat_lt, not, refl, subst, true}, lemmas.Bool.{Decides.nat_tests, or_from}}
+use Rattle.{base.specs.declared.limits.TheConstants.ADDRESS_END, words.specs.Name.is_name}
 use Rattle.machine.specs.declared.{layout.Initial.Initial, object.Object.{Object, Object as o}}
-use Rattle.machine.specs.{Layout.{Layout}, Objects.{address_of, end_of}}
-use Rattle.table.specs.{Building.{AdmitsObject, has_room, is_free, repeats_control}, Names.{object_named}, Placement.{meets}, Rules.{is_control_of}}
-use Rattle.base.specs.declared.limits.TheConstants.{ADDRESS_END}
-use Rattle.words.specs.Name.{is_name}
-use Rattle.importing.specs.{Built.{Built, EndBelow}, Objects.{IsPlaced}}
+use Rattle.machine.specs.{Layout.Layout, Objects.{address_of, end_of}}
+use Rattle.table.specs.{Building.{AdmitsObject, has_room, is_free, repeats_control}, Names.object_named, Placement.meets}
+use Rattle.{table.specs.Rules.is_control_of, importing.specs.{Built.{Built, EndBelow}, Objects.IsPlaced}}
 
 misses : (one other : Object) (next : ℕ) → end_of one ≤ next → next ≤ address_of other → meets one other ≡ false
 misses one other next ends above =

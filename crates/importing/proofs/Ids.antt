@@ -1,8 +1,7 @@
 -- Ends of channels that are found by an id: the id of the other end is one too, below 62.
 use Rattle.std.{specs.Option.option_and_then, proofs.Common.{ℕ, ◌<◌, ◌≡◌, List, None, Option, Some, arith, slice_get}}
 use Rattle.std.proofs.lemmas.{Bool.Decides.nat_tests, Grind.common_steps}
-use Rattle.microkit.specs.declared.description.{Channel.Channel, End.End}
-use Rattle.importing.specs.Slots.{channel_at, end_at, end_in}
+use Rattle.{microkit.specs.declared.description.{Channel.Channel, End.End}, importing.specs.Slots.{channel_at, end_at, end_in}}
 
 in_channel : (n id : ℕ) (channel : Channel) (own other : End) → end_in n id channel ≡ Some (own, other) → other.id.number < 62
 in_channel n id channel own other is = grind (arith, common_steps, nat_tests)

@@ -1,13 +1,11 @@
 -- Labels of a table, added one after another.
-use Rattle.std.{specs.List.{AllByRecursion, AllPairs}, proofs.Common.{[], ℕ, ◌++◌, ◌+◌, ◌<◌, ◌∙◌, ◌∷◌, ◌≡◌, ◌≢◌, ◌≤◌, Bool, List, add-one}}
-use Rattle.std.proofs.Common.{ap, arith, cond, false, get_or, length, nat_le, refl, subst, suc, sym, take, true, zero}
+use Rattle.std.{specs.List.{AllByRecursion, AllPairs}, proofs.Common.{[], ℕ, ◌++◌, ◌+◌, ◌<◌, ◌∙◌, ◌∷◌, ◌≡◌, ◌≢◌, ◌≤◌, Bool, List}}
+use Rattle.std.proofs.Common.{add-one, ap, arith, cond, false, get_or, length, nat_le, refl, subst, suc, sym, take, true, zero}
 use Rattle.std.proofs.lemmas.{Bool.Decides.nat_tests, List.{get_or-map, get_or-take, length-take-le}}
-use Rattle.words.specs.Name.{is_name}
-use Rattle.microkit.specs.Names.{IsLabelName}
-use Rattle.machine.specs.Layout.{Layout, most_labels}
-use Rattle.machine.specs.declared.layout.Version.TheVariants as version
+use Rattle.{words.specs.Name.is_name, microkit.specs.Names.IsLabelName, machine.specs.Layout.{Layout, most_labels}}
 use Rattle.table.{specs.{Building.{AdmitsLabel, with_label}, Names.label_named}, proofs.FrontLemmas.no_place}
 use Rattle.importing.{specs.{Built.{labelled, version_for}, Groups.{labels_at, name_at}}, proofs.Items.length_seen}
+use Rattle.machine.specs.declared.layout.Version.TheVariants as version
 
 -- a table with the first labels, this many
 abbrev pub first_labels : List (List ℕ) → ℕ → Layout

@@ -1,8 +1,7 @@
 -- Objects of a table, added one after another.
 use Rattle.std.proofs.Common.{ℕ, ◌+◌, ◌<◌, ◌∙◌, ◌∷◌, ◌≡◌, ◌≤◌, Err, List, Ok, add-one, ap, drop, drop-cons, get_or, length}
-use Rattle.std.proofs.lemmas.List.{drop_all}
-use Rattle.words.specs.{Reading.{bind}, declared.faults.Fault.{Fault}}
-use Rattle.importing.specs.{Built.{Built, Plan, piece_added, pieces_added}, declared.pieces.Piece.{Piece}}
+use Rattle.{std.proofs.lemmas.List.drop_all, words.specs.{declared.faults.Fault.Fault, Reading.bind}}
+use Rattle.importing.specs.{declared.pieces.Piece.Piece, Built.{Built, Plan, piece_added, pieces_added}}
 
 -- the pieces from one on
 pieces_from : (pieces : List Piece) (i : ℕ) (none : Piece) → i < length pieces

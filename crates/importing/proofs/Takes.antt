@@ -1,13 +1,12 @@
 -- Capabilities and bindings of a table, added one after another if the tests say that the table takes them.
 use Rattle.std.proofs.Common.{ℕ, ◌+◌, ◌<◌, ◌∙◌, ◌≡◌, ◌≤◌, Err, List, Ok, Option, Some, ap, arith, drop, get_or, length, true}
 use Rattle.std.proofs.lemmas.{Bool.{and_parts, not-true}, List.drop_all}
-use Rattle.words.specs.{declared.faults.Fault.Fault, Reading.bind}
-use Rattle.microkit.specs.Description.{Description}
+use Rattle.{words.specs.{declared.faults.Fault.Fault, Reading.bind}, microkit.specs.Description.Description}
 use Rattle.machine.specs.{declared.{layout.{Binding.Binding, Filled.Filled}, object.ObjectKind.ObjectKind}, Layout.Layout}
-use Rattle.machine.specs.declared.object.ObjectKind.TheVariants as kind
 use Rattle.table.specs.Building.{AdmitsBinding, AdmitsCap}
-use Rattle.importing.specs.{declared.{pieces.{Grant.Grant, Piece.Piece}, tables.Bond.Bond}, Tables.{bond_added, bonds_added, grant_added}}
-use Rattle.importing.{specs.Tables.{grants_added, is_context, is_thread, takes_binding, takes_cap}, proofs.Regions.drop_more}
+use Rattle.importing.specs.{declared.{pieces.{Grant.Grant, Piece.Piece}, tables.Bond.Bond}, Tables.{bond_added, bonds_added}}
+use Rattle.importing.{specs.Tables.{grant_added, grants_added, is_context, is_thread, takes_binding, takes_cap}, proofs.Regions.drop_more}
+use Rattle.machine.specs.declared.object.ObjectKind.TheVariants as kind
 
 -- a table admits a filled slot that it takes
 pub admits_cap : (t : Layout) (filled : Filled) → takes_cap t filled ≡ true → filled.cap.original ≡ true → AdmitsCap t filled

@@ -1,18 +1,16 @@
 -- A table that is built up has the objects, capabilities and bindings of the whole lists.
-use Rattle.std.{specs.Prelude.unwrap_or, proofs.Common.{[], ℕ, ◌&&◌, ◌++◌, ◌∙◌, ◌∷◌, ◌≡◌, Bool, Err, List, None, Ok, Option, Result, Some}}
-use Rattle.std.proofs.Common.{ap, append_assoc, cond, false, is_some, length, map, nat_le, nat_lt, not, refl, subst, sym, true}
-use Rattle.std.proofs.lemmas.List.{append-nil, map-append}
-use Rattle.base.specs.declared.{ids.SlotRef.SlotRef, limits.TheConstants.ADDRESS_END}
-use Rattle.words.specs.{declared.faults.Wrong.{Wrong, TheVariants.{Double, Limit, UnknownName}}, Fault.fault_at, Name.{is_name, name_of}}
-use Rattle.words.specs.Reading.{bind}
-use Rattle.microkit.specs.{Description.Description, Labels.names_of}
+use Rattle.std.{specs.Prelude.unwrap_or, proofs.Common.{[], ℕ, ◌&&◌, ◌++◌, ◌∙◌, ◌∷◌, ◌≡◌, Bool, Err, List, None, Ok, Option, Result}}
+use Rattle.std.proofs.Common.{Some, ap, append_assoc, cond, false, is_some, length, map, nat_le, nat_lt, not, refl, subst, sym, true}
+use Rattle.{std.proofs.lemmas.List.{append-nil, map-append}, base.specs.declared.{ids.SlotRef.SlotRef, limits.TheConstants.ADDRESS_END}}
+use Rattle.words.specs.{declared.faults.Wrong.{TheVariants.{Double, Limit, UnknownName}, Wrong}, Fault.fault_at}
+use Rattle.{words.specs.{Name.{is_name, name_of}, Reading.bind}, microkit.specs.{Description.Description, Labels.names_of}}
 use Rattle.machine.specs.declared.{cap.Detail.Detail, layout.{Binding.Binding, Filled.Filled, Initial.Initial, Pair.Pair}}
 use Rattle.machine.specs.{declared.object.Object.Object, Layout.{Layout, initial_parent}, Objects.end_of}
-use Rattle.table.specs.{Building.{has_room, with_binding, with_filled}, Names.object_named, Tree.{is_original, source_of, tree_fault}}
-use Rattle.table.specs.Tree.{with_mark, with_originals}
-use Rattle.importing.specs.{declared.{pieces.{Grant.Grant, Minting.Minting, Piece.Piece}, tables.Bond.Bond}, Built.Built}
-use Rattle.importing.specs.Built.{Plan, labelled, object_added, object_placed, or_fault, piece_added, piece_label, piece_name, pieces_added}
-use Rattle.importing.specs.{Built.{started, with_object}, Grants.{grants_of, roots_of}, Groups.labels_at, Objects.object_of}
+use Rattle.table.specs.{Building.{has_room, with_binding, with_filled}, Names.object_named}
+use Rattle.table.specs.Tree.{is_original, source_of, tree_fault, with_mark, with_originals}
+use Rattle.importing.specs.declared.{pieces.{Grant.Grant, Minting.Minting, Piece.Piece}, tables.Bond.Bond}
+use Rattle.importing.specs.Built.{Built, Plan, labelled, object_added, object_placed, or_fault, piece_added, piece_label, piece_name}
+use Rattle.importing.specs.{Built.{pieces_added, started, with_object}, Grants.{grants_of, roots_of}, Groups.labels_at, Objects.object_of}
 use Rattle.importing.specs.{Pieces.pieces_of, Tables.{binding_added, binding_by, bond_added, bonds_added, bonds_of, cap_added, filled_by}}
 use Rattle.importing.specs.Tables.{filled_up, finished, grant_added, grants_added, objects_by, piece_number, plan_for, planned, table_at}
 use Rattle.importing.specs.{Tables.{table_by, takes_binding, takes_cap}, Whole.{AreOfPieces, IsOfPiece, IsTableOf, binding_at, filled_at}}

@@ -1,16 +1,14 @@
 -- Building up a table from a description: its labels, then one object after another (confine's own).
 use Rattle.std.specs.{List.AllByRecursion, Prelude.{[], ℕ, ◌&&◌, ◌∷◌, ◌≤◌, Err, List, None, Ok, Option, Result, Some, if◌then◌else◌}}
-use Rattle.std.specs.Prelude.{is_some, length, nat_le, nat_lt, not, unwrap_or}
-use Rattle.base.specs.declared.limits.TheConstants.{ADDRESS_END}
-use Rattle.words.specs.{declared.faults.{Fault.Fault, Wrong.{Wrong, TheVariants.{Double, Limit, UnknownName}}}, Fault.fault_at}
-use Rattle.words.specs.{Name.name_of, Reading.◌>>=◌}
+use Rattle.{std.specs.Prelude.{is_some, length, nat_le, nat_lt, not, unwrap_or}, base.specs.declared.limits.TheConstants.ADDRESS_END}
+use Rattle.words.specs.declared.faults.{Fault.Fault, Wrong.{TheVariants.{Double, Limit, UnknownName}, Wrong}}
+use Rattle.words.specs.{Fault.fault_at, Name.name_of, Reading.◌>>=◌}
 use Rattle.microkit.specs.{declared.{description.Map.Map, labels.Subject.Subject}, Description.Description, Names.object_name}
 use Rattle.machine.specs.{declared.{layout.{Initial.Initial, Version.Version}, object.Object.Object}, Layout.{Layout, empty_layout}}
-use Rattle.machine.specs.Objects.{end_of}
+use Rattle.{machine.specs.Objects.end_of, table.specs.{Building.{has_room, with_initial}, Names.object_named}}
+use Rattle.importing.specs.{declared.pieces.{Grant.Grant, Piece.Piece}, Groups.{leader_of, name_at}}
+use Rattle.importing.specs.{Objects.object_of, Plan.{label_of, part_of, piece_line, subject_of}}
 use Rattle.machine.specs.declared.layout.Version.TheVariants as version
-use Rattle.table.specs.{Building.{has_room, with_initial}, Names.object_named}
-use Rattle.importing.specs.{declared.pieces.{Grant.Grant, Piece.Piece}, Groups.{leader_of, name_at}, Objects.object_of}
-use Rattle.importing.specs.Plan.{label_of, part_of, piece_line, subject_of}
 
 -- the plan of a table: what has a name and which, the maps of regions if some share a label, and the subjects that have a label of their
 -- own

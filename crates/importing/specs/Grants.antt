@@ -1,10 +1,9 @@
 -- Capabilities in the CNodes of domains and virtual machines (confine's own).
 use Rattle.std.specs.{List.{filter_map, flat_map, range_with_len}, Prelude.{[], ℕ, ◌++◌, ◌+◌, ◌-◌, ◌∷◌, List, Option, length, option_map}}
-use Rattle.microkit.specs.Description.{Description}
-use Rattle.machine.specs.declared.cap.Detail.{Detail, Detail as detail}
-use Rattle.importing.specs.declared.{pieces.{Grant.Grant, Minting.Minting, Piece.Piece}, slots.Held.Held}
-use Rattle.importing.specs.{declared.slots.TheConstants.MAPS, Maps.{guest_held, maps_held}, Objects.radix_of, Slots.slot_held}
-use Rattle.importing.specs.Plan.{domain_line, machine_number, processor_line}
+use Rattle.{microkit.specs.Description.Description, machine.specs.declared.cap.Detail.{Detail, Detail as detail}}
+use Rattle.importing.specs.declared.{pieces.{Grant.Grant, Minting.Minting, Piece.Piece}, slots.{Held.Held, TheConstants.MAPS}}
+use Rattle.importing.specs.{Maps.{guest_held, maps_held}, Objects.radix_of}
+use Rattle.importing.specs.{Plan.{domain_line, machine_number, processor_line}, Slots.slot_held}
 use Rattle.microkit.specs.declared.description.User.TheVariants as user
 use Rattle.importing.specs.declared.pieces.Form.TheVariants as form
 

@@ -1,12 +1,11 @@
 -- Capabilities in successive slots of CNodes: the maps of a domain, from slot 458 on, and all of a virtual machine's (confine's own).
 use Rattle.std.specs.{List.{filter_map, list_any, position}, Option.{option_and_then, option_map_or}}
-use Rattle.std.specs.Prelude.{[], ℕ, ◌&&◌, ◌++◌, ◌==◌, ◌||◌, ◌∷◌, Bool, List, None, Option, if◌then◌else◌}
-use Rattle.std.specs.Prelude.{map, not, slice_get, take}
+use Rattle.std.specs.Prelude.{[], ℕ, ◌&&◌, ◌++◌, ◌==◌, ◌||◌, ◌∷◌, Bool, List, None, Option, if◌then◌else◌, map, not, slice_get, take}
 use Rattle.base.specs.{declared.rights.Rights.Rights, Rights.rights_with}
 use Rattle.microkit.specs.{declared.description.{Map.Map, Processor.Processor, User.User}, Description.Description}
-use Rattle.microkit.specs.declared.description.User.TheVariants as user
 use Rattle.machine.specs.declared.cap.Detail.{Detail as detail}
 use Rattle.importing.specs.{declared.{pieces.Minting.Minting, slots.Held.Held}, Slots.{capability, parent_held}}
+use Rattle.microkit.specs.declared.description.User.TheVariants as user
 use Rattle.importing.specs.declared.pieces.Form.TheVariants as form
 
 -- the test that two users are the same

@@ -1,9 +1,7 @@
 -- Origins of the capabilities in the table of a description (confine's own).
 use Rattle.std.specs.Prelude.{◌++◌, ◌≡◌, List, Some}
-use Rattle.machine.specs.declared.layout.Filled.{Filled}
-use Rattle.microkit.specs.Description.{Description}
-use Rattle.importing.specs.{Grants.{grants_of, roots_of}, Tables.piece_number}
-use Rattle.importing.specs.declared.pieces.{Grant.{Grant}, Minting.{Minting}, Piece.{Piece}}
+use Rattle.{microkit.specs.Description.Description, machine.specs.declared.layout.Filled.Filled}
+use Rattle.importing.specs.{declared.pieces.{Grant.Grant, Minting.Minting, Piece.Piece}, Grants.{grants_of, roots_of}, Tables.piece_number}
 
 -- the capabilities of the CNodes and then the roots, each with the line of its element
 abbrev pub origins_of : Description → Minting → List Grant

@@ -1,9 +1,8 @@
 -- Objects of the table that a description becomes, in their order (confine's own; compare the Microkit user manual, "Concepts").
-use Rattle.std.specs.{List.{list_any, range_with_len}, Option.{option_map_or}}
-use Rattle.std.specs.Prelude.{ℕ, ◌&&◌, ◌++◌, ◌==◌, ◌||◌, Bool, List, false, filter, length, map, true}
-use Rattle.microkit.specs.{Description.{Description, Domain, Machine}, Labels.{is_mapped as is_mapped_by}}
-use Rattle.microkit.specs.declared.description.{Channel.{Channel}, Id.{Id}, Map.{Map}}
-use Rattle.importing.specs.declared.pieces.{Form.{Form}, Piece.{Piece}}
+use Rattle.std.specs.{List.{list_any, range_with_len}, Option.option_map_or}
+use Rattle.std.specs.Prelude.{ℕ, ◌&&◌, ◌++◌, ◌==◌, ◌||◌, Bool, List, false, filter, length, map}
+use Rattle.microkit.specs.{declared.description.{Channel.Channel, Id.Id, Map.Map}, Description.{Description, Domain, Machine}}
+use Rattle.{microkit.specs.Labels.is_mapped as is_mapped_by, importing.specs.declared.pieces.{Form.Form, Piece.Piece}}
 use Rattle.importing.specs.declared.pieces.Form.TheVariants as form
 
 -- the place of a form among the objects

@@ -1,10 +1,9 @@
 -- Names, labels and lines of objects, by the description (confine's own).
-use Rattle.std.specs.{List.position, Option.{option_map_or}, Prelude.{ℕ, ◌&&◌, ◌==◌, Bool, List, Option, if◌then◌else◌, slice_get}}
-use Rattle.microkit.specs.{Description.{Description}, Labels.{line_of, may_call}}
-use Rattle.microkit.specs.declared.{description.{Channel.{Channel}, Processor.{Processor}}, labels.Subject.{Subject}, names.Part.{Part}}
+use Rattle.std.specs.{List.position, Option.option_map_or, Prelude.{ℕ, ◌&&◌, ◌==◌, Bool, List, Option, if◌then◌else◌, slice_get}}
+use Rattle.microkit.specs.declared.{description.{Channel.Channel, Processor.Processor}, labels.Subject.Subject, names.Part.Part}
+use Rattle.{microkit.specs.{Description.Description, Labels.{line_of, may_call}}, importing.specs.declared.pieces.{Form.Form, Piece.Piece}}
 use Rattle.microkit.specs.declared.labels.Subject.TheVariants as subject
 use Rattle.microkit.specs.declared.names.Part.TheVariants as part
-use Rattle.importing.specs.declared.pieces.{Form.{Form}, Piece.{Piece}}
 use Rattle.importing.specs.declared.pieces.Form.TheVariants as form
 
 -- the virtual machine of a virtual processor

@@ -1,7 +1,6 @@
 -- Plans as values, without where they lie in memory (confine's own).
 use Rattle.std.specs.{Global.Vec, Prelude.{List, map}}
-use Rattle.microkit.specs.{declared.description.Map.Map, LabelView.bytes_of, View.description_of}
-use Rattle.importing.specs.Built.{Plan}
+use Rattle.{microkit.specs.{declared.description.Map.Map, LabelView.bytes_of, View.description_of}, importing.specs.Built.Plan}
 use Rattle.importing.specs.declared.builder.Plan as declared_plan
 
 abbrev pub maps_of : List (Vec Map) → List (List Map)

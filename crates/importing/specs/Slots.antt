@@ -1,13 +1,12 @@
 -- The capability in each slot of a domain's CNode, except the maps (Microkit user manual, "Concepts"; the slots are those of its library).
 -- Each has the line of the element that it comes from.
-use Rattle.std.specs.{List.position, Option.{option_and_then, option_map_or}, Prelude.{ℕ, ◌&&◌, ◌+◌, ◌-◌, ◌==◌, ◌^◌, Bool, List, None}}
-use Rattle.std.specs.Prelude.{Option, Some, false, if◌then◌else◌, is_some, nat_lt, option_map, slice_get}
+use Rattle.std.specs.{List.position, Option.{option_and_then, option_map_or}, Prelude.{ℕ, ◌&&◌, ◌+◌, ◌-◌, ◌==◌, ◌^◌}}
+use Rattle.std.specs.Prelude.{Bool, List, None, Option, Some, false, if◌then◌else◌, is_some, nat_lt, option_map, slice_get}
 use Rattle.base.specs.{declared.rights.Rights.Rights, Rights.rights_with}
 use Rattle.microkit.specs.{declared.description.{Channel.Channel, End.End, Id.Id, Processor.Processor}, Description.{Description, Domain}}
 use Rattle.machine.specs.declared.cap.Detail.{Detail, Detail as detail}
-use Rattle.importing.specs.declared.{pieces.{Form.Form, Minting.Minting}, slots.{Held.Held, TheConstants.{BELLS, CALLS}}}
-use Rattle.importing.specs.{declared.slots.TheConstants.{CHILDREN, IDS, PROCESSORS}, Pieces.is_called}
-use Rattle.importing.specs.Plan.{domain_line, processor_line}
+use Rattle.importing.specs.declared.{pieces.{Form.Form, Minting.Minting}, slots.{Held.Held, TheConstants.{BELLS, CALLS, CHILDREN, IDS}}}
+use Rattle.importing.specs.{declared.slots.TheConstants.PROCESSORS, Pieces.is_called, Plan.{domain_line, processor_line}}
 use Rattle.importing.specs.declared.pieces.Form.TheVariants as form
 use Rattle.importing.specs.declared.pieces.Minting.TheVariants as minting
 

@@ -1,11 +1,10 @@
 -- The table of a description as whole lists of objects, capabilities and bindings (confine's own).
 use Rattle.std.specs.Prelude.{[], ℕ, ◌++◌, ◌∷◌, ◌≡◌, List, Ok, Some, length, map, unwrap_or}
-use Rattle.machine.specs.{Layout.{Layout}, Objects.end_of, declared.layout.{Binding.Binding, Filled.Filled, Initial.Initial}}
-use Rattle.microkit.specs.{Description.{Description}, Labels.{names_of, subjects_of}}
-use Rattle.importing.specs.{Built.{Plan, piece_label, piece_name, version_for}, Groups.{labels_at, places_of, uses_in}}
-use Rattle.importing.specs.{Grants.{grants_of, roots_of}, Objects.{object_of}, Pieces.{pieces_of}}
-use Rattle.importing.specs.{Tables.{binding_by, bonds_of, filled_by, piece_number, plan_for}}
-use Rattle.importing.specs.declared.{pieces.{Grant.{Grant}, Minting.{Minting}, Piece.{Piece}}, tables.Bond.{Bond}}
+use Rattle.microkit.specs.{Description.Description, Labels.{names_of, subjects_of}}
+use Rattle.machine.specs.{declared.layout.{Binding.Binding, Filled.Filled, Initial.Initial}, Layout.Layout, Objects.end_of}
+use Rattle.importing.specs.{declared.{pieces.{Grant.Grant, Minting.Minting, Piece.Piece}, tables.Bond.Bond}, Built.{Plan, piece_label}}
+use Rattle.importing.specs.{Built.{piece_name, version_for}, Grants.{grants_of, roots_of}, Groups.{labels_at, places_of, uses_in}}
+use Rattle.importing.specs.{Objects.object_of, Pieces.pieces_of, Tables.{binding_by, bonds_of, filled_by, piece_number, plan_for}}
 
 -- a filled slot of these pieces
 abbrev pub filled_at : List Piece → Grant → Filled

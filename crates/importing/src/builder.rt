@@ -1,15 +1,13 @@
 //! A table that is built up from a description: its labels and objects.
-ghost use Rattle.std.specs.{List.{AllByRecursion, AllPairs}, Option.option_copied, Prelude.{◌&&◌, ◌<◌, ◌≡◌, ◌≢◌, ◌≤◌}};
-ghost use Rattle.std.specs.Prelude.{IfOk, OnOk, false, is_some, length, nat_le, true};
-ghost use Rattle.base.specs.declared.limits.TheConstants.{ADDRESS_END};
-ghost use Rattle.base.specs.declared.label.TheConstants.Label as LabelLimits;
-ghost use Rattle.words.specs.{Name.is_name, Reading.Reads};
-ghost use Rattle.microkit.specs.{LabelView.bytes_of, Names.IsLabelName};
-ghost use Rattle.machine.specs.Objects.{end_of, size_bits, size_of};
+ghost use Rattle.std.specs.{List.{AllByRecursion, AllPairs}, Option.option_copied};
+ghost use Rattle.std.specs.Prelude.{◌&&◌, ◌<◌, ◌≡◌, ◌≢◌, ◌≤◌, IfOk, OnOk, false, is_some, length, nat_le, true};
+ghost use Rattle.{base.specs.declared.limits.TheConstants.ADDRESS_END, words.specs.{Name.is_name, Reading.Reads}};
+ghost use Rattle.{microkit.specs.{LabelView.bytes_of, Names.IsLabelName}, machine.specs.Objects.{end_of, size_bits, size_of}};
 ghost use Rattle.table.specs.{Building.{AdmitsLabel, has_room, with_label}, Names.object_named};
 ghost use Rattle.importing.specs.Built.{object_added, object_placed, piece_added, piece_label, piece_name};
 ghost use Rattle.importing.specs.Built.{piece_subject, pieces_added, started, version_for, with_object};
 ghost use Rattle.importing.specs.{Groups.{labels_at, name_at}, Objects.{IsPlaced, IsSmall}, PlanView.plan_of};
+ghost use Rattle.base.specs.declared.label.TheConstants.Label as LabelLimits;
 
 use crate::groups::leader_of;
 use crate::objects::object_of;

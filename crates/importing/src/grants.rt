@@ -2,8 +2,7 @@
 ghost use Rattle.std.specs.{List.{filter_map, flat_map, range_with_len}, Prelude.{◌≡◌, ◌≤◌, IfOk, length}};
 ghost use Rattle.microkit.specs.View.{description_of};
 ghost use Rattle.importing.specs.Grants.{domain_grants, domain_root, grant, grants_of, guest_grants, guest_space_of};
-ghost use Rattle.importing.specs.Grants.{numbered, processor_root, root_of, roots_of, slot_grant, slot_grants};
-ghost use Rattle.importing.specs.Grants.{space_of};
+ghost use Rattle.importing.specs.Grants.{numbered, processor_root, root_of, roots_of, slot_grant, slot_grants, space_of};
 
 use crate::maps::{guest_held, maps_held};
 use crate::objects::radix_of;

@@ -1,11 +1,9 @@
 //! Regions that share a label, if a table would have more labels than it may.
-ghost use Rattle.std.specs.{List.{filter_map, list_all, list_any, range_with_len}, Option.{option_map_or}};
-ghost use Rattle.std.specs.Prelude.{[], ◌&&◌, ◌||◌, ◌==◌, ◌≡◌, false, filter, IfOk, length, map, not, position};
-ghost use Rattle.std.specs.Prelude.{slice_get, unwrap_or};
-ghost use Rattle.microkit.specs.{Labels.{subjects_of}, View.{description_of}};
-ghost use Rattle.importing.specs.Groups.{are_alike, are_met_by, first_alike, is_met_by, labelled_of, leader_of};
-ghost use Rattle.importing.specs.Groups.{leaders_at, leads, line_at, places_of, uses_at, uses_in, uses_of};
-ghost use Rattle.importing.specs.PlanView.{maps_of};
+ghost use Rattle.std.specs.{List.{filter_map, list_all, list_any, range_with_len}, Option.option_map_or};
+ghost use Rattle.std.specs.Prelude.{[], ◌&&◌, ◌==◌, ◌||◌, ◌≡◌, IfOk, false, filter, length, map, not, position, slice_get, unwrap_or};
+ghost use Rattle.microkit.specs.{Labels.subjects_of, View.description_of};
+ghost use Rattle.importing.specs.Groups.{are_alike, are_met_by, first_alike, is_met_by, labelled_of, leader_of, leaders_at};
+ghost use Rattle.importing.specs.{Groups.{leads, line_at, places_of, uses_at, uses_in, uses_of}, PlanView.maps_of};
 
 use crate::maps::is_user;
 use crate::plan::{line_of, same_subject};

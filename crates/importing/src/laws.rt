@@ -1,9 +1,7 @@
 //! A law on where the capabilities of an imported table come from.
 ghost use Rattle.std.specs.{List.AllZip, Prelude.{◌≡◌, Ok}};
-ghost use Rattle.microkit.specs.Description.{Description as DescriptionOf};
-ghost use Rattle.machine.specs.Layout.{Layout};
-ghost use Rattle.importing.specs.{Origins.{ComesFrom, origins_of}, Pieces.pieces_of, Tables.table_at};
-ghost use Rattle.importing.specs.declared.pieces.Minting.{Minting};
+ghost use Rattle.{microkit.specs.Description.Description as DescriptionOf, machine.specs.Layout.Layout};
+ghost use Rattle.importing.specs.{declared.pieces.Minting.Minting, Origins.{ComesFrom, origins_of}, Pieces.pieces_of, Tables.table_at};
 
 /// A law: the filled slots of a description's table are its capabilities, in the same order.
 ///

@@ -1,13 +1,11 @@
 //! Objects of a description at boot, and where they lie.
 ghost use Rattle.std.specs.{List.list_all, Option.option_map};
-ghost use Rattle.std.specs.{Prelude.{◌%◌, ◌<◌, ◌^◌, ◌||◌, ◌≡◌, ◌≤◌, IfSome, None, Some, nat_lt, not, slice_get}};
+ghost use Rattle.std.specs.Prelude.{◌%◌, ◌<◌, ◌^◌, ◌||◌, ◌≡◌, ◌≤◌, IfSome, None, Some, nat_lt, not, slice_get};
 ghost use Rattle.base.specs.declared.limits.TheConstants.{ADDRESS_END};
-ghost use Rattle.microkit.specs.View.{description_of, domain_of, machine_of};
-ghost use Rattle.table.specs.Rules.{IsAtRest, IsWithinLimits};
+ghost use Rattle.{microkit.specs.View.{description_of, domain_of, machine_of}, table.specs.Rules.{IsAtRest, IsWithinLimits}};
 ghost use Rattle.importing.specs.Objects.{IsPlaced, aligned_up, cnode_of, context_of, domain_share, endpoint_at};
-ghost use Rattle.importing.specs.Objects.{fits_radix, frame_of, machine_share, notification_at};
-ghost use Rattle.importing.specs.Objects.{object_of, processor_share, radix_of, reply_at, share_of, thread_of};
-ghost use Rattle.importing.specs.Pieces.{same_piece};
+ghost use Rattle.importing.specs.Objects.{fits_radix, frame_of, machine_share, notification_at, object_of};
+ghost use Rattle.importing.specs.{Objects.{processor_share, radix_of, reply_at, share_of, thread_of}, Pieces.same_piece};
 
 use crate::pieces::{Form, Grant, Piece, same_piece};
 use base::{CoreNo, MAX_PERIOD};

@@ -1,7 +1,6 @@
 //! Origins of the objects and capabilities in the table of a description.
 ghost use Rattle.std.specs.Prelude.{◌≡◌, IfOk};
-ghost use Rattle.microkit.specs.View.{description_of};
-ghost use Rattle.importing.specs.{Origins.origins_of, Pieces.pieces_of};
+ghost use Rattle.{microkit.specs.View.description_of, importing.specs.{Origins.origins_of, Pieces.pieces_of}};
 
 use crate::grants::{grants_of, roots_of};
 use crate::pieces::{Grant, Minting, Piece, pieces_of};

@@ -1,10 +1,8 @@
 //! Pieces: the objects that a description becomes, and the capabilities that their holders have.
 ghost use Rattle.std.specs.{List.{list_any, range_with_len}, Prelude.{◌++◌, ◌==◌, ◌≡◌, IfOk, filter, length, map}};
-ghost use Rattle.microkit.specs.{Description.{Domain as DomainOf, Machine as MachineOf}, View.description_of};
-ghost use Rattle.microkit.specs.View.{domain_of, machine_of};
-ghost use Rattle.importing.specs.Pieces.{each, form_code, has_children, has_guest, has_parent, holders_of};
-ghost use Rattle.importing.specs.Pieces.{is_called, is_called_by, is_mapped, kept_of, messages_of, pieces_of};
-ghost use Rattle.importing.specs.Pieces.{same_piece, those};
+ghost use Rattle.microkit.specs.{Description.{Domain as DomainOf, Machine as MachineOf}, View.{description_of, domain_of, machine_of}};
+ghost use Rattle.importing.specs.Pieces.{each, form_code, has_children, has_guest, has_parent, holders_of, is_called};
+ghost use Rattle.importing.specs.Pieces.{is_called_by, is_mapped, kept_of, messages_of, pieces_of, same_piece, those};
 
 use machine::Detail;
 use microkit::{Channel, Description, Domain, Machine, Map};

@@ -1,10 +1,9 @@
 //! Names, labels and lines of objects, by the description.
 ghost use Rattle.std.specs.{List.position, Prelude.{◌==◌, ◌≡◌, IfOk, map, string_bytes}};
 ghost use Rattle.microkit.specs.{declared.labels.Subject.Subject, LabelView.bytes_of, Labels.{line_of, may_call}};
-ghost use Rattle.microkit.specs.{Names.{object_name, part_word}, View.{description_of, domain_of, machine_of}};
-ghost use Rattle.microkit.specs.View.{region_of};
-ghost use Rattle.importing.specs.Plan.{domain_line, label_of, machine_number, part_of, piece_line, processor_id, processor_line};
-ghost use Rattle.importing.specs.Plan.{same_subject, subject_code, subject_number, subject_of, time_of};
+ghost use Rattle.microkit.specs.{Names.{object_name, part_word}, View.{description_of, domain_of, machine_of, region_of}};
+ghost use Rattle.importing.specs.Plan.{domain_line, label_of, machine_number, part_of, piece_line, processor_id};
+ghost use Rattle.importing.specs.Plan.{processor_line, same_subject, subject_code, subject_number, subject_of, time_of};
 
 use crate::pieces::{Form, Piece};
 use microkit::{Channel, Description, Part, Subject};

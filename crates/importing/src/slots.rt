@@ -1,13 +1,11 @@
 //! The capability in each slot of a domain's CNode, except the maps.
 ghost use Rattle.std.specs.{List.position, Option.option_map_or};
 ghost use Rattle.std.specs.Prelude.{◌&&◌, ◌-◌, ◌<◌, ◌==◌, ◌^◌, ◌≡◌, IfSome, Some, is_some, nat_lt, slice_get};
-ghost use Rattle.base.specs.Rights.{rights_with};
-ghost use Rattle.microkit.specs.View.{description_of, domain_of, domains_of};
-ghost use Rattle.importing.specs.Slots.{answer_held, bell_held, call_held, calling_held, channel_at, child_held};
-ghost use Rattle.importing.specs.Slots.{child_number, end_at, end_in, endpoint_rights, entry_held, capability};
-ghost use Rattle.importing.specs.Slots.{fault_held, id_held, input_held, is_child, is_end, notification_rights};
-ghost use Rattle.importing.specs.Slots.{notified_held, notify_held, own_bell_held, parent_held, processor_held};
-ghost use Rattle.importing.specs.Slots.{processor_number, slot_held};
+ghost use Rattle.{base.specs.Rights.rights_with, microkit.specs.View.{description_of, domain_of, domains_of}};
+ghost use Rattle.importing.specs.Slots.{answer_held, bell_held, call_held, calling_held, capability, channel_at, child_held};
+ghost use Rattle.importing.specs.Slots.{child_number, end_at, end_in, endpoint_rights, entry_held, fault_held, id_held};
+ghost use Rattle.importing.specs.Slots.{input_held, is_child, is_end, notification_rights, notified_held, notify_held};
+ghost use Rattle.importing.specs.Slots.{own_bell_held, parent_held, processor_held, processor_number, slot_held};
 
 use crate::pieces::{Form, Minting, Piece, is_called};
 use crate::plan::{domain_line, processor_line};

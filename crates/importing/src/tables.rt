@@ -1,16 +1,14 @@
 //! Tables of descriptions: their capabilities and bindings are added to their objects.
-ghost use Rattle.std.specs.{List.{AllByRecursion, AllPairs, range_with_len}, Prelude.{◌≡◌, ◌≢◌, ◌≤◌, IfOk, Some}};
-ghost use Rattle.std.specs.Prelude.{length, map, position, true};
-ghost use Rattle.base.specs.declared.label.TheConstants.Label as LabelLimits;
+ghost use Rattle.std.specs.List.{AllByRecursion, AllPairs, range_with_len};
+ghost use Rattle.std.specs.Prelude.{◌≡◌, ◌≢◌, ◌≤◌, IfOk, Some, length, map, position, true};
 ghost use Rattle.words.specs.{declared.faults.Wrong.TheVariants.UnknownName, Reading.Reads};
 ghost use Rattle.microkit.specs.{LabelView.bytes_of, Labels.names_of, Names.IsLabelName, View.description_of};
 ghost use Rattle.table.specs.Building.{repeats_untyped};
-ghost use Rattle.importing.specs.{Built.or_fault, Groups.labels_at, Pieces.same_piece};
-ghost use Rattle.importing.specs.{PlanView.plan_of, Tables.{binding_added, bond_added, bond_of, bonds_added, bonds_of}};
-ghost use Rattle.importing.specs.Tables.{cap_added, filled_by, filled_up, finished, grant_added, grants_added};
-ghost use Rattle.importing.specs.Tables.{is_context, is_thread, labels_fit, objects_by, piece_number};
-ghost use Rattle.importing.specs.Tables.{planned, subjects_fit, table_at, table_by, takes_binding, takes_cap};
-ghost use Rattle.importing.specs.Whole.{IsTableOf};
+ghost use Rattle.importing.specs.{Built.or_fault, Groups.labels_at, Pieces.same_piece, PlanView.plan_of};
+ghost use Rattle.importing.specs.Tables.{binding_added, bond_added, bond_of, bonds_added, bonds_of, cap_added, filled_by, filled_up};
+ghost use Rattle.importing.specs.Tables.{finished, grant_added, grants_added, is_context, is_thread, labels_fit, objects_by, piece_number};
+ghost use Rattle.importing.specs.{Tables.{planned, subjects_fit, table_at, table_by, takes_binding, takes_cap}, Whole.IsTableOf};
+ghost use Rattle.base.specs.declared.label.TheConstants.Label as LabelLimits;
 
 use crate::builder::{Builder, Plan};
 use crate::grants::{grants_of, roots_of};

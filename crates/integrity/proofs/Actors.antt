@@ -1,12 +1,11 @@
 -- Labels that may act: only their threads change objects, if all calls of other labels are refused.
 use Rattle.std.proofs.Common.{ℕ, ◌≡◌, ◌⊎◌, Some, inl, inr, refl, subst, sym, true}
 use Rattle.base.specs.declared.{ids.ObjId.ObjId, kind.Kind.Kind as authority}
-use Rattle.machine.specs.{declared.call.{Event.Event, Outcome.Outcome}, Authority.label_of, Layout.Layout, Machine.Machine}
-use Rattle.machine.specs.{Outcomes.IsRefused, Step.Step}
-use Rattle.steps.proofs.Steps.{refused_changes_nothing}
-use Rattle.policy.specs.{Domain.EdgeTest, Sharp.UsesRise}
-use Rattle.integrity.specs.{Acting.{MayAct, Starts, MayAct.{started, starts}}, Apart.NeverChanges, Safe.{IsReached, RefusesOthers}}
-use Rattle.integrity.{specs.Shrinks.IsSame, proofs.Asleep.acts_of}
+use Rattle.machine.specs.{declared.call.{Event.Event, Outcome.Outcome}, Authority.label_of}
+use Rattle.machine.specs.{Layout.Layout, Machine.Machine, Outcomes.IsRefused, Step.Step}
+use Rattle.{steps.proofs.Steps.refused_changes_nothing, policy.specs.{Domain.EdgeTest, Sharp.UsesRise}}
+use Rattle.integrity.specs.{Acting.{MayAct, MayAct.{started, starts}, Starts}, Apart.NeverChanges}
+use Rattle.integrity.{specs.{Safe.{IsReached, RefusesOthers}, Shrinks.IsSame}, proofs.Asleep.acts_of}
 
 -- a label controls what a label that it controls controls, if uses rise
 pub acts_by_control :

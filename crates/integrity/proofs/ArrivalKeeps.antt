@@ -3,15 +3,14 @@
 use Rattle.std.proofs.{Common.{ℕ, ◌∙◌, ◌≡◌, ◌⊎◌, Err, Ok, Option, Result, Some, ap, inl, inr, refl, sym, true}, lemmas.Option.same_Some}
 use Rattle.base.specs.declared.{ids.ObjId.ObjId, kind.Kind.{Kind, Kind as authority}, refusal.Cause.Cause}
 use Rattle.machine.specs.declared.{call.Event.Event, slot_address.{Ends.Ends, SlotAddress.SlotAddress}, thread.Sending.Sending}
-use Rattle.machine.specs.{Authority.label_of, Capabilities.gives, Layout.Layout, Machine.Machine, Step.Deliver.{arrival_of, with_arrival}}
-use Rattle.machine.specs.{Tree.{copied, parent_of_copy}, WellFormed.IsWellFormed}
+use Rattle.machine.specs.{Authority.label_of, Capabilities.gives, Layout.Layout, Machine.Machine}
+use Rattle.machine.specs.{Step.Deliver.{arrival_of, with_arrival}, Tree.{copied, parent_of_copy}, WellFormed.IsWellFormed}
 use Rattle.steps.proofs.Arrival.{Arrives, arrival_fills, arrival_formed, arrives}
 use Rattle.policy.specs.{Change.WayToChange.{grants, modifies}, Closed.MayBeGranted, Domain.EdgeTest}
-use Rattle.integrity.proofs.Reach.{controlled_keeps, controlled_put}
-use Rattle.integrity.{specs.{Awake.IsAwake, Invariant.{IsHeld, IsSound}}, proofs.FillKeeps.{MayFill, copy_derives, fill_fits, given_of_use}}
-use Rattle.integrity.proofs.{FillKeeps.in_node, Held.{bare_of, held_of}, Keeps.{Changes, Keeps, unchanged}, Reach.{IsControlled, IsInReach}}
-use Rattle.integrity.proofs.{Reach.{IsWithin, found_in_reach, found_within, led_controlled}, SlotKeeps.slots_keep}
-use Rattle.integrity.specs.Keeping.{IsSharp}
+use Rattle.integrity.specs.{Awake.IsAwake, Invariant.{IsHeld, IsSound}, Keeping.IsSharp}
+use Rattle.integrity.proofs.{FillKeeps.{MayFill, copy_derives, fill_fits, given_of_use, in_node}, Held.{bare_of, held_of}}
+use Rattle.integrity.proofs.{Keeps.{Changes, Keeps, unchanged}, Reach.{IsControlled, IsInReach, IsWithin, controlled_keeps}}
+use Rattle.integrity.proofs.{Reach.{controlled_put, found_in_reach, found_within, led_controlled}, SlotKeeps.slots_keep}
 
 module _
     (t : Layout) (allowed : EdgeTest) (began : Machine) (event : Event) (a : ℕ) (m : Machine) (sound : IsSound t allowed m)

@@ -2,12 +2,11 @@
 -- whose label may not act sleeps.
 use Rattle.std.proofs.{Common.{ℕ, ◌∙◌, ◌≡◌, None, Some, inl, inr, refl, subst, sym}, lemmas.Option.{none-some, same_Some}}
 use Rattle.base.specs.declared.ids.ObjId.{ObjId}
-use Rattle.machine.specs.{declared.{object.Object.{Object, Object as o}, thread.{Receiving.Receiving, RunState.RunState as state, Tcb.Tcb}}, Authority.label_of}
-use Rattle.machine.specs.{Layout.Layout, Machine.{Machine, object_of}}
-use Rattle.policy.specs.Domain.{EdgeTest}
-use Rattle.integrity.specs.Awake.{IsAsleep, OthersSleep, SleepsOrActs}
-use Rattle.integrity.specs.{Acting.MayAct, Shrinks.{IsBlocked, Lessens, LosesLink, Shrinks, Stops, Lessens.{as_it_was, freed, released}}}
-use Rattle.integrity.{specs.Shrinks.{Lessens.unbound, Stops.{aborted, goes_on, halted}}, proofs.Shrinking.same_tcb}
+use Rattle.machine.specs.declared.{object.Object.{Object, Object as o}, thread.{Receiving.Receiving, RunState.RunState as state, Tcb.Tcb}}
+use Rattle.{machine.specs.{Authority.label_of, Layout.Layout, Machine.{Machine, object_of}}, policy.specs.Domain.EdgeTest}
+use Rattle.integrity.specs.{Acting.MayAct, Awake.{IsAsleep, OthersSleep, SleepsOrActs}}
+use Rattle.integrity.specs.Shrinks.{IsBlocked, Lessens, Lessens.{as_it_was, freed, released, unbound}, LosesLink}
+use Rattle.integrity.{specs.Shrinks.{Shrinks, Stops, Stops.{aborted, goes_on, halted}}, proofs.Shrinking.same_tcb}
 
 -- an object has one label, so each of its labels may act if one may
 pub acts_of :

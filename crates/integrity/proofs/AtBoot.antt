@@ -1,24 +1,22 @@
 -- The boot state of a table belongs to it: in particular, any address in untyped memory gives the memory's label.
-use Rattle.machine.specs.Machine.{object_of}
+use mathlib.Core.Bool.{false≢true}
 use Rattle.std.proofs.Common.{ℕ, ◌&&◌, ◌<◌, ◌∙◌, ◌≡◌, ◌≢◌, ◌≤◌, Bool, None, Option, Some, ap, arith, false, find, inl, inr, nat_le, nat_lt}
-use Rattle.std.proofs.{Common.{option_map, refl, slice_get, subst, sym, true}, lemmas.Bool.{and_from, and_parts, cases_order, le-leb}}
-use Rattle.std.proofs.lemmas.{Bool.{leb-true, Decides.Decides-ltb}, Option.{none-some, same_Some}}
-use Rattle.base.specs.declared.ids.ObjId.{ObjId}
+use Rattle.std.proofs.{Common.{option_map, refl, slice_get, subst, sym, true}, lemmas.Bool.{Decides.Decides-ltb, and_from, and_parts}}
+use Rattle.{std.proofs.lemmas.{Bool.{cases_order, le-leb, leb-true}, Option.{none-some, same_Some}}, base.specs.declared.ids.ObjId.ObjId}
 use Rattle.machine.specs.declared.{layout.Initial.Initial, object.{Object.{Object, Object as o}, Reply.Reply, Untyped.Untyped}}
-use Rattle.machine.specs.{declared.thread.{RunState.{RunState, RunState as state}, Tcb.Tcb}, Authority.{has_memory_at, label_at, context_lent}}
-use Rattle.machine.specs.{Boot.{IsBoot, bound}, Layout.{Layout, bound_context, initial_of}, Machine.Machine, Objects.{address_of, end_of}}
-use Rattle.machine.{specs.Objects.kind_of_object, proofs.Bound.{address-bound, kind-bound}}
+use Rattle.machine.specs.declared.thread.{RunState.{RunState, RunState as state}, Tcb.Tcb}
+use Rattle.machine.specs.{Authority.{context_lent, has_memory_at, label_at}, Boot.{IsBoot, bound}}
+use Rattle.machine.specs.{Layout.{Layout, bound_context, initial_of}, Machine.{Machine, object_of}}
+use Rattle.machine.{specs.{Objects.{address_of, end_of, kind_of_object}, Step.Reply.loan_in}, proofs.Bound.{address-bound, kind-bound}}
+use Rattle.table.specs.{Placement.{IsApart, Lies}, Rules.{IsAtRest, IsBlank, IsLawful}}
+use Rattle.table.proofs.AtBoot.{Declared, boot_label, declared_at, initial_lawful, label_declared, rest_lends}
+use Rattle.{table.proofs.Lookups.{FoundAt, found_at, found_first, pair_at}, policy.specs.Domain.EdgeTest}
+use Rattle.integrity.specs.{Acting.MayAct.starts, Awake.{CallersAreServed, OthersSleep, SleepsOrActs}}
+use Rattle.integrity.specs.Keeping.{BorrowersMayIdle, IsIdleBorrower, KeepersHoldNodes, MayKeep.holds, WaitersMayIdle}
+use Rattle.integrity.{specs.OfTable.IsOfTable, proofs.{Asleep.acts_of, Borrowers.lent_back}}
+use Rattle.integrity.proofs.{InMemory.takes_memory, ObjectLabels.kind_there, Shrinking.{same_reply, same_tcb}}
 use Rattle.machine.specs.declared.object.ObjectKind.TheVariants as kind
 use Rattle.machine.specs.declared.object.ReplyState.TheVariants as answers
-use Rattle.table.{specs.{Placement.{IsApart, Lies}, Rules.{IsAtRest, IsBlank, IsLawful}}, proofs.AtBoot.{Declared, boot_label, declared_at}}
-use Rattle.table.proofs.{AtBoot.{initial_lawful, label_declared, rest_lends}, Lookups.{FoundAt, found_at, found_first, pair_at}}
-use Rattle.policy.specs.Domain.{EdgeTest}
-use Rattle.integrity.specs.{Acting.MayAct.starts, Awake.{CallersAreServed, OthersSleep, SleepsOrActs}, OfTable.IsOfTable}
-use Rattle.integrity.proofs.{Asleep.acts_of, InMemory.takes_memory, Shrinking.{same_reply, same_tcb}}
-use Rattle.integrity.{specs.Keeping.{BorrowersMayIdle, IsIdleBorrower, KeepersHoldNodes, MayKeep.holds, WaitersMayIdle}, proofs.ObjectLabels.kind_there}
-use Rattle.machine.specs.{Step.Reply.loan_in}
-use Rattle.integrity.proofs.Borrowers.{lent_back}
-use mathlib.Core.Bool.{false≢true}
 
 -- untyped memory that has an address
 memory_at :

@@ -1,15 +1,13 @@
 -- Blocked threads act: the label of each may act and may have threads, so each test that holds of all such labels holds of it.
-use Rattle.std.proofs.Common.{ℕ, ◌∙◌, ◌≡◌, Bool, None, Option, Some, ap, false, find, if◌then◌else◌, inl, inr, length, nat_lt}
-use Rattle.std.proofs.{Common.{option_and_then, option_map, refl, sym, true}, lemmas.Option.{none-some, same_Some}}
-use Rattle.base.specs.declared.ids.ObjId.{ObjId}
-use Rattle.machine.specs.declared.{layout.Initial.Initial, object.Object.{Object, Object as o}, thread.Tcb.Tcb}
+use Rattle.std.proofs.Common.{ℕ, ◌∙◌, ◌≡◌, Bool, None, Option, Some, ap, false, find, if◌then◌else◌}
+use Rattle.std.proofs.Common.{inl, inr, length, nat_lt, option_and_then, option_map, refl, sym, true}
+use Rattle.{std.proofs.lemmas.Option.{none-some, same_Some}, base.specs.declared.ids.ObjId.ObjId}
+use Rattle.machine.specs.{declared.{layout.Initial.Initial, object.Object.{Object, Object as o}, thread.Tcb.Tcb}, Authority.has_memory_at}
+use Rattle.machine.specs.{Authority.{label_at, label_of}, Layout.{Layout, declared_label, initial_of}, Machine.{Machine, object_of}}
+use Rattle.{machine.specs.Objects.{address_of, kind_of_object}, table.proofs.Lookups.found_at, policy.specs.Domain.EdgeTest}
+use Rattle.integrity.specs.{Acting.MayHaveThreads, Awake.{IsAwake, OthersSleep}, OfTable.IsOfTable}
+use Rattle.integrity.{specs.Shrinks.IsBlocked, proofs.Asleep.blocked_acts}
 use Rattle.machine.specs.declared.object.ObjectKind.TheVariants as kind
-use Rattle.machine.specs.{Authority.{has_memory_at, label_at, label_of}, Layout.{Layout, declared_label, initial_of}, Machine.Machine}
-use Rattle.machine.specs.{Machine.object_of, Objects.{address_of, kind_of_object}}
-use Rattle.policy.specs.Domain.{EdgeTest}
-use Rattle.table.proofs.Lookups.{found_at}
-use Rattle.integrity.specs.{Acting.MayHaveThreads, Awake.{IsAwake, OthersSleep}, OfTable.IsOfTable, Shrinks.IsBlocked}
-use Rattle.integrity.proofs.Asleep.{blocked_acts}
 
 -- only untyped memory has memory at an address
 memory_kind : (initial : Initial) (address : ℕ) → has_memory_at address initial ≡ true → kind_of_object initial.object ≡ kind.Untyped

@@ -1,14 +1,10 @@
 -- Loans of contexts: a thread runs on what it lent, a finalised thread lends nothing anew, and a borrower whose label may idle stays one.
-use Rattle.std.proofs.Common.{◌≤◌}
-use Rattle.std.proofs.Common.{ℕ, ◌≡◌, Bool, Some, ap, arith, cond, false, option_map, true}
-use Rattle.std.proofs.lemmas.Option.{none-some}
+use Rattle.std.proofs.{Common.{ℕ, ◌≡◌, ◌≤◌, Bool, Some, ap, arith, cond, false, option_map, true}, lemmas.Option.none-some}
 use Rattle.base.specs.declared.{ids.ObjId.ObjId, kind.Kind.Kind as authority}
 use Rattle.machine.specs.declared.{object.Object.{Object, Object as o}, thread.{Lent.Lent, RunState.{RunState, RunState as state}, Tcb.Tcb}}
-use Rattle.machine.specs.{Authority.{context_lent, label_of, links}, Layout.Layout, Machine.{Machine}, Step.Reply.loan_in}
-use Rattle.machine.specs.Finalising.{aborted, finalised, halted, is_aborted, is_halted, unbound}
-use Rattle.machine.proofs.RunsLinks.{runs_lent}
-use Rattle.policy.specs.Domain.{EdgeTest}
-use Rattle.integrity.specs.Keeping.{IsIdleBorrower}
+use Rattle.machine.specs.{Authority.{context_lent, label_of, links}, Finalising.{aborted, finalised, halted, is_aborted, is_halted}}
+use Rattle.machine.{specs.{Finalising.unbound, Layout.Layout, Machine.Machine, Step.Reply.loan_in}, proofs.RunsLinks.runs_lent}
+use Rattle.{policy.specs.Domain.EdgeTest, integrity.specs.Keeping.IsIdleBorrower}
 
 -- what a thread that called lent is among what it runs on
 pub lent_back :

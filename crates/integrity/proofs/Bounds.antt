@@ -1,11 +1,9 @@
 -- Steps bounded by the labels that act are allowed ones: changes are within full authority, and losses within cut or full authority.
 use Rattle.std.proofs.Common.{ℕ, ◌⊎◌, inl, inr}
-use Rattle.base.specs.declared.ids.ObjId.{ObjId}
-use Rattle.machine.specs.{declared.call.Event.Event, Layout.Layout, Machine.Machine}
-use Rattle.policy.specs.{Change.ActorTest, Cut.IsCut, Domain.EdgeTest, Full.IsFull}
-use Rattle.policy.proofs.Changing.{change_is_full, shrink_is_cut}
-use Rattle.integrity.specs.{Allowed.{IsAllowedStep, IsModified, MayModify}, Altered.{IsAltered, IsNarrowStep, MayChangeOrShrink}}
-use Rattle.integrity.specs.Shrinks.{IsSame}
+use Rattle.{base.specs.declared.ids.ObjId.ObjId, machine.specs.{declared.call.Event.Event, Layout.Layout, Machine.Machine}}
+use Rattle.policy.{specs.{Change.ActorTest, Cut.IsCut, Domain.EdgeTest, Full.IsFull}, proofs.Changing.{change_is_full, shrink_is_cut}}
+use Rattle.integrity.specs.Allowed.{IsAllowedStep, IsModified, MayModify}
+use Rattle.integrity.specs.{Altered.{IsAltered, IsNarrowStep, MayChangeOrShrink}, Shrinks.IsSame}
 
 alter_modifies :
     (allowed : EdgeTest) (acts : ActorTest) (caller label : ℕ) (m next : Machine) (id : ObjId)

@@ -1,21 +1,15 @@
 -- Contents that a thread, a notification, a reply and a scheduling context may get in a step: by a change that a label may make, or by
 -- one that only shrinks the object.
-use Rattle.std.proofs.Common.{ℕ, ◌+◌, ◌<◌, ◌∙◌, ◌≡◌, ◌⊎◌, List, Some, ap, inl, inr, refl, subst, sym, true}
+use Rattle.std.proofs.{Common.{ℕ, ◌+◌, ◌<◌, ◌∙◌, ◌≡◌, ◌⊎◌, List, None, Some, ap, inl, inr, refl, subst, sym, true}, lemmas.Option.none-some}
 use Rattle.base.specs.declared.{ids.ObjId.ObjId, kind.Kind.Kind}
-use Rattle.base.specs.declared.kind.Kind.TheVariants as authority
 use Rattle.machine.specs.declared.{call.Event.Event, object.{Context.Context, Notification.Notification, Object.{Object, Object as o}}}
-use Rattle.machine.specs.{declared.{object.Reply.Reply, thread.Tcb.Tcb}, Authority.{holds_thread, label_of, context_lent, links}, Layout.Layout}
-use Rattle.machine.specs.Machine.{Machine, object_of, queue_of, with_object}
-use Rattle.policy.specs.Domain.{EdgeTest}
-use Rattle.integrity.specs.{Awake.{IsAwake, IsHeldAfterCall, OthersSleep, SleepsOrActs}, Budgets.MayConfigure, Shrinks.{Lessens, Shrinks}}
-use Rattle.integrity.proofs.{Keeps.{Alters, Changes, Takes}, Losses.lessened, Shrinking.{same_context, same_reply, same_tcb}}
-use Rattle.integrity.proofs.TouchKeeps.{Fits}
-use Rattle.std.proofs.Common.{None}
-use Rattle.machine.specs.declared.thread.{Receiving.Receiving, RunState.RunState as state}
-use Rattle.policy.specs.Sharp.{MayIdle}
-use Rattle.machine.specs.{declared.thread.Lent.Lent, Step.Reply.loan_in}
-use Rattle.std.proofs.lemmas.Option.{none-some}
-use Rattle.integrity.specs.Keeping.{IsIdleBorrower}
+use Rattle.machine.specs.declared.{object.Reply.Reply, thread.{Lent.Lent, Receiving.Receiving, RunState.RunState as state, Tcb.Tcb}}
+use Rattle.machine.specs.{Authority.{context_lent, holds_thread, label_of, links}, Layout.Layout, Machine.{Machine, object_of, queue_of}}
+use Rattle.{machine.specs.{Machine.with_object, Step.Reply.loan_in}, policy.specs.{Domain.EdgeTest, Sharp.MayIdle}}
+use Rattle.integrity.specs.{Awake.{IsAwake, IsHeldAfterCall, OthersSleep, SleepsOrActs}, Budgets.MayConfigure}
+use Rattle.integrity.{specs.{Keeping.IsIdleBorrower, Shrinks.{Lessens, Shrinks}}, proofs.Keeps.{Alters, Changes, Takes}}
+use Rattle.integrity.proofs.{Losses.lessened, Shrinking.{same_context, same_reply, same_tcb}, TouchKeeps.Fits}
+use Rattle.base.specs.declared.kind.Kind.TheVariants as authority
 
 -- the label may change the object's
 pub changed :

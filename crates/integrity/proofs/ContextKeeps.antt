@@ -1,22 +1,20 @@
 -- Configure, Bind and Unbind within a caller's authority: its label may use the scheduling context, a thread that comes to run on
 -- it is one that the label controls, and one that runs on it no more only loses it.
-use Rattle.std.proofs.{Common.{ℕ, ◌∙◌, ◌≡◌, ◌≢◌, None, Option, Some, ap, inl, inr, refl, subst, sym, true}, lemmas.Option.none-some}
-use Rattle.std.proofs.lemmas.Option.{same_Some}
-use Rattle.base.specs.declared.{ids.ObjId.ObjId, kind.Kind.Kind as authority}
+use Rattle.std.proofs.Common.{ℕ, ◌∙◌, ◌≡◌, ◌≢◌, None, Option, Some, ap, inl, inr, refl, subst, sym, true}
+use Rattle.{std.proofs.lemmas.Option.{none-some, same_Some}, base.specs.declared.{ids.ObjId.ObjId, kind.Kind.Kind as authority}}
 use Rattle.machine.specs.declared.{call.Event.Event, cap.Detail.Detail as d, object.{Context.Context, Object.Object as o}, thread.Tcb.Tcb}
-use Rattle.machine.specs.{Authority.{label_of, HasAuthority.by_link}, Capabilities.kind_of_detail, Layout.Layout, Machine.Machine}
-use Rattle.machine.specs.{Machine.{object_of, with_object}, Releasing.with_unbound, Step.Bind.{thread_on, without_thread}}
+use Rattle.machine.specs.{Authority.{HasAuthority.by_link, label_of}, Capabilities.kind_of_detail, Layout.Layout}
+use Rattle.machine.specs.{Machine.{Machine, object_of, with_object}, Releasing.with_unbound, Step.Bind.{thread_on, without_thread}}
 use Rattle.machine.{specs.WellFormed.IsThread, proofs.{Ids.at_other, LookUps.object_of-with_object, RunsLinks.runs_bound}}
 use Rattle.steps.proofs.{ContextRow.{BindDone, ConfigureDone, UnbindDone}, ContextsFormed.{bound_is, share_is, unbound_is}}
 use Rattle.steps.proofs.{Finding.{FindsObject, found_kind}, FoundObjects.{context_of_kind, tcb_of_kind}}
 use Rattle.policy.specs.Change.{MayChangeContext.{binds, configures as configures_it}, WayToChange.{modifies, shares}}
 use Rattle.policy.specs.{Domain.EdgeTest, NarrowTake.WayToShrink.{stops as loses_context, unbinds}}
-use Rattle.integrity.specs.{Acting.MayAct.started, Budgets.{MayConfigure, configures}, Invariant.{IsHeld, IsSound}}
+use Rattle.integrity.specs.{Acting.MayAct.started, Budgets.{MayConfigure, configures}, Invariant.{IsHeld, IsSound}, Keeping.IsSharp}
 use Rattle.integrity.{specs.Shrinks.{Lessens.released, Stops.goes_on}, proofs.{Asleep.acts_of, Contents.{changed, context_fits}}}
 use Rattle.integrity.proofs.{Contents.loses_links, ContextTouches.{context_changes, context_loses, linked_keeps, runs_on, thread_keeps}}
 use Rattle.integrity.proofs.{Held.held_of, Keeps.{Keeps, Takes, unchanged}, MessageParts.{IsReached, reached, thread_label}}
 use Rattle.integrity.proofs.{SetKeeps.set_keeps, SlotKeeps.IsOpened, ThreadKeeps.{may_control, to_thread}}
-use Rattle.integrity.specs.Keeping.{IsSharp}
 
 module _
     (t : Layout) (allowed : EdgeTest) (event : Event) (a : ℕ) (m : Machine) (sound : IsSound t allowed m)

@@ -1,22 +1,18 @@
 -- Changes that link a thread and a scheduling context, end the link, or hand the context to another thread: each keeps what a part of a
 -- call keeps, if the labels of the two allow it.
 use Rattle.std.proofs.Common.{ℕ, ◌∙◌, ◌≡◌, ◌≢◌, ◌⊎◌, List, None, Option, Some, ap, inl, inr, refl, subst, sym, true}
-use Rattle.std.proofs.lemmas.Option.{none-some, same_Some}
-use Rattle.base.specs.declared.{ids.ObjId.ObjId, kind.Kind.Kind}
-use Rattle.base.specs.declared.kind.Kind.TheVariants as authority
-use Rattle.machine.specs.declared.{call.Event.Event, object.{Context.Context, Object.{Object, Object as o}}, thread.Tcb.Tcb}
-use Rattle.machine.specs.{Authority.{label_of, links}, Layout.Layout, Machine.{Machine, object_of, queue_of, with_object}}
-use Rattle.machine.specs.{Releasing.with_unbound, Step.Bind.{context_under, with_bound, with_handed}, WellFormed.IsThread}
+use Rattle.{std.proofs.lemmas.Option.{none-some, same_Some}, base.specs.declared.{ids.ObjId.ObjId, kind.Kind.Kind}}
+use Rattle.machine.specs.declared.{call.Event.Event, object.{Context.Context, Object.{Object, Object as o}}}
+use Rattle.machine.specs.{declared.thread.{Receiving.Receiving, RunState.RunState as state, Tcb.Tcb}, Authority.{label_of, links}}
+use Rattle.machine.specs.{Layout.Layout, Machine.{Machine, object_of, queue_of, with_object}, Releasing.with_unbound}
+use Rattle.machine.specs.{Step.{Bind.{context_under, with_bound, with_handed}, Reply.loan_in}, WellFormed.IsThread}
 use Rattle.machine.proofs.{Ids.{at_itself, at_other}, LookUps.{object_of-with_object, queue_of-with_object}, RunsLinks.{runs_by, runs_lent}}
-use Rattle.steps.proofs.ContextsFormed.{bound_is, unbound_is}
-use Rattle.policy.specs.Domain.{EdgeTest}
+use Rattle.{steps.proofs.ContextsFormed.{bound_is, unbound_is}, policy.specs.{Domain.EdgeTest, Sharp.MayIdle}}
 use Rattle.integrity.specs.{Acting.MayAct, Awake.{IsAwake, OthersSleep, SleepsOrActs}, Invariant.{IsHeld, IsSound}, Shrinks.Lessens.unbound}
-use Rattle.integrity.proofs.{Asleep.{acts_of, unbound_sleeps}, Contents.{changed, context_fits, loses_links, tcb_fits}, Held.held_of}
-use Rattle.integrity.proofs.{Keeps.{Alters, Keeps, Takes, keeps_keeps, unchanged}, ObjectLabels.{label_stays, same_label}}
-use Rattle.integrity.proofs.{SetKeeps.set_keeps, SlotKeeps.IsOpened}
-use Rattle.machine.specs.declared.thread.{Receiving.Receiving, RunState.RunState as state}
-use Rattle.policy.specs.Sharp.{MayIdle}
-use Rattle.machine.specs.Step.Reply.{loan_in}
+use Rattle.integrity.proofs.{Asleep.{acts_of, unbound_sleeps}, Contents.{changed, context_fits, loses_links, tcb_fits}}
+use Rattle.integrity.proofs.{Held.held_of, Keeps.{Alters, Keeps, Takes, keeps_keeps, unchanged}}
+use Rattle.integrity.proofs.{ObjectLabels.{label_stays, same_label}, SetKeeps.set_keeps, SlotKeeps.IsOpened}
+use Rattle.base.specs.declared.kind.Kind.TheVariants as authority
 
 -- the contents of a thread with another context, and of a context with another thread
 

@@ -1,15 +1,13 @@
 -- Filling an empty slot keeps what a part of a call keeps, if the policy has the capability's edges and that of its pair in the tree.
-use Rattle.std.{specs.Prelude.if◌then◌else◌, proofs.Common.{ℕ, ◌∙◌, ◌≡◌, ◌≢◌, ◌⊎◌, Bool, None, Option, Some, ap, false, inl, inr, refl}}
-use Rattle.std.proofs.{Common.{subst, sym, true}, lemmas.{Bool.false≢true, Option.same_Some}}
+use Rattle.std.{specs.Prelude.if◌then◌else◌, proofs.Common.{ℕ, ◌∙◌, ◌≡◌, ◌≢◌, ◌⊎◌, Bool, None, Option, Some, ap}}
+use Rattle.std.proofs.{Common.{false, inl, inr, refl, subst, sym, true}, lemmas.{Bool.false≢true, Option.same_Some}}
 use Rattle.base.specs.{declared.{ids.{ObjId.ObjId, SlotRef.SlotRef}, kind.Kind.{Kind, Kind as authority}}, Kinds.is_structural}
-use Rattle.machine.specs.{declared.cap.{Cap.Cap, Detail.Detail}, Authority.{label_of, HasAuthority.by_pair}, Capabilities.gives}
-use Rattle.machine.specs.{Capabilities.kind_of_detail, Layout.Layout, Machine.{Machine, cap_of, object_of, parent_of, same_slot}}
-use Rattle.machine.{specs.{Tree.parent_of_copy, WellFormed.kind_of}, proofs.{AuthorityLemmas.gives_no_structure, Ids.one_or_two}}
-use Rattle.machine.proofs.{LookUps.one_slot, SlotChanges.Fills}
+use Rattle.machine.specs.{declared.cap.{Cap.Cap, Detail.Detail}, Authority.{HasAuthority.by_pair, label_of}}
+use Rattle.machine.specs.{Capabilities.{gives, kind_of_detail}, Layout.Layout, Machine.{Machine, cap_of, object_of, parent_of, same_slot}}
+use Rattle.machine.{specs.{Tree.parent_of_copy, WellFormed.kind_of}, proofs.AuthorityLemmas.gives_no_structure}
+use Rattle.{machine.proofs.{Ids.one_or_two, LookUps.one_slot, SlotChanges.Fills}, policy.specs.{Domain.EdgeTest, Sharp.DerivesOn}}
+use Rattle.integrity.{specs.{Invariant.{IsBare, IsHeld}, Keeping.MayKeep}, proofs.{Keeps.Changes, SlotKeeps.{IsAllowedIn, SlotsFit}}}
 use Rattle.machine.specs.declared.object.ObjectKind.TheVariants as kind
-use Rattle.policy.specs.{Domain.EdgeTest, Sharp.DerivesOn}
-use Rattle.integrity.specs.Keeping.{MayKeep}
-use Rattle.integrity.{specs.Invariant.{IsBare, IsHeld}, proofs.{Keeps.Changes, SlotKeeps.{IsAllowedIn, SlotsFit}}}
 
 -- a slot of another object is another slot
 pub apart_slots : (q slot : SlotRef) → q.holder ≢ slot.holder → same_slot q slot ≡ false

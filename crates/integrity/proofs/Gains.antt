@@ -1,15 +1,14 @@
 -- Gains of an object are no shrinking: a word, a budget, a member, a capability, a message, a link, memory or a wait.
 use Rattle.std.proofs.Common.{◌<◌, ◌∙◌, ◌≡◌, ◌≢◌, ◌≤◌, ◌⊎◌, List, None, Some, ap, arith, inl, inr, length, subst, sym}
-use Rattle.std.proofs.lemmas.Option.{none-some, same_Some}
-use Rattle.base.specs.declared.ids.{ObjId.ObjId, SlotRef.SlotRef}
+use Rattle.{std.proofs.lemmas.Option.{none-some, same_Some}, base.specs.declared.ids.{ObjId.ObjId, SlotRef.SlotRef}}
 use Rattle.machine.specs.declared.{cap.Cap.Cap, object.{Context.Context, Notification.Notification, Object.{Object, Object as o}}}
 use Rattle.machine.specs.declared.{object.{Reply.Reply, Untyped.Untyped}, thread.{Inbox.Inbox as inbox, RunState.RunState, Tcb.Tcb}}
+use Rattle.machine.specs.Machine.{Machine, cap_of, object_of, queue_of, words_of}
+use Rattle.integrity.specs.Shrinks.{HasLess, IsBlocked, IsPart, IsPart.{ended, left, stayed}, Lessens, Lessens.as_it_was}
+use Rattle.integrity.specs.Shrinks.{Lessens.{freed, released, unbound}, LosesLink, Shrinks, Stops, Stops.{aborted, goes_on, halted}}
+use Rattle.integrity.proofs.Shrinking.{same_context, same_reply, same_tcb}
 use Rattle.machine.specs.declared.object.ReplyState.TheVariants as reply
 use Rattle.machine.specs.declared.thread.RunState.TheVariants as state
-use Rattle.machine.specs.Machine.{Machine, cap_of, object_of, queue_of, words_of}
-use Rattle.integrity.specs.Shrinks.{HasLess, IsBlocked, IsPart, Lessens, LosesLink, Shrinks, Stops, IsPart.{ended, left, stayed}}
-use Rattle.integrity.specs.Shrinks.{Lessens.{as_it_was, freed, released, unbound}, Stops.{aborted, goes_on, halted}}
-use Rattle.integrity.proofs.Shrinking.{same_context, same_reply, same_tcb}
 
 same_notification : (a b : Notification) → o.Notification a ≡ o.Notification b → a ≡ b
 same_notification a b e = cc

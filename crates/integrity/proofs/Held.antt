@@ -2,9 +2,7 @@
 use Rattle.std.proofs.{Common.{◌∙◌, ◌≡◌, None, Option, Some, refl, sym}, lemmas.Option.none-some}
 use Rattle.base.specs.declared.ids.ObjId.{ObjId}
 use Rattle.machine.specs.{declared.object.Object.Object, Layout.Layout, Machine.{Machine, cap_of, object_of, queue_of, words_of}}
-use Rattle.machine.specs.WellFormed.{IsWellFormed}
-use Rattle.policy.specs.Domain.{EdgeTest}
-use Rattle.integrity.specs.Invariant.{IsBare, IsHeld, IsSound}
+use Rattle.{machine.specs.WellFormed.IsWellFormed, policy.specs.Domain.EdgeTest, integrity.specs.Invariant.{IsBare, IsHeld, IsSound}}
 
 -- what only a present object has, an absent one hasn't
 missing :

@@ -1,12 +1,11 @@
 -- Objects in the range of untyped memory have the label of that memory.
-use Rattle.std.proofs.Common.{ℕ, ◌+◌, ◌<◌, ◌∙◌, ◌≡◌, ◌≢◌, ◌≤◌, Bool, None, Option, Some, ap, arith, false, if◌then◌else◌, length, nat_lt}
-use Rattle.std.proofs.{Common.{option_and_then, option_map, refl, sym, true}, lemmas.{Nat.pow_pos, Option.{none-some, same_Some}}}
-use Rattle.base.specs.declared.ids.ObjId.{ObjId}
+use Rattle.std.proofs.Common.{ℕ, ◌+◌, ◌<◌, ◌∙◌, ◌≡◌, ◌≢◌, ◌≤◌, Bool, None, Option, Some, ap, arith, false}
+use Rattle.std.proofs.Common.{if◌then◌else◌, length, nat_lt, option_and_then, option_map, refl, sym, true}
+use Rattle.{std.proofs.lemmas.{Nat.pow_pos, Option.{none-some, same_Some}}, base.specs.declared.ids.ObjId.ObjId}
 use Rattle.machine.specs.declared.{layout.Initial.Initial, object.{Object.{Object, Object as o}, Untyped.Untyped}}
-use Rattle.machine.specs.declared.object.ObjectKind.TheVariants as kind
 use Rattle.machine.specs.{Authority.{label_at, label_of}, Layout.{Layout, declared_label, initial_of}, Machine.{Machine, object_of}}
-use Rattle.machine.specs.{Objects.{address_of, end_of, kind_of_object}, WellFormed.LiesIn}
-use Rattle.integrity.specs.OfTable.{IsOfTable}
+use Rattle.{machine.specs.{Objects.{address_of, end_of, kind_of_object}, WellFormed.LiesIn}, integrity.specs.OfTable.IsOfTable}
+use Rattle.machine.specs.declared.object.ObjectKind.TheVariants as kind
 
 -- each object but a control takes memory
 pub takes_memory : (object : Object) → kind_of_object object ≢ kind.Control → address_of object < end_of object

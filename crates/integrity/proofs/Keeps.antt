@@ -1,14 +1,13 @@
 -- Parts of a call, and what each keeps; two parts, one after the other, keep it too. The headline needs it of each call.
-use Rattle.std.proofs.{Common.{ℕ, ◌∙◌, ◌≡◌, ◌≤◌, ◌⊎◌, None, Option, Some, ap, arith, inl, inr, refl, subst, sym}, lemmas.Option.none-some}
-use Rattle.std.proofs.lemmas.Option.{same_Some}
-use Rattle.base.specs.declared.ids.ObjId.{ObjId}
+use Rattle.std.proofs.Common.{ℕ, ◌∙◌, ◌≡◌, ◌≤◌, ◌⊎◌, None, Option, Some, ap, arith, inl, inr, refl, subst, sym}
+use Rattle.{std.proofs.lemmas.Option.{none-some, same_Some}, base.specs.declared.ids.ObjId.ObjId}
 use Rattle.machine.specs.declared.{call.{Call.TheVariants.Signal, Event.Event}, object.{Context.Context, Object.{Object, Object as o}}}
 use Rattle.machine.specs.{Authority.label_of, Layout.Layout, Machine.{Machine, object_of}, Objects.{address_of, kind_of_object}}
-use Rattle.machine.specs.declared.object.ObjectKind.TheVariants as kind
 use Rattle.policy.specs.{Change.{ActorTest, WayToChange}, Domain.EdgeTest, NarrowTake.WayToShrink}
 use Rattle.integrity.specs.{Allowed.IsLabelled, Altered.{MayAlter, MayChangeOrShrink}, Awake.{CallersAreServed, IsAwake, OthersSleep}}
 use Rattle.integrity.{specs.{Budgets.MayConfigure, Invariant.IsHeld, Shrinks.IsSame}, proofs.ObjectLabels.{label_stays, labelled_there}}
 use Rattle.integrity.proofs.{ObjectLabels.same_label, Shrinking.{same_context, same_same, same_shrinks, shrinks_same, shrinks_shrinks}}
+use Rattle.machine.specs.declared.object.ObjectKind.TheVariants as kind
 
 -- an object is as it was, or changed within the bounds of a label, if only some labels act
 abbrev pub Acts : Layout → EdgeTest → ActorTest → ℕ → Machine → Machine → ObjId → Type 0

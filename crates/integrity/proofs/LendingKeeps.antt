@@ -1,24 +1,19 @@
 -- A call that lends its context to the receiver, and an answer that gives it back, keep what a part of a call keeps: the receiver may run
 -- on the context, since it receives where a thread that runs on it calls.
-use Rattle.std.proofs.Common.{arith}
-use Rattle.integrity.proofs.Borrowers.{lent_back}
-use Rattle.integrity.specs.Keeping.{IsIdleBorrower}
-use Rattle.policy.specs.Sharp.{MayIdle}
-use Rattle.std.proofs.Common.{ℕ, ◌∙◌, ◌≡◌, ◌≢◌, ◌⊎◌, None, Option, Some, ap, inl, inr, option_map, refl, subst, sym, true}
-use Rattle.std.proofs.lemmas.Option.{none-some, same_Some}
-use Rattle.base.specs.declared.{ids.ObjId.ObjId, kind.Kind.Kind as authority}
+use Rattle.std.proofs.Common.{ℕ, ◌∙◌, ◌≡◌, ◌≢◌, ◌⊎◌, None, Option, Some, ap, arith, inl, inr, option_map, refl, subst, sym, true}
+use Rattle.{std.proofs.lemmas.Option.{none-some, same_Some}, base.specs.declared.{ids.ObjId.ObjId, kind.Kind.Kind as authority}}
 use Rattle.machine.specs.declared.{call.Event.Event, object.Object.Object as o, thread.{Lent.Lent, Receiving.Receiving, Tcb.Tcb}}
-use Rattle.machine.specs.{Authority.{label_of, context_lent, links}, Layout.Layout, Machine.{Machine, object_of}, Step.Bind.context_under}
-use Rattle.machine.specs.Step.{Bind.with_handed, Reply.{loan_in, with_returned}, Send.{called_through, loan_made, with_lent}}
-use Rattle.machine.{specs.WellFormed.{IsFree, IsIdle, IsThread, WaitsAt}, proofs.{Idle.{idle_names, idle_waits}, Leaving.Names}}
-use Rattle.machine.proofs.RunsLinks.{runs_bound, runs_lent}
-use Rattle.machine.specs.declared.thread.RunState.TheVariants as state
+use Rattle.machine.specs.{Authority.{context_lent, label_of, links}, Layout.Layout, Machine.{Machine, object_of}}
+use Rattle.machine.specs.Step.{Bind.{context_under, with_handed}, Reply.{loan_in, with_returned}}
+use Rattle.machine.specs.{Step.Send.{called_through, loan_made, with_lent}, WellFormed.{IsFree, IsIdle, IsThread, WaitsAt}}
+use Rattle.machine.proofs.{Idle.{idle_names, idle_waits}, Leaving.Names, RunsLinks.{runs_bound, runs_lent}}
 use Rattle.steps.proofs.{Lending.{GivesBack, lends, returned_or_same}, MessageRows.{lending, lending_formed, lending_receiver}}
-use Rattle.steps.proofs.MessageRows.{lending_there}
-use Rattle.policy.specs.{Change.WayToChange.own, Domain.EdgeTest}
-use Rattle.integrity.{specs.{Acting.MayAct, Awake.IsAwake, Invariant.{IsHeld, IsSound}}, proofs.ContextTouches.{MayHand, handed_keeps}}
-use Rattle.integrity.proofs.{Held.held_of, Keeps.{Changes, Keeps, Takes, keeps_keeps, unchanged}, MessageParts.{halts, label_kept}}
-use Rattle.integrity.proofs.{MessageParts.{thread_edge, waits_keep}, MessageTouches.{MayHold, idle_receives, sound_after}, Shrinking.same_tcb}
+use Rattle.{steps.proofs.MessageRows.lending_there, policy.specs.{Change.WayToChange.own, Domain.EdgeTest, Sharp.MayIdle}}
+use Rattle.integrity.specs.{Acting.MayAct, Awake.IsAwake, Invariant.{IsHeld, IsSound}, Keeping.IsIdleBorrower}
+use Rattle.integrity.proofs.{Borrowers.lent_back, ContextTouches.{MayHand, handed_keeps}, Held.held_of, Keeps.Changes}
+use Rattle.integrity.proofs.{Keeps.{Keeps, Takes, keeps_keeps, unchanged}, MessageParts.{halts, label_kept, thread_edge, waits_keep}}
+use Rattle.integrity.proofs.{MessageTouches.{MayHold, idle_receives, sound_after}, Shrinking.same_tcb}
+use Rattle.machine.specs.declared.thread.RunState.TheVariants as state
 
 -- what runs on a context has it as its own
 own_context :

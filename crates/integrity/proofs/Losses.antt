@@ -1,12 +1,11 @@
 -- Losses of an object are shrinking.
 use Rattle.std.proofs.Common.{[], ℕ, ◌++◌, ◌<◌, ◌∙◌, ◌∷◌, ◌≡◌, ◌≢◌, ◌⊎◌, List, None, Some, ap, arith, inl, inr, refl}
-use Rattle.std.proofs.lemmas.Bool.{cases_order}
-use Rattle.base.specs.declared.ids.{ObjId.ObjId, SlotRef.SlotRef}
-use Rattle.machine.specs.{declared.{object.Object.Object, thread.RunState.{RunState, RunState as state}}, Machine.{Machine, cap_of}}
-use Rattle.machine.{specs.Machine.{object_of, queue_of, with_object, with_queue, words_of}, proofs.Ids.at_itself}
-use Rattle.machine.proofs.LookUps.{cap_of-with_object, cap_of-with_queue, object_of-with_object, object_of-with_queue, queue_of-with_object}
-use Rattle.machine.proofs.LookUps.{queue_of-with_queue, words_of-with_object, words_of-with_queue}
-use Rattle.integrity.specs.Shrinks.{IsBlocked, IsPart, Lessens, Shrinks, IsPart.{ended, left, stayed}, Lessens.as_it_was}
+use Rattle.{std.proofs.lemmas.Bool.cases_order, base.specs.declared.ids.{ObjId.ObjId, SlotRef.SlotRef}}
+use Rattle.machine.specs.declared.{object.Object.Object, thread.RunState.{RunState, RunState as state}}
+use Rattle.machine.specs.Machine.{Machine, cap_of, object_of, queue_of, with_object, with_queue, words_of}
+use Rattle.machine.proofs.{Ids.at_itself, LookUps.{cap_of-with_object, cap_of-with_queue, object_of-with_object, object_of-with_queue}}
+use Rattle.machine.proofs.LookUps.{queue_of-with_object, queue_of-with_queue, words_of-with_object, words_of-with_queue}
+use Rattle.integrity.specs.Shrinks.{IsBlocked, IsPart, IsPart.{ended, left, stayed}, Lessens, Lessens.as_it_was, Shrinks}
 
 pub all_stayed : (all : List ObjId) → IsPart all all
 all_stayed [] = ended

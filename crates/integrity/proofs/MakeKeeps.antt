@@ -7,20 +7,18 @@ use Rattle.machine.specs.declared.{call.Event.Event, cap.Cap.Cap, object.{Memory
 use Rattle.machine.specs.declared.{object.Untyped.Untyped, thread.{Inbox.Inbox as inbox, RunState.RunState as state, Tcb.Tcb}}
 use Rattle.machine.specs.{Authority.{label_at, label_of, links}, Capabilities.{gives, kind_of_detail}, Layout.Layout, Machine.Machine}
 use Rattle.machine.specs.Machine.{cap_of, object_of, parent_of, queue_of, same_slot, with_cap, with_new, with_object, with_parent, words_of}
-use Rattle.machine.specs.{Memory.{Source, new_cap, new_detail, new_object, new_size, placed, taken, with_made}, Objects.end_of}
-use Rattle.machine.{specs.{Objects.kind_of_object, WellFormed.kind_of}, proofs.{Ids.{at_itself, at_other}, LookUps.cap_of-with_cap}}
-use Rattle.machine.proofs.LookUps.{cap_of-with_parent, object_of-with_new, object_of-with_object, parent_of-with_cap, parent_of-with_parent}
-use Rattle.machine.proofs.{ObjectMade.marked, SlotChanges.{Fills, SameObjects}}
+use Rattle.machine.specs.Memory.{Source, new_cap, new_detail, new_object, new_size, placed, taken, with_made}
+use Rattle.machine.{specs.{Objects.{end_of, kind_of_object}, WellFormed.kind_of}, proofs.Ids.{at_itself, at_other}}
+use Rattle.machine.proofs.LookUps.{cap_of-with_cap, cap_of-with_parent, object_of-with_new, object_of-with_object, parent_of-with_cap}
+use Rattle.machine.proofs.{LookUps.parent_of-with_parent, ObjectMade.marked, SlotChanges.{Fills, SameObjects}}
+use Rattle.{steps.proofs.RetypeFormed.{new_address, new_kind}, policy.specs.{Change.WayToChange.modifies, Domain.{EdgeTest, IsInDomain}}}
+use Rattle.integrity.specs.{Awake.IsAsleep, Invariant.{IsBare, IsHeld}, Keeping.IsSharp}
+use Rattle.integrity.proofs.{Contents.changed, FillKeeps.{MayFill, fill_fits, given_of_use, in_node, slots_elsewhere}}
+use Rattle.integrity.proofs.{Joined.{IsJoined, joined_set}, Keeps.{Keeps, keeps_keeps}, NewKeeps.{IsMakeable, new_keeps, new_label}}
+use Rattle.integrity.proofs.{ObjectLabels.{kind_there, same_label}, Reach.{IsControlled, controlled_keeps, controlled_put}}
+use Rattle.integrity.proofs.{SetKeeps.set_keeps, Shrinking.same_tcb, SlotKeeps.{SlotsFit, slots_keep}}
 use Rattle.machine.specs.declared.object.MemoryKind.TheVariants as memory
 use Rattle.machine.specs.declared.object.ObjectKind.TheVariants as kind
-use Rattle.steps.proofs.RetypeFormed.{new_address, new_kind}
-use Rattle.policy.specs.{Change.WayToChange.modifies, Domain.{EdgeTest, IsInDomain}}
-use Rattle.integrity.proofs.Reach.{controlled_keeps, controlled_put}
-use Rattle.integrity.{specs.{Awake.IsAsleep, Invariant.{IsBare, IsHeld}}, proofs.{Contents.changed, FillKeeps.{MayFill, fill_fits}}}
-use Rattle.integrity.proofs.{FillKeeps.{given_of_use, in_node, slots_elsewhere}, Joined.{IsJoined, joined_set}, Keeps.{Keeps, keeps_keeps}}
-use Rattle.integrity.proofs.{NewKeeps.{IsMakeable, new_keeps, new_label}, ObjectLabels.{kind_there, same_label}, Reach.IsControlled}
-use Rattle.integrity.proofs.{SetKeeps.set_keeps, Shrinking.same_tcb, SlotKeeps.{SlotsFit, slots_keep}}
-use Rattle.integrity.specs.Keeping.{IsSharp}
 
 -- a new object links to nothing
 new_alone : (of : MemoryKind) (bits at : ℕ) (k : Kind) (end : ObjId) → links (new_object of bits at) k end ≡ false

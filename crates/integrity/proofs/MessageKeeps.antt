@@ -1,37 +1,35 @@
 -- Send, Call, Receive, Reply and Fetch within a caller's authority: its label may use the endpoint or the reply that is found, and the
 -- thread that a message or an answer reaches waits there by a recorded edge.
-use Rattle.policy.specs.Sharp.{MayIdle}
-use Rattle.std.{specs.Prelude.{if◌then◌else◌, is_ok}, proofs.Common.{ℕ, ◌&&◌, ◌∙◌, ◌≡◌, ◌≢◌, ◌⊎◌, Bool, List, None, Option, Some, ap}}
-use Rattle.std.proofs.{Common.{false, inl, inr, refl, subst, sym, true}, lemmas.Bool.{and_from, and_parts, false≢true}}
+use Rattle.std.{specs.Prelude.{if◌then◌else◌, is_ok}, proofs.Common.{ℕ, ◌&&◌, ◌∙◌, ◌≡◌, ◌≢◌, ◌⊎◌, Bool, List, None, Option}}
+use Rattle.std.proofs.{Common.{Some, ap, false, inl, inr, refl, subst, sym, true}, lemmas.Bool.{and_from, and_parts, false≢true}}
 use Rattle.base.specs.declared.{ids.ObjId.ObjId, kind.Kind.{Kind, Kind as authority}}
-use Rattle.machine.specs.declared.{call.Event.Event, cap.Detail.Detail as d, object.{Endpoint.Endpoint, Object.{Object, Object as o}}}
-use Rattle.machine.specs.declared.{object.Reply.Reply, slot_address.SlotAddress.SlotAddress, thread.{Message.Message, Receiving.Receiving}}
-use Rattle.machine.specs.{declared.thread.{RunState.RunState, Sending.Sending, Tcb.Tcb}, Authority.{label_of, state_links}}
-use Rattle.machine.specs.{Capabilities.can_write, Layout.Layout, Machine.{Machine, object_of, same_id}, Releasing.{given, ready}}
-use Rattle.machine.specs.{Releasing.{with_blocked, with_given, with_named, with_ready}, Step.Deliver.{answer_through, arrival_of}}
-use Rattle.machine.specs.Step.{Deliver.{delivered, linked, message_of, sending_by, sent, with_arrival}, Receive.awaiting_message}
-use Rattle.machine.specs.{Step.{Receive.with_reply_ended, Reply.with_returned, Send.called_through}, WellFormed.{IsAlike, IsCallingThrough}}
-use Rattle.machine.{specs.WellFormed.{IsReceivingWith, IsThread, IsWellFormed, WaitsAt}, proofs.{HeldThreads.calling_names, Ids.itself}}
-use Rattle.machine.proofs.{Leaving.Names, LookUps.one_id, RunsLinks.named_so}
-use Rattle.machine.specs.declared.object.ReplyState.TheVariants as reply
-use Rattle.machine.specs.declared.thread.RunState.TheVariants as state
-use Rattle.steps.proofs.{Admission.IsCaller, Arrival.arrival_same, EndpointRow.{IsEndOpen, IsReceiver, IsSender}, FetchRow.FetchDone}
-use Rattle.steps.proofs.{Joins.names_one, Lending.returned_there, MessageRows.{answers_through, caller_apart, caller_idle}}
-use Rattle.steps.proofs.MessageRows.{delivered_formed, delivered_free, delivered_other, delivered_there, received_arrived_formed}
-use Rattle.steps.proofs.MessageRows.{received_arrived_free, received_caller, received_ended_formed, received_endpoint, received_free}
-use Rattle.steps.proofs.{MessageRows.received_sender, ReceiveRow.ReceiveDone, ReplyRow.{Answers, ReplyDone}, SendRow.EndpointCallDone}
-use Rattle.steps.proofs.SendRow.{SendDone}
-use Rattle.policy.specs.Change.{MayChangeContext.{lends, returns}, WayToChange.{links as links_to, modifies, receives, replies, sends}}
-use Rattle.policy.specs.{Change.WayToChange.shares, Domain.EdgeTest, Sharp.MayServe}
-use Rattle.integrity.specs.{Acting.MayAct, Awake.IsAwake, Invariant.{IsHeld, IsSound}, Shrinks.IsBlocked}
+use Rattle.machine.specs.declared.{call.Event.Event, cap.Detail.Detail as d, object.Endpoint.Endpoint}
+use Rattle.machine.specs.declared.{object.{Object.{Object, Object as o}, Reply.Reply}, slot_address.SlotAddress.SlotAddress}
+use Rattle.machine.specs.declared.thread.{Message.Message, Receiving.Receiving, RunState.RunState, Sending.Sending, Tcb.Tcb}
+use Rattle.machine.specs.{Authority.{label_of, state_links}, Capabilities.can_write, Layout.Layout, Machine.{Machine, object_of, same_id}}
+use Rattle.machine.specs.Releasing.{given, ready, with_blocked, with_given, with_named, with_ready}
+use Rattle.machine.specs.Step.Deliver.{answer_through, arrival_of, delivered, linked, message_of, sending_by, sent, with_arrival}
+use Rattle.machine.specs.Step.{Receive.{awaiting_message, with_reply_ended}, Reply.with_returned, Send.called_through}
+use Rattle.machine.specs.WellFormed.{IsAlike, IsCallingThrough, IsReceivingWith, IsThread, IsWellFormed, WaitsAt}
+use Rattle.machine.proofs.{HeldThreads.calling_names, Ids.itself, Leaving.Names, LookUps.one_id, RunsLinks.named_so}
+use Rattle.steps.proofs.{Admission.IsCaller, Arrival.arrival_same, EndpointRow.{IsEndOpen, IsReceiver, IsSender}}
+use Rattle.steps.proofs.{FetchRow.FetchDone, Joins.names_one, Lending.returned_there}
+use Rattle.steps.proofs.MessageRows.{answers_through, caller_apart, caller_idle, delivered_formed, delivered_free}
+use Rattle.steps.proofs.MessageRows.{delivered_other, delivered_there, received_arrived_formed, received_arrived_free}
+use Rattle.steps.proofs.MessageRows.{received_caller, received_ended_formed, received_endpoint, received_free, received_sender}
+use Rattle.steps.proofs.{ReceiveRow.ReceiveDone, ReplyRow.{Answers, ReplyDone}, SendRow.{EndpointCallDone, SendDone}}
+use Rattle.policy.specs.Change.{MayChangeContext.{lends, returns}, WayToChange.{links as links_to, modifies, receives}}
+use Rattle.policy.specs.{Change.WayToChange.{replies, sends, shares}, Domain.EdgeTest, Sharp.{MayIdle, MayServe}}
+use Rattle.integrity.specs.{Acting.MayAct, Awake.IsAwake, Invariant.{IsHeld, IsSound}, Keeping.IsSharp, Shrinks.IsBlocked}
 use Rattle.integrity.proofs.{ArrivalKeeps.arrival_keeps, Asleep.blocked_acts, Awake.{blocked_actor, has_threads}, Held.held_of}
 use Rattle.integrity.proofs.{Keeps.{Changes, Keeps, Takes, keeps_keeps, unchanged}, LendingKeeps.{called_through_keeps, returned_keeps}}
-use Rattle.integrity.proofs.MessageParts.{IsReached, answers_allowed, at_reached, blocked_beside, deliver_keeps, halt_keeps, held_caller}
-use Rattle.integrity.proofs.MessageParts.{holds_edge, label_kept, link_keeps, reached, receiver_receives, receiver_replies, same_kept}
-use Rattle.integrity.proofs.{MessageParts.{sender_calls, sender_grants, sender_sends, thread_label}, MessageTouches.MayHold}
-use Rattle.integrity.proofs.MessageTouches.{blocked_keeps, emptied_keeps, free_holds, holding_keeps, released_keeps, sound_after}
-use Rattle.integrity.proofs.{MessageTouches.waiting_apart, ObjectLabels.same_label}
-use Rattle.integrity.specs.Keeping.{IsSharp}
+use Rattle.integrity.proofs.MessageParts.{IsReached, answers_allowed, at_reached, blocked_beside, deliver_keeps, halt_keeps}
+use Rattle.integrity.proofs.MessageParts.{held_caller, holds_edge, label_kept, link_keeps, reached, receiver_receives}
+use Rattle.integrity.proofs.MessageParts.{receiver_replies, same_kept, sender_calls, sender_grants, sender_sends, thread_label}
+use Rattle.integrity.proofs.MessageTouches.{MayHold, blocked_keeps, emptied_keeps, free_holds, holding_keeps}
+use Rattle.integrity.proofs.{MessageTouches.{released_keeps, sound_after, waiting_apart}, ObjectLabels.same_label}
+use Rattle.machine.specs.declared.object.ReplyState.TheVariants as reply
+use Rattle.machine.specs.declared.thread.RunState.TheVariants as state
 
 -- a thread runs on a context
 abbrev pub RunsOn : Machine → ObjId → Type 0

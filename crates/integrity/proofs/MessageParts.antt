@@ -1,31 +1,29 @@
 -- Parts of a message's way, and what they keep: a receiver gets it, the caller waits for the answer, and the thread of a reply is halted.
 -- They take only what a label has over an endpoint or a reply that is found, and the recorded edges of the threads there.
-use Rattle.integrity.{specs.Keeping.IsIdleBorrower, proofs.Borrowers.borrower_stays}
-use Rattle.std.{specs.Prelude.{if◌then◌else◌, is_ok}, proofs.Common.{ℕ, ◌&&◌, ◌<◌, ◌∙◌, ◌≡◌, ◌≢◌, ◌⊎◌, Bool, List, None, Option, Some, ap}}
-use Rattle.std.proofs.{Common.{arith, false, inl, inr, option_map, refl, subst, sym, true}, lemmas.{Bool.and_from, Option.none-some}}
-use Rattle.std.proofs.lemmas.Option.{same_Some}
+use Rattle.std.{specs.Prelude.{if◌then◌else◌, is_ok}, proofs.Common.{ℕ, ◌&&◌, ◌<◌, ◌∙◌, ◌≡◌, ◌≢◌, ◌⊎◌, Bool, List}}
+use Rattle.std.proofs.Common.{None, Option, Some, ap, arith, false, inl, inr, option_map, refl, subst, sym, true}
+use Rattle.std.proofs.lemmas.{Bool.and_from, Option.{none-some, same_Some}}
 use Rattle.base.specs.{declared.{ids.ObjId.ObjId, kind.Kind.{Kind, Kind as authority}}, Kinds.is_structural}
 use Rattle.machine.specs.declared.{call.Event.Event, cap.Detail.Detail, object.{Object.{Object, Object as o}, Reply.Reply}}
 use Rattle.machine.specs.declared.thread.{Lent.Lent, Message.Message, Receiving.Receiving, RunState.RunState, Sending.Sending, Tcb.Tcb}
-use Rattle.machine.specs.{Authority.{holds_thread, label_of, links, names_object, state_links, HasAuthority.by_link}, Capabilities.gives}
+use Rattle.machine.specs.{Authority.{HasAuthority.by_link, holds_thread, label_of, links, names_object, state_links}, Capabilities.gives}
 use Rattle.machine.specs.{Changes.{with_tcb, with_waiting}, Finalising.halted, Layout.Layout, Machine.{Machine, object_of, queue_of}}
 use Rattle.machine.specs.{Machine.same_id, Releasing.{given, with_blocked, with_called, with_given, with_halted, with_holder_halted}}
 use Rattle.machine.specs.Step.Deliver.{answer_through, arrival_of, delivered, linked, message_of, with_arrival}
-use Rattle.machine.{specs.WellFormed.{IsCallingThrough, IsFree, IsReceivingWith, IsThread, WaitsAt}, proofs.Ids.{at_other, itself}}
-use Rattle.machine.proofs.{Leaving.Names, LookUps.{object_of-with_object, object_of-with_queue}}
-use Rattle.machine.specs.declared.object.ReplyState.TheVariants as reply
-use Rattle.machine.specs.declared.thread.RunState.TheVariants as state
+use Rattle.machine.specs.WellFormed.{IsCallingThrough, IsFree, IsReceivingWith, IsThread, WaitsAt}
+use Rattle.machine.proofs.{Ids.{at_other, itself}, Leaving.Names, LookUps.{object_of-with_object, object_of-with_queue}}
 use Rattle.steps.proofs.{Arrival.arrival_same, Beside.{HolderLeaves, holder_leaves}, EndpointRow.{IsReceiver, IsSender}}
 use Rattle.steps.proofs.{Finding.FindsObject, MessageRows.{arrived_there, delivered_is, halted_between}}
 use Rattle.policy.specs.{Change.{MayHoldCaller, WayToChange.{modifies, replies, sends}}, Domain.EdgeTest}
-use Rattle.policy.specs.NarrowTake.WayToShrink.{ends, frees, halts as halts_waiting}
+use Rattle.policy.specs.{NarrowTake.WayToShrink.{ends, frees, halts as halts_waiting}, Sharp.UsesRise}
 use Rattle.integrity.specs.{Acting.MayAct, Awake.{CallersAreServed, IsAwake, IsServed, OthersSleep}, Invariant.{IsHeld, IsSound}}
-use Rattle.integrity.{specs.Shrinks.{IsBlocked, Stops.halted as is_halted}, proofs.{ArrivalKeeps.arrival_keeps, Asleep.blocked_acts}}
-use Rattle.integrity.proofs.{Awake.blocked_actor, Held.held_of, Keeps.{Changes, Keeps, Takes, keeps_keeps, unchanged}}
-use Rattle.integrity.proofs.{MessageTouches.{MayHold, MayLessen, MayRelease, called_keeps, released_keeps}, ObjectLabels.label_stays}
-use Rattle.integrity.proofs.{ObjectLabels.{labelled_there, same_label}, Reach.found_in_reach}
-use Rattle.integrity.specs.Keeping.{IsSharp}
-use Rattle.policy.specs.Sharp.{UsesRise}
+use Rattle.integrity.specs.{Keeping.{IsIdleBorrower, IsSharp}, Shrinks.{IsBlocked, Stops.halted as is_halted}}
+use Rattle.integrity.proofs.{ArrivalKeeps.arrival_keeps, Asleep.blocked_acts, Awake.blocked_actor}
+use Rattle.integrity.proofs.{Borrowers.borrower_stays, Held.held_of, Keeps.{Changes, Keeps, Takes, keeps_keeps, unchanged}}
+use Rattle.integrity.proofs.MessageTouches.{MayHold, MayLessen, MayRelease, called_keeps, released_keeps}
+use Rattle.integrity.proofs.{ObjectLabels.{label_stays, labelled_there, same_label}, Reach.found_in_reach}
+use Rattle.machine.specs.declared.object.ReplyState.TheVariants as reply
+use Rattle.machine.specs.declared.thread.RunState.TheVariants as state
 
 -- an answer goes through a reply only if the sender may be answered
 pub answers_allowed :

@@ -1,31 +1,27 @@
 -- Changes that link threads, queues and replies, or end these links, keep what a part of a call keeps, if the labels of the objects that
 -- they touch allow it.
-use Rattle.std.{specs.Prelude.{None, Option, Some, cond}, proofs.Common.{[], ℕ, ◌++◌, ◌<◌, ◌∙◌, ◌∷◌, ◌≡◌, ◌≢◌, ◌⊎◌, List, ap, arith, inl}}
-use Rattle.std.proofs.{Common.{inr, not, refl, subst, sym, true}, lemmas.{Bool.false≢true, Option.{none-some, same_Some}}}
-use Rattle.base.specs.declared.{ids.ObjId.ObjId, kind.Kind.Kind}
-use Rattle.base.specs.declared.kind.Kind.TheVariants as authority
+use Rattle.std.specs.Prelude.{None, Option, Some, cond}
+use Rattle.std.proofs.Common.{[], ℕ, ◌++◌, ◌<◌, ◌∙◌, ◌∷◌, ◌≡◌, ◌≢◌, ◌⊎◌, List, ap, arith, inl, inr, not, refl, subst, sym, true}
+use Rattle.{std.proofs.lemmas.{Bool.false≢true, Option.{none-some, same_Some}}, base.specs.declared.{ids.ObjId.ObjId, kind.Kind.Kind}}
 use Rattle.machine.specs.declared.{call.Event.Event, object.{Object.{Object, Object as o}, Reply.Reply, ReplyState.ReplyState}}
-use Rattle.machine.specs.{declared.thread.{Calling.Calling, RunState.RunState, Tcb.Tcb}, Authority.{holds_thread, label_of, context_lent, links}}
-use Rattle.machine.specs.{Authority.state_links, Changes.{with_waiting, without_waiting}, Layout.Layout, Machine.{Machine, object_of}}
-use Rattle.machine.specs.{Machine.{queue_of, same_id, with_object, with_queue}, Releasing.{unblocked, with_blocked, with_called}}
-use Rattle.machine.specs.{Releasing.{with_holding, with_named, with_released}, Step.Fetch.emptied, WellFormed.{IsIdle, IsThread}}
-use Rattle.machine.{specs.WellFormed.{IsWellFormed, WaitsAt}, proofs.{Ids.{at_itself, at_other, one_or_two}, Leaving.{Names, holding_is}}}
-use Rattle.machine.proofs.{Leaving.{released_there, tcb_is, without}, LookUps.{cap_of-with_queue, object_of-with_object}}
-use Rattle.machine.proofs.LookUps.{object_of-with_queue, one_id, queue_of-with_object, queue_of-with_queue, words_of-with_queue}
-use Rattle.machine.proofs.RunsLinks.{runs_also, runs_bound, runs_by}
+use Rattle.machine.specs.declared.thread.{Calling.Calling, Lent.Lent, Receiving.Receiving, RunState.RunState, Tcb.Tcb}
+use Rattle.machine.specs.{Authority.{context_lent, holds_thread, label_of, links, state_links}, Changes.{with_waiting, without_waiting}}
+use Rattle.machine.specs.{Layout.Layout, Machine.{Machine, object_of, queue_of, same_id, with_object, with_queue}}
+use Rattle.machine.specs.Releasing.{unblocked, with_blocked, with_called, with_holding, with_named, with_released}
+use Rattle.machine.specs.{Step.{Fetch.emptied, Reply.loan_in}, WellFormed.{IsIdle, IsThread, IsWellFormed, WaitsAt}}
+use Rattle.machine.proofs.{Ids.{at_itself, at_other, one_or_two}, Leaving.{Names, holding_is, released_there, tcb_is, without}}
+use Rattle.machine.proofs.LookUps.{cap_of-with_queue, object_of-with_object, object_of-with_queue, one_id, queue_of-with_object}
+use Rattle.machine.proofs.{LookUps.{queue_of-with_queue, words_of-with_queue}, RunsLinks.{runs_also, runs_bound, runs_by}}
+use Rattle.policy.specs.{Change.WayToChange.own, Domain.EdgeTest, Sharp.MayIdle}
+use Rattle.integrity.specs.{Acting.MayAct, Awake.{IsAwake, IsHeldAfterCall, IsServed}, Invariant.{IsHeld, IsSound}}
+use Rattle.integrity.specs.{Keeping.IsIdleBorrower, Shrinks.{Lessens.{as_it_was, freed, released}, Stops}}
+use Rattle.integrity.proofs.{Asleep.acts_of, Borrowers.lent_back, Contents.{changed, loses_links, reply_fits, shrunk, tcb_fits}}
+use Rattle.integrity.proofs.{Keeps.{Changes, Keeps, Takes, keeps_keeps, unchanged}, ObjectLabels.{label_stays, same_label}}
+use Rattle.integrity.proofs.{RemovalShrinks.part_of_all, SetKeeps.{queue_keeps, set_keeps}}
+use Rattle.base.specs.declared.kind.Kind.TheVariants as authority
 use Rattle.machine.specs.declared.object.ReplyState.TheVariants as reply
 use Rattle.machine.specs.declared.thread.Inbox.TheVariants as inbox
 use Rattle.machine.specs.declared.thread.RunState.TheVariants as state
-use Rattle.policy.specs.{Change.WayToChange.own, Domain.EdgeTest}
-use Rattle.integrity.specs.{Acting.MayAct, Awake.{IsAwake, IsHeldAfterCall, IsServed}, Invariant.{IsHeld, IsSound}, Shrinks.Stops}
-use Rattle.integrity.{specs.Shrinks.Lessens.{as_it_was, freed, released}, proofs.{Asleep.acts_of, Contents.{changed, loses_links}}}
-use Rattle.integrity.proofs.{Contents.{reply_fits, shrunk, tcb_fits}, Keeps.{Changes, Keeps, Takes, keeps_keeps, unchanged}}
-use Rattle.integrity.proofs.{ObjectLabels.{label_stays, same_label}, RemovalShrinks.part_of_all, SetKeeps.{queue_keeps, set_keeps}}
-use Rattle.machine.specs.declared.thread.Receiving.{Receiving}
-use Rattle.policy.specs.Sharp.{MayIdle}
-use Rattle.machine.specs.{declared.thread.Lent.Lent, Step.Reply.loan_in}
-use Rattle.integrity.specs.Keeping.{IsIdleBorrower}
-use Rattle.integrity.proofs.Borrowers.{lent_back}
 
 -- the two cases of each change
 

@@ -2,23 +2,19 @@
 -- nothing.
 use Rattle.std.proofs.Common.{[], ℕ, ◌+◌, ◌<◌, ◌∙◌, ◌≡◌, ◌≢◌, ◌≤◌, ◌⊎◌, None, Option, Some, ap, arith, false, if◌then◌else◌, inl, inr}
 use Rattle.std.proofs.{Common.{length, nat_lt, option_and_then, option_map, refl, replicate, sym, true}, lemmas.Bool.{false≢true, le-ltb}}
-use Rattle.std.proofs.lemmas.Option.{none-some, same_Some, slice_get_within}
-use Rattle.base.specs.declared.{ids.ObjId.ObjId, kind.Kind.Kind}
+use Rattle.{std.proofs.lemmas.Option.{none-some, same_Some, slice_get_within}, base.specs.declared.{ids.ObjId.ObjId, kind.Kind.Kind}}
+use Rattle.machine.specs.declared.{call.Event.Event, layout.Initial.Initial, object.Context.Context}
+use Rattle.machine.specs.declared.{object.{Object.{Object, Object as o}, ReplyState.ReplyState, Untyped.Untyped}, thread.Tcb.Tcb}
+use Rattle.machine.specs.Authority.{HasAuthority.{by_cap, by_link, by_pair, by_root}, holds_thread, label_at, label_of, links}
+use Rattle.machine.specs.{Layout.{Layout, declared_label, initial_of}, Machine.{Machine, object_of, queue_of, with_new, words_of}}
+use Rattle.machine.specs.{Objects.{address_of, end_of, kind_of_object, word_count}, Step.Reply.loan_in, WellFormed.kind_of}
+use Rattle.machine.proofs.{Ids.{at_itself, at_other, itself, one_or_two}, LookUps.{cap_of-with_new, object_of-with_new, parent_of-with_new}}
+use Rattle.{machine.proofs.{LookUps.{queue_of-with_new, words_of-with_new}, RunsLinks.runs_lent}, policy.specs.Domain.EdgeTest}
+use Rattle.integrity.specs.{Awake.{IsAsleep, IsAwake}, Confined.IsConfined, Invariant.{IsBare, IsHeld}}
+use Rattle.integrity.specs.{Keeping.{BorrowersMayIdle, KeepersHoldNodes, WaitersMayIdle}, OfTable.IsOfTable}
+use Rattle.integrity.proofs.{Asleep.{asleep_waits, sleeps_on}, Borrowers.{borrower_stays, lender_runs}, Joined.IsJoined}
+use Rattle.integrity.proofs.{Keeps.{Acts, Changes, Keeps}, ObjectLabels.{kind_there, same_label}, Shrinking.same_context}
 use Rattle.base.specs.declared.kind.Kind.TheVariants as authority
-use Rattle.machine.specs.declared.{call.Event.Event, layout.Initial.Initial, object.{Context.Context, Object.{Object, Object as o}}}
-use Rattle.machine.specs.{declared.{object.{ReplyState.ReplyState, Untyped.Untyped}, thread.Tcb.Tcb}, Authority.{holds_thread, label_at}}
-use Rattle.machine.specs.{Authority.{label_of, links, HasAuthority.{by_cap, by_link, by_pair, by_root}}, Layout.{Layout, declared_label}}
-use Rattle.machine.specs.{Layout.initial_of, Machine.{Machine, object_of, queue_of, with_new, words_of}, Objects.{address_of, end_of}}
-use Rattle.machine.{specs.{Objects.{kind_of_object, word_count}, WellFormed.kind_of}, proofs.Ids.{at_itself, at_other, itself, one_or_two}}
-use Rattle.machine.proofs.LookUps.{cap_of-with_new, object_of-with_new, parent_of-with_new, queue_of-with_new, words_of-with_new}
-use Rattle.machine.proofs.RunsLinks.{runs_lent}
-use Rattle.policy.specs.Domain.{EdgeTest}
-use Rattle.integrity.specs.{Awake.{IsAsleep, IsAwake}, Confined.IsConfined, Invariant.{IsBare, IsHeld}, OfTable.IsOfTable}
-use Rattle.integrity.proofs.{Asleep.sleeps_on, Joined.IsJoined, Keeps.{Acts, Changes, Keeps}, ObjectLabels.{kind_there, same_label}}
-use Rattle.integrity.proofs.{Asleep.asleep_waits, Shrinking.same_context}
-use Rattle.integrity.specs.Keeping.{BorrowersMayIdle, KeepersHoldNodes, WaitersMayIdle}
-use Rattle.machine.specs.Step.Reply.{loan_in}
-use Rattle.integrity.proofs.Borrowers.{borrower_stays, lender_runs}
 
 -- an object that may be made in a step of a label's thread
 pub record IsMakeable (t : Layout) (allowed : EdgeTest) (began : Machine) (a : ℕ) (object : Object) : Type 0 where

@@ -2,9 +2,7 @@
 use Rattle.std.proofs.{Common.{ℕ, ◌∙◌, ◌≡◌, ◌≢◌, ◌⊎◌, Some, ap, false, inl, inr, sym}, lemmas.{Bool.false≢true, Option.same_Some}}
 use Rattle.base.specs.declared.{ids.ObjId.ObjId, kind.Kind.Kind as authority}
 use Rattle.machine.specs.{declared.{call.Event.Event, object.{Context.Context, Object.Object as o}}, Authority.label_of, Layout.Layout}
-use Rattle.machine.specs.Machine.{Machine, object_of}
-use Rattle.policy.specs.Domain.{EdgeTest}
-use Rattle.integrity.specs.Budgets.{KeepsBudgets, MayConfigure}
+use Rattle.{machine.specs.Machine.{Machine, object_of}, policy.specs.Domain.EdgeTest, integrity.specs.Budgets.{KeepsBudgets, MayConfigure}}
 
 -- a label that changes a share may configure the context
 changer :

@@ -4,17 +4,16 @@ use Rattle.std.proofs.Common.{ℕ, ◌∙◌, ◌≡◌, ◌≢◌, ◌⊎◌, B
 use Rattle.base.specs.declared.{ids.ObjId.ObjId, kind.Kind.{Kind, Kind as authority}}
 use Rattle.machine.specs.declared.{call.Event.Event, cap.{Badged.Badged, Detail.Detail as d}, object.Notification.Notification}
 use Rattle.machine.specs.declared.{object.Object.{Object, Object as o}, thread.{RunState.{RunState, RunState as state}, Tcb.Tcb}}
-use Rattle.machine.specs.{Authority.{label_of, state_links}, Capabilities.{can_read, can_write}, Layout.Layout, Machine.Machine}
-use Rattle.machine.{specs.{Machine.{object_of, with_object}, Releasing.with_blocked, WellFormed.{IsThread, WaitsAt}}, proofs.Ids.itself}
-use Rattle.machine.proofs.{Leaving.Names, LookUps.one_id}
-use Rattle.steps.proofs.{Admission.IsCaller, MessageRows.caller_idle, NotificationRow.IsOpen, PollRow.PollDone, SignalRow.SignalDone}
-use Rattle.steps.proofs.{SignalRow.{Wakes, marked, roused}, WaitRow.WaitDone}
-use Rattle.policy.specs.{Change.WayToChange.{modifies, notifies}, Domain.EdgeTest}
-use Rattle.integrity.{specs.{Invariant.{IsHeld, IsSound}, Shrinks.IsBlocked}, proofs.{Asleep.blocked_acts, Awake.blocked_actor}}
-use Rattle.integrity.proofs.{Contents.{changed, notification_fits}, Held.held_of, Keeps.{Changes, Keeps}, MessageParts.IsReached}
-use Rattle.integrity.proofs.{MessageParts.{at_reached, reached, thread_edge}, MessageTouches.{blocked_keeps, released_keeps}}
-use Rattle.integrity.proofs.SetKeeps.{set_keeps}
-use Rattle.policy.specs.Sharp.{UsesRise}
+use Rattle.machine.specs.{Authority.{label_of, state_links}, Capabilities.{can_read, can_write}, Layout.Layout}
+use Rattle.machine.specs.{Machine.{Machine, object_of, with_object}, Releasing.with_blocked, WellFormed.{IsThread, WaitsAt}}
+use Rattle.machine.proofs.{Ids.itself, Leaving.Names, LookUps.one_id}
+use Rattle.steps.proofs.{Admission.IsCaller, MessageRows.caller_idle, NotificationRow.IsOpen}
+use Rattle.steps.proofs.{PollRow.PollDone, SignalRow.{SignalDone, Wakes, marked, roused}, WaitRow.WaitDone}
+use Rattle.policy.specs.{Change.WayToChange.{modifies, notifies}, Domain.EdgeTest, Sharp.UsesRise}
+use Rattle.integrity.specs.{Invariant.{IsHeld, IsSound}, Shrinks.IsBlocked}
+use Rattle.integrity.proofs.{Asleep.blocked_acts, Awake.blocked_actor, Contents.{changed, notification_fits}, Held.held_of}
+use Rattle.integrity.proofs.{Keeps.{Changes, Keeps}, MessageParts.{IsReached, at_reached, reached, thread_edge}}
+use Rattle.integrity.proofs.{MessageTouches.{blocked_keeps, released_keeps}, SetKeeps.set_keeps}
 
 module _
     (t : Layout) (allowed : EdgeTest) (event : Event) (a : ℕ) (m : Machine) (sound : IsSound t allowed m)

@@ -1,7 +1,6 @@
 -- Labels of objects: an object's label depends on its number and its address alone.
 use Rattle.std.proofs.Common.{ℕ, ◌∙◌, ◌≡◌, None, Option, Some, ap, if◌then◌else◌, length, nat_lt, option_and_then, option_map, sym}
-use Rattle.std.proofs.lemmas.Option.{none-some}
-use Rattle.base.specs.declared.ids.ObjId.{ObjId}
+use Rattle.{std.proofs.lemmas.Option.none-some, base.specs.declared.ids.ObjId.ObjId}
 use Rattle.machine.specs.{declared.object.{Object.Object, ObjectKind.ObjectKind}, Authority.{label_at, label_of}, Layout.Layout}
 use Rattle.machine.specs.{Layout.declared_label, Machine.{Machine, object_of}, Objects.{address_of, kind_of_object}, WellFormed.kind_of}
 

@@ -2,12 +2,11 @@
 use Rattle.std.proofs.Common.{[], ℕ, ◌∙◌, ◌≡◌, Ok, Some, ap, false, inl, inr, option_map, refl, sym, true}
 use Rattle.base.specs.{declared.{ids.{ObjId.ObjId, SlotRef.SlotRef}, kind.Kind.{Kind, Kind as authority}}, Kinds.is_structural}
 use Rattle.machine.specs.declared.{cap.Cap.Cap, object.ObjectKind.ObjectKind as kind, slot_address.SlotAddress.SlotAddress}
-use Rattle.machine.specs.{Authority.{label_of, HasAuthority.{by_cap, by_root}}, Capabilities.{gives, kind_of_detail}, Layout.Layout}
+use Rattle.machine.specs.{Authority.{HasAuthority.{by_cap, by_root}, label_of}, Capabilities.{gives, kind_of_detail}, Layout.Layout}
 use Rattle.machine.specs.{Lookup.{lookup_of, root_of}, Machine.{Machine, cap_of}, Objects.kind_of_object, WellFormed.kind_of}
-use Rattle.steps.proofs.SlotRows.{LeadsTo}
-use Rattle.policy.specs.{Domain.{EdgeTest, IsInDomain}, Sharp.{MayPut, UsesRise}}
-use Rattle.integrity.specs.Keeping.{MayKeep, MayKeep.{finds, handed}}
-use Rattle.integrity.{specs.Invariant.IsHeld, proofs.{ObjectLabels.kind_there, Walks.{Shows, lookup_ends, shows, walk_ends}}}
+use Rattle.{steps.proofs.SlotRows.LeadsTo, policy.specs.{Domain.{EdgeTest, IsInDomain}, Sharp.{MayPut, UsesRise}}}
+use Rattle.integrity.specs.{Invariant.IsHeld, Keeping.{MayKeep, MayKeep.{finds, handed}}}
+use Rattle.integrity.proofs.{ObjectLabels.kind_there, Walks.{Shows, lookup_ends, shows, walk_ends}}
 
 -- a CNode that a label controls: the label found its capability, so it keeps
 pub record IsControlled (t : Layout) (allowed : EdgeTest) (m : Machine) (a : ℕ) (node : ObjId) : Type 0 where

@@ -4,12 +4,10 @@ use Rattle.std.proofs.Common.{ℕ, ◌≡◌, ◌⊎◌, Bool, None, Ok, Some, i
 use Rattle.base.specs.declared.ids.{ObjId.ObjId, SlotRef.SlotRef}
 use Rattle.machine.specs.{declared.{call.Event.Event, cap.Cap.Cap, slot_address.SlotAddress.SlotAddress}, Authority.label_of}
 use Rattle.machine.specs.{Below.is_below, Layout.Layout, Machine.{Machine, cap_of, same_slot}, Removal.removed, Step.Target.target_of}
-use Rattle.steps.proofs.{RemovalRows.RemovalDone, SlotRows.target_leads}
-use Rattle.policy.specs.{Domain.EdgeTest}
-use Rattle.integrity.{specs.{Invariant.IsSound, Removals.MayRemove}, proofs.{Held.held_of, Keeps.{Keeps, unchanged}, Reach.IsControlled}}
-use Rattle.integrity.proofs.{Reach.led_controlled, RemovalKeeps.{removed_keeps, removed_sound}}
-use Rattle.integrity.proofs.RemovalRights.{may_delete_in, may_revoke_below}
-use Rattle.integrity.specs.Keeping.{IsSharp}
+use Rattle.{steps.proofs.{RemovalRows.RemovalDone, SlotRows.target_leads}, policy.specs.Domain.EdgeTest}
+use Rattle.integrity.specs.{Invariant.IsSound, Keeping.IsSharp, Removals.MayRemove}
+use Rattle.integrity.proofs.{Held.held_of, Keeps.{Keeps, unchanged}, Reach.{IsControlled, led_controlled}}
+use Rattle.integrity.proofs.{RemovalKeeps.{removed_keeps, removed_sound}, RemovalRights.{may_delete_in, may_revoke_below}}
 
 module _
     (t : Layout) (allowed : EdgeTest) (event : Event) (a : ℕ) (m : Machine) (sound : IsSound t allowed m) (closed : IsSharp t allowed)

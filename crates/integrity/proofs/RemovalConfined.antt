@@ -1,18 +1,16 @@
 -- A removal keeps a machine within the policy: each edge was there, or is that of an orphan's new parent, from which it descended.
-use Rattle.std.{specs.Prelude.length, proofs.Common.{ℕ, ◌<◌, ◌∙◌, ◌≡◌, ◌≤◌, Bool, None, Option, Some, ap, cond, false, refl, subst, sym}}
-use Rattle.std.proofs.{Common.true, lemmas.{Bool.false≢true, Option.none-some}}
+use Rattle.std.{specs.Prelude.length, proofs.Common.{ℕ, ◌<◌, ◌∙◌, ◌≡◌, ◌≤◌, Bool, None, Option, Some, ap}}
+use Rattle.std.proofs.{Common.{cond, false, refl, subst, sym, true}, lemmas.{Bool.false≢true, Option.none-some}}
 use Rattle.base.specs.declared.{ids.{ObjId.ObjId, SlotRef.SlotRef}, kind.Kind.{Kind, Kind as authority}}
 use Rattle.machine.specs.declared.object.{Object.{Object, Object as o}, ObjectKind.ObjectKind, ReplyState.{ReplyState, ReplyState as reply}}
-use Rattle.machine.specs.{declared.thread.Tcb.Tcb, Authority.{holds_thread, label_of, context_lent, links, HasAuthority.{by_cap, by_link}}}
-use Rattle.machine.specs.{Authority.HasAuthority.{by_pair, by_root}, Finalising.{aborted, finalised, halted, is_aborted, is_halted}}
-use Rattle.machine.specs.{Finalising.{leads_nowhere, leaves, link_after, reply_after, tcb_after, unbound}, Layout.Layout, Machine.Machine}
-use Rattle.machine.specs.{Machine.parent_of, Objects.{address_of, kind_of_object}, Removal.{removed, vanishes}, WellFormed.Descends}
-use Rattle.machine.{specs.WellFormed.{child, further, kind_of}, proofs.{RemovalLooks.next-removed, RemovalStays.{cap_was, like_finalised}}}
-use Rattle.machine.proofs.{RemovalStays.{object_was, parent_was, untyped_was}, RunsLinks.runs_also}
-use Rattle.policy.specs.{Domain.EdgeTest, Sharp.DerivesOn}
-use Rattle.integrity.specs.Keeping.{KeepersHoldNodes}
-use Rattle.integrity.{specs.{Confined.IsConfined, Invariant.IsSound, OfTable.IsOfTable}, proofs.ObjectLabels.{kind_stays, kind_there}}
-use Rattle.integrity.proofs.{ObjectLabels.{label_stays, labelled_there}, Shrinking.same_tcb}
+use Rattle.machine.specs.{declared.thread.Tcb.Tcb, Authority.{HasAuthority.{by_cap, by_link, by_pair, by_root}, context_lent, holds_thread}}
+use Rattle.machine.specs.{Authority.{label_of, links}, Finalising.{aborted, finalised, halted, is_aborted, is_halted, leads_nowhere}}
+use Rattle.machine.specs.{Finalising.{leaves, link_after, reply_after, tcb_after, unbound}, Layout.Layout, Machine.{Machine, parent_of}}
+use Rattle.machine.specs.{Objects.{address_of, kind_of_object}, Removal.{removed, vanishes}, WellFormed.{Descends, child, further, kind_of}}
+use Rattle.machine.proofs.{RemovalLooks.next-removed, RemovalStays.{cap_was, like_finalised, object_was, parent_was, untyped_was}}
+use Rattle.{machine.proofs.RunsLinks.runs_also, policy.specs.{Domain.EdgeTest, Sharp.DerivesOn}}
+use Rattle.integrity.specs.{Confined.IsConfined, Invariant.IsSound, Keeping.KeepersHoldNodes, OfTable.IsOfTable}
+use Rattle.integrity.proofs.{ObjectLabels.{kind_stays, kind_there, label_stays, labelled_there}, Shrinking.same_tcb}
 
 -- a finalised object has no new links
 

@@ -1,28 +1,26 @@
 -- Objects that a removal changes are of labels that the remover may change or make smaller: what vanished, what was linked with it, the
 -- queues and replies that aborted or halted threads leave, and the objects of the chosen slots.
-use Rattle.std.{specs.Prelude.{◌&&◌, ◌||◌, Contains, None, Option, Some, filter, is_some, option_map}, proofs.Common.{[], ℕ, ◌<◌, ◌∙◌, ◌∷◌}}
-use Rattle.std.proofs.Common.{◌≡◌, ◌≢◌, ◌⊎◌, Bool, List, ap, arith, cond, false, inl, inr, not, refl, subst, suc, sym, true, zero}
-use Rattle.std.proofs.lemmas.{Bool.{cases_order, false≢true}, Option.same_Some}
+use Rattle.std.specs.Prelude.{◌&&◌, ◌||◌, Contains, None, Option, Some, filter, is_some, option_map}
+use Rattle.std.proofs.Common.{[], ℕ, ◌<◌, ◌∙◌, ◌∷◌, ◌≡◌, ◌≢◌, ◌⊎◌, Bool, List, ap, arith, cond, false, inl, inr, not, refl}
+use Rattle.std.proofs.{Common.{subst, suc, sym, true, zero}, lemmas.{Bool.{cases_order, false≢true}, Option.same_Some}}
 use Rattle.base.specs.{declared.{ids.{ObjId.ObjId, SlotRef.SlotRef}, kind.Kind.{Kind, Kind as authority}}, Kinds.is_structural}
-use Rattle.machine.specs.declared.{cap.Cap.Cap, object.{Context.Context, Object.{Object, Object as o}, ObjectKind.ObjectKind}}
-use Rattle.machine.specs.declared.{object.{ObjectKind.ObjectKind as kind, Reply.Reply, ReplyState.ReplyState}, thread.RunState.RunState}
-use Rattle.machine.specs.{declared.thread.Tcb.Tcb, Authority.{holds_thread, label_of, links, names_object, state_links}}
-use Rattle.machine.specs.{Authority.HasAuthority.by_link, Finalising.{aborted, finalised, halted, is_aborted, is_halted, is_released}}
-use Rattle.machine.specs.{Finalising.{leads_nowhere, leaves, reply_after, staying_in, tcb_after, unbound}, Gone.{IsGone, given, gone_of}}
-use Rattle.machine.specs.{Gone.with_last, Layout.Layout, Machine.{Machine, cap_of, object_of, queue_of, same_id}, Objects.kind_of_object}
-use Rattle.machine.specs.{Objects.slot_count, Removal.{removed, vanishes}, WellFormed.{IsCallingThrough, IsReceivingWith, IsThread}}
-use Rattle.machine.{specs.WellFormed.{WaitsAt, WaitsAtKind, kind_of}, proofs.GoneLemmas.{gone_decided, id_itself, losing_decided}}
+use Rattle.machine.specs.declared.{cap.Cap.Cap, object.{Context.Context, Object.{Object, Object as o}}}
+use Rattle.machine.specs.declared.object.{ObjectKind.{ObjectKind, ObjectKind as kind}, Reply.Reply, ReplyState.ReplyState}
+use Rattle.machine.specs.{declared.thread.{RunState.RunState, Tcb.Tcb}, Authority.{HasAuthority.by_link, holds_thread, label_of}}
+use Rattle.machine.specs.{Authority.{links, names_object, state_links}, Finalising.{aborted, finalised, halted, is_aborted}}
+use Rattle.machine.specs.Finalising.{is_halted, is_released, leads_nowhere, leaves, reply_after, staying_in, tcb_after, unbound}
+use Rattle.machine.specs.{Gone.{IsGone, given, gone_of, with_last}, Layout.Layout, Machine.{Machine, cap_of, object_of, queue_of, same_id}}
+use Rattle.machine.specs.{Objects.{kind_of_object, slot_count}, Removal.{removed, vanishes}, WellFormed.{IsCallingThrough, IsReceivingWith}}
+use Rattle.machine.{specs.WellFormed.{IsThread, WaitsAt, WaitsAtKind, kind_of}, proofs.GoneLemmas.{gone_decided, id_itself, losing_decided}}
 use Rattle.machine.proofs.{Queues.{first_in, other_in}, RemovalLooks.cap_of-removed, RemovalTable.finalised_there, RoundLemmas.both_pass}
-use Rattle.machine.proofs.RunsLinks.{runs_bound}
+use Rattle.{machine.proofs.RunsLinks.runs_bound, steps.proofs.{LeavingLinks.queue_now, RemovalLinks.{have_left, leavers}}}
+use Rattle.policy.specs.{Change.{WayToChange.{modifies, replies}, is_changing}, Domain.EdgeTest, NarrowTake.TakesByControl.drops}
+use Rattle.policy.specs.NarrowTake.{TakesByControl.{releases, removes, wakes}, WayToShrink.{controls, ends, halts, stops}, is_waiting}
+use Rattle.integrity.specs.{Awake.IsAwake, Invariant.IsSound, Keeping.IsSharp, Removals.{MayGo, MayRemove, use_of}}
+use Rattle.integrity.{specs.Shrinks.{IsBlocked, IsSame}, proofs.{Awake.blocked_actor, Cascade.{IsInReach, WayToAlter, reached_alters}}}
+use Rattle.integrity.proofs.{Cascade.{reached_used, rises, vanished_reached, vanished_used}, RemovalShrinks.{absent_stays, words_stay}}
 use Rattle.machine.specs.declared.object.ReplyState.TheVariants as reply
 use Rattle.machine.specs.declared.thread.RunState.TheVariants as state
-use Rattle.steps.proofs.{LeavingLinks.queue_now, RemovalLinks.{have_left, leavers}}
-use Rattle.policy.specs.{Change.{is_changing, WayToChange.{modifies, replies}}, Domain.EdgeTest, NarrowTake.is_waiting}
-use Rattle.policy.specs.NarrowTake.{TakesByControl.{drops, releases, removes, wakes}, WayToShrink.{controls, ends, halts, stops}}
-use Rattle.integrity.specs.{Awake.IsAwake, Invariant.IsSound, Removals.{MayGo, MayRemove, use_of}, Shrinks.{IsBlocked, IsSame}}
-use Rattle.integrity.proofs.{Awake.blocked_actor, Cascade.{IsInReach, WayToAlter, reached_alters, reached_used, rises, vanished_reached}}
-use Rattle.integrity.proofs.{Cascade.vanished_used, RemovalShrinks.{absent_stays, words_stay}}
-use Rattle.integrity.specs.Keeping.{IsSharp}
 
 -- a thread that waits at an object is linked with it
 record IsWaitLink (tcb : Tcb) (end : ObjId) : Type 0 where

@@ -1,18 +1,16 @@
 -- Threads that a removal leaves waiting for a message without a context are of labels that may idle: the last capability for the
 -- vanished context stood in a CNode, whose label may use it. The removal lends nobody a context.
-use Rattle.std.proofs.Common.{ℕ, ◌∙◌, ◌≡◌, ◌⊎◌, Bool, None, Option, Some, ap, cond, false, inl, inr, option_map, refl, sym, true}
-use Rattle.std.proofs.lemmas.Option.{none-some, same_Some}
+use Rattle.std.proofs.Common.{ℕ, ◌∙◌, ◌≡◌, ◌⊎◌, Bool, None, Option, Some, ap, arith, cond, false, inl}
+use Rattle.std.proofs.{Common.{inr, option_map, refl, sym, true}, lemmas.Option.{none-some, same_Some}}
 use Rattle.base.specs.declared.{ids.{ObjId.ObjId, SlotRef.SlotRef}, kind.Kind.Kind as authority}
 use Rattle.machine.specs.declared.{cap.Cap.Cap, object.{Object.{Object, Object as o}, ObjectKind.ObjectKind as kind}}
-use Rattle.machine.specs.declared.thread.{Receiving.Receiving, RunState.{RunState as state}, Tcb.Tcb}
-use Rattle.machine.specs.{Authority.{label_of, HasAuthority.{by_cap, by_link}}, Capabilities.{gives, kind_of_detail}, Layout.Layout}
+use Rattle.machine.specs.declared.thread.{Receiving.Receiving, RunState.RunState as state, Tcb.Tcb}
+use Rattle.machine.specs.{Authority.{HasAuthority.{by_cap, by_link}, label_of}, Capabilities.{gives, kind_of_detail}}
 use Rattle.machine.specs.{Finalising.{aborted, finalised, halted, is_aborted, is_halted, leads_nowhere, tcb_after, unbound}, Gone.gone_of}
-use Rattle.machine.specs.{Machine.{Machine, cap_of, object_of}, Objects.kind_of_object, Removal.{removed, vanishes}, WellFormed.kind_of}
-use Rattle.machine.proofs.{GoneLemmas.losing_decided, RemovalStays.object_was, RunsLinks.runs_bound}
-use Rattle.policy.specs.{Domain.EdgeTest, Sharp.MayIdle}
+use Rattle.machine.specs.{Layout.Layout, Machine.{Machine, cap_of, object_of}, Objects.kind_of_object, Removal.{removed, vanishes}}
+use Rattle.machine.{specs.{Step.Reply.loan_in, WellFormed.kind_of}, proofs.{GoneLemmas.losing_decided, RemovalLooks.next-removed}}
+use Rattle.{machine.proofs.{RemovalStays.object_was, RunsLinks.runs_bound}, policy.specs.{Domain.EdgeTest, Sharp.MayIdle}}
 use Rattle.integrity.specs.{Invariant.IsSound, Keeping.{BorrowersMayIdle, IsIdleBorrower, WaitersMayIdle}, Removals.use_of}
-use Rattle.std.proofs.Common.{arith}
-use Rattle.machine.{specs.Step.Reply.loan_in, proofs.RemovalLooks.next-removed}
 use Rattle.integrity.proofs.Borrowers.{borrower_stays, finalised_lends}
 use Rattle.integrity.proofs.{Cascade.{HasSlots, counted_kinds, gives_use}, RemovalConfined.label_was, Shrinking.same_tcb}
 

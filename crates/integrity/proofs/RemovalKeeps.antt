@@ -3,17 +3,15 @@
 use Rattle.std.proofs.{Common.{ℕ, ◌∙◌, ◌≡◌, ◌⊎◌, Bool, Some, ap, arith, inl, inr, refl, sym}, lemmas.Option.{none-some, same_Some}}
 use Rattle.base.specs.declared.ids.{ObjId.ObjId, SlotRef.SlotRef}
 use Rattle.machine.specs.declared.{call.Event.Event, object.{Context.Context, Object.{Object, Object as o}, ObjectKind.ObjectKind as kind}}
-use Rattle.machine.specs.{declared.thread.Tcb.Tcb, Authority.label_of, Finalising.finalised, Layout.Layout, Machine.{Machine, object_of}}
-use Rattle.machine.{specs.{Objects.{address_of, kind_of_object}, Removal.{removed, vanishes}}, proofs.RemovalLooks.next-removed}
-use Rattle.machine.proofs.RemovalStays.{like_finalised, object_was}
-use Rattle.steps.proofs.RemovalNumbers.{removed_formed}
-use Rattle.policy.specs.{Change.WayToChange, Domain.EdgeTest, NarrowTake.WayToShrink}
-use Rattle.integrity.proofs.RemovalIdlers.{removed_borrowers, removed_idlers}
-use Rattle.integrity.specs.{Awake.{IsAwake, OthersSleep, SleepsOrActs}, Invariant.IsSound, Removals.MayRemove, Shrinks.IsSame}
-use Rattle.integrity.proofs.{Asleep.shrunk_asleep, Held.held_of, Keeps.{Acts, Keeps}, ObjectLabels.labelled_there}
-use Rattle.integrity.proofs.{RemovalConfined.{label_was, removed_confined, removed_nodes, removed_of_table}, RemovalCuts.removed_alters}
+use Rattle.machine.specs.{declared.thread.Tcb.Tcb, Authority.label_of, Finalising.finalised, Layout.Layout}
+use Rattle.machine.specs.{Machine.{Machine, object_of}, Objects.{address_of, kind_of_object}, Removal.{removed, vanishes}}
+use Rattle.machine.proofs.{RemovalLooks.next-removed, RemovalStays.{like_finalised, object_was}}
+use Rattle.{steps.proofs.RemovalNumbers.removed_formed, policy.specs.{Change.WayToChange, Domain.EdgeTest, NarrowTake.WayToShrink}}
+use Rattle.integrity.specs.{Awake.{IsAwake, OthersSleep, SleepsOrActs}, Invariant.IsSound, Keeping.IsSharp, Removals.MayRemove}
+use Rattle.integrity.{specs.Shrinks.IsSame, proofs.{Asleep.shrunk_asleep, Held.held_of, Keeps.{Acts, Keeps}, ObjectLabels.labelled_there}}
+use Rattle.integrity.proofs.RemovalConfined.{label_was, removed_confined, removed_nodes, removed_of_table}
+use Rattle.integrity.proofs.{RemovalCuts.removed_alters, RemovalIdlers.{removed_borrowers, removed_idlers}}
 use Rattle.integrity.proofs.{RemovalServed.removed_served, RemovalShrinks.removed_shrinks, Shrinking.same_context}
-use Rattle.integrity.specs.Keeping.{IsSharp}
 
 thread_by_kind : (object : Object) → kind_of_object object ≡ kind.Tcb → (thread : Tcb) × (object ≡ o.Tcb thread)
 thread_by_kind (o.Tcb thread) is = (thread, refl)

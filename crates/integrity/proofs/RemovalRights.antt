@@ -2,18 +2,14 @@
 -- there, and one in the root slot of a thread that it controls.
 use Rattle.std.proofs.{Common.{ℕ, ◌∙◌, ◌≡◌, ◌≢◌, Some, ap, inl, inr, option_map, refl, sym, true}, lemmas.Option.same_Some}
 use Rattle.base.specs.declared.{ids.{ObjId.ObjId, SlotRef.SlotRef}, kind.Kind.Kind as authority}
-use Rattle.machine.specs.declared.{cap.Cap.Cap, object.{Object.{Object, Object as o}, Untyped.Untyped}}
-use Rattle.machine.specs.declared.object.ObjectKind.{ObjectKind, ObjectKind as kind}
-use Rattle.machine.specs.{Authority.{label_of, HasAuthority.{by_cap, by_root}}, Below.is_below, Capabilities.kind_of_detail, Layout.Layout}
-use Rattle.machine.specs.{Lookup.root_of, Machine.{Machine, cap_of, object_of, parent_of, same_slot}, Objects.kind_of_object}
-use Rattle.machine.{specs.WellFormed.{Descends, LiesIn, child, further, kind_of}, proofs.LookUps.one_slot}
-use Rattle.steps.proofs.BelowLemmas.{below_decided}
-use Rattle.policy.specs.Domain.{EdgeTest}
-use Rattle.integrity.specs.Keeping.{MayKeep}
-use Rattle.integrity.specs.{Invariant.IsSound, Removals.{MayRemove, use_of}}
+use Rattle.machine.specs.declared.{cap.Cap.Cap, object.{Object.{Object, Object as o}, ObjectKind.{ObjectKind, ObjectKind as kind}}}
+use Rattle.machine.specs.{declared.object.Untyped.Untyped, Authority.{HasAuthority.{by_cap, by_root}, label_of}, Below.is_below}
+use Rattle.machine.specs.{Capabilities.kind_of_detail, Layout.Layout, Lookup.root_of, Machine.{Machine, cap_of, object_of, parent_of}}
+use Rattle.machine.specs.{Machine.same_slot, Objects.kind_of_object, WellFormed.{Descends, LiesIn, child, further, kind_of}}
+use Rattle.{machine.proofs.LookUps.one_slot, steps.proofs.BelowLemmas.below_decided, policy.specs.Domain.EdgeTest}
+use Rattle.integrity.specs.{Invariant.IsSound, Keeping.{IsSharp, MayKeep}, Removals.{MayRemove, use_of}}
 use Rattle.integrity.proofs.{Cascade.{gives_use, of_use}, Held.held_of, InMemory.{label_inside, lies_other}}
 use Rattle.integrity.proofs.{Reach.{IsControlled, controlled_keeps, target_label}, RemovalConfined.descends_derive}
-use Rattle.integrity.specs.Keeping.{IsSharp}
 
 -- only a control's use is to configure a core
 use_other : (k : ObjectKind) → k ≢ kind.Control → use_of k ≢ authority.SchedControl

@@ -3,8 +3,7 @@ use Rattle.std.proofs.Common.{◌<◌, ◌∙◌, ◌≡◌, Bool, Some, ap, con
 use Rattle.base.specs.declared.ids.{ObjId.ObjId, SlotRef.SlotRef}
 use Rattle.machine.specs.declared.object.{Object.{Object, Object as o}, Reply.Reply, ReplyState.{ReplyState, ReplyState as reply}}
 use Rattle.machine.specs.{Finalising.{finalised, leaves, reply_after}, Layout.Layout, Machine.Machine, Removal.{removed, vanishes}}
-use Rattle.machine.proofs.{RemovalLooks.next-removed, RemovalStays.object_was}
-use Rattle.policy.specs.Domain.{EdgeTest}
+use Rattle.{machine.proofs.{RemovalLooks.next-removed, RemovalStays.object_was}, policy.specs.Domain.EdgeTest}
 use Rattle.integrity.{specs.{Awake.CallersAreServed, Invariant.IsSound}, proofs.{RemovalConfined.label_was, Shrinking.same_reply}}
 
 called_was :

@@ -1,6 +1,6 @@
 -- Retype within a caller's authority: the caller's label controls the untyped memory and the CNode, and so all that is made.
-use Rattle.std.{specs.Prelude.if◌then◌else◌, proofs.Common.{[], ℕ, ◌+◌, ◌∙◌, ◌∷◌, ◌≡◌, Bool, List, Some, ap, arith, false, option_map}}
-use Rattle.std.proofs.Common.{refl, subst, suc, sym, true, zero}
+use Rattle.std.{specs.Prelude.if◌then◌else◌, proofs.Common.{[], ℕ, ◌+◌, ◌∙◌, ◌∷◌, ◌≡◌, Bool, List}}
+use Rattle.std.proofs.Common.{Some, ap, arith, false, option_map, refl, subst, suc, sym, true, zero}
 use Rattle.base.specs.declared.{ids.{ObjId.ObjId, SlotRef.SlotRef}, kind.Kind.Kind as authority}
 use Rattle.machine.specs.declared.{call.Event.Event, object.{MemoryKind.MemoryKind, Object.{Object, Object as o}}}
 use Rattle.machine.specs.{declared.object.{ObjectKind.ObjectKind as kind, Untyped.Untyped}, Authority.label_of, Capabilities.gives}
@@ -8,12 +8,10 @@ use Rattle.machine.specs.{Layout.Layout, Machine.{Machine, object_of, same_id}, 
 use Rattle.machine.specs.{Memory.{new_size, placed, taken, with_made}, Objects.kind_of_object, Step.Retype.window, WellFormed.IsWellFormed}
 use Rattle.machine.{specs.WellFormed.kind_of, proofs.{LookUps.same_machine, ObjectMade.{MakesObject, following, made_makes, marked}}}
 use Rattle.steps.proofs.{MadeFormed.{CanMake, made_formed}, RetypeFormed.{MakesAll, first, new_address, none, retype_makes}}
-use Rattle.steps.proofs.RetypeRow.{RetypeDone}
-use Rattle.policy.specs.Domain.{EdgeTest, IsInDomain}
-use Rattle.integrity.{specs.Invariant.{IsHeld, IsSound}, proofs.{Held.held_of, Joined.joined_of, Keeps.{Keeps, keeps_keeps, unchanged}}}
-use Rattle.integrity.proofs.{MakeKeeps.{MayMake, make_keeps}, ObjectLabels.{kind_there, label_stays, labelled_there}, Reach.IsControlled}
-use Rattle.integrity.proofs.{Reach.{found_in_reach, found_within, shown_controlled}, Walks.shows}
-use Rattle.integrity.specs.Keeping.{IsSharp}
+use Rattle.{steps.proofs.RetypeRow.RetypeDone, policy.specs.Domain.{EdgeTest, IsInDomain}}
+use Rattle.integrity.{specs.{Invariant.{IsHeld, IsSound}, Keeping.IsSharp}, proofs.{Held.held_of, Joined.joined_of}}
+use Rattle.integrity.proofs.{Keeps.{Keeps, keeps_keeps, unchanged}, MakeKeeps.{MayMake, make_keeps}, ObjectLabels.{kind_there, label_stays}}
+use Rattle.integrity.proofs.{ObjectLabels.labelled_there, Reach.{IsControlled, found_in_reach, found_within, shown_controlled}, Walks.shows}
 
 -- a machine that is made by the row's relation is the one that the row computes
 makes_is :

@@ -1,25 +1,22 @@
 -- Every run from a sound machine is safe: by induction over its events, with one clause for each call.
 use Rattle.std.proofs.Common.{[], ℕ, ◌∙◌, ◌∷◌, ◌≡◌, ◌⊎◌, Err, List, Ok, Result, Some, ap, inl, inr, refl, subst, sym, true}
-use Rattle.std.proofs.lemmas.Option.{same_Some}
-use Rattle.base.specs.declared.{ids.ObjId.ObjId, refusal.Cause.Cause}
-use Rattle.machine.specs.declared.{call.{Call.Call, Event.Event, Made.Made, Outcome.Outcome}, object.{Context.Context, Object.Object as o}}
-use Rattle.machine.specs.{declared.{object.Share.Share, thread.Tcb.Tcb}, Authority.label_of, Boot.IsBoot, Layout.Layout, Machine.Machine}
-use Rattle.machine.specs.{Machine.object_of, Outcomes.IsRefused, Run.Run, Step.{Step, admitted, made_by, running_share, settled, step_of}}
-use Rattle.machine.specs.Step.{thread_in, Step.{ends, lacks}}
-use Rattle.machine.specs.declared.call.Call.TheVariants as call
+use Rattle.{std.proofs.lemmas.Option.same_Some, base.specs.declared.{ids.ObjId.ObjId, refusal.Cause.Cause}}
+use Rattle.machine.specs.declared.call.{Call.Call, Event.Event, Made.Made, Outcome.Outcome}
+use Rattle.machine.specs.declared.{object.{Context.Context, Object.Object as o, Share.Share}, thread.Tcb.Tcb}
+use Rattle.machine.specs.{Authority.label_of, Boot.IsBoot, Layout.Layout, Machine.{Machine, object_of}, Outcomes.IsRefused, Run.Run}
+use Rattle.machine.specs.Step.{Step, Step.{ends, lacks}, admitted, made_by, running_share, settled, step_of, thread_in}
 use Rattle.steps.proofs.{Admission.{IsCaller, admits}, Calls.{CallDone, EventDone, step_done, step_formed}, Conditions.{both_done, same_ok}}
-use Rattle.steps.proofs.Steps.{refused_changes_nothing}
-use Rattle.policy.specs.{Change.ActorTest, Domain.EdgeTest}
-use Rattle.integrity.specs.{Acting.{HoldsOfActors, MayAct}, Altered.{IsAltered, IsNarrowStep}, Awake.{CallersAreServed, IsAsleep, IsAwake}}
-use Rattle.integrity.specs.{Awake.{OthersSleep, SleepsOrActs}, Budgets.{KeepsBudgets, configures}, Invariant.IsSound, Safe.IsReached}
-use Rattle.integrity.{specs.{Safe.IsSafe, Shrinks.IsSame}, proofs.{Awake.has_threads, Bounds.narrow_allowed}}
-use Rattle.integrity.proofs.{ContextKeeps.{bind_keeps, configure_keeps, may_configure, unbind_keeps}, Keeps.Acts}
-use Rattle.integrity.proofs.{Keeps.Keeps, MessageKeeps.{endpoint_call_keeps, fetch_keeps, receive_keeps, reply_keeps, send_keeps}}
+use Rattle.{steps.proofs.Steps.refused_changes_nothing, policy.specs.{Change.ActorTest, Domain.EdgeTest}}
+use Rattle.integrity.specs.{Acting.{HoldsOfActors, MayAct}, Altered.{IsAltered, IsNarrowStep}, Awake.CallersAreServed}
+use Rattle.integrity.specs.{Awake.{IsAsleep, IsAwake, OthersSleep, SleepsOrActs}, Budgets.{KeepsBudgets, configures}, Invariant.IsSound}
+use Rattle.integrity.{specs.{Keeping.IsSharp, Safe.{IsReached, IsSafe}, Shrinks.IsSame}, proofs.{Awake.has_threads, Bounds.narrow_allowed}}
+use Rattle.integrity.proofs.{ContextKeeps.{bind_keeps, configure_keeps, may_configure, unbind_keeps}, Keeps.{Acts, Keeps}}
+use Rattle.integrity.proofs.MessageKeeps.{RunsOn, endpoint_call_keeps, fetch_keeps, receive_keeps, reply_keeps, send_keeps}
 use Rattle.integrity.proofs.{NotificationKeeps.{poll_keeps, signal_keeps, wait_keeps}, RemovalCalls.{delete_keeps, revoke_keeps}}
-use Rattle.integrity.proofs.{RetypeKeeps.retype_keeps, Shrinking.same_context, SlotCalls.{derive_keeps, move_keeps}}
-use Rattle.integrity.proofs.{SpaceKeeps.{clear_space_keeps, set_space_keeps}, ThreadKeeps.{resume_keeps, suspend_keeps}}
-use Rattle.integrity.proofs.{MessageKeeps.RunsOn, Shrinking.same_tcb, WordsKeeps.{read_keeps, write_keeps}}
-use Rattle.integrity.specs.Keeping.{IsSharp}
+use Rattle.integrity.proofs.{RetypeKeeps.retype_keeps, Shrinking.{same_context, same_tcb}}
+use Rattle.integrity.proofs.{SlotCalls.{derive_keeps, move_keeps}, SpaceKeeps.{clear_space_keeps, set_space_keeps}}
+use Rattle.integrity.proofs.{ThreadKeeps.{resume_keeps, suspend_keeps}, WordsKeeps.{read_keeps, write_keeps}}
+use Rattle.machine.specs.declared.call.Call.TheVariants as call
 
 -- a made call of each kind
 call_keeps :

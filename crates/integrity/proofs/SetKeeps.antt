@@ -5,8 +5,7 @@ use Rattle.machine.specs.{declared.{call.Event.Event, object.Object.Object}, Lay
 use Rattle.machine.{specs.Machine.{with_object, with_queue}, proofs.{Ids.{at_itself, at_other}, LookUps.cap_of-with_object}}
 use Rattle.machine.proofs.LookUps.{cap_of-with_queue, number_of-with_object, number_of-with_queue, object_of-with_object}
 use Rattle.machine.proofs.LookUps.{object_of-with_queue, parent_of-with_object, parent_of-with_queue, queue_of-with_object}
-use Rattle.machine.proofs.LookUps.{queue_of-with_queue, words_of-with_object, words_of-with_queue}
-use Rattle.policy.specs.Domain.{EdgeTest}
+use Rattle.{machine.proofs.LookUps.{queue_of-with_queue, words_of-with_object, words_of-with_queue}, policy.specs.Domain.EdgeTest}
 use Rattle.integrity.{specs.Invariant.IsHeld, proofs.{Keeps.{Alters, Keeps}, TouchKeeps.{Fits, same_fits, touch_keeps}}}
 
 module _ (t : Layout) (allowed : EdgeTest) (began : Machine) (event : Event) (a : ℕ) (m : Machine) (id : ObjId) (held : IsHeld t allowed m) where

@@ -1,19 +1,18 @@
 -- Copy, Mint and Move within a caller's authority: its label controls the CNodes of both slots, so the labels of both may do the same, and
 -- derive to each other.
-use Rattle.std.{specs.Prelude.if◌then◌else◌, proofs.Common.{ℕ, ◌∙◌, ◌≡◌, ◌≢◌, ◌⊎◌, Bool, None, Some, ap, false, inl, inr, refl, subst, sym}}
-use Rattle.std.proofs.{Common.true, lemmas.Option.{none-some, same_Some}}
+use Rattle.std.{specs.Prelude.if◌then◌else◌, proofs.Common.{ℕ, ◌∙◌, ◌≡◌, ◌≢◌, ◌⊎◌, Bool, None, Some, ap}}
+use Rattle.std.proofs.{Common.{false, inl, inr, refl, subst, sym, true}, lemmas.Option.{none-some, same_Some}}
 use Rattle.base.specs.{declared.{ids.{ObjId.ObjId, SlotRef.SlotRef}, kind.Kind.{Kind, Kind as authority}}, Kinds.is_structural}
-use Rattle.machine.specs.{declared.{call.Event.Event, cap.Cap.Cap, slot_address.SlotAddress.SlotAddress}, Authority.label_of}
-use Rattle.machine.specs.{Authority.HasAuthority.{by_cap, by_pair}, Capabilities.gives, Layout.Layout, Machine.{Machine, cap_of, parent_of}}
-use Rattle.machine.specs.{Machine.same_slot, Tree.{copied, exchange, parent_of_copy}, WellFormed.{IsWellFormed, kind_of}}
-use Rattle.machine.proofs.{AuthorityLemmas.gives_fewer, Ids.one_or_two, LookUps.one_slot}
+use Rattle.machine.specs.declared.{call.Event.Event, cap.Cap.Cap, slot_address.SlotAddress.SlotAddress}
+use Rattle.machine.specs.{Authority.{HasAuthority.{by_cap, by_pair}, label_of}, Capabilities.gives, Layout.Layout}
+use Rattle.machine.specs.{Machine.{Machine, cap_of, parent_of, same_slot}, Tree.{copied, exchange, parent_of_copy}}
+use Rattle.machine.{specs.WellFormed.{IsWellFormed, kind_of}, proofs.{AuthorityLemmas.gives_fewer, Ids.one_or_two, LookUps.one_slot}}
 use Rattle.steps.proofs.{FillsFormed.derives_formed, LedSlots.led_slot, MovesFormed.{move_formed, pair_was}, SlotRows.{Derives, MoveDone}}
 use Rattle.policy.specs.{Change.WayToChange.modifies, Domain.EdgeTest}
-use Rattle.integrity.{specs.Keeping.MayKeep, proofs.Reach.{controlled_keeps, controlled_put}}
-use Rattle.integrity.{specs.Invariant.{IsHeld, IsSound}, proofs.FillKeeps.{MayFill, apart_slots, copy_derives, fill_fits, given_of_use}}
-use Rattle.integrity.proofs.{FillKeeps.in_node, Held.{bare_of, held_of}, Keeps.Keeps, Reach.{IsControlled, led_controlled}}
+use Rattle.integrity.specs.{Invariant.{IsHeld, IsSound}, Keeping.{IsSharp, MayKeep}}
+use Rattle.integrity.proofs.FillKeeps.{MayFill, apart_slots, copy_derives, fill_fits, given_of_use, in_node}
+use Rattle.integrity.proofs.{Held.{bare_of, held_of}, Keeps.Keeps, Reach.{IsControlled, controlled_keeps, controlled_put, led_controlled}}
 use Rattle.integrity.proofs.SlotKeeps.{IsAllowedIn, SlotsFit, opened, slots_keep}
-use Rattle.integrity.specs.Keeping.{IsSharp}
 
 -- one label is near another: what may derive to the one may derive to the other, and what the one may derive to, the other may
 record IsNear (allowed : EdgeTest) (label other : ℕ) : Type 0 where

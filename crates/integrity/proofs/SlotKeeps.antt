@@ -1,21 +1,17 @@
 -- A change of slots keeps what a part of a call keeps: the policy has each new capability and pair of the tree, and the caller may change
 -- the objects whose slots change.
-use Rattle.machine.specs.Step.Reply.{loan_in}
-use Rattle.integrity.proofs.Borrowers.{borrower_stays}
 use Rattle.std.proofs.{Common.{ℕ, ◌∙◌, ◌≡◌, ◌⊎◌, None, Some, ap, arith, inl, inr, refl, sym, true}, lemmas.Option.{none-some, same_Some}}
 use Rattle.base.specs.declared.{ids.{ObjId.ObjId, SlotRef.SlotRef}, kind.Kind.Kind}
-use Rattle.base.specs.declared.kind.Kind.TheVariants as authority
 use Rattle.machine.specs.declared.{call.Event.Event, cap.Cap.Cap, object.{Context.Context, Object.{Object, Object as o}}}
-use Rattle.machine.specs.{Authority.{label_of, HasAuthority.{by_cap, by_link, by_pair, by_root}}, Capabilities.{gives, kind_of_detail}}
-use Rattle.machine.specs.{Layout.Layout, Machine.{Machine, cap_of, object_of, parent_of}, Objects.{address_of, kind_of_object}}
-use Rattle.machine.{specs.WellFormed.kind_of, proofs.SlotChanges.SameObjects}
+use Rattle.machine.specs.Authority.{HasAuthority.{by_cap, by_link, by_pair, by_root}, label_of}
+use Rattle.machine.specs.{Capabilities.{gives, kind_of_detail}, Layout.Layout, Machine.{Machine, cap_of, object_of, parent_of}}
+use Rattle.machine.{specs.{Objects.{address_of, kind_of_object}, Step.Reply.loan_in, WellFormed.kind_of}, proofs.SlotChanges.SameObjects}
+use Rattle.{steps.proofs.SameObjects.kinds_same, policy.specs.{Change.WayToChange.modifies, Domain.EdgeTest}}
+use Rattle.integrity.specs.{Awake.IsAwake, Confined.IsConfined, Invariant.{IsBare, IsHeld}, Keeping.{KeepersHoldNodes, MayKeep}}
+use Rattle.integrity.{specs.OfTable.IsOfTable, proofs.{Asleep.sleeps_on, Borrowers.borrower_stays, Contents.changed}}
+use Rattle.integrity.proofs.{Keeps.{Acts, Changes, Keeps}, ObjectLabels.same_label, Reach.IsControlled, Shrinking.same_context}
+use Rattle.base.specs.declared.kind.Kind.TheVariants as authority
 use Rattle.machine.specs.declared.object.ObjectKind.TheVariants as kind
-use Rattle.steps.proofs.SameObjects.{kinds_same}
-use Rattle.policy.specs.{Change.WayToChange.modifies, Domain.EdgeTest}
-use Rattle.integrity.{specs.{Awake.IsAwake, Confined.IsConfined, Invariant.{IsBare, IsHeld}, OfTable.IsOfTable}, proofs.Asleep.sleeps_on}
-use Rattle.integrity.proofs.{Contents.changed, Keeps.{Acts, Changes, Keeps}, ObjectLabels.same_label, Reach.IsControlled}
-use Rattle.integrity.proofs.Shrinking.{same_context}
-use Rattle.integrity.specs.Keeping.{KeepersHoldNodes, MayKeep}
 
 -- a label may change an object's, in a step that began at some machine
 pub record IsOpened (t : Layout) (allowed : EdgeTest) (began m : Machine) (a : ℕ) (id : ObjId) : Type 0 where

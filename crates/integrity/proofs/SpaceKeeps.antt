@@ -9,13 +9,11 @@ use Rattle.machine.specs.{Step.Space.without_root, Tree.{copied, parent_of_copy,
 use Rattle.steps.proofs.{Finding.FindsObject, SlotRows.with_copy_fills, SpaceFormed.{held_before, root_empty, set_formed, thread_there}}
 use Rattle.steps.proofs.SpaceRow.{ClearDone, RootFilled, SetDone, root_filled}
 use Rattle.policy.specs.{Change.WayToChange.modifies, Domain.EdgeTest, Sharp.MayPut}
-use Rattle.integrity.{specs.Keeping.{MayKeep, MayKeep.handed}, proofs.Reach.found_keeps}
-use Rattle.integrity.{specs.{Invariant.{IsHeld, IsSound}, Removals.MayRemove}, proofs.FillKeeps.{MayFill, copy_derives, fill_fits}}
-use Rattle.integrity.proofs.{Held.{bare_of, held_of}, Keeps.{Keeps, keeps_keeps, unchanged}, MessageParts.{IsReached, label_kept, reached}}
-use Rattle.integrity.proofs.{ObjectLabels.{kind_there, labelled_there}, Reach.{IsWithin, found_within}, RemovalKeeps.removed_keeps}
-use Rattle.integrity.proofs.{RemovalKeeps.removed_sound, RemovalRights.may_clear_root, SlotKeeps.slots_keep, ThreadKeeps.may_control}
-use Rattle.integrity.proofs.ThreadKeeps.{to_thread}
-use Rattle.integrity.specs.Keeping.{IsSharp}
+use Rattle.integrity.specs.{Invariant.{IsHeld, IsSound}, Keeping.{IsSharp, MayKeep, MayKeep.handed}, Removals.MayRemove}
+use Rattle.integrity.proofs.{FillKeeps.{MayFill, copy_derives, fill_fits}, Held.{bare_of, held_of}, Keeps.{Keeps, keeps_keeps, unchanged}}
+use Rattle.integrity.proofs.{MessageParts.{IsReached, label_kept, reached}, ObjectLabels.{kind_there, labelled_there}}
+use Rattle.integrity.proofs.{Reach.{IsWithin, found_keeps, found_within}, RemovalKeeps.{removed_keeps, removed_sound}}
+use Rattle.integrity.proofs.{RemovalRights.may_clear_root, SlotKeeps.slots_keep, ThreadKeeps.{may_control, to_thread}}
 
 module _
     (t : Layout) (allowed : EdgeTest) (event : Event) (a : ℕ) (m : Machine) (sound : IsSound t allowed m)

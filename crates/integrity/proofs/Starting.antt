@@ -1,9 +1,8 @@
 -- The boot state of a lawful table: it is sound, threads whose labels may not act sleep, and no reply holds a caller.
 use Rattle.machine.specs.{Boot.IsBoot, Layout.Layout, Machine.Machine, WellFormed.IsWellFormed}
-use Rattle.policy.specs.Domain.{EdgeTest}
-use Rattle.table.specs.Rules.{IsLawful}
-use Rattle.integrity.specs.Confined.{IsConfined}
-use Rattle.integrity.proofs.{AtBoot.{boot_asleep, boot_borrowers, boot_idlers, boot_nodes, boot_of_table, boot_served}, Runs.StartsKept}
+use Rattle.{table.specs.Rules.IsLawful, policy.specs.Domain.EdgeTest}
+use Rattle.integrity.{specs.Confined.IsConfined, proofs.AtBoot.{boot_asleep, boot_borrowers, boot_idlers}}
+use Rattle.integrity.proofs.{AtBoot.{boot_nodes, boot_of_table, boot_served}, Runs.StartsKept}
 
 pub starts_kept :
     (t : Layout) (allowed : EdgeTest) → ((boot : Machine) → IsLawful t → IsBoot t boot → IsWellFormed boot) → IsLawful t

@@ -2,10 +2,9 @@
 -- allowed.
 use Rattle.std.proofs.Common.{ℕ, ◌∙◌, ◌≡◌, Some, sym, true}
 use Rattle.base.specs.declared.{ids.{ObjId.ObjId, SlotRef.SlotRef}, kind.Kind.Kind}
-use Rattle.machine.specs.{declared.object.Object.Object, Authority.{label_of, links, HasAuthority.{by_cap, by_link, by_pair, by_root}}}
+use Rattle.machine.specs.{declared.object.Object.Object, Authority.{HasAuthority.{by_cap, by_link, by_pair, by_root}, label_of, links}}
 use Rattle.machine.specs.{Layout.Layout, Machine.{Machine, cap_of, object_of, parent_of}, WellFormed.kind_of}
-use Rattle.policy.specs.Domain.{EdgeTest}
-use Rattle.integrity.specs.Confined.{IsConfined}
+use Rattle.{policy.specs.Domain.EdgeTest, integrity.specs.Confined.IsConfined}
 
 pub record IsSteady (t : Layout) (m next : Machine) : Type 0 where
   pub labels : (id : ObjId) → label_of t next id ≡ label_of t m id

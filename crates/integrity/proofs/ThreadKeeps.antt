@@ -3,19 +3,17 @@
 use Rattle.std.proofs.Common.{ℕ, ◌∙◌, ◌≡◌, ◌⊎◌, Some, ap, false, inl, inr, refl, subst, sym, true}
 use Rattle.base.specs.{declared.{ids.ObjId.ObjId, kind.Kind.{Kind, Kind as authority}}, Kinds.is_structural}
 use Rattle.machine.specs.declared.{call.Event.Event, cap.Detail.Detail as d, object.{Object.Object as o, Reply.Reply}}
-use Rattle.machine.specs.{declared.thread.{RunState.RunState, Tcb.Tcb}, Authority.{label_of, names_object, state_links}, Finalising.aborted}
-use Rattle.machine.specs.{Layout.Layout, Machine.{Machine, object_of, same_id}, Releasing.{ready, suspended, with_aborted, with_ready}}
-use Rattle.machine.specs.{Releasing.with_released, Step.Suspend.with_resumed, WellFormed.{IsCallingThrough, IsIdle, IsThread, WaitsAt}}
-use Rattle.machine.proofs.{Ids.itself, Leaving.Names}
+use Rattle.machine.specs.{declared.thread.{RunState.RunState, Tcb.Tcb}, Authority.{label_of, names_object, state_links}}
+use Rattle.machine.specs.{Finalising.aborted, Layout.Layout, Machine.{Machine, object_of, same_id}}
+use Rattle.machine.specs.{Releasing.{ready, suspended, with_aborted, with_ready, with_released}, Step.Suspend.with_resumed}
+use Rattle.machine.{specs.WellFormed.{IsCallingThrough, IsIdle, IsThread, WaitsAt}, proofs.{Ids.itself, Leaving.Names}}
+use Rattle.steps.proofs.{Finding.{FindsObject, found_kind}, FoundObjects.tcb_of_kind, ThreadRow.{ResumeDone, SuspendDone}}
+use Rattle.policy.specs.{Change.WayToChange.modifies, Domain.EdgeTest, NarrowTake.{TakesByControl.releases, WayToShrink.controls}}
+use Rattle.integrity.specs.{Acting.MayAct.started, Invariant.IsSound, Keeping.IsSharp}
+use Rattle.integrity.proofs.{Awake.blocked_actor, Held.held_of, Keeps.{Changes, Keeps, Takes, unchanged}, MessageParts.IsReached}
+use Rattle.integrity.proofs.{MessageParts.{holds_edge, names_blocked, reached, thread_edge}, MessageTouches.{MayLessen, released_keeps}}
 use Rattle.machine.specs.declared.object.ReplyState.TheVariants as reply
 use Rattle.machine.specs.declared.thread.RunState.TheVariants as state
-use Rattle.steps.proofs.{Finding.{FindsObject, found_kind}, FoundObjects.tcb_of_kind, ThreadRow.{ResumeDone, SuspendDone}}
-use Rattle.policy.specs.{Change.WayToChange.modifies, Domain.EdgeTest, NarrowTake.TakesByControl.releases}
-use Rattle.policy.specs.NarrowTake.WayToShrink.{controls}
-use Rattle.integrity.{specs.{Acting.MayAct.started, Invariant.IsSound}, proofs.{Awake.blocked_actor, Held.held_of, Keeps.{Changes, Keeps}}}
-use Rattle.integrity.proofs.{Keeps.{Takes, unchanged}, MessageParts.{IsReached, holds_edge, names_blocked, reached, thread_edge}}
-use Rattle.integrity.proofs.MessageTouches.{MayLessen, released_keeps}
-use Rattle.integrity.specs.Keeping.{IsSharp}
 
 -- a resumed thread is as it was, or can run, or is aborted
 data Resumes (m : Machine) (thread : ObjId) (next : Machine) : Type 0 where

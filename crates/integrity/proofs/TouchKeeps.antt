@@ -1,23 +1,18 @@
 -- A change of one object's content, words or queue keeps what a part of a call keeps: the object keeps its kind and its address, and its
 -- new links, its budget and the change are allowed.
 use Rattle.std.proofs.Common.{ℕ, ◌<◌, ◌∙◌, ◌≡◌, ◌≢◌, ◌≤◌, ◌⊎◌, None, Some, ap, arith, inl, inr, option_map, refl, subst, sym, true}
-use Rattle.std.proofs.lemmas.Option.{none-some, same_Some}
-use Rattle.base.specs.declared.{ids.{ObjId.ObjId, SlotRef.SlotRef}, kind.Kind.Kind}
+use Rattle.{std.proofs.lemmas.Option.{none-some, same_Some}, base.specs.declared.{ids.{ObjId.ObjId, SlotRef.SlotRef}, kind.Kind.Kind}}
 use Rattle.machine.specs.declared.{call.Event.Event, object.{Context.Context, Object.{Object, Object as o}, Reply.Reply, Untyped.Untyped}}
-use Rattle.machine.specs.{declared.thread.Tcb.Tcb, Authority.{label_at, label_of, context_lent, links, HasAuthority.by_link}, Layout.Layout}
+use Rattle.machine.specs.declared.thread.{Lent.Lent, Receiving.Receiving, RunState.RunState as state, Tcb.Tcb}
+use Rattle.machine.specs.{Authority.{HasAuthority.by_link, context_lent, label_at, label_of, links}, Layout.Layout}
 use Rattle.machine.specs.{Machine.{Machine, cap_of, object_of, parent_of, queue_of, words_of}, Objects.{address_of, end_of, kind_of_object}}
-use Rattle.machine.proofs.Ids.{one_or_two}
-use Rattle.machine.specs.declared.object.ObjectKind.TheVariants as kind
-use Rattle.policy.specs.Domain.{EdgeTest}
+use Rattle.{machine.{specs.Step.Reply.loan_in, proofs.Ids.one_or_two}, policy.specs.{Domain.EdgeTest, Sharp.MayIdle}}
 use Rattle.integrity.specs.{Altered.MayAlter, Awake.{CallersAreServed, IsAwake, IsHeldAfterCall, OthersSleep, SleepsOrActs}}
-use Rattle.integrity.{specs.{Budgets.MayConfigure, Invariant.{IsBare, IsHeld}, OfTable.IsOfTable}, proofs.{Asleep.sleeps_on, Keeps.Acts}}
-use Rattle.integrity.proofs.{Keeps.{Alters, Keeps}, ObjectLabels.{kind_stays, label_stays, same_label}, Shrinking.same_context}
-use Rattle.integrity.proofs.Steady.{IsSteady, LinksAllowed, steady_confined}
-use Rattle.machine.specs.declared.thread.{Receiving.Receiving, RunState.RunState as state}
-use Rattle.policy.specs.Sharp.{MayIdle}
-use Rattle.integrity.specs.Keeping.{BorrowersMayIdle, IsIdleBorrower, KeepersHoldNodes, WaitersMayIdle}
-use Rattle.machine.specs.{declared.thread.Lent.Lent, Step.Reply.loan_in}
-use Rattle.integrity.proofs.Borrowers.{borrower_stays}
+use Rattle.integrity.specs.{Budgets.MayConfigure, Invariant.{IsBare, IsHeld}, Keeping.BorrowersMayIdle}
+use Rattle.integrity.{specs.{Keeping.{IsIdleBorrower, KeepersHoldNodes, WaitersMayIdle}, OfTable.IsOfTable}, proofs.Asleep.sleeps_on}
+use Rattle.integrity.proofs.{Borrowers.borrower_stays, Keeps.{Acts, Alters, Keeps}, ObjectLabels.{kind_stays, label_stays, same_label}}
+use Rattle.integrity.proofs.{Shrinking.same_context, Steady.{IsSteady, LinksAllowed, steady_confined}}
+use Rattle.machine.specs.declared.object.ObjectKind.TheVariants as kind
 
 -- all but one object's content, queue and words is as it was
 pub record Touches (m : Machine) (id : ObjId) (next : Machine) : Type 0 where

@@ -1,13 +1,12 @@
 -- Walks through a capability space: a property that capabilities hand on from CNode to CNode holds of the CNode where a lookup ends.
-use Rattle.std.proofs.Common.{[], ℕ, ◌∙◌, ◌∷◌, ◌≡◌, Bool, Err, List, None, Ok, Option, Result, Some, ap, arith, length, refl, subst, suc}
-use Rattle.std.proofs.Common.{sym, zero}
-use Rattle.base.specs.declared.{ids.{ObjId.ObjId, SlotRef.SlotRef}, refusal.{Cause.Cause as cause, LookupFailure.LookupFailure}}
-use Rattle.base.specs.declared.refusal.LookupFailure.TheVariants.{InvalidRoot}
-use Rattle.machine.specs.declared.{cap.{Cap.Cap, Detail.{Detail, Detail as d}, Guard.Guard}, object.Object.{Object, Object as o}}
-use Rattle.machine.specs.{declared.{object.ObjectKind.ObjectKind as kind, thread.Tcb.Tcb}, Bits.bits, Lookup.{Level, counted, hop}}
-use Rattle.machine.specs.{Lookup.{level_at, level_of_cap, level_through, lookup_of, onward, root_of, walk}, Machine.{Machine, cap_of}}
-use Rattle.machine.specs.{Machine.object_of, WellFormed.kind_of}
-use Rattle.steps.proofs.Conditions.{same_ok}
+use Rattle.std.proofs.Common.{[], ℕ, ◌∙◌, ◌∷◌, ◌≡◌, Bool, Err, List, None, Ok, Option}
+use Rattle.std.proofs.Common.{Result, Some, ap, arith, length, refl, subst, suc, sym, zero}
+use Rattle.base.specs.declared.ids.{ObjId.ObjId, SlotRef.SlotRef}
+use Rattle.base.specs.declared.refusal.{Cause.Cause as cause, LookupFailure.{LookupFailure, TheVariants.InvalidRoot}}
+use Rattle.machine.specs.declared.cap.{Cap.Cap, Detail.{Detail, Detail as d}, Guard.Guard}
+use Rattle.machine.specs.{declared.{object.{Object.{Object, Object as o}, ObjectKind.ObjectKind as kind}, thread.Tcb.Tcb}, Bits.bits}
+use Rattle.machine.specs.Lookup.{Level, counted, hop, level_at, level_of_cap, level_through, lookup_of, onward, root_of, walk}
+use Rattle.{machine.specs.{Machine.{Machine, cap_of, object_of}, WellFormed.kind_of}, steps.proofs.Conditions.same_ok}
 
 -- a CNode that a slot shows is that of the slot's capability
 pub record Shows (m : Machine) (slot : SlotRef) (node : ObjId) : Type 0 where

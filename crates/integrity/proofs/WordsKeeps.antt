@@ -1,15 +1,13 @@
 -- Read and Write within a caller's authority: the frame is one that its label may write, and nothing but its words changes.
-use Rattle.std.{specs.{FinMap.get-insert, Prelude.slice_set}, proofs.Common.{ℕ, ◌∙◌, ◌≡◌, ◌⊎◌, List, None, Option, Some, inl, inr, refl}}
-use Rattle.std.proofs.Common.{subst, sym}
-use Rattle.base.specs.declared.{ids.ObjId.ObjId, kind.Kind.Kind as authority}
-use Rattle.machine.specs.{declared.{call.Event.Event, cap.Detail.Detail as d, object.Object.Object}, Authority.label_of, Changes.with_word}
-use Rattle.machine.specs.{Changes.with_words, Layout.Layout, Machine.{Machine, cap_of, object_of, parent_of, queue_of, words_of}}
-use Rattle.machine.proofs.{Ids.at_other, LookUps.id_total}
-use Rattle.steps.proofs.WordsRow.{WriteDone}
-use Rattle.policy.specs.{Change.WayToChange.modifies, Domain.EdgeTest}
-use Rattle.integrity.{specs.Invariant.{IsHeld, IsSound}, proofs.{Contents.changed, Held.held_of, Keeps.{Alters, Changes, Keeps, unchanged}}}
+use Rattle.std.{specs.{FinMap.get-insert, Prelude.slice_set}, proofs.Common.{ℕ, ◌∙◌, ◌≡◌, ◌⊎◌, List, None, Option, Some, inl}}
+use Rattle.{std.proofs.Common.{inr, refl, subst, sym}, base.specs.declared.{ids.ObjId.ObjId, kind.Kind.Kind as authority}}
+use Rattle.machine.specs.declared.{call.Event.Event, cap.Detail.Detail as d, object.Object.Object}
+use Rattle.machine.specs.{Authority.label_of, Changes.{with_word, with_words}, Layout.Layout}
+use Rattle.machine.{specs.Machine.{Machine, cap_of, object_of, parent_of, queue_of, words_of}, proofs.{Ids.at_other, LookUps.id_total}}
+use Rattle.{steps.proofs.WordsRow.WriteDone, policy.specs.{Change.WayToChange.modifies, Domain.EdgeTest}}
+use Rattle.integrity.specs.{Invariant.{IsHeld, IsSound}, Keeping.IsSharp}
+use Rattle.integrity.proofs.{Contents.changed, Held.held_of, Keeps.{Alters, Changes, Keeps, unchanged}}
 use Rattle.integrity.proofs.{MessageParts.{IsReached, reached}, ObjectLabels.labelled_there, TouchKeeps.{same_fits, touch_keeps}}
-use Rattle.integrity.specs.Keeping.{IsSharp}
 
 -- one of an object's words is set, if it has words
 word_or_stays :

@@ -3,8 +3,7 @@
 use Rattle.std.specs.Prelude.{ℕ, ◌≡◌, ◌⊎◌, None, Some}
 use Rattle.base.specs.declared.ids.ObjId.{ObjId}
 use Rattle.machine.specs.{declared.call.Event.Event, Authority.label_of, Layout.Layout, Machine.{Machine, object_of}}
-use Rattle.policy.specs.{Cut.IsCut, Domain.EdgeTest, Full.IsFull}
-use Rattle.integrity.specs.Shrinks.{IsSame, Shrinks}
+use Rattle.{policy.specs.{Cut.IsCut, Domain.EdgeTest, Full.IsFull}, integrity.specs.Shrinks.{IsSame, Shrinks}}
 
 -- the label of an object that is there before, or of one that is made
 abbrev pub IsLabelled : Layout → Machine → Machine → ObjId → ℕ → Type 0

@@ -3,10 +3,9 @@
 use Rattle.std.specs.Prelude.{ℕ, ◌<◌, ◌≡◌, ◌⊎◌, None, Some, true}
 use Rattle.base.specs.declared.{ids.ObjId.ObjId, kind.Kind.Kind as authority}
 use Rattle.machine.specs.declared.{object.{Object.Object as o, Reply.Reply}, thread.{RunState.RunState as state, Tcb.Tcb}}
-use Rattle.machine.specs.declared.object.ReplyState.TheVariants as answers
 use Rattle.machine.specs.{Authority.label_of, Layout.Layout, Machine.{Machine, object_of}}
-use Rattle.policy.specs.{Change.ActorTest, Domain.EdgeTest}
-use Rattle.integrity.specs.Acting.{HoldsOfActors, MayAct, MayHaveThreads}
+use Rattle.{policy.specs.{Change.ActorTest, Domain.EdgeTest}, integrity.specs.Acting.{HoldsOfActors, MayAct, MayHaveThreads}}
+use Rattle.machine.specs.declared.object.ReplyState.TheVariants as answers
 
 -- a thread is inactive, or ready and bound to no context
 abbrev pub IsAsleep : Tcb → Type 0

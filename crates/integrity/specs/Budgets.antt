@@ -3,11 +3,10 @@
 use Rattle.std.specs.Prelude.{ℕ, ◌≡◌, ◌⊎◌, None, Ok, Option, Some, true}
 use Rattle.base.specs.declared.{ids.{ObjId.ObjId, SlotRef.SlotRef}, kind.Kind.Kind as authority}
 use Rattle.machine.specs.declared.{call.{Call.Call, Event.Event}, cap.Cap.Cap, object.{Context.Context, Object.Object as o}}
+use Rattle.machine.specs.{declared.object.ObjectKind.ObjectKind, Authority.label_of, Capabilities.kind_of_detail}
+use Rattle.{machine.specs.{Layout.Layout, Lookup.lookup_of, Machine.{Machine, cap_of, object_of}}, policy.specs.Domain.EdgeTest}
 use Rattle.machine.specs.declared.call.Call.TheVariants as call
-use Rattle.machine.specs.{declared.object.ObjectKind.ObjectKind, Authority.label_of, Capabilities.kind_of_detail, Layout.Layout}
 use Rattle.machine.specs.declared.object.ObjectKind.TheVariants as kind
-use Rattle.machine.specs.{Lookup.lookup_of, Machine.{Machine, cap_of, object_of}}
-use Rattle.policy.specs.Domain.{EdgeTest}
 
 -- the addresses of the control and of the context, if the call is one that configures a context
 abbrev pub configures : Call → Option (ℕ × ℕ)

@@ -2,8 +2,7 @@
 -- policy has to allow all authority of a state).
 use Rattle.std.specs.Prelude.{ℕ, ◌≡◌, true}
 use Rattle.base.specs.declared.kind.Kind.{Kind}
-use Rattle.machine.specs.{Authority.HasAuthority, Layout.Layout, Machine.Machine}
-use Rattle.policy.specs.Domain.{EdgeTest}
+use Rattle.{machine.specs.{Authority.HasAuthority, Layout.Layout, Machine.Machine}, policy.specs.Domain.EdgeTest}
 
 -- each edge of authority is in the policy: of the capabilities, roots, tree pairs, bindings and replies, and of blocked threads
 abbrev pub IsConfined : Layout → EdgeTest → Machine → Type 0

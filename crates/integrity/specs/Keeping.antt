@@ -2,13 +2,12 @@
 -- boot, or they find one in the space of a keeper, or a keeper may put one into their CNodes (confine's own).
 use Rattle.std.specs.Prelude.{ℕ, ◌<◌, ◌≡◌, None, Some, true}
 use Rattle.base.specs.declared.{ids.{ObjId.ObjId, SlotRef.SlotRef}, kind.Kind.Kind as authority}
-use Rattle.machine.specs.{declared.{cap.Cap.Cap, layout.Initial.Initial}, Capabilities.kind_of_detail, Layout.{Layout, initial_cap, initial_of}}
-use Rattle.machine.specs.declared.object.ObjectKind.TheVariants as kind
-use Rattle.machine.specs.Objects.{kind_of_object}
-use Rattle.machine.specs.{Authority.label_of, Machine.{Machine, cap_of, object_of}, WellFormed.kind_of}
-use Rattle.machine.specs.declared.{object.Object.Object as o, thread.{Lent.Lent, Receiving.Receiving, RunState.RunState as state, Tcb.Tcb}}
-use Rattle.machine.specs.Step.Reply.{loan_in}
+use Rattle.machine.specs.declared.{cap.Cap.Cap, layout.Initial.Initial, object.Object.Object as o}
+use Rattle.machine.specs.declared.thread.{Lent.Lent, Receiving.Receiving, RunState.RunState as state, Tcb.Tcb}
+use Rattle.machine.specs.{Authority.label_of, Capabilities.kind_of_detail, Layout.{Layout, initial_cap, initial_of}}
+use Rattle.machine.specs.{Machine.{Machine, cap_of, object_of}, Objects.kind_of_object, Step.Reply.loan_in, WellFormed.kind_of}
 use Rattle.policy.specs.{Domain.EdgeTest, Sharp.{IsSharplyClosed, KeeperTest, MayIdle}}
+use Rattle.machine.specs.declared.object.ObjectKind.TheVariants as kind
 
 -- a CNode of the label holds a capability for a CNode at boot
 pub record HoldsNode (t : Layout) (a : ℕ) : Type 0 where

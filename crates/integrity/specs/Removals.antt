@@ -2,9 +2,8 @@
 -- deletions that it allows, restated for this profile).
 use Rattle.std.specs.Prelude.{ℕ, ◌≡◌, ◌⊎◌, Bool, Some, true}
 use Rattle.base.specs.declared.{ids.SlotRef.SlotRef, kind.Kind.{Kind, Kind as authority}}
-use Rattle.machine.specs.declared.{cap.Cap.Cap, object.ObjectKind.{ObjectKind, ObjectKind as kind}}
-use Rattle.machine.specs.{Authority.label_of, Capabilities.kind_of_detail, Layout.Layout, Machine.{Machine, cap_of}}
-use Rattle.policy.specs.Domain.{EdgeTest}
+use Rattle.machine.specs.{declared.{cap.Cap.Cap, object.ObjectKind.{ObjectKind, ObjectKind as kind}}, Authority.label_of}
+use Rattle.{machine.specs.{Capabilities.kind_of_detail, Layout.Layout, Machine.{Machine, cap_of}}, policy.specs.Domain.EdgeTest}
 
 -- the authority that every capability for an object of a kind gives, whatever its rights
 abbrev pub use_of : ObjectKind → Kind

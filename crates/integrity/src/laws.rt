@@ -1,18 +1,16 @@
 //! Laws on what a label may change, and on what its authority leads to.
 ghost use Rattle.std.specs.Prelude.{[], ℕ, ◌++◌, ◌<◌, ◌∷◌, ◌≡◌, ◌≢◌, ◌⊎◌, All, List, None, Some, false, length, true};
-ghost use Rattle.base.specs.declared.{ids.{ObjId.ObjId as Id, SlotRef.SlotRef as Slot}, kind.Kind.Kind};
-ghost use Rattle.base.specs.Kinds.{is_structural};
+ghost use Rattle.base.specs.{declared.{ids.{ObjId.ObjId as Id, SlotRef.SlotRef as Slot}, kind.Kind.Kind}, Kinds.is_structural};
+ghost use Rattle.machine.specs.declared.{call.Event.Event, cap.Cap.Cap, object.{Context.Context, Notification.Notification, Object.Object}};
+ghost use Rattle.machine.specs.{declared.{object.{Reply.Reply, Untyped.Untyped}, thread.Tcb.Tcb}, Authority.label_of, Layout.Layout};
+ghost use Rattle.machine.specs.Machine.{Machine, cap_of, object_of, queue_of, with_object, with_queue, words_of};
+ghost use Rattle.policy.specs.{Cut.{IsBase, IsCut, IsHolding, IsNear, is_link}, Domain.EdgeTest};
+ghost use Rattle.integrity.specs.{Budgets.KeepsBudgets, Shrinks.{IsBlocked, Shrinks}};
 ghost use Rattle.base.specs.declared.kind.Kind.TheVariants as authority;
-ghost use Rattle.machine.specs.declared.{call.Event.Event, cap.Cap.Cap, object.Context.Context};
-ghost use Rattle.machine.specs.declared.object.{Notification.Notification, Object.Object, Reply.Reply, Untyped.Untyped};
-ghost use Rattle.machine.specs.{declared.thread.Tcb.Tcb, Authority.label_of, Layout.Layout, Machine.{Machine, cap_of}};
-ghost use Rattle.machine.specs.Machine.{object_of, queue_of, with_object, with_queue, words_of};
 ghost use Rattle.machine.specs.declared.object.Object.TheVariants as o;
 ghost use Rattle.machine.specs.declared.object.ReplyState.TheVariants as answers;
 ghost use Rattle.machine.specs.declared.thread.Inbox.TheVariants as inbox;
 ghost use Rattle.machine.specs.declared.thread.RunState.TheVariants as run;
-ghost use Rattle.policy.specs.{Cut.{IsBase, IsCut, IsHolding, IsNear, is_link}, Domain.EdgeTest};
-ghost use Rattle.integrity.specs.{Budgets.KeepsBudgets, Shrinks.{IsBlocked, Shrinks}};
 
 /// A law: by these changes an object doesn't shrink:
 ///

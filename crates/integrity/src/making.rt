@@ -2,10 +2,9 @@
 ghost use Rattle.std.specs.Prelude.{ℕ, ◌≡◌, ◌⊎◌, Ok, Some};
 ghost use Rattle.base.specs.declared.ids.ObjId.{ObjId as Id};
 ghost use Rattle.machine.specs.{declared.{call.Made.Made, object.MemoryKind.MemoryKind}, Authority.label_of};
-ghost use Rattle.machine.specs.{Layout.Layout, Machine.Machine, Step.Retype.retype_of};
-ghost use Rattle.policy.specs.{Domain.EdgeTest};
-ghost use Rattle.integrity.specs.{Altered.MayAlter, Awake.IsAwake, Confined.IsConfined, Invariant.IsSound, Keeping.IsSharp};
-ghost use Rattle.integrity.specs.{OfTable.IsOfTable, Shrinks.IsSame};
+ghost use Rattle.{machine.specs.{Layout.Layout, Machine.Machine, Step.Retype.retype_of}, policy.specs.Domain.EdgeTest};
+ghost use Rattle.integrity.specs.{Altered.MayAlter, Awake.IsAwake, Confined.IsConfined};
+ghost use Rattle.integrity.specs.{Invariant.IsSound, Keeping.IsSharp, OfTable.IsOfTable, Shrinks.IsSame};
 
 /// A law: a thread that makes objects of untyped memory stays within the bounds of its label.
 ///

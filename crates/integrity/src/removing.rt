@@ -1,14 +1,13 @@
 //! Laws on removals: what they change, and of which labels.
 ghost use Rattle.std.specs.Prelude.{ℕ, ◌≡◌, ◌⊎◌, Bool, None, Ok, Some};
 ghost use Rattle.base.specs.declared.ids.{ObjId.ObjId as Id, SlotRef.SlotRef as Slot};
-ghost use Rattle.machine.specs.declared.{call.Made.Made, object.Context.Context as Bound};
-ghost use Rattle.machine.specs.declared.slot_address.SlotAddress.{SlotAddress as Place};
+ghost use Rattle.machine.specs.declared.{call.Made.Made, object.Context.Context as Bound, slot_address.SlotAddress.SlotAddress as Place};
 ghost use Rattle.machine.specs.{Authority.label_of, Layout.Layout, Machine.{Machine, object_of}, Removal.removed};
 ghost use Rattle.machine.specs.{Step.{Delete.delete_of, Revoke.revoke_of}, WellFormed.IsWellFormed};
-ghost use Rattle.machine.specs.declared.object.Object.TheVariants as o;
 ghost use Rattle.policy.specs.{Change.MayChange, Domain.EdgeTest, NarrowTake.MayShrink};
-ghost use Rattle.integrity.specs.{Altered.MayAlter, Awake.IsAwake, Confined.IsConfined, Invariant.IsSound, Keeping.IsSharp};
-ghost use Rattle.integrity.specs.{OfTable.IsOfTable, Removals.MayRemove, Shrinks.{IsSame, Shrinks}};
+ghost use Rattle.integrity.specs.{Altered.MayAlter, Awake.IsAwake, Confined.IsConfined, Invariant.IsSound};
+ghost use Rattle.integrity.specs.{Keeping.IsSharp, OfTable.IsOfTable, Removals.MayRemove, Shrinks.{IsSame, Shrinks}};
+ghost use Rattle.machine.specs.declared.object.Object.TheVariants as o;
 
 /// A law: whichever slots are removed, the machine stays within a sharply closed policy and keeps to its table.
 pub fn removals_stay_confined()

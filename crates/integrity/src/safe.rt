@@ -1,17 +1,15 @@
 //! The headline and its laws: which systems are safe, and what follows for labels.
-ghost use Rattle.std.specs.Prelude.{ℕ, ◌≡◌, ◌≢◌, ◌↔◌, ◌⊎◌, Some, true};
+ghost use Rattle.std.specs.Prelude.{ℕ, ◌↔◌, ◌≡◌, ◌≢◌, ◌⊎◌, Some, true};
 ghost use Rattle.base.specs.declared.{ids.ObjId.ObjId as Id, kind.Kind.Kind as authority};
 ghost use Rattle.machine.specs.{declared.call.{Event.Event, Outcome.Outcome}, Authority.label_of, Boot.IsBoot};
-ghost use Rattle.machine.specs.{Layout.Layout, Machine.{Machine, object_of}, Step.Step};
+ghost use Rattle.{machine.specs.{Layout.Layout, Machine.{Machine, object_of}, Step.Step}, table.specs.Rules.IsLawful};
+ghost use Rattle.policy.specs.{Change.{ActorTest, MayChange}, Closed.IsClosed, Domain.EdgeTest};
+ghost use Rattle.policy.specs.{NarrowTake.MayShrink, Sharp.{IsSharplyClosed, KeeperTest, Told, UsesRise}};
+ghost use Rattle.integrity.specs.Acting.{HoldsOfActors, MayAct, Starts};
+ghost use Rattle.integrity.specs.{Apart.{NeverChanges, OnlyTakes}, Budgets.Finds, Confined.IsConfined};
+ghost use Rattle.integrity.specs.Keeping.{BorrowersMayIdle, HoldsNode, HoldsOfKeepers, IsSharp, KeepersHoldNodes, MayKeep, WaitersMayIdle};
+ghost use Rattle.integrity.specs.{Safe.{IsReached, IsSafe, KeepsNarrowBounds, RefusesOthers}, Shrinks.IsSame};
 ghost use Rattle.machine.specs.declared.object.ObjectKind.TheVariants as kind;
-ghost use Rattle.policy.specs.{Change.{ActorTest, MayChange}, Closed.IsClosed, Domain.EdgeTest, NarrowTake.MayShrink};
-ghost use Rattle.policy.specs.Sharp.{IsSharplyClosed, KeeperTest, Told, UsesRise};
-ghost use Rattle.table.specs.Rules.{IsLawful};
-ghost use Rattle.integrity.specs.{Acting.{HoldsOfActors, MayAct, Starts}, Apart.{NeverChanges, OnlyTakes}};
-ghost use Rattle.integrity.specs.{Budgets.Finds, Keeping.{BorrowersMayIdle, HoldsNode, HoldsOfKeepers, IsSharp, KeepersHoldNodes, MayKeep}};
-ghost use Rattle.integrity.specs.Keeping.{WaitersMayIdle};
-ghost use Rattle.integrity.specs.{Confined.IsConfined, Safe.{IsReached, IsSafe, KeepsNarrowBounds, RefusesOthers}};
-ghost use Rattle.integrity.specs.Shrinks.{IsSame};
 
 use table::boot_states_are_well_formed;
 

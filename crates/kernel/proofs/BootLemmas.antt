@@ -2,19 +2,17 @@
 use Rattle.std.specs.{declared.cmp.Ordering.TheVariants.Less, Cmp.tied_itself, List.{AllPairs, find}, Option.option_or, Ordering.is_eq}
 use Rattle.std.{specs.Prelude.{IsSome, IsTrue, None, Option, Some, is_some, option_map, slice_get}, proofs.Common.{[], ℕ, ◌++◌, ◌+◌, ◌<◌}}
 use Rattle.std.proofs.Common.{◌∙◌, ◌∷◌, ◌≡◌, ◌≢◌, Bool, List, ap, arith, cond, false, get_or, length, refl, replicate, suc, sym, take, true}
-use Rattle.std.proofs.{Common.zero, lemmas.{Bool.{false≢true, lt-ltb}, Cmp.eq_by_cmp_equiv, List.{get_or-take, length-take-le}}}
-use Rattle.std.proofs.lemmas.List.{length_push, take_more, Folds.find-append}
-use Rattle.base.specs.declared.ids.{ObjId.ObjId, SlotRef.SlotRef}
-use Rattle.machine.specs.{declared.{cap.Cap.Cap, layout.{Filled.Filled, Initial.Initial, Pair.Pair}, object.Object.Object}, Boot.IsBoot}
-use Rattle.machine.specs.{Boot.{booted, bound}, Layout.{Layout, bound_context, bound_thread, initial_cap, initial_of, initial_parent}}
-use Rattle.machine.specs.Machine.{Machine, cap_of, empty_machine, has_slot, object_of, same_id, same_slot, slot_cmp, with_cap, with_new}
-use Rattle.machine.{specs.{Machine.with_parent, Objects.{slot_count, word_count}}, proofs.{Bound.slot_count-bound, LookUps.cap_of-empty}}
-use Rattle.machine.proofs.LookUps.{cap_of-with_cap, cap_of-with_new, cap_of-with_parent, id_total, object_of-empty, object_of-with_cap}
-use Rattle.machine.proofs.LookUps.{object_of-with_new, object_of-with_parent, one_id, one_slot, parent_of-empty, parent_of-with_cap}
-use Rattle.machine.proofs.LookUps.{parent_of-with_new, parent_of-with_parent, queue_of-empty, queue_of-with_cap, queue_of-with_new}
-use Rattle.machine.proofs.LookUps.{queue_of-with_parent, slot_total, words_of-empty, words_of-with_cap, words_of-with_new}
-use Rattle.machine.proofs.LookUps.{words_of-with_parent}
-use Rattle.table.specs.Rules.{HasSlot}
+use Rattle.std.proofs.{Common.zero, lemmas.{Bool.{false≢true, lt-ltb}, Cmp.eq_by_cmp_equiv, List.{Folds.find-append, get_or-take}}}
+use Rattle.{std.proofs.lemmas.List.{length-take-le, length_push, take_more}, base.specs.declared.ids.{ObjId.ObjId, SlotRef.SlotRef}}
+use Rattle.machine.specs.declared.{cap.Cap.Cap, layout.{Filled.Filled, Initial.Initial, Pair.Pair}, object.Object.Object}
+use Rattle.machine.specs.{Boot.{IsBoot, booted, bound}, Layout.{Layout, bound_context, bound_thread, initial_cap, initial_of}}
+use Rattle.machine.specs.{Layout.initial_parent, Machine.{Machine, cap_of, empty_machine, has_slot, object_of, same_id}}
+use Rattle.machine.specs.{Machine.{same_slot, slot_cmp, with_cap, with_new, with_parent}, Objects.{slot_count, word_count}}
+use Rattle.machine.proofs.{Bound.slot_count-bound, LookUps.{cap_of-empty, cap_of-with_cap, cap_of-with_new, cap_of-with_parent}}
+use Rattle.machine.proofs.LookUps.{id_total, object_of-empty, object_of-with_cap, object_of-with_new, object_of-with_parent}
+use Rattle.machine.proofs.LookUps.{one_id, one_slot, parent_of-empty, parent_of-with_cap, parent_of-with_new, parent_of-with_parent}
+use Rattle.machine.proofs.LookUps.{queue_of-empty, queue_of-with_cap, queue_of-with_new, queue_of-with_parent, slot_total, words_of-empty}
+use Rattle.{machine.proofs.LookUps.{words_of-with_cap, words_of-with_new, words_of-with_parent}, table.specs.Rules.HasSlot}
 
 apart_ids : (q id : ObjId) → same_id q id ≡ false → q.0 ≢ id.0
 apart_ids q id tie same =

@@ -1,12 +1,10 @@
 -- The next pair of a table may be added to the tree of a state that has the pairs before it.
 use Rattle.std.specs.{declared.cmp.Ordering.TheVariants.Less, List.find, Ordering.is_eq, Prelude.{AllPairs, IsSome, IsTrue, None, Option}}
 use Rattle.std.{specs.Prelude.{Some, option_map}, proofs.Common.{[], ℕ, ◌+◌, ◌<◌, ◌∙◌, ◌∷◌, ◌≡◌, Bool, List, ap, cond, false, get_or}}
-use Rattle.std.proofs.{Common.{length, refl, suc, sym, take, true, zero}, lemmas.Bool.false≢true}
-use Rattle.base.specs.declared.ids.SlotRef.{SlotRef}
+use Rattle.{std.proofs.{Common.{length, refl, suc, sym, take, true, zero}, lemmas.Bool.false≢true}, base.specs.declared.ids.SlotRef.SlotRef}
 use Rattle.machine.specs.{declared.{cap.Cap.Cap, layout.Pair.Pair}, Boot.IsBoot, Layout.{Layout, initial_cap, initial_parent}}
 use Rattle.machine.specs.Machine.{Machine, cap_of, has_slot, parent_of, same_slot, slot_cmp, with_parent}
-use Rattle.table.specs.Tree.{IsPairOf}
-use Rattle.kernel.proofs.BootLemmas.{below_next, boot-derived, find-missing}
+use Rattle.{table.specs.Tree.IsPairOf, kernel.proofs.BootLemmas.{below_next, boot-derived, find-missing}}
 
 -- an element found among the first of a list is found in the list
 find-first : {X : Type 0} (p : X → Bool) (n : ℕ) (xs : List X) (x : X) → find p (take n xs) ≡ Some x → find p xs ≡ Some x

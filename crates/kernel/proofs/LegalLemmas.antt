@@ -1,14 +1,13 @@
 -- Entries of a log as steps: a log that stops at an entry is no run, since two steps of an event with one outcome lead to one machine.
-use Rattle.std.{specs.{List.{All, zip}, Prelude.{Option, is_some, length, map, not, slice_get, take}}, proofs.Common.{[], ℕ, ◌++◌, ◌<◌}}
-use Rattle.std.proofs.Common.{◌∙◌, ◌∷◌, ◌≡◌, ◌≢◌, ◌⊎◌, Bool, Err, List, None, Ok, Result, Some, ap, arith, inl, inr, refl, subst, suc, sym}
-use Rattle.std.proofs.{Common.{zero, ◌+◌}, Math.{Nat.le_refl, Seq.take-length}, lemmas.{Bool.cases_order, List.{map_push, take_more}}}
-use Rattle.std.proofs.lemmas.Option.{get_or_from_slice_get, same_Some, slice_get_within}
-use Rattle.base.specs.{declared.refusal.{Cause.Cause, Refusal.Refusal}, Refusals.{out_of_memory, refusal_of}}
-use Rattle.base.proofs.CauseLemmas.{cause_no_memory}
+use Rattle.std.specs.{List.{All, zip}, Prelude.{Option, is_some, length, map, not, slice_get, take}}
+use Rattle.std.proofs.Common.{[], ℕ, ◌++◌, ◌+◌, ◌<◌, ◌∙◌, ◌∷◌, ◌≡◌, ◌≢◌, ◌⊎◌, Bool, Err, List, None, Ok, Result, Some}
+use Rattle.std.proofs.{Common.{ap, arith, inl, inr, refl, subst, suc, sym, zero}, Math.{Nat.le_refl, Seq.take-length}}
+use Rattle.std.proofs.lemmas.{Bool.cases_order, List.{map_push, take_more}, Option.{get_or_from_slice_get, same_Some, slice_get_within}}
+use Rattle.base.specs.declared.refusal.{Cause.Cause, Refusal.Refusal}
+use Rattle.base.{specs.Refusals.{out_of_memory, refusal_of}, proofs.CauseLemmas.cause_no_memory}
 use Rattle.machine.specs.{declared.call.{Event.Event, Made.Made, Outcome.{Outcome, TheVariants.Refused}}, Machine.Machine}
-use Rattle.machine.specs.{Outcomes.IsRefused, Run.Run, Step.{LacksMemory, Step, made_by, step_of, takes_memory, Step.{ends, lacks}}}
-use Rattle.steps.proofs.Steps.{Ended, refused_changes_nothing, refused_steps, runs_end, steps_agree}
-use Rattle.untyped.specs.Making.{refusal_in}
+use Rattle.machine.specs.{Outcomes.IsRefused, Run.Run, Step.{LacksMemory, Step, Step.{ends, lacks}, made_by, step_of, takes_memory}}
+use Rattle.{steps.proofs.Steps.{Ended, refused_changes_nothing, refused_steps, runs_end, steps_agree}, untyped.specs.Making.refusal_in}
 use Rattle.kernel.specs.Legal.{Entry, Follows, IsLack, IsLeftAt, IsReachedIn, LacksMemoryIn, Leads, StopsAt, next_of}
 use Rattle.kernel.{specs.Refusals.lasting_refusal, proofs.RunLemmas.run_further}
 

@@ -1,6 +1,5 @@
 -- Parts of a capability table that a boot goes through in turn: its objects, then its capabilities, then its derivation tree.
-use Rattle.std.specs.Prelude.{[]}
-use Rattle.machine.specs.Layout.{Layout}
+use Rattle.{std.specs.Prelude.[], machine.specs.Layout.Layout}
 
 -- the table with its objects and bindings alone
 abbrev pub objects_alone : Layout → Layout

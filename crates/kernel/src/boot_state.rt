@@ -1,9 +1,7 @@
 //! The boot state of a capability table.
 ghost use Rattle.std.specs.Prelude.{◌≡◌, IfErr, IfOk};
-ghost use Rattle.base.specs.Refusals.{plain};
-ghost use Rattle.machine.specs.{Boot.{IsBoot, IsFresh, bound}, WellFormed.IsWellFormed};
-ghost use Rattle.table.specs.Rules.{IsLawful};
-ghost use Rattle.kernel.specs.Parts.{objects_alone, without_tree};
+ghost use Rattle.{base.specs.Refusals.plain, machine.specs.{Boot.{IsBoot, IsFresh, bound}, WellFormed.IsWellFormed}};
+ghost use Rattle.{table.specs.Rules.IsLawful, kernel.specs.Parts.{objects_alone, without_tree}};
 
 use base::{ObjId, Refusal};
 use machine::{Context, Object, Tcb};

@@ -1,10 +1,8 @@
 //! One kernel call, from its event to its outcome.
 ghost use Rattle.std.specs.Prelude.{◌≡◌, ◌≢◌, Bool};
 ghost use Rattle.base.specs.{declared.refusal.Misuse.Misuse, Refusals.misuse_refusal};
-ghost use Rattle.machine.specs.{declared.call.Outcome.TheVariants.Refused, Makes.{Makes, MakesWithMemory}};
-ghost use Rattle.machine.specs.{Outcomes.IsRefused, Step.{MayEnd, Step, made_by, takes_memory}};
-ghost use Rattle.machine.specs.WellFormed.{IsWellFormed};
-ghost use Rattle.kernel.specs.Refusals.{lasting_refusal};
+ghost use Rattle.machine.specs.{declared.call.Outcome.TheVariants.Refused, Makes.{Makes, MakesWithMemory}, Outcomes.IsRefused, Step.MayEnd};
+ghost use Rattle.{machine.specs.{Step.{Step, made_by, takes_memory}, WellFormed.IsWellFormed}, kernel.specs.Refusals.lasting_refusal};
 
 use crate::admit::admit;
 use crate::poll::poll;

@@ -3,8 +3,7 @@ ghost use Rattle.std.specs.Prelude.{ℕ, ◌≡◌, All, Bool, Decides, IfErr, I
 ghost use Rattle.base.specs.Refusals.{out_of_memory};
 ghost use Rattle.machine.specs.{declared.call.Outcome.TheVariants.Refused, Machine.Machine};
 ghost use Rattle.machine.specs.{Step.{MayEnd, takes_memory}, WellFormed.IsWellFormed};
-ghost use Rattle.kernel.specs.Legal.{Entry, Follows, IsLack, IsLeftAt, IsReachedIn, LacksMemoryIn, Leads, MayLack};
-ghost use Rattle.kernel.specs.Legal.{StopsAt};
+ghost use Rattle.kernel.specs.Legal.{Entry, Follows, IsLack, IsLeftAt, IsReachedIn, LacksMemoryIn, Leads, MayLack, StopsAt};
 
 use crate::calls::{retype_refusal, step};
 use base::Refusal;

@@ -1,6 +1,5 @@
 //! The call Wait, which takes a notification's word or waits for one.
-ghost use Rattle.machine.specs.{Makes.Makes, Step.Wait.wait_of};
-ghost use Rattle.objects.specs.Waiting.{WaitsNowhere};
+ghost use Rattle.{machine.specs.{Makes.Makes, Step.Wait.wait_of}, objects.specs.Waiting.WaitsNowhere};
 
 use crate::signal::pending;
 use base::{Cause, ObjId, Rights};

@@ -1,7 +1,6 @@
 -- Labels that the authority of a boot state joins: they are the table's.
-use Rattle.std.proofs.{Common.{ℕ, ◌<◌, ◌∙◌, ◌≡◌, None, Option, Some, length, option_map, refl, subst, sym}, lemmas.Option.none-some}
-use Rattle.std.proofs.lemmas.Option.{same_Some}
-use Rattle.base.specs.declared.{ids.ObjId.ObjId, kind.Kind.Kind}
+use Rattle.std.proofs.Common.{ℕ, ◌<◌, ◌∙◌, ◌≡◌, None, Option, Some, length, option_map, refl, subst, sym}
+use Rattle.{std.proofs.lemmas.Option.{none-some, same_Some}, base.specs.declared.{ids.ObjId.ObjId, kind.Kind.Kind}}
 use Rattle.machine.specs.{declared.layout.Initial.Initial, Authority.{HasAuthority, by_cap, by_link, by_pair, by_root, label_of}}
 use Rattle.machine.specs.{Boot.IsBoot, Layout.{Layout, declared_label, initial_of}, Machine.Machine}
 use Rattle.table.{specs.Rules.IsLawful, proofs.AtBoot.{boot_label, initial_lawful}}

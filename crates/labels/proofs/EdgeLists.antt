@@ -1,12 +1,11 @@
 -- Lists of edges between two labels: the edges that they have.
+use mathlib.Core.Bool.{false≢true}
 use Rattle.std.proofs.Common.{[], ℕ, ◌++◌, ◌+◌, ◌<◌, ◌==◌, ◌||◌, ◌∙◌, ◌∷◌, ◌≡◌, Bool, List, None, Option, Some, ap, append_assoc, arith}
 use Rattle.std.proofs.Common.{cond, false, filter, flat_map, get_or, inl, inr, length, refl, slice_get, subst, suc, sym, take, true, zero}
-use Rattle.std.proofs.lemmas.{Bool.{and_parts, eqb-true, or_cases, Decides.nat_tests}, List.{append-nil, Concat.flat_map-append}}
-use Rattle.std.proofs.lemmas.{List.{Elements.filter_more, Folds.{list_any-append, list_any_more}}, Option.{none-some, same_Some}}
+use Rattle.std.proofs.lemmas.{Bool.{Decides.nat_tests, and_parts, eqb-true, or_cases}, List.{Concat.flat_map-append, Elements.filter_more}}
+use Rattle.std.proofs.lemmas.{List.{Folds.{list_any-append, list_any_more}, append-nil}, Option.{none-some, same_Some}}
 use Rattle.base.specs.{declared.{edge.Edge.Edge, kind.Kind.Kind}, Kinds.kind_number}
-use Rattle.policy.{specs.Policy.{allows, is_edge}, proofs.KindNumbers.same_kind}
-use Rattle.labels.specs.SlotEdges.{edge_between}
-use mathlib.Core.Bool.{false≢true}
+use Rattle.{policy.{specs.Policy.{allows, is_edge}, proofs.KindNumbers.same_kind}, labels.specs.SlotEdges.edge_between}
 
 -- one kind more
 

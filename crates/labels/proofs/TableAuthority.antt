@@ -1,22 +1,21 @@
 -- The authority of a boot state is what its table declares.
-use Rattle.std.proofs.Common.{[], ℕ, ◌++◌, ◌+◌, ◌<◌, ◌||◌, ◌↔◌, ◌∙◌, ◌∷◌, ◌≡◌, List, None, Option, Some, ap, append_assoc, flat_map, get_or}
-use Rattle.std.proofs.{Common.{inl, inr, length, option_map, refl, slice_get, subst, suc, sym, take, true, zero}, lemmas.Bool.or_cases}
-use Rattle.std.proofs.lemmas.{List.{append-nil, take_more, Concat.flat_map-append}, Option.{get_or_from_slice_get, none-some, same_Some}}
-use Rattle.std.proofs.lemmas.Option.{slice_get_within}
+use mathlib.Core.Bool.{false≢true}
+use Rattle.std.proofs.Common.{[], ℕ, ◌++◌, ◌+◌, ◌<◌, ◌||◌, ◌↔◌, ◌∙◌, ◌∷◌, ◌≡◌, List, None, Option, Some, ap, append_assoc}
+use Rattle.std.proofs.Common.{flat_map, get_or, inl, inr, length, option_map, refl, slice_get, subst, suc, sym, take, true, zero}
+use Rattle.std.proofs.lemmas.{Bool.or_cases, List.{Concat.flat_map-append, append-nil, take_more}}
+use Rattle.std.proofs.lemmas.Option.{get_or_from_slice_get, none-some, same_Some, slice_get_within}
 use Rattle.base.specs.declared.{edge.Edge.Edge, ids.{ObjId.ObjId, SlotRef.SlotRef}, kind.Kind.{Kind, Kind as authority}}
 use Rattle.machine.specs.declared.{cap.Cap.Cap, layout.{Binding.Binding, Initial.Initial}, object.Object.{Object, Object as o}}
-use Rattle.machine.specs.declared.object.ObjectKind.TheVariants as kind
-use Rattle.machine.specs.{Authority.{HasAuthority, by_cap, by_link, by_pair, by_root, holds_thread, links}, Boot.{IsBoot, bound}}
-use Rattle.machine.specs.{Layout.{Layout, bound_context, declared_label, initial_cap, initial_of}, Machine.Machine, Objects.kind_of_object}
-use Rattle.machine.proofs.RunsLinks.{runs_bound, runs_by}
-use Rattle.policy.specs.Policy.{allows}
+use Rattle.machine.specs.Authority.{HasAuthority, by_cap, by_link, by_pair, by_root, holds_thread, links}
+use Rattle.machine.specs.{Boot.{IsBoot, bound}, Layout.{Layout, bound_context, declared_label, initial_cap, initial_of}}
+use Rattle.machine.{specs.{Machine.Machine, Objects.kind_of_object}, proofs.RunsLinks.{runs_bound, runs_by}}
 use Rattle.table.{specs.Rules.{IsBindingOf, IsBlank, IsLawful}, proofs.AtBoot.{boot_label, declared_at, initial_lawful, rest_lends}}
-use Rattle.table.proofs.{AtBoot.rest_links, BootParts.pair-law, Lookups.{bound_at, bound_from, filled_at}}
+use Rattle.{table.proofs.{AtBoot.rest_links, BootParts.pair-law, Lookups.{bound_at, bound_from, filled_at}}, policy.specs.Policy.allows}
 use Rattle.labels.specs.{SlotAuthority.GivesBySlot, SlotEdges.slot_edges_of, TableEdges.{edges_of_binding, edges_of_filled, table_edges}}
-use Rattle.labels.specs.SlotAuthority as slot
 use Rattle.labels.proofs.EdgeLists.{allows-append, allows_after, allows_before, edge_has, edge_in, none_allowed}
 use Rattle.labels.proofs.SlotAuthority.{slot_authority}
-use mathlib.Core.Bool.{false≢true}
+use Rattle.machine.specs.declared.object.ObjectKind.TheVariants as kind
+use Rattle.labels.specs.SlotAuthority as slot
 
 -- an edge is among those of several things exactly if it is among those of one
 

@@ -2,11 +2,10 @@
 -- derivation tree whose child it is ('seL4 Enforces Integrity', section 3, "Authority", read off an initial state).
 use Rattle.std.specs.Prelude.{[], ℕ, ◌++◌, ◌∷◌, List, None, Option, Some, filter, flat_map}
 use Rattle.base.specs.declared.{edge.Edge.Edge, ids.SlotRef.SlotRef, kind.Kind.{Kind, TheVariants.{Derive, Space}}}
+use Rattle.machine.specs.{declared.{cap.{Cap.Cap, Detail.Detail}, object.ObjectKind.ObjectKind}, Capabilities.gives}
+use Rattle.{machine.specs.Layout.{Layout, declared_label, initial_cap, initial_parent}, table.specs.Rules.kind_at}
 use Rattle.base.specs.declared.kind.TheConstants.Kind as Kinds
-use Rattle.machine.specs.{declared.{cap.{Cap.Cap, Detail.Detail}, object.ObjectKind.ObjectKind}, Capabilities.gives, Layout.Layout}
 use Rattle.machine.specs.declared.object.ObjectKind.TheVariants as object
-use Rattle.machine.specs.Layout.{declared_label, initial_cap, initial_parent}
-use Rattle.table.specs.Rules.{kind_at}
 
 -- the kinds of authority that a capability gives in a slot of an object of this kind: its own in a CNode, space alone in a thread's root
 abbrev pub kinds_in : Option ObjectKind → Detail → List Kind

@@ -2,8 +2,7 @@
 ghost use Rattle.std.specs.Prelude.{ℕ, ◌||◌, ◌↔◌, ◌≡◌, IfErr, IfOk, OnOk, true};
 ghost use Rattle.base.specs.{declared.kind.Kind.Kind as KindOf, Refusals.out_of_memory};
 ghost use Rattle.machine.specs.{Authority.HasAuthority, Boot.IsBoot, Machine.Machine};
-ghost use Rattle.policy.specs.Policy.{IsRising, allows};
-ghost use Rattle.table.specs.Rules.{IsLawful};
+ghost use Rattle.{table.specs.Rules.IsLawful, policy.specs.Policy.{IsRising, allows}};
 ghost use Rattle.labels.specs.{SlotEdges.slot_edges_of, TableEdges.{edges_of_binding, table_edges}};
 
 use crate::edges::{edge_between, slot_edges};

@@ -1,10 +1,8 @@
 //! Edges of authority that one slot gives.
-ghost use Rattle.std.specs.Prelude.{[], ◌++◌, ◌≡◌, IfErr, IfOk, OnOk, Some, filter, flat_map, if◌then◌else◌};
-ghost use Rattle.std.specs.Prelude.{option_to_list};
-ghost use Rattle.base.specs.declared.kind.TheConstants.Kind as Kinds;
-ghost use Rattle.base.specs.Refusals.{out_of_memory};
-ghost use Rattle.machine.specs.{Capabilities.gives, Layout.{declared_label, initial_parent}};
+ghost use Rattle.std.specs.Prelude.{[], ◌++◌, ◌≡◌, IfErr, IfOk, OnOk, Some, filter, flat_map, if◌then◌else◌, option_to_list};
+ghost use Rattle.{base.specs.Refusals.out_of_memory, machine.specs.{Capabilities.gives, Layout.{declared_label, initial_parent}}};
 ghost use Rattle.labels.specs.SlotEdges.{cap_edges, edge_between, edges_with, pair_edges, slot_edges_of};
+ghost use Rattle.base.specs.declared.kind.TheConstants.Kind as Kinds;
 
 use crate::label::declared_label;
 use base::{Edge, Kind, ObjId, Refusal, SlotRef};

@@ -1,10 +1,8 @@
 //! Laws on the authority that tables give.
 ghost use Rattle.std.specs.Prelude.{ℕ, ◌<◌, ◌↔◌, ◌≡◌, length, true};
 ghost use Rattle.base.specs.declared.{ids.SlotRef.SlotRef as Slot, kind.Kind.Kind as KindOf};
-ghost use Rattle.machine.specs.{Authority.HasAuthority, Boot.IsBoot, Layout.Layout, Machine.Machine};
-ghost use Rattle.policy.specs.Policy.{allows};
-ghost use Rattle.table.specs.Rules.{IsLawful};
-ghost use Rattle.labels.specs.{SlotAuthority.GivesBySlot, SlotEdges.slot_edges_of};
+ghost use Rattle.{machine.specs.{Authority.HasAuthority, Boot.IsBoot, Layout.Layout, Machine.Machine}, table.specs.Rules.IsLawful};
+ghost use Rattle.{policy.specs.Policy.allows, labels.specs.{SlotAuthority.GivesBySlot, SlotEdges.slot_edges_of}};
 
 /// A law: the edges of a slot are the authority that the table's boot state has by that slot.
 ///

@@ -1,16 +1,15 @@
 -- The number of capabilities for an object: what each change of a machine makes of it, and that it is 0 exactly where no slot holds one.
-use Rattle.std.{specs.{Bool.Decides, FinMap.entries, Prelude.{None, Option, Some, if◌then◌else◌}}, proofs.Common.{ℕ, ◌+◌, ◌∙◌, ◌≡◌, ◌≢◌}}
+use Rattle.std.specs.{Bool.Decides, FinMap.entries, Prelude.{None, Option, Some, if◌then◌else◌}}
+use Rattle.std.proofs.Common.{ℕ, ◌+◌, ◌∙◌, ◌≡◌, ◌≢◌, ◌≤◌, Bool, List, ap, arith, cond, false, refl, subst, sym, true}
+use Rattle.{std.proofs.lemmas.{Bool.false≢true, List.Sums.count_by-le-length}, base.specs.declared.ids.{ObjId.ObjId, SlotRef.SlotRef}}
+use Rattle.machine.specs.{declared.{cap.Cap.Cap, object.Object.Object}, Changes.{with_waiting, without_waiting}}
+use Rattle.machine.specs.{Counts.caps_to, Gone.{LosesAll, gone_of, is_for, some_cap}}
+use Rattle.machine.specs.Machine.{Machine, cap_of, empty_machine, queue_of, same_id, same_slot, slot_cmp, with_cap, with_new, with_object}
+use Rattle.machine.specs.{Machine.{with_parent, with_queue, without_cap, without_parent}, Removal.{cap_after, removed, vanishes}}
+use Rattle.machine.proofs.{FiniteLemmas.{by_key, cond_elsewhere, cond_here}, FiniteSums.{sum-empty, sum-insert, sum-nothing, sum-remove}}
+use Rattle.machine.proofs.GoneLemmas.{id_itself, losing_decided, some_cap-found, some_cap-from}
+use Rattle.machine.proofs.{LookUps.{id_apart, id_total, one_id, slot_apart, slot_total}, RemovalLooks.cap_of-removed}
 use Rattle.std.specs.FinMap as map
-use Rattle.std.proofs.{Common.{◌≤◌, Bool, List, ap, arith, cond, false, refl, subst, sym, true}, lemmas.Bool.false≢true}
-use Rattle.std.proofs.lemmas.List.Sums.{count_by-le-length}
-use Rattle.base.specs.declared.ids.{ObjId.ObjId, SlotRef.SlotRef}
-use Rattle.machine.specs.{declared.{cap.Cap.Cap, object.Object.Object}, Changes.{with_waiting, without_waiting}, Counts.caps_to}
-use Rattle.machine.specs.{Gone.{LosesAll, gone_of, is_for, some_cap}, Machine.{Machine, cap_of, empty_machine, queue_of, same_id}}
-use Rattle.machine.specs.Machine.{same_slot, slot_cmp, with_cap, with_new, with_object, with_parent, with_queue, without_cap}
-use Rattle.machine.{specs.{Machine.without_parent, Removal.{cap_after, removed, vanishes}}, proofs.FiniteLemmas.{by_key, cond_elsewhere}}
-use Rattle.machine.proofs.{FiniteLemmas.cond_here, FiniteSums.{sum-empty, sum-insert, sum-nothing, sum-remove}, GoneLemmas.id_itself}
-use Rattle.machine.proofs.{GoneLemmas.{losing_decided, some_cap-found, some_cap-from}, LookUps.{id_apart, id_total, one_id, slot_apart}}
-use Rattle.machine.proofs.{LookUps.slot_total, RemovalLooks.cap_of-removed}
 
 -- one for a capability of the object, and none for others
 abbrev pub one_for : ObjId → Cap → ℕ

@@ -1,10 +1,9 @@
 -- Two slots that change places in the derivation tree.
-use Rattle.std.specs.{Cmp.tied_itself, FinMap.{entries, get-entries, get-from_entries, Entries.find}, Ordering.is_eq, Prelude.{Some, cond}}
-use Rattle.std.{specs.Prelude.{if◌then◌else◌, map, option_map}, proofs.Common.{[], ◌∙◌, ◌∷◌, ◌≡◌, Bool, List, ap, false, refl, subst, sym}}
-use Rattle.std.proofs.Common.{true}
-use Rattle.base.specs.declared.ids.SlotRef.{SlotRef}
-use Rattle.machine.{specs.{Machine.{Machine, parent_of, same_slot, slot_cmp}, Tree.{exchange, with_exchanged}}, proofs.LookUps.one_slot}
-use Rattle.machine.proofs.LookUps.{slot_total}
+use Rattle.std.specs.{Cmp.tied_itself, FinMap.{Entries.find, entries, get-entries, get-from_entries}, Ordering.is_eq}
+use Rattle.std.{specs.Prelude.{Some, cond, if◌then◌else◌, map, option_map}, proofs.Common.{[], ◌∙◌, ◌∷◌, ◌≡◌, Bool}}
+use Rattle.{std.proofs.Common.{List, ap, false, refl, subst, sym, true}, base.specs.declared.ids.SlotRef.SlotRef}
+use Rattle.machine.specs.Machine.{Machine, parent_of, same_slot, slot_cmp}
+use Rattle.machine.{specs.Tree.{exchange, with_exchanged}, proofs.LookUps.{one_slot, slot_total}}
 
 pub slot_itself : (slot : SlotRef) → same_slot slot slot ≡ true
 slot_itself slot = ap is_eq (tied_itself slot_total slot)

@@ -1,10 +1,9 @@
 -- A tabulated map has the function's values.
 use Rattle.std.specs.{declared.cmp.Ordering.Ordering, Cmp.{Equal-is, IsTotalOrder, tied_itself}, FinMap.{FinMap, IsAntisymmetric}}
+use Rattle.std.specs.{List.list_any, Ordering.{eq_by_cmp, is_eq}, Prelude.{◌||◌, IsSome, None, Option, Some}}
+use Rattle.std.proofs.Common.{[], ℕ, ◌+◌, ◌∙◌, ◌∷◌, ◌≡◌, ◌≤◌, Bool, List, ap, arith, cond, false, length, refl, subst, sym, true}
+use Rattle.{std.proofs.lemmas.Bool.false≢true, machine.specs.Finite.{put_some, tabulate}}
 use Rattle.std.specs.FinMap as map
-use Rattle.std.{specs.{List.list_any, Ordering.{eq_by_cmp, is_eq}, Prelude.{◌||◌, IsSome, None, Option, Some}}, proofs.Common.{[], ℕ, ◌+◌}}
-use Rattle.std.proofs.Common.{◌∙◌, ◌∷◌, ◌≡◌, ◌≤◌, Bool, List, ap, arith, cond, false, length, refl, subst, sym, true}
-use Rattle.std.proofs.lemmas.Bool.{false≢true}
-use Rattle.machine.specs.Finite.{put_some, tabulate}
 
 module _ {K : Type 0} {R : K → K → Ordering} (total : IsTotalOrder R) (apart : IsAntisymmetric R) where
   -- keys that tie are one

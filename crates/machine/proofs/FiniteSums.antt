@@ -1,11 +1,10 @@
 -- Sums over the values of a finite map: a new value adds its weight, and a removed one takes its weight away.
-use Rattle.std.specs.{declared.cmp.Ordering.{Ordering, TheVariants.{Equal, Greater, Less}}, Cmp.IsTotalOrder, FinMap.FinMap}
-use Rattle.std.specs.{FinMap.{IsAntisymmetric, entries, find, Entries.{by_order, put}}, Ordering.{eq_by_cmp, is_eq}, Prelude.{None, Option}}
+use Rattle.std.specs.{declared.cmp.Ordering.{Ordering, TheVariants.{Equal, Greater, Less}}, Cmp.IsTotalOrder}
+use Rattle.std.specs.{FinMap.{Entries.{by_order, put}, FinMap, IsAntisymmetric, entries, find}, Ordering.{eq_by_cmp, is_eq}}
+use Rattle.std.{specs.Prelude.{None, Option, Some, is_some, sum_by}, proofs.Common.{[], ℕ, ◌+◌, ◌-◌, ◌∙◌, ◌∷◌, ◌≡◌, Bool, List}}
+use Rattle.std.proofs.{Common.{ap, arith, cond, false, length, refl, suc, sym, true, zero}, Math.Nat.{add_assoc, add_comm}}
+use Rattle.{std.proofs.lemmas.List.{Sums.sum_by-cons, nil_from_length}, machine.proofs.FiniteLemmas.{by_key, cond_here}}
 use Rattle.std.specs.FinMap as map
-use Rattle.std.{specs.Prelude.{Some, is_some, sum_by}, proofs.Common.{[], ℕ, ◌+◌, ◌-◌, ◌∙◌, ◌∷◌, ◌≡◌, Bool, List, ap, arith, cond, false}}
-use Rattle.std.proofs.{Common.{length, refl, suc, sym, true, zero}, Math.Nat.{add_assoc, add_comm}, lemmas.List.nil_from_length}
-use Rattle.std.proofs.lemmas.List.Sums.{sum_by-cons}
-use Rattle.machine.proofs.FiniteLemmas.{by_key, cond_here}
 
 -- the sum of the weights of a map's values
 abbrev pub sum_of : {K X : Type 0} {R : K → K → Ordering} → (X → ℕ) → FinMap R X → ℕ

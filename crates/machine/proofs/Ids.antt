@@ -1,8 +1,7 @@
 -- Cases on whether two numbers of objects are equal, and when two slots are.
-use Rattle.std.{specs.{Cmp.tied_itself, Ordering.is_eq, Prelude.if◌then◌else◌}, proofs.Common.{ℕ, ◌&&◌, ◌∙◌, ◌≡◌, ◌≢◌, ◌⊎◌, Bool, ap}}
-use Rattle.std.proofs.{Common.{arith, eqb, false, inl, inr, refl, subst, sym, true}, lemmas.Bool.{false≢true, Decides.nat_tests}}
-use Rattle.base.specs.declared.ids.{ObjId.ObjId, SlotRef.SlotRef}
-use Rattle.machine.{specs.Machine.same_id, proofs.LookUps.{id_total, one_id}}
+use Rattle.std.{specs.{Cmp.tied_itself, Ordering.is_eq, Prelude.if◌then◌else◌}, proofs.Common.{ℕ, ◌&&◌, ◌∙◌, ◌≡◌, ◌≢◌, ◌⊎◌, Bool}}
+use Rattle.std.proofs.{Common.{ap, arith, eqb, false, inl, inr, refl, subst, sym, true}, lemmas.Bool.{Decides.nat_tests, false≢true}}
+use Rattle.{base.specs.declared.ids.{ObjId.ObjId, SlotRef.SlotRef}, machine.{specs.Machine.same_id, proofs.LookUps.{id_total, one_id}}}
 
 pub itself : (id : ObjId) → same_id id id ≡ true
 itself id = ap is_eq (tied_itself id_total id)

@@ -1,11 +1,10 @@
 -- Objects that differ in a watermark alone, and objects as they are when they are made.
-use Rattle.std.{specs.Prelude.{AllPairs, Contains, None, Option, Some, option_map}, proofs.Common.{[], ℕ, ◌<◌, ◌≡◌, ◌≢◌, ◌≤◌, ◌⊎◌, List}}
-use Rattle.std.proofs.{Common.{ap, arith, inl, inr, length, refl}, lemmas.Bool.cases_order}
-use Rattle.base.specs.declared.ids.ObjId.{ObjId}
+use Rattle.std.{specs.Prelude.{AllPairs, Contains, None, Option, Some, option_map}, proofs.Common.{[], ℕ, ◌<◌, ◌≡◌, ◌≢◌, ◌≤◌, ◌⊎◌}}
+use Rattle.{std.proofs.{Common.{List, ap, arith, inl, inr, length, refl}, lemmas.Bool.cases_order}, base.specs.declared.ids.ObjId.ObjId}
 use Rattle.machine.specs.declared.object.{Object.{Object, Object as o}, ObjectKind.ObjectKind, ReplyState.ReplyState as reply}
-use Rattle.machine.specs.{declared.{object.Untyped.Untyped, thread.RunState.RunState as state}, Machine.{Machine, object_of}}
-use Rattle.machine.specs.{Objects.{address_of, end_of, kind_of_object, slot_count, word_count}, WellFormed.{IsRanged, LiesIn, kind_of}}
-use Rattle.machine.proofs.ObjectMade.{marked}
+use Rattle.machine.specs.declared.{object.Untyped.Untyped, thread.RunState.RunState as state}
+use Rattle.machine.specs.{Machine.{Machine, object_of}, Objects.{address_of, end_of, kind_of_object, slot_count, word_count}}
+use Rattle.machine.{specs.WellFormed.{IsRanged, LiesIn, kind_of}, proofs.ObjectMade.marked}
 
 -- an object as it is when it is made: it has links to no other, and untyped memory is unused
 abbrev pub IsUnlinked : Object → Type 0

@@ -1,13 +1,12 @@
 -- Look-ups after each change: only what was changed has another answer. Objects and slots are totally ordered by their numbers.
-use Rattle.std.specs.{declared.cmp.Ordering.{Ordering, TheVariants.{Equal, Greater, Less}}, Cmp.{Equal-is, IsTotalOrder, nat_cmp_total}}
-use Rattle.std.specs.{Cmp.{on_total, then_total}, FinMap.{IsAntisymmetric, nat_cmp-IsAntisymmetric, same_map}, Ordering.{is_eq, nat_cmp}}
+use Rattle.std.specs.{declared.cmp.Ordering.{Ordering, TheVariants.{Equal, Greater, Less}}, Cmp.{Equal-is, IsTotalOrder}}
+use Rattle.std.specs.{Cmp.{nat_cmp_total, on_total, then_total}, FinMap.{IsAntisymmetric, nat_cmp-IsAntisymmetric, same_map}}
+use Rattle.std.specs.{Ordering.{is_eq, nat_cmp, ordering_then}, Prelude.{[], ◌≡◌, List, None, Some, cond, refl, replicate, true}}
+use Rattle.{std.proofs.Common.{T, ap, subst, sym}, base.specs.declared.ids.{ObjId.ObjId, SlotRef.SlotRef}}
+use Rattle.machine.specs.declared.{cap.Cap.Cap, object.Object.Object}
+use Rattle.machine.specs.Machine.{Machine, cap_of, empty_machine, id_cmp, object_of, parent_of, queue_of, same_id, same_slot}
+use Rattle.machine.specs.{Machine.{slot_cmp, with_cap, with_new, with_object, with_parent, with_queue, words_of}, Objects.word_count}
 use Rattle.std.specs.FinMap as map
-use Rattle.std.{specs.{Ordering.ordering_then, Prelude.{[], ◌≡◌, List, None, Some, cond, refl, replicate, true}}, proofs.Common.{T, ap}}
-use Rattle.std.proofs.Common.{subst, sym}
-use Rattle.base.specs.declared.ids.{ObjId.ObjId, SlotRef.SlotRef}
-use Rattle.machine.specs.{declared.{cap.Cap.Cap, object.Object.Object}, Machine.{Machine, cap_of, empty_machine, id_cmp, object_of}}
-use Rattle.machine.specs.Machine.{parent_of, queue_of, same_id, same_slot, slot_cmp, with_cap, with_new, with_object, with_parent}
-use Rattle.machine.specs.{Machine.{with_queue, words_of}, Objects.word_count}
 
 pub id_total : IsTotalOrder id_cmp
 id_total = on_total (λ (id : ObjId). id.0) nat_cmp_total

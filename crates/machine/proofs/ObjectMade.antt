@@ -1,11 +1,10 @@
 -- The machine after one object was made from untyped memory, look-up by look-up.
-use Rattle.std.{specs.{FinMap.{get-insert, insert}, Prelude.{Some, if◌then◌else◌, replicate}}, proofs.Common.{[], ℕ, ◌+◌, ◌∙◌, ◌≡◌, ap}}
-use Rattle.std.proofs.Common.{refl, true}
-use Rattle.base.specs.declared.ids.{ObjId.ObjId, SlotRef.SlotRef}
+use Rattle.std.{specs.{FinMap.{get-insert, insert}, Prelude.{Some, if◌then◌else◌, replicate}}, proofs.Common.{[], ℕ, ◌+◌, ◌∙◌, ◌≡◌}}
+use Rattle.{std.proofs.Common.{ap, refl, true}, base.specs.declared.ids.{ObjId.ObjId, SlotRef.SlotRef}}
 use Rattle.machine.specs.declared.{cap.Detail.Detail, object.{MemoryKind.MemoryKind, Object.{Object, Object as o}, Untyped.Untyped}}
-use Rattle.machine.specs.Machine.{Machine, cap_of, object_of, parent_of, queue_of, same_id, same_slot, with_cap, with_new, with_object}
-use Rattle.machine.specs.{Machine.{with_parent, words_of}, Memory.{Source, new_cap, new_detail, new_object, new_size, placed, taken}}
-use Rattle.machine.{specs.{Memory.with_made, Objects.word_count}, proofs.LookUps.{id_total, slot_total}}
+use Rattle.machine.specs.Machine.{Machine, cap_of, object_of, parent_of, queue_of, same_id, same_slot, with_cap, with_new}
+use Rattle.machine.specs.{Machine.{with_object, with_parent, words_of}, Memory.{Source, new_cap, new_detail, new_object}}
+use Rattle.machine.{specs.{Memory.{new_size, placed, taken, with_made}, Objects.word_count}, proofs.LookUps.{id_total, slot_total}}
 
 -- the number of the next object
 abbrev pub following : Machine → ObjId

@@ -1,11 +1,10 @@
 -- Slots leave an acyclic tree one by one, in any order: each that stays comes under its nearest ancestor that stays.
-use Rattle.std.specs.{FinMap.{entries, get-entries, values, Entries.find}, List.list_any, Prelude.{◌||◌, None, Option, Some, filter}}
-use Rattle.std.{specs.Prelude.option_and_then, proofs.Common.{[], ◌∙◌, ◌∷◌, ◌≡◌, Bool, List, ap, cond, false, map, refl, subst, sym}}
-use Rattle.std.proofs.{Common.true, lemmas.{Bool.false≢true, Option.{none-some, same_Some}}}
-use Rattle.base.specs.declared.ids.SlotRef.{SlotRef}
-use Rattle.machine.specs.{Machine.{Machine, parent_of, same_slot, slot_cmp}, Orphans.{Nearest, climbs, no_ancestor, past, survives}}
-use Rattle.machine.{specs.{Orphans.{without_nodes}, WellFormed.{Descends, child, further}}, proofs.Exchange.slot_itself}
-use Rattle.machine.proofs.{LookUps.one_slot, RoundLemmas.{in_filter, into_filter, or_second}}
+use Rattle.std.specs.{FinMap.{Entries.find, entries, get-entries, values}, List.list_any, Prelude.{◌||◌, None, Option, Some, filter}}
+use Rattle.std.{specs.Prelude.option_and_then, proofs.Common.{[], ◌∙◌, ◌∷◌, ◌≡◌, Bool, List, ap, cond, false, map, refl, subst, sym, true}}
+use Rattle.{std.proofs.lemmas.{Bool.false≢true, Option.{none-some, same_Some}}, base.specs.declared.ids.SlotRef.SlotRef}
+use Rattle.machine.specs.Machine.{Machine, parent_of, same_slot, slot_cmp}
+use Rattle.machine.specs.{Orphans.{Nearest, climbs, no_ancestor, past, survives, without_nodes}, WellFormed.{Descends, child, further}}
+use Rattle.machine.proofs.{Exchange.slot_itself, LookUps.one_slot, RoundLemmas.{in_filter, into_filter, or_second}}
 
 abbrev taken : List SlotRef → SlotRef → Bool
 taken nodes slot = list_any (same_slot slot) nodes

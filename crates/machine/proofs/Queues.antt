@@ -1,8 +1,7 @@
 -- The threads in a queue that loses its first, or that a thread joins.
-use Rattle.std.{specs.Prelude.{AllPairs, Contains, None, Option, Some}, proofs.Common.{[], ℕ, ◌∙◌, ◌∷◌, ◌≡◌, ◌≢◌, List, ap, arith, refl}}
-use Rattle.std.proofs.{Common.{suc, sym}, lemmas.Option.same_Some}
-use Rattle.base.specs.declared.ids.ObjId.{ObjId}
-use Rattle.machine.specs.{Changes.{first_waiting, without_first}, Machine.{Machine, queue_of}}
+use Rattle.std.specs.Prelude.{AllPairs, Contains, None, Option, Some}
+use Rattle.std.proofs.{Common.{[], ℕ, ◌∙◌, ◌∷◌, ◌≡◌, ◌≢◌, List, ap, arith, refl, suc, sym}, lemmas.Option.same_Some}
+use Rattle.{base.specs.declared.ids.ObjId.ObjId, machine.specs.{Changes.{first_waiting, without_first}, Machine.{Machine, queue_of}}}
 
 pub first_in : (first : ObjId) (others : List ObjId) → Contains (first ∷ others) first
 first_in first others = (0, omega arith, refl)

@@ -1,7 +1,6 @@
 -- Ranks that rise from parents to children: no slot descends from itself.
 use Rattle.std.proofs.Common.{◌<◌, arith}
-use Rattle.base.specs.declared.ids.SlotRef.{SlotRef}
-use Rattle.machine.specs.{Machine.Machine, Tree.IsRanked, WellFormed.{Descends, child, further}}
+use Rattle.{base.specs.declared.ids.SlotRef.SlotRef, machine.specs.{Machine.Machine, Tree.IsRanked, WellFormed.{Descends, child, further}}}
 
 module _ (m : Machine) (ranked : IsRanked m) where
   rank_rises : {slot above : SlotRef} → Descends m slot above → ranked.0 above < ranked.0 slot

@@ -1,15 +1,14 @@
 -- The label of an object, and the authority that a machine holds: edges from label to label, read off its capabilities, its
 -- derivation tree and the links between its objects ('seL4 Enforces Integrity', sections 3 and 4, "Authority" and "Policy").
 use Rattle.std.specs.Prelude.{ℕ, ◌&&◌, ◌||◌, ◌≡◌, Bool, None, Option, Some, false, find, if◌then◌else◌, length, nat_le, nat_lt}
-use Rattle.std.specs.Prelude.{option_and_then, option_map, true}
-use Rattle.base.specs.declared.{ids.{ObjId.ObjId, SlotRef.SlotRef}, kind.Kind.Kind}
-use Rattle.base.specs.declared.kind.Kind.TheVariants as authority
+use Rattle.{std.specs.Prelude.{option_and_then, option_map, true}, base.specs.declared.{ids.{ObjId.ObjId, SlotRef.SlotRef}, kind.Kind.Kind}}
 use Rattle.machine.specs.declared.{cap.Cap.Cap, layout.Initial.Initial, object.{Object.{Object, Object as o}, ReplyState.ReplyState}}
+use Rattle.machine.specs.{declared.thread.{Lent.Lent, RunState.{RunState, RunState as state}}, Capabilities.gives}
+use Rattle.machine.specs.{Layout.{Layout, declared_label}, Machine.{Machine, cap_of, object_of, parent_of, same_id}}
+use Rattle.machine.specs.{Objects.{address_of, end_of}, WellFormed.kind_of}
+use Rattle.base.specs.declared.kind.Kind.TheVariants as authority
 use Rattle.machine.specs.declared.object.ObjectKind.TheVariants as kind
 use Rattle.machine.specs.declared.object.ReplyState.TheVariants as reply
-use Rattle.machine.specs.{declared.thread.{Lent.Lent, RunState.{RunState, RunState as state}}, Capabilities.gives, Layout.Layout}
-use Rattle.machine.specs.{Layout.declared_label, Machine.{Machine, cap_of, object_of, parent_of, same_id}, Objects.{address_of, end_of}}
-use Rattle.machine.specs.WellFormed.{kind_of}
 
 -- whether an initial object is an untyped whose range holds an address
 abbrev pub has_memory_at : ℕ → Initial → Bool

@@ -1,7 +1,6 @@
 -- The test of which slots descend from a slot (seL4 manual, "Capability Derivation Tree").
 use Rattle.std.specs.{FinMap.keys, List.list_any, Prelude.{◌&&◌, ◌||◌, Bool, List, None, Option, Some, false, is_some, not}}
-use Rattle.base.specs.declared.ids.SlotRef.{SlotRef}
-use Rattle.machine.specs.{Machine.{Machine, parent_of, same_slot}, Rounds.staying}
+use Rattle.{base.specs.declared.ids.SlotRef.SlotRef, machine.specs.{Machine.{Machine, parent_of, same_slot}, Rounds.staying}}
 
 -- a slot has a parent and isn't among those that don't descend
 abbrev pub is_child_beside : Machine → List SlotRef → SlotRef → Bool

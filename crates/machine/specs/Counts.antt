@@ -1,6 +1,5 @@
 -- Counts of a machine at one time: its objects, slots and threads, and the capabilities for one object (confine's own).
-use Rattle.std.specs.{FinMap.entries, Prelude.{ℕ, List, count_by, length, map, sum}}
-use Rattle.base.specs.declared.ids.ObjId.{ObjId}
+use Rattle.{std.specs.{FinMap.entries, Prelude.{ℕ, List, count_by, length, map, sum}}, base.specs.declared.ids.ObjId.ObjId}
 use Rattle.machine.specs.{declared.object.Object.Object, Gone.is_for, Machine.Machine, Objects.{slot_count, thread_count}}
 
 -- the objects that are there, by number

@@ -1,11 +1,10 @@
 -- The kernel's state as contracts see it: its objects, the queue of each, the words of frames, the capabilities in slots, the
 -- derivation tree, and the number of the next object; with the look-ups and the changes that the definitions above are made of.
 use Rattle.std.specs.{declared.cmp.Ordering.Ordering, Coded.{Coded, code_by, coded_list, coded_ℕ, coded×}, FinMap.FinMap}
-use Rattle.std.specs.FinMap as map
-use Rattle.std.specs.{Ordering.{eq_by_cmp, nat_cmp, on, then_cmp}, Prelude.{[], ℕ, ◌+◌, Bool, List, None, Option, Some, false, nat_lt}}
-use Rattle.std.specs.Prelude.{refl, replicate}
-use Rattle.base.specs.declared.ids.{ObjId.ObjId, SlotRef.SlotRef}
+use Rattle.std.specs.{Ordering.{eq_by_cmp, nat_cmp, on, then_cmp}, Prelude.{[], ℕ, ◌+◌, Bool, List, None, Option, Some}}
+use Rattle.{std.specs.Prelude.{false, nat_lt, refl, replicate}, base.specs.declared.ids.{ObjId.ObjId, SlotRef.SlotRef}}
 use Rattle.machine.specs.{declared.{cap.Cap.Cap, object.Object.Object}, Objects.{slot_count, word_count}}
+use Rattle.std.specs.FinMap as map
 
 -- objects are ordered by number
 abbrev pub id_cmp : ObjId → ObjId → Ordering

@@ -1,14 +1,13 @@
 -- Objects made from untyped memory: what is made, where, and the machine after it (seL4 manual, "Untyped Memory" and "Object
 -- Creation"; where an object lies is confine's own).
-use Rattle.std.specs.{FinMap.entries, Int.next_multiple_of, List.list_any, Prelude.{[], ℕ, ◌+◌, ◌∷◌, Bool, List, None, if◌then◌else◌, suc}}
-use Rattle.std.specs.Prelude.{true, zero}
-use Rattle.base.specs.{declared.ids.{ObjId.ObjId, SlotRef.SlotRef}, Rights.rights_with}
-use Rattle.machine.specs.declared.{cap.{Cap.Cap, Detail.{Detail, Detail as d}}, object.{MemoryKind.MemoryKind, Object.Object}}
+use Rattle.std.specs.{FinMap.entries, Int.next_multiple_of, List.list_any, Prelude.{[], ℕ, ◌+◌, ◌∷◌, Bool, List, None, if◌then◌else◌}}
+use Rattle.{std.specs.Prelude.{suc, true, zero}, base.specs.{declared.ids.{ObjId.ObjId, SlotRef.SlotRef}, Rights.rights_with}}
+use Rattle.machine.specs.declared.{cap.{Cap.Cap, Detail.{Detail, Detail as d}}, object.MemoryKind.MemoryKind}
+use Rattle.machine.specs.declared.object.{Object.{Object, Object as o}, ReplyState.ReplyState as reply, Untyped.Untyped}
+use Rattle.machine.specs.{Machine.{Machine, same_slot, with_cap, with_new, with_object, with_parent}, Objects.size_of}
 use Rattle.machine.specs.declared.object.MemoryKind.TheVariants as kind
-use Rattle.machine.specs.{declared.object.{Object.Object as o, ReplyState.ReplyState as reply, Untyped.Untyped}, Machine.Machine}
 use Rattle.machine.specs.declared.thread.Inbox.TheVariants as inbox
 use Rattle.machine.specs.declared.thread.RunState.TheVariants as state
-use Rattle.machine.specs.{Machine.{same_slot, with_cap, with_new, with_object, with_parent}, Objects.size_of}
 
 -- a new object of a kind at an address; untyped memory and CNodes come in several sizes
 abbrev pub new_object : MemoryKind → ℕ → ℕ → Object

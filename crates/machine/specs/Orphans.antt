@@ -1,8 +1,7 @@
 -- The derivation tree without slots that leave it: their children come under the nearest ancestor that stays (seL4 manual, "Capability
 -- Derivation Tree"; the children's new parent is confine's own).
 use Rattle.std.specs.Prelude.{[], ◌∷◌, ◌≡◌, Bool, List, None, Option, Some, false, if◌then◌else◌, option_and_then, true}
-use Rattle.base.specs.declared.ids.SlotRef.{SlotRef}
-use Rattle.machine.specs.Machine.{same_slot}
+use Rattle.{base.specs.declared.ids.SlotRef.SlotRef, machine.specs.Machine.same_slot}
 
 -- a child's parent as one slot leaves: what takes that slot's place, if anything does
 abbrev pub past : SlotRef → Option SlotRef → SlotRef → Option SlotRef

@@ -1,7 +1,6 @@
 //! Kernel calls, the events that make them, and their outcomes.
 ghost use Rattle.std.specs.Prelude.{◌≡◌};
-ghost use Rattle.machine.specs.{declared.call.Unmade.TheVariants.Refused, Outcomes.{outcome_of, unmade_refusal}};
-ghost use Rattle.machine.specs.Step.{takes_memory};
+ghost use Rattle.machine.specs.{declared.call.Unmade.TheVariants.Refused, Outcomes.{outcome_of, unmade_refusal}, Step.takes_memory};
 
 use crate::{MemoryKind, Message, SlotAddress};
 use base::{Cause, CoreNo, ObjId, Refusal, Rights};

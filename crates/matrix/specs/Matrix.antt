@@ -1,8 +1,7 @@
 -- The text of a matrix of programs (confine's own): blocks of columns, each with a head, and a line for each row.
-use Rattle.std.specs.{Fmt.decimal, List.{flat_map, fold, range_with_len}, Prelude.{[], ℕ, ◌%◌, ◌++◌, ◌-◌, ◌/◌, ◌==◌, List, codes, drop}}
-use Rattle.std.specs.Prelude.{if◌then◌else◌, length, max, take}
-use Rattle.machine.specs.Layout.{Layout}
-use Rattle.captext.specs.PolicyText.{label_name}
+use Rattle.std.specs.{Fmt.decimal, List.{flat_map, fold, range_with_len}}
+use Rattle.std.specs.Prelude.{[], ℕ, ◌%◌, ◌++◌, ◌-◌, ◌/◌, ◌==◌, List, codes, drop, if◌then◌else◌, length, max, take}
+use Rattle.{machine.specs.Layout.Layout, captext.specs.PolicyText.label_name}
 use Rattle.matrix.specs.{declared.page.Page.Page, Padding.{given, pad_left, pad_right}}
 
 -- the number and the label of a row, and the text of its cell in the column of another row

@@ -1,13 +1,11 @@
 -- The place of an element: the path says which domain and which virtual machine stand nearest around it.
-use Rattle.std.specs.{Prelude.{⊤, codes}, Str.bytes_eq}
-use Rattle.std.proofs.Common.{[], ℕ, ◌++◌, ◌+◌, ◌-◌, ◌<◌, ◌∙◌, ◌∷◌, ◌≡◌, ◌≤◌, Bool, List, None, Option, Some, ap, arith, cond, false, length}
-use Rattle.std.proofs.{Common.{get_or, nat_lt, refl, subst, suc, sym, take, true, zero}, lemmas.{Bool.Decides.nat_tests, Grind.common_steps, List.{length-take-le, take-append-le, take_all}}}
-use Rattle.std.proofs.{lemmas.Option.unwrap_or-slice_get, Math.Seq.get_or-append_seam}
-use Rattle.xml.specs.Document.{Node}
-use Rattle.microkit.specs.{declared.{draft.Place.Place, kinds.Kind.Kind}, Description.{Description, Domain, Machine}, Draft.{inside, innermost, outermost}}
+use Rattle.std.{specs.{Prelude.{⊤, codes}, Str.bytes_eq}, proofs.Common.{[], ℕ, ◌++◌, ◌+◌, ◌-◌, ◌<◌, ◌∙◌, ◌∷◌, ◌≡◌, ◌≤◌, Bool, List}}
+use Rattle.std.proofs.Common.{None, Option, Some, ap, arith, cond, false, get_or, length, nat_lt, refl, subst, suc, sym, take, true, zero}
+use Rattle.std.proofs.{Math.Seq.get_or-append_seam, lemmas.{Bool.Decides.nat_tests, Grind.common_steps}}
+use Rattle.{std.proofs.lemmas.{List.{length-take-le, take-append-le, take_all}, Option.unwrap_or-slice_get}, xml.specs.Document.Node}
+use Rattle.microkit.specs.{declared.{draft.Place.Place, kinds.Kind.Kind}, Description.{Description, Domain, Machine}, Draft.innermost}
+use Rattle.microkit.{specs.{Draft.{inside, outermost}, Outline.{count_before, is_named, nearest}}, proofs.Within.{IsDomainKind, IsWithin}}
 use Rattle.microkit.specs.declared.kinds.Kind.TheVariants as kind
-use Rattle.microkit.specs.Outline.{count_before, is_named, nearest}
-use Rattle.microkit.proofs.Within.{IsDomainKind, IsWithin}
 
 -- an element of this level may follow these, the latest first: the first is the root, and each other lies at most one level deeper than
 -- the one before

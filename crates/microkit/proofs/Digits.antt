@@ -3,8 +3,7 @@ use Rattle.std.specs.{Char.{digit_value, is_digit}, List.list_all, Prelude.{is_s
 use Rattle.std.proofs.Common.{[], ℕ, ◌&&◌, ◌*◌, ◌+◌, ◌<◌, ◌==◌, ◌^◌, ◌||◌, ◌∙◌, ◌∷◌, ◌≡◌, ◌≢◌, ◌≤◌, Bool, List, None, Option, Some, add-one}
 use Rattle.std.proofs.{Common.{ap, arith, cond, drop, drop-cons, false, get_or, length, lt-ltb, refl, sym, true}, Math.Nat.mul-le-mul_left}
 use Rattle.std.proofs.lemmas.{Bool.{cond-true, ltb-false, ltb-true}, List.drop_all, Option.{cond_some, none-some}}
-use Rattle.words.specs.Number.{below_limit}
-use Rattle.microkit.specs.Values.{bare, digits_of, is_some_digit}
+use Rattle.{words.specs.Number.below_limit, microkit.specs.Values.{bare, digits_of, is_some_digit}}
 
 -- the number that digits spell behind a number that was read
 pub digits_from : ℕ → Option ℕ → List ℕ → Option ℕ

@@ -1,15 +1,13 @@
 -- Channels and their ends: they are those of the elements, in their order.
-use Rattle.std.specs.{List.{position}, Option.{option_map, option_to_list}, Prelude.{codes, map}, Str.bytes_eq}
+use Rattle.std.specs.{List.position, Option.{option_map, option_to_list}, Prelude.{codes, map}, Str.bytes_eq}
 use Rattle.std.proofs.Common.{[], ℕ, ◌++◌, ◌∙◌, ◌∷◌, ◌≡◌, List, None, Ok, Option, Some, ap, cond, false, refl, subst, sym}
-use Rattle.std.proofs.lemmas.{Grind.flat_map-append, List.{append_assoc, append-nil, map-append}}
-use Rattle.xml.specs.Document.{Node}
-use Rattle.microkit.specs.declared.{description.{Channel.Channel, End.End}, draft.{Begun.Begun}, kinds.Kind.Kind}
-use Rattle.microkit.specs.declared.flaws.{ElementFault.ElementFault, Flaw.Flaw, Spot.Spot}
-use Rattle.microkit.specs.Channels.{calling, channel_at, channel_of, channel_part_at, domain_number, end_at, end_begun, end_domain, end_in, end_joined}
-use Rattle.microkit.specs.{Channels.{whole_at}, Description.{Domain}, Draft.Draft, Flaws.{of_element}, Attributes.text_in}
-use Rattle.microkit.specs.Outline.{Ended, end_says, ended, ended_in, ends_of}
+use Rattle.{std.proofs.lemmas.{Grind.flat_map-append, List.{append-nil, append_assoc, map-append}}, xml.specs.Document.Node}
+use Rattle.microkit.specs.declared.{description.{Channel.Channel, End.End}, draft.Begun.Begun, flaws.{ElementFault.ElementFault, Flaw.Flaw}}
+use Rattle.microkit.specs.{declared.{flaws.Spot.Spot, kinds.Kind.Kind}, Attributes.text_in, Channels.{calling, channel_at, channel_of}}
+use Rattle.microkit.specs.Channels.{channel_part_at, domain_number, end_at, end_begun, end_domain, end_in, end_joined, whole_at}
+use Rattle.microkit.specs.{Description.Domain, Draft.Draft, Flaws.of_element, Outline.{Ended, end_says, ended, ended_in, ends_of}}
+use Rattle.microkit.proofs.{Sound.{found_number, given, joins, parts, same_ok, unflawed}, Within.IsWithin}
 use Rattle.microkit.specs.declared.kinds.Kind.TheVariants as kind
-use Rattle.microkit.proofs.{Sound.{found_number, given, joins, parts, same_ok, unflawed}, Within.{IsWithin}}
 
 -- the ends so far of the channel that is begun
 abbrev first_ended : Option End → List Ended

@@ -1,10 +1,9 @@
 -- The search for domains without a program image, element by element.
-use Rattle.std.proofs.Common.{ℕ, ◌&&◌, ◌+◌, ◌<◌, ◌∙◌, ◌≡◌, ◌≤◌, ◌||◌, Err, List, Ok, ap, arith, cond, drop, false, get_or, length, nat_lt, true}
-use Rattle.std.proofs.lemmas.{Bool.{Decides.nat_tests}, List.{drop_all}}
-use Rattle.microkit.specs.{Flaws.{fault_here, spot_of}, Images.{has_image, images_at, is_image, lacks_image}}
+use Rattle.std.proofs.Common.{ℕ, ◌&&◌, ◌+◌, ◌<◌, ◌||◌, ◌∙◌, ◌≡◌, ◌≤◌, Err, List, Ok, ap, arith, cond, drop, false}
+use Rattle.std.proofs.{Common.{get_or, length, nat_lt, true}, lemmas.{Bool.Decides.nat_tests, List.drop_all}}
+use Rattle.xml.specs.{declared.element.Element.Element, View.{node_of, nodes_of}}
+use Rattle.microkit.{specs.{Flaws.{fault_here, spot_of}, Images.{has_image, images_at, is_image, lacks_image}}, proofs.Steps.elements_from}
 use Rattle.microkit.specs.declared.flaws.Flaw.TheVariants as flaw
-use Rattle.microkit.proofs.Steps.{elements_from}
-use Rattle.xml.specs.{View.{node_of, nodes_of}, declared.element.Element.{Element}}
 
 -- no element is left
 pub all_have : (elements : List Element) (i : ℕ) → length elements ≤ i → images_at i (nodes_of (drop i elements)) ≡ Ok tt

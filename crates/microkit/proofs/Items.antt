@@ -1,9 +1,7 @@
 -- Lists and their views: a test of what a list shows is a test of the list.
-use Rattle.std.specs.{List.{find, list_any, position, position_or_len}, Str.{bytes_eq}}
-use Rattle.std.proofs.Common.{[], ℕ, ◌++◌, ◌+◌, ◌∙◌, ◌∷◌, ◌≡◌, ◌||◌, Bool, List, None, Some, ap, cond, false, length, map, nat_lt, not}
-use Rattle.std.proofs.Common.{refl, suc, sym, take, true, zero}
-use Rattle.std.specs.{Option.{option_map}, Prelude.{slice_get}}
-use Rattle.xml.specs.{declared.element.Attribute.{Attribute}, Tag.Pair, View.{pairs_of}}
+use Rattle.std.specs.{List.{find, list_any, position, position_or_len}, Option.option_map, Prelude.slice_get, Str.bytes_eq}
+use Rattle.std.proofs.Common.{[], ℕ, ◌++◌, ◌+◌, ◌||◌, ◌∙◌, ◌∷◌, ◌≡◌, Bool, List, None, Some, ap, cond, false, length, map, nat_lt, not}
+use Rattle.{std.proofs.Common.{refl, suc, sym, take, true, zero}, xml.specs.{declared.element.Attribute.Attribute, Tag.Pair, View.pairs_of}}
 
 pub any_pair : (name : List ℕ) (found : List Attribute)
     → list_any (λ (pair : Pair). bytes_eq pair.name name) (pairs_of found)

@@ -1,8 +1,7 @@
 -- The value of an attribute, searched one attribute after another.
-use Rattle.std.{specs.Str.bytes_eq, proofs.Common.{ℕ, ◌+◌, ◌<◌, ◌∙◌, ◌∷◌, ◌≡◌, ◌≤◌, List, None, Some, add-one, ap, cond, drop, drop-cons}}
-use Rattle.std.proofs.{Common.{false, get_or, length, sym, true}, lemmas.List.drop_all}
-use Rattle.xml.specs.{declared.element.Attribute.Attribute, View.pairs_of}
-use Rattle.microkit.specs.Attributes.{value_among}
+use Rattle.std.{specs.Str.bytes_eq, proofs.Common.{ℕ, ◌+◌, ◌<◌, ◌∙◌, ◌∷◌, ◌≡◌, ◌≤◌, List, None, Some, add-one}}
+use Rattle.std.proofs.{Common.{ap, cond, drop, drop-cons, false, get_or, length, sym, true}, lemmas.List.drop_all}
+use Rattle.{xml.specs.{declared.element.Attribute.Attribute, View.pairs_of}, microkit.specs.Attributes.value_among}
 
 -- the attributes from one on
 pub attributes_from : (found : List Attribute) (i : ℕ) (attribute : Attribute) → i < length found

@@ -1,19 +1,17 @@
 -- Elements and drafts: what is taken from an element is what the element says.
-use Rattle.std.specs.{List.{filter}, Option.{option_map, option_to_list}, Prelude.codes, Str.bytes_eq}
-use Rattle.std.proofs.Common.{[], ℕ, ◌++◌, ◌∙◌, ◌∷◌, ◌≡◌, List, None, Ok, Option, Some, ap, arith, cond, false, length, refl, subst, suc, sym}
-use Rattle.std.proofs.lemmas.{List.append-nil}
-use Rattle.xml.specs.Document.{Node}
-use Rattle.microkit.specs.declared.{description.{Channel.Channel, Id.Id, Interrupt.Interrupt, Map.Map, Port.Port, Processor.Processor, User.User, Variable.Variable}}
-use Rattle.microkit.specs.declared.{draft.{Begun.Begun, Place.Place}, flaws.Flaw.Flaw, kinds.Kind.Kind}
-use Rattle.microkit.specs.{Attributes.{number_in}, Description.{Domain, Machine, Region}, Draft.Draft}
-use Rattle.microkit.specs.Domains.{domain_at, domain_in, domain_part_of, id_in, interrupt_at, machine_at, machine_in, map_at, own_processor_at}
-use Rattle.microkit.specs.Domains.{interrupt_in, port_at, processor_at, processor_fits, variable_at, with_domain, with_machine}
-use Rattle.microkit.specs.Outline.{Said, count_before, domain_of, is_named, joined, machine_of}
-use Rattle.microkit.specs.Outline.{made_of, map_in, nothing, own_processor, port_in, processor_in, region_of, said_by, says_named, user_of, variable_in}
-use Rattle.microkit.specs.Regions.{region_number}
+use Rattle.std.specs.{List.filter, Option.{option_map, option_to_list}, Prelude.codes, Str.bytes_eq}
+use Rattle.std.proofs.Common.{[], ℕ, ◌++◌, ◌∙◌, ◌∷◌, ◌≡◌, List, None, Ok, Option, Some, ap, arith, cond, false}
+use Rattle.{std.proofs.{Common.{length, refl, subst, suc, sym}, lemmas.List.append-nil}, xml.specs.Document.Node}
+use Rattle.microkit.specs.declared.description.{Channel.Channel, Id.Id, Interrupt.Interrupt, Map.Map, Port.Port, Processor.Processor}
+use Rattle.microkit.specs.declared.{description.{User.User, Variable.Variable}, draft.{Begun.Begun, Place.Place}, flaws.Flaw.Flaw}
+use Rattle.microkit.specs.{declared.kinds.Kind.Kind, Attributes.number_in, Description.{Domain, Machine, Region}}
+use Rattle.microkit.specs.Domains.{domain_at, domain_in, domain_part_of, id_in, interrupt_at, interrupt_in, machine_at, machine_in}
+use Rattle.microkit.specs.Domains.{map_at, own_processor_at, port_at, processor_at, processor_fits, variable_at, with_domain, with_machine}
+use Rattle.microkit.specs.{Draft.Draft, Outline.{Said, count_before, domain_of, is_named, joined, machine_of, made_of, map_in}}
+use Rattle.microkit.specs.Outline.{nothing, own_processor, port_in, processor_in, region_of, said_by, says_named, user_of, variable_in}
+use Rattle.microkit.{specs.Regions.region_number, proofs.Around.{AreCounted, IsAround, Surrounds, around_of, in_domain, longer}}
+use Rattle.microkit.proofs.{Sound.{found_number, given, parts, same_ok}, Within.IsWithin}
 use Rattle.microkit.specs.declared.kinds.Kind.TheVariants as kind
-use Rattle.microkit.proofs.{Around.{AreCounted, IsAround, Surrounds, around_of, in_domain, longer}, Sound.{found_number, given, parts, same_ok}}
-use Rattle.microkit.proofs.Within.{IsWithin}
 
 -- what was said, with something more
 module _ (s : Said) where

@@ -1,19 +1,16 @@
 -- Sound descriptions: what a description names is there, since each element is read so.
-use Rattle.std.{specs.{List.{AllByRecursion, position}, Prelude.⊤}, proofs.Common.{[], ℕ, ◌++◌, ◌+◌, ◌<◌, ◌∷◌, ◌≡◌, ◌≤◌, Bool, Err, List}}
-use Rattle.std.proofs.{Common.{None, Ok, Option, Result, Some, ap, arith, cond, false, length, refl, subst, true}, lemmas.Bool.leb-false}
-use Rattle.std.proofs.lemmas.{Bool.ltb-true, Grind.common_steps, Option.cond_some}
-use Rattle.words.specs.{declared.faults.Fault.Fault, Reading.bind}
-use Rattle.xml.specs.Document.{Node}
+use Rattle.std.{specs.{List.{AllByRecursion, position}, Prelude.⊤}, proofs.Common.{[], ℕ, ◌++◌, ◌+◌, ◌<◌, ◌∷◌, ◌≡◌, ◌≤◌, Bool}}
+use Rattle.std.proofs.Common.{Err, List, None, Ok, Option, Result, Some, ap, arith, cond, false, length, refl, subst, true}
+use Rattle.std.proofs.lemmas.{Bool.{leb-false, ltb-true}, Grind.common_steps, Option.cond_some}
+use Rattle.{words.specs.{declared.faults.Fault.Fault, Reading.bind}, xml.specs.Document.Node}
 use Rattle.microkit.specs.declared.description.{Channel.Channel, End.End, Id.Id, Processor.Processor, User.User}
-use Rattle.microkit.specs.declared.draft.{Begun.Begun, Taken.Taken}
-use Rattle.microkit.specs.declared.flaws.{ElementFault.ElementFault, Flaw.Flaw, Spot.Spot}
-use Rattle.microkit.specs.{declared.{draft.Place.Place, kinds.Kind.Kind, reading.Phase.Phase}, Channels.{calling, channel_at, channel_of}}
-use Rattle.microkit.specs.Channels.{channel_part_at, domain_number, end_at, end_begun, end_domain, end_in, end_joined}
-use Rattle.microkit.specs.{Channels.joined_at, Flaws.{of_element, of_text}, Description.{Description, Domain, Region}}
-use Rattle.microkit.specs.Domains.{domain_at, domain_fits, domain_in}
-use Rattle.microkit.specs.Domains.{domain_part_at, domain_part_of, interrupt_at, machine_at, machine_in, map_at, own_processor_at, port_at}
-use Rattle.microkit.specs.{Domains.{processor_at, processor_fits, variable_at, with_domain, with_machine}, Draft.{Draft, known_number}}
-use Rattle.microkit.specs.{Draft.{no_draft, place_at}, Reading.{all_taken, description_at, description_of_text, element_at, elements_at}}
+use Rattle.microkit.specs.declared.{draft.{Begun.Begun, Place.Place, Taken.Taken}, flaws.{ElementFault.ElementFault, Flaw.Flaw, Spot.Spot}}
+use Rattle.microkit.specs.{declared.{kinds.Kind.Kind, reading.Phase.Phase}, Channels.{calling, channel_at, channel_of, channel_part_at}}
+use Rattle.microkit.specs.{Channels.{domain_number, end_at, end_begun, end_domain, end_in, end_joined, joined_at}, Description.Description}
+use Rattle.microkit.specs.{Description.{Domain, Region}, Domains.{domain_at, domain_fits, domain_in, domain_part_at, domain_part_of}}
+use Rattle.microkit.specs.Domains.{interrupt_at, machine_at, machine_in, map_at, own_processor_at, port_at, processor_at, processor_fits}
+use Rattle.microkit.specs.{Domains.{variable_at, with_domain, with_machine}, Draft.{Draft, known_number, no_draft, place_at}}
+use Rattle.microkit.specs.{Flaws.{of_element, of_text}, Reading.{all_taken, description_at, description_of_text, element_at, elements_at}}
 use Rattle.microkit.specs.{Reading.{part_at, region_part_at}, Regions.{region_at, region_in, region_number, with_region}, Sound.IsSound}
 use Rattle.microkit.specs.declared.kinds.Kind.TheVariants as kind
 use Rattle.microkit.specs.declared.reading.Phase.TheVariants as phase

@@ -1,10 +1,9 @@
 -- The elements of a text, taken one after another.
 use Rattle.std.proofs.Common.{ℕ, ◌+◌, ◌<◌, ◌∙◌, ◌∷◌, ◌≡◌, ◌≤◌, Err, List, Ok, add-one, ap, drop, drop-cons, get_or, length, sym}
-use Rattle.std.proofs.lemmas.List.{drop_all}
-use Rattle.words.specs.Reading.{bind}
-use Rattle.microkit.specs.{Draft.{Draft}, Flaws.{spot_of}, Reading.{element_at, elements_at}}
-use Rattle.microkit.specs.declared.{flaws.ElementFault.{ElementFault}, reading.Phase.{Phase}}
-use Rattle.xml.specs.{View.{node_of, nodes_of}, declared.element.Element.{Element}}
+use Rattle.{std.proofs.lemmas.List.drop_all, words.specs.Reading.bind}
+use Rattle.xml.specs.{declared.element.Element.Element, View.{node_of, nodes_of}}
+use Rattle.microkit.specs.declared.{flaws.ElementFault.ElementFault, reading.Phase.Phase}
+use Rattle.microkit.specs.{Draft.Draft, Flaws.spot_of, Reading.{element_at, elements_at}}
 
 -- the elements from one on
 pub elements_from : (elements : List Element) (i : ℕ) (element : Element) → i < length elements

@@ -1,9 +1,8 @@
 -- The name of an element, and the kind of what it stands in, by its own kind.
 use Rattle.std.specs.{List.AllByRecursion, Prelude.{⊤, codes}, Str.bytes_eq}
-use Rattle.std.proofs.Common.{[], ℕ, ◌∷◌, ◌≡◌, Bool, List, Some, cond, false, refl, subst, sym, true}
-use Rattle.std.proofs.lemmas.Slice.Eq.{bytes_eq-Decides}
-use Rattle.microkit.specs.{declared.kinds.Kind.Kind, Kinds.{kind_in_channel, kind_in_document, kind_in_domain, kind_in_machine, kind_in_system}}
-use Rattle.microkit.specs.Kinds.{kind_within, named_in}
+use Rattle.std.proofs.{Common.{[], ℕ, ◌∷◌, ◌≡◌, Bool, List, Some, cond, false, refl, subst, sym, true}, lemmas.Slice.Eq.bytes_eq-Decides}
+use Rattle.microkit.specs.{declared.kinds.Kind.Kind, Kinds.{kind_in_channel, kind_in_document}}
+use Rattle.microkit.specs.Kinds.{kind_in_domain, kind_in_machine, kind_in_system, kind_within, named_in}
 use Rattle.microkit.specs.declared.kinds.Kind.TheVariants as kind
 
 abbrev pub IsDomainKind : Kind → Type 0

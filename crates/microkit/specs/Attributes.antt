@@ -1,7 +1,6 @@
 -- Values of an element's attributes (Microkit user manual, "System Description File").
 use Rattle.std.specs.{Prelude.{[], ℕ, ◌∷◌, Bool, List, None, Option, Some, if◌then◌else◌, option_and_then, unwrap_or}, Str.bytes_eq}
-use Rattle.xml.specs.{Document.Node, Tag.Pair}
-use Rattle.microkit.specs.Values.{flag_of, number_of}
+use Rattle.{xml.specs.{Document.Node, Tag.Pair}, microkit.specs.Values.{flag_of, number_of}}
 
 -- the value of the attribute of this name
 unfoldable pub value_among : List Pair → List ℕ → Option (List ℕ)

@@ -1,13 +1,11 @@
 -- Channels of a description, and how they are read (Microkit user manual, "channel").
-use Rattle.std.specs.{List.{list_any, position}, Option.option_map_or, Prelude.{[], ℕ, ◌&&◌, ◌++◌, ◌==◌, ◌||◌, ◌∷◌, Bool, Err, List}}
-use Rattle.std.specs.Prelude.{None, Ok, Option, Result, Some, codes, false, if◌then◌else◌, is_some, nat_lt, not, slice_get, true, unwrap_or}
-use Rattle.std.specs.Str.{bytes_eq}
-use Rattle.words.specs.Reading.{◌>>=◌}
-use Rattle.xml.specs.Document.{Node}
-use Rattle.microkit.specs.declared.{description.{Channel.Channel, End.End}, draft.{Begun.Begun, Taken.Taken}, kinds.Kind.Kind}
-use Rattle.microkit.specs.declared.flaws.{ElementFault.ElementFault, Flaw.Flaw, Spot.Spot}
-use Rattle.microkit.specs.{Attributes.{flag_in, flag_or, text_in}, Description.Domain, Domains.{id_in, taken_at}}
-use Rattle.microkit.specs.{Draft.{Draft, free_at, known_number}, Flaws.of_element}
+use Rattle.std.specs.{List.{list_any, position}, Option.option_map_or, Prelude.{[], ℕ, ◌&&◌, ◌++◌, ◌==◌, ◌||◌, ◌∷◌, Bool, Err, List, None}}
+use Rattle.std.specs.Prelude.{Ok, Option, Result, Some, codes, false, if◌then◌else◌, is_some, nat_lt, not, slice_get, true, unwrap_or}
+use Rattle.{std.specs.Str.bytes_eq, words.specs.Reading.◌>>=◌, xml.specs.Document.Node}
+use Rattle.microkit.specs.declared.{description.{Channel.Channel, End.End}, draft.{Begun.Begun, Taken.Taken}}
+use Rattle.microkit.specs.declared.{flaws.{ElementFault.ElementFault, Flaw.Flaw, Spot.Spot}, kinds.Kind.Kind}
+use Rattle.microkit.specs.{Attributes.{flag_in, flag_or, text_in}, Description.Domain}
+use Rattle.microkit.specs.{Domains.{id_in, taken_at}, Draft.{Draft, free_at, known_number}, Flaws.of_element}
 use Rattle.microkit.specs.declared.flaws.Flaw.TheVariants as flaw
 use Rattle.microkit.specs.declared.kinds.Kind.TheVariants as kind
 

@@ -1,13 +1,12 @@
 -- Protection domains and what stands in them, and how they are read (Microkit user manual, "protection_domain" and the elements within it).
-use Rattle.std.specs.{List.find, Option.{option_map, option_map_or, option_to_list}, Prelude.{[], ℕ, ◌++◌, ◌==◌, ◌∷◌, Bool, Err, List}}
-use Rattle.std.specs.{Prelude.{None, Ok, Option, Result, Some, codes, false, if◌then◌else◌, length, nat_le, nat_lt, true}, Str.bytes_eq}
-use Rattle.words.specs.Reading.{◌>>=◌}
-use Rattle.xml.specs.Document.{Node}
-use Rattle.microkit.specs.declared.description.{Id.Id, Interrupt.Interrupt, Map.Map, Processor.Processor, Schedule.Schedule, User.User}
-use Rattle.microkit.specs.declared.description.{Variable.Variable}
-use Rattle.microkit.specs.declared.{domains.TheConstants.MAX_DOMAINS, draft.{Place.Place, Taken.Taken}, flaws.Flaw.Flaw, kinds.Kind.Kind}
-use Rattle.microkit.specs.{Attributes.{flag_in, flag_or, number_in, number_or, text_in, value_in}, Description.{Domain, Machine}, Draft.{Draft, free_at}}
-use Rattle.microkit.specs.{Flaws.unless_found, Forms.has_byte, Regions.region_number}
+use Rattle.std.specs.{List.find, Option.{option_map, option_map_or, option_to_list}, Prelude.{[], ℕ, ◌++◌, ◌==◌, ◌∷◌, Bool, Err}}
+use Rattle.std.specs.Prelude.{List, None, Ok, Option, Result, Some, codes, false, if◌then◌else◌, length, nat_le, nat_lt, true}
+use Rattle.{std.specs.Str.bytes_eq, words.specs.Reading.◌>>=◌, xml.specs.Document.Node}
+use Rattle.microkit.specs.declared.description.{Id.Id, Interrupt.Interrupt, Map.Map, Processor.Processor, Schedule.Schedule}
+use Rattle.microkit.specs.declared.{description.{User.User, Variable.Variable}, domains.TheConstants.MAX_DOMAINS}
+use Rattle.microkit.specs.declared.{draft.{Place.Place, Taken.Taken}, flaws.Flaw.Flaw, kinds.Kind.Kind}
+use Rattle.microkit.specs.{Attributes.{flag_in, flag_or, number_in, number_or, text_in, value_in}, Description.{Domain, Machine}}
+use Rattle.microkit.specs.{Draft.{Draft, free_at}, Flaws.unless_found, Forms.has_byte, Regions.region_number}
 use Rattle.microkit.specs.declared.flaws.Flaw.TheVariants as flaw
 use Rattle.microkit.specs.declared.description.User.TheVariants as user
 use Rattle.microkit.specs.declared.kinds.Kind.TheVariants as kind

@@ -1,13 +1,10 @@
 -- Drafts: the part of a description that was read so far, and the place where an element stands (confine's own).
-use Rattle.std.specs.{List.{find}, Option.{option_map}, Prelude.{[], ℕ, ◌&&◌, ◌++◌, ◌-◌, ◌==◌, ◌∷◌, Err, List, None}}
-use Rattle.std.specs.Prelude.{Ok, Option, Result, Some, length, slice_get, take, unwrap_or}
-use Rattle.words.specs.Reading.{◌>>=◌}
-use Rattle.microkit.specs.{Description.{Description}, Flaws.{unless_found}, Kinds.{kind_within}}
-use Rattle.microkit.specs.declared.{description.Id.{Id}, draft.{Begun.{Begun}, Place.{Place}, Taken.{Taken}}}
-use Rattle.microkit.specs.declared.{flaws.Flaw.{Flaw}, kinds.Kind.{Kind}}
+use Rattle.std.specs.{List.find, Option.option_map, Prelude.{[], ℕ, ◌&&◌, ◌++◌, ◌-◌, ◌==◌, ◌∷◌, Err, List, None, Ok, Option}}
+use Rattle.{std.specs.Prelude.{Result, Some, length, slice_get, take, unwrap_or}, words.specs.Reading.◌>>=◌, xml.specs.Document.Node}
+use Rattle.microkit.specs.declared.{description.Id.Id, draft.{Begun.Begun, Place.Place, Taken.Taken}, flaws.Flaw.Flaw, kinds.Kind.Kind}
+use Rattle.microkit.specs.{Description.Description, Flaws.unless_found, Kinds.kind_within}
 use Rattle.microkit.specs.declared.flaws.Flaw.TheVariants as flaw
 use Rattle.microkit.specs.declared.kinds.Kind.TheVariants as kind
-use Rattle.xml.specs.Document.{Node}
 
 -- what was read so far: the description, the elements that the next one may stand in, outermost first, a channel that hasn't its two
 -- ends yet, the ids of interrupts and channels, and those of children and virtual processors, each with the line that has it

@@ -1,8 +1,7 @@
 -- Flaws of elements of a description, and which element has one (confine's own).
 use Rattle.std.specs.Prelude.{ℕ, ◌≡◌, Err, None, Ok, Option, Result, Some}
-use Rattle.words.specs.{declared.faults.{Fault.Fault, Wrong.{Wrong, TheVariants.{Double, Limit, Syntax, UnknownName, WrongKind}}}}
-use Rattle.words.specs.Fault.{fault_at, no_memory}
-use Rattle.xml.specs.Document.{Node}
+use Rattle.words.specs.declared.faults.{Fault.Fault, Wrong.{TheVariants.{Double, Limit, Syntax, UnknownName, WrongKind}, Wrong}}
+use Rattle.{words.specs.Fault.{fault_at, no_memory}, xml.specs.Document.Node}
 use Rattle.microkit.specs.declared.flaws.{ElementFault.ElementFault, Flaw.Flaw, ReadError.ReadError, Refusal.Refusal, Spot.Spot}
 use Rattle.microkit.specs.declared.flaws.Flaw.TheVariants as flaw
 use Rattle.microkit.specs.declared.flaws.ReadError.TheVariants as stops

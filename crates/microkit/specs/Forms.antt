@@ -1,9 +1,8 @@
 -- Forms of elements: the attributes that each kind has, and the forms of their values (Microkit user manual, "System Description File").
-use Rattle.std.specs.{List.{list_all, list_any, position}, Prelude.{[], ℕ, ◌&&◌, ◌==◌, ◌||◌, ◌∷◌, Bool, Err, List, None, Ok, Option}}
-use Rattle.std.specs.{Prelude.{Result, Some, codes, false, if◌then◌else◌, is_some, nat_lt, not, true}, Str.bytes_eq}
-use Rattle.xml.specs.{Document.Node, Tag.{Pair, is_given}}
-use Rattle.words.specs.Reading.{◌>>=◌}
-use Rattle.microkit.specs.declared.{forms.TheConstants.{MAX_ID, MAX_PRIORITY}, flaws.Flaw.Flaw, kinds.Kind.Kind}
+use Rattle.std.specs.{List.{list_all, list_any, position}, Prelude.{[], ℕ, ◌&&◌, ◌==◌, ◌||◌, ◌∷◌, Bool, Err, List, None, Ok}}
+use Rattle.std.specs.{Prelude.{Option, Result, Some, codes, false, if◌then◌else◌, is_some, nat_lt, not, true}, Str.bytes_eq}
+use Rattle.{words.specs.Reading.◌>>=◌, xml.specs.{Document.Node, Tag.{Pair, is_given}}}
+use Rattle.microkit.specs.declared.{flaws.Flaw.Flaw, forms.TheConstants.{MAX_ID, MAX_PRIORITY}, kinds.Kind.Kind}
 use Rattle.microkit.specs.declared.rules.{Form.Form, Need.{Need, TheVariants.{Optional, Required}}}
 use Rattle.microkit.specs.{Attributes.number_or, Flaws.unless_found, Values.{flag_of, number_of}}
 use Rattle.microkit.specs.declared.flaws.Flaw.TheVariants as flaw

@@ -1,10 +1,8 @@
 -- Program images of domains: each domain must have one (Microkit user manual, "protection_domain").
-use Rattle.std.specs.{Prelude.{[], ℕ, ◌&&◌, ◌+◌, ◌==◌, ◌||◌, ◌∷◌, Bool, Err, List, Ok, Result, codes, false, if◌then◌else◌, nat_lt, not}}
-use Rattle.std.specs.Str.{bytes_eq}
-use Rattle.xml.specs.Document.{Node}
-use Rattle.microkit.specs.declared.flaws.ElementFault.{ElementFault}
+use Rattle.std.specs.Prelude.{[], ℕ, ◌&&◌, ◌+◌, ◌==◌, ◌||◌, ◌∷◌, Bool, Err, List, Ok, Result, codes, false, if◌then◌else◌, nat_lt, not}
+use Rattle.{std.specs.Str.bytes_eq, xml.specs.Document.Node}
+use Rattle.microkit.specs.{declared.flaws.ElementFault.ElementFault, Flaws.{fault_here, spot_of}}
 use Rattle.microkit.specs.declared.flaws.Flaw.TheVariants as flaw
-use Rattle.microkit.specs.Flaws.{fault_here, spot_of}
 
 -- an element of this level is a program image
 abbrev pub is_image : ℕ → Node → Bool

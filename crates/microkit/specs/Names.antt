@@ -1,9 +1,8 @@
 -- Names of the table's labels and objects, by the names in a description (confine's own).
-use Rattle.std.specs.{Char.{is_ascii_digit, is_ascii_lowercase, is_ascii_uppercase}, Fmt.decimal, List.list_any, Prelude.{[], ℕ, ◌++◌, ◌+◌}}
-use Rattle.std.specs.Prelude.{◌-◌, ◌==◌, ◌||◌, ◌∷◌, ◌≡◌, ◌≤◌, Bool, List, None, Option, Some, codes, drop, if◌then◌else◌, length, map}
-use Rattle.std.specs.{Prelude.{nat_le, nat_lt, suc, take, true, zero}, Str.bytes_eq}
-use Rattle.words.specs.Name.{is_name}
-use Rattle.microkit.specs.declared.names.{Part.Part, TheConstants.MAX_LABEL_LENGTH}
+use Rattle.std.specs.{Char.{is_ascii_digit, is_ascii_lowercase, is_ascii_uppercase}, Fmt.decimal, List.list_any}
+use Rattle.std.specs.Prelude.{[], ℕ, ◌++◌, ◌+◌, ◌-◌, ◌==◌, ◌||◌, ◌∷◌, ◌≡◌, ◌≤◌, Bool, List, None, Option, Some, codes}
+use Rattle.std.specs.{Prelude.{drop, if◌then◌else◌, length, map, nat_le, nat_lt, suc, take, true, zero}, Str.bytes_eq}
+use Rattle.{words.specs.Name.is_name, microkit.specs.declared.names.{Part.Part, TheConstants.MAX_LABEL_LENGTH}}
 use Rattle.microkit.specs.declared.names.Part.TheVariants as part
 
 -- a byte as a letter of a name: lower case, and `_` for what is neither a letter nor a digit

@@ -5,14 +5,13 @@
 -- The first fault ends the reading. For one element, the faults are looked for in the order 50, 51, 52, 55, 54. A channel that lacks an
 -- end is found at the next channel, or at the end; its fault has the channel's line, as has the fault of two ends that don't go together.
 use Rattle.std.specs.Prelude.{[], ℕ, ◌+◌, ◌∷◌, List, Ok, Result}
-use Rattle.words.specs.{Reading.{◌>>=◌}, declared.faults.Fault.{Fault}}
-use Rattle.microkit.specs.{Channels.{channel_part_at, whole_at}, Description.{Description}, Domains.{domain_part_at}}
-use Rattle.microkit.specs.{Draft.{Draft, no_draft, place_at}, Flaws.{of_element, of_text, spot_of}, Forms.{form_at}, Images.{images_at}, Regions.{region_at}}
-use Rattle.microkit.specs.declared.{draft.Place.{Place}, kinds.Kind.{Kind}, reading.Phase.{Phase}}
-use Rattle.microkit.specs.declared.flaws.{ElementFault.{ElementFault}, Flaw.{Flaw}, Spot.{Spot}}
+use Rattle.{words.specs.{declared.faults.Fault.Fault, Reading.◌>>=◌}, xml.specs.Document.{Node, document_of}}
+use Rattle.microkit.specs.declared.{draft.Place.Place, flaws.{ElementFault.ElementFault, Flaw.Flaw, Spot.Spot}}
+use Rattle.microkit.specs.{declared.{kinds.Kind.Kind, reading.Phase.Phase}, Channels.{channel_part_at, whole_at}}
+use Rattle.microkit.specs.{Description.Description, Domains.domain_part_at, Draft.{Draft, no_draft, place_at}}
+use Rattle.microkit.specs.{Flaws.{of_element, of_text, spot_of}, Forms.form_at, Images.images_at, Regions.region_at}
 use Rattle.microkit.specs.declared.kinds.Kind.TheVariants as kind
 use Rattle.microkit.specs.declared.reading.Phase.TheVariants as phase
-use Rattle.xml.specs.Document.{Node, document_of}
 
 -- a region; another element is passed over
 unfoldable pub region_part_at : Kind → Node → Draft → Result Draft Flaw

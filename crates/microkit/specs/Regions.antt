@@ -1,11 +1,10 @@
 -- Memory regions of a description, and how they are read (Microkit user manual, "memory_region").
-use Rattle.std.specs.{List.{find, position}, Option.option_map, Prelude.{[], ℕ, ◌%◌, ◌&&◌, ◌++◌, ◌+◌, ◌==◌, ◌^◌, ◌∷◌, Bool, Err, List}}
-use Rattle.std.specs.{Prelude.{None, Ok, Option, Result, Some, codes, false, if◌then◌else◌, nat_lt, not}, Str.bytes_eq}
-use Rattle.words.specs.Reading.{◌>>=◌}
-use Rattle.xml.specs.Document.{Node}
+use Rattle.std.specs.{List.{find, position}, Option.option_map, Prelude.{[], ℕ, ◌%◌, ◌&&◌, ◌++◌, ◌+◌, ◌==◌, ◌^◌, ◌∷◌}}
+use Rattle.std.specs.Prelude.{Bool, Err, List, None, Ok, Option, Result, Some, codes, false, if◌then◌else◌, nat_lt, not}
+use Rattle.{std.specs.Str.bytes_eq, words.specs.Reading.◌>>=◌, xml.specs.Document.Node}
 use Rattle.microkit.specs.declared.{description.Page.{Page, TheVariants.{Large, Small}}, flaws.Flaw.Flaw}
-use Rattle.microkit.specs.{Attributes.{number_in, number_or, text_in}, Description.Region, Draft.{Draft, known_number}}
-use Rattle.microkit.specs.{Flaws.unless_found, Pages.page_bytes}
+use Rattle.microkit.specs.{Attributes.{number_in, number_or, text_in}, Description.Region}
+use Rattle.microkit.specs.{Draft.{Draft, known_number}, Flaws.unless_found, Pages.page_bytes}
 use Rattle.microkit.specs.declared.flaws.Flaw.TheVariants as flaw
 
 -- the pages of a region, small ones unless it says otherwise

@@ -1,6 +1,5 @@
 -- Descriptions as values, without where they lie in memory (confine's own).
-use Rattle.std.specs.Prelude.{List, map}
-use Rattle.microkit.specs.Description.{Description, Domain, Machine, Region}
+use Rattle.{std.specs.Prelude.{List, map}, microkit.specs.Description.{Description, Domain, Machine, Region}}
 use Rattle.microkit.specs.declared.description.Description as all
 use Rattle.microkit.specs.declared.description.Domain as domain
 use Rattle.microkit.specs.declared.description.Machine as machine

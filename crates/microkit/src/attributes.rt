@@ -1,7 +1,6 @@
 //! The values of an element's attributes: texts, numbers and flags.
 ghost use Rattle.std.specs.{Option.option_copied, Prelude.{◌≡◌, IfOk}};
-ghost use Rattle.microkit.specs.Attributes.{flag_in, flag_or, number_in, number_or, text_in, value_in};
-ghost use Rattle.xml.specs.View.{node_of};
+ghost use Rattle.{xml.specs.View.node_of, microkit.specs.Attributes.{flag_in, flag_or, number_in, number_or, text_in, value_in}};
 
 use crate::numbers::{flag_of, number_of};
 use std::alloc::{AllocError, Global};

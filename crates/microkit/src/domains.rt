@@ -2,11 +2,10 @@
 ghost use Rattle.std.specs.{List.find, Option.option_map, Prelude.{[], ◌++◌, ◌==◌, ◌∷◌, ◌≡◌, IfOk, Ok, OnOk}, Str.bytes_eq};
 ghost use Rattle.xml.specs.View.{node_of};
 ghost use Rattle.microkit.specs.Domains.{budget_fits, domain_at, domain_fits, domain_in, domain_line, domain_part_at, guest_line};
-ghost use Rattle.microkit.specs.Domains.{id_in, interrupt_at, interrupt_fits, interrupt_in, interrupt_line, is_writable};
-ghost use Rattle.microkit.specs.Domains.{machine_at, machine_fits, machine_in, machine_line, map_at, own_processor_at};
-ghost use Rattle.microkit.specs.Domains.{parent_free_at, port_at, processor_at, processor_fits, schedule_in};
-ghost use Rattle.microkit.specs.{Domains.{variable_at, with_domain, with_machine}, Flaws.Takes, View.{domain_of, domains_of}};
-ghost use Rattle.microkit.specs.View.{machine_of, machines_of};
+ghost use Rattle.microkit.specs.Domains.{id_in, interrupt_at, interrupt_fits, interrupt_in, interrupt_line, is_writable, machine_at};
+ghost use Rattle.microkit.specs.Domains.{machine_fits, machine_in, machine_line, map_at, own_processor_at, parent_free_at, port_at};
+ghost use Rattle.microkit.specs.Domains.{processor_at, processor_fits, schedule_in, variable_at, with_domain, with_machine};
+ghost use Rattle.microkit.specs.{Flaws.Takes, View.{domain_of, domains_of, machine_of, machines_of}};
 
 use crate::attributes::{flag_in, flag_or, name_in, number_in, number_or, text_in, value_in};
 use crate::description::{

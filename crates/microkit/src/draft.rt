@@ -1,8 +1,7 @@
 //! Drafts: the part of a description that was read so far, and the place where an element stands.
 ghost use Rattle.std.specs.{Option.option_copied, Prelude.{[], ◌++◌, ◌∷◌, ◌≡◌, IfOk, OnOk}};
 ghost use Rattle.xml.specs.View.{node_of};
-ghost use Rattle.microkit.specs.Draft.{entered, free_at, innermost, inside, line_of_id, no_draft, outer_path, place_at};
-ghost use Rattle.microkit.specs.Flaws.{Takes};
+ghost use Rattle.microkit.specs.{Draft.{entered, free_at, innermost, inside, line_of_id, no_draft, outer_path, place_at}, Flaws.Takes};
 
 use crate::description::{Description, End, Id};
 use crate::flaws::{Flaw, Refusal, Spot};

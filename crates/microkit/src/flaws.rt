@@ -1,7 +1,6 @@
 //! Flaws of elements of a description, and the reasons why reading stops.
 ghost use Rattle.std.specs.Prelude.{◌≡◌};
-ghost use Rattle.words.specs.Fault.{no_memory};
-ghost use Rattle.microkit.specs.Flaws.{fault_here, text_fault, wrong_of};
+ghost use Rattle.{words.specs.Fault.no_memory, microkit.specs.Flaws.{fault_here, text_fault, wrong_of}};
 ghost use Rattle.microkit.specs.declared.flaws.ReadError.TheVariants as stops;
 ghost use Rattle.microkit.specs.declared.flaws.Refusal.TheVariants as refused;
 

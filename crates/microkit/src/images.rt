@@ -1,7 +1,6 @@
 //! Program images: the check that each domain has one.
 ghost use Rattle.std.specs.Prelude.{◌+◌, ◌<◌, ◌≡◌};
-ghost use Rattle.xml.specs.View.{node_of, nodes_of};
-ghost use Rattle.microkit.specs.Images.{has_image, images_at, is_image, lacks_image};
+ghost use Rattle.{xml.specs.View.{node_of, nodes_of}, microkit.specs.Images.{has_image, images_at, is_image, lacks_image}};
 
 use crate::flaws::{ElementFault, Flaw, Spot};
 use xml::Element;

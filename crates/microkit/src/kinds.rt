@@ -1,7 +1,6 @@
 //! The kinds of elements of a description, by where they stand.
 ghost use Rattle.std.specs.Prelude.{◌≡◌};
-ghost use Rattle.microkit.specs.Kinds.{kind_in_channel, kind_in_document, kind_in_domain, kind_in_machine};
-ghost use Rattle.microkit.specs.Kinds.{kind_in_system, kind_within};
+ghost use Rattle.microkit.specs.Kinds.{kind_in_channel, kind_in_document, kind_in_domain, kind_in_machine, kind_in_system, kind_within};
 
 /// The kind of an element. The text as a whole is a kind too, within which the root stands.
 #[derive(Clone, Copy)]

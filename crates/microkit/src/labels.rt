@@ -1,11 +1,10 @@
 //! Labels of the table that a description becomes, and their names.
-ghost use Rattle.std.specs.{List.{AllByRecursion, AllPairs, list_any, range_with_len}, Option.option_map, Prelude.[]};
-ghost use Rattle.std.specs.{Prelude.{ℕ, ◌≡◌, ◌≢◌, IfOk, filter, length, map, take}, Str.bytes_eq};
+ghost use Rattle.std.specs.{List.{AllByRecursion, AllPairs, list_any, range_with_len}, Option.option_map};
+ghost use Rattle.std.specs.{Prelude.{[], ℕ, ◌≡◌, ◌≢◌, IfOk, filter, length, map, take}, Str.bytes_eq};
 ghost use Rattle.words.specs.Reading.{Gives, Reads};
-ghost use Rattle.microkit.specs.{declared.names.TheConstants.MAX_TRIES, LabelView.bytes_of, Labels.ending_of};
-ghost use Rattle.microkit.specs.Labels.{is_mapped, label_at, line_of, may_call, name_of, named_at, names_from};
-ghost use Rattle.microkit.specs.{Labels.{names_of, or_limit, subjects_of}, Names.{IsLabelName, free_from, is_known}};
-ghost use Rattle.microkit.specs.{Names.plain_name, View.description_of};
+ghost use Rattle.microkit.specs.{declared.names.TheConstants.MAX_TRIES, LabelView.bytes_of, Labels.{ending_of, is_mapped}};
+ghost use Rattle.microkit.specs.Labels.{label_at, line_of, may_call, name_of, named_at, names_from, names_of, or_limit, subjects_of};
+ghost use Rattle.microkit.specs.{Names.{IsLabelName, free_from, is_known, plain_name}, View.description_of};
 ghost use Rattle.microkit.specs.declared.labels.Subject.TheVariants as subject;
 
 use crate::description::{Channel, Description, Map};

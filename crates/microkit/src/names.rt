@@ -1,9 +1,8 @@
 //! Names of labels and objects, by the names in a description.
-ghost use Rattle.std.specs.{List.list_any, Option.option_map, Prelude.{ℕ, ◌<◌, ◌^◌, ◌∷◌, ◌≡◌, ◌≤◌, IfOk, List, map}};
-ghost use Rattle.std.specs.{Prelude.string_bytes, Str.bytes_eq};
+ghost use Rattle.std.specs.{List.list_any, Option.option_map};
+ghost use Rattle.std.specs.{Prelude.{ℕ, ◌<◌, ◌^◌, ◌∷◌, ◌≡◌, ◌≤◌, IfOk, List, map, string_bytes}, Str.bytes_eq};
 ghost use Rattle.microkit.specs.{declared.names.Part.Part, Names.{candidate, free_from, is_known, kept_last}};
-ghost use Rattle.microkit.specs.Names.{letter_of, object_name, part_number, plain_name, shortened, tail_of};
-ghost use Rattle.microkit.specs.Names.{with_letter};
+ghost use Rattle.microkit.specs.Names.{letter_of, object_name, part_number, plain_name, shortened, tail_of, with_letter};
 
 use std::alloc::{AllocError, Global};
 

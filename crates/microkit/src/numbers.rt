@@ -1,8 +1,6 @@
 //! Values of attributes: numbers and flags.
-ghost use Rattle.std.specs.Char.{digit_value, is_digit};
-ghost use Rattle.std.specs.Prelude.{ℕ, ◌*◌, ◌+◌, ◌<◌, ◌≡◌, ◌≤◌, MatchOption, false, true};
-ghost use Rattle.words.specs.Number.{below_limit};
-ghost use Rattle.microkit.specs.Values.{bare, digits_of, flag_of, number_of};
+ghost use Rattle.std.specs.{Char.{digit_value, is_digit}, Prelude.{ℕ, ◌*◌, ◌+◌, ◌<◌, ◌≡◌, ◌≤◌, MatchOption, false, true}};
+ghost use Rattle.{words.specs.Number.below_limit, microkit.specs.Values.{bare, digits_of, flag_of, number_of}};
 
 /// Returns the number that a value spells, in decimal or, after `0x`, in hexadecimal, if it is below 2 ^ 64.
 #[tactic(auto, unfolding(crate::specs::Values::number_of))]

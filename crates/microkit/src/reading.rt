@@ -1,9 +1,8 @@
 //! Reading a text as a description, or the elements of a document.
 ghost use Rattle.std.specs.Prelude.{◌≡◌, IfOk, Ok};
-ghost use Rattle.words.specs.Reading.{Reads};
-ghost use Rattle.xml.specs.View.{node_of, nodes_of};
-ghost use Rattle.microkit.specs.Reading.{all_taken, description_at, description_of_text, element_at, elements_at, part_at};
-ghost use Rattle.microkit.specs.{Flaws.{Takes, TakesAll}, Reading.region_part_at, Sound.IsSound, View.description_of};
+ghost use Rattle.{words.specs.Reading.Reads, xml.specs.View.{node_of, nodes_of}};
+ghost use Rattle.microkit.specs.{Flaws.{Takes, TakesAll}, Reading.{all_taken, description_at, description_of_text, element_at}};
+ghost use Rattle.microkit.specs.{Reading.{elements_at, part_at, region_part_at}, Sound.IsSound, View.description_of};
 
 use crate::channels::check_whole;
 use crate::description::Description;

@@ -1,35 +1,20 @@
 -- A reply ends alike in two machines that are alike to its label: the reply object holds the same thread in both.
 use Rattle.std.{specs.Prelude.{None, Ok, Option, Some, if◌then◌else◌}, proofs.Common.{ℕ, ◌∙◌, ◌≡◌, Bool, List, ap}}
-use Rattle.std.proofs.{Common.{false, option_map, refl, subst, sym, true}, lemmas.{Option.{none-some, same_Some}}}
+use Rattle.std.proofs.{Common.{false, option_map, refl, subst, sym, true}, lemmas.Option.{none-some, same_Some}}
 use Rattle.base.specs.declared.{ids.{ObjId.ObjId, SlotRef.SlotRef}, kind.Kind.Kind as authority}
-use Rattle.machine.specs.declared.{cap.{Cap.Cap}, object.{Object.{Object, Object as o}, ObjectKind.ObjectKind as kind}}
-use Rattle.machine.specs.declared.{object.{ReplyState.ReplyState}}
-use Rattle.machine.specs.declared.thread.{Message.Message, RunState.{RunState, RunState as state}}
-use Rattle.machine.specs.declared.thread.{Tcb.Tcb}
-use Rattle.machine.specs.declared.object.ReplyState.TheVariants as reply
-use Rattle.machine.specs.{Authority.label_of, Layout.Layout}
-use Rattle.machine.specs.{Machine.{Machine, object_of}, Objects.kind_of_object, Releasing.{given}}
-use Rattle.machine.specs.Releasing.{with_given}
-use Rattle.machine.specs.Step.{Bind.{context_under, with_handed}}
-use Rattle.machine.specs.Step.{Find.{find}}
-use Rattle.machine.specs.Step.{Reply.{answered, caller_in, gives_back, has_on_loan}}
-use Rattle.machine.specs.Step.{Reply.{loan_in, reply_of, with_returned}}
-use Rattle.machine.specs.WellFormed.{IsCallingThrough, IsThread}
-use Rattle.machine.proofs.Ids.{itself}
-use Rattle.steps.proofs.{Admission.IsCaller}
-use Rattle.steps.proofs.{Lending.{returned_formed, returned_there}}
+use Rattle.machine.specs.declared.{cap.Cap.Cap, object.{Object.{Object, Object as o}, ObjectKind.ObjectKind as kind, ReplyState.ReplyState}}
+use Rattle.machine.specs.{declared.thread.{Message.Message, RunState.{RunState, RunState as state}, Tcb.Tcb}, Authority.label_of}
+use Rattle.machine.specs.{Layout.Layout, Machine.{Machine, object_of}, Objects.kind_of_object, Releasing.{given, with_given}}
+use Rattle.machine.specs.Step.{Bind.{context_under, with_handed}, Find.find, Reply.{answered, caller_in, gives_back, has_on_loan}}
+use Rattle.machine.{specs.{Step.Reply.{loan_in, reply_of, with_returned}, WellFormed.{IsCallingThrough, IsThread}}, proofs.Ids.itself}
+use Rattle.steps.proofs.{Admission.IsCaller, Lending.{returned_formed, returned_there}}
 use Rattle.policy.specs.{Change.{ActorTest, MayHoldCaller}, Domain.EdgeTest}
-use Rattle.integrity.specs.{Awake.IsServed, Shrinks.{IsBlocked, IsSame}}
-use Rattle.integrity.proofs.{Keeps.some_event}
-use Rattle.integrity.proofs.{MessageParts.{holds_edge}}
+use Rattle.integrity.{specs.{Awake.IsServed, Shrinks.{IsBlocked, IsSame}}, proofs.{Keeps.some_event, MessageParts.holds_edge}}
 use Rattle.flows.specs.Seeing.WayToSee.{callers, replies}
-use Rattle.noninterference.proofs.Waiters.{blocked_acting}
-use Rattle.noninterference.specs.Alike.{KeepsAlike}
-use Rattle.noninterference.proofs.Both.{AreBoth, own_same, same_find, seen_same}
-use Rattle.noninterference.proofs.Carries.{Carries, carries_along, released_carries}
-use Rattle.noninterference.proofs.{Ends.{EndsAlike, follows_alike}}
-use Rattle.noninterference.proofs.Handing.{carries_itself, handed_carries}
-use Rattle.noninterference.proofs.Rows.{carried, caller_too, found_same, to_found}
+use Rattle.noninterference.{specs.Alike.KeepsAlike, proofs.{Both.{AreBoth, own_same, same_find, seen_same}, Carries.Carries}}
+use Rattle.noninterference.proofs.{Carries.{carries_along, released_carries}, Ends.{EndsAlike, follows_alike}, Handing.carries_itself}
+use Rattle.noninterference.proofs.{Handing.handed_carries, Rows.{caller_too, carried, found_same, to_found}, Waiters.blocked_acting}
+use Rattle.machine.specs.declared.object.ReplyState.TheVariants as reply
 
 calling_blocked : (run : RunState) (id : ObjId) → IsCallingThrough run id → IsBlocked run
 calling_blocked (state.Called _) id calls = tt

@@ -2,18 +2,15 @@
 -- labels.
 use Rattle.std.{specs.Prelude.{Ok, Some}, proofs.Common.{ℕ, ◌∙◌, ◌≡◌, ap, inl, inr, refl, sym, true}}
 use Rattle.base.specs.declared.ids.ObjId.{ObjId}
-use Rattle.machine.specs.{declared.object.{Object.{Object}}, Authority.label_of}
+use Rattle.machine.specs.{declared.object.{Object.Object, ObjectKind.ObjectKind}, Authority.label_of}
 use Rattle.machine.specs.{Boot.IsBoot, Layout.Layout, Lookup.lookup_of, Machine.{Machine, object_of}}
 use Rattle.machine.specs.{Refusing.◌>>=◌, Step.Find.{find, find_cap, of_kind}, WellFormed.{IsWellFormed, kind_of}}
-use Rattle.machine.specs.declared.object.ObjectKind.{ObjectKind}
-use Rattle.table.specs.Rules.{IsLawful}
-use Rattle.policy.specs.{Change.ActorTest, Domain.EdgeTest, Sharp.UsesRise}
+use Rattle.{table.specs.Rules.IsLawful, policy.specs.{Change.ActorTest, Domain.EdgeTest, Sharp.UsesRise}}
 use Rattle.integrity.{specs.{Acting.HoldsOfActors, Invariant.IsSound, Keeping.IsSharp, Safe.IsReached, Shrinks.IsSame}, proofs.Runs.IsKept}
-use Rattle.reach.specs.{Extents.Limits, Reach.HasBootAuthority}
-use Rattle.flows.specs.{Seeing.{WayToSee}}
-use Rattle.fixed.specs.Fixed.{IsFixed, IsStill, StaysFixed}
-use Rattle.fixed.proofs.{Finds.IsFixedAt, SameFinds.{find_alike, lookup_alike}}
-use Rattle.noninterference.{specs.Alike.IsAlikeTo, proofs.{Kept.{kept_of, sound_of}, Reaching.{fixed_at, labels_alike, stays_from, still_alike}}}
+use Rattle.fixed.{specs.Fixed.{IsFixed, IsStill, StaysFixed}, proofs.{Finds.IsFixedAt, SameFinds.{find_alike, lookup_alike}}}
+use Rattle.{reach.specs.{Extents.Limits, Reach.HasBootAuthority}, flows.specs.Seeing.WayToSee}
+use Rattle.noninterference.{specs.Alike.IsAlikeTo, proofs.Kept.{kept_of, sound_of}}
+use Rattle.noninterference.proofs.Reaching.{fixed_at, labels_alike, stays_from, still_alike}
 
 -- the edges and the labels that act, as limits
 abbrev pub limits : EdgeTest → ActorTest → Limits

@@ -2,11 +2,10 @@
 use Rattle.std.proofs.Common.{ℕ, ◌≡◌, Some}
 use Rattle.base.specs.declared.ids.ObjId.{ObjId}
 use Rattle.machine.specs.{declared.call.Call.{Call, Call as call}, Authority.label_of, Layout.Layout, Machine.Machine, Step.call_of}
-use Rattle.steps.proofs.Admission.{IsCaller}
-use Rattle.policy.specs.{Change.ActorTest, Domain.EdgeTest}
-use Rattle.noninterference.proofs.{Both.AreBoth, Ends.EndsAlike, Refusals.call_refused}
-use Rattle.noninterference.proofs.{Answering.reply_alike, Receiving.receive_alike, Sending.{endpoint_call_alike, send_alike}}
-use Rattle.noninterference.proofs.Rows.{configure_alike, fetch_alike, poll_alike, read_alike, signal_alike, unbind_alike, wait_alike, write_alike}
+use Rattle.{steps.proofs.Admission.IsCaller, policy.specs.{Change.ActorTest, Domain.EdgeTest}}
+use Rattle.noninterference.proofs.{Answering.reply_alike, Both.AreBoth, Ends.EndsAlike, Receiving.receive_alike, Refusals.call_refused}
+use Rattle.noninterference.proofs.Rows.{configure_alike, fetch_alike, poll_alike, read_alike, signal_alike, unbind_alike}
+use Rattle.noninterference.proofs.{Rows.{wait_alike, write_alike}, Sending.{endpoint_call_alike, send_alike}}
 
 module _ (t : Layout) (allowed : EdgeTest) (acts : ActorTest) (a : ℕ) (m n : Machine) (both : AreBoth t allowed acts a m n) (caller : ObjId)
     (mine : label_of t m caller ≡ Some a) (is : IsCaller m caller) where

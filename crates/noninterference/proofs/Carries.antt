@@ -1,18 +1,16 @@
 -- Changes of two machines that keep each object the same in both that was the same before: an object after such a change depends only on
 -- that object before.
 use Rattle.std.specs.{FinMap.get-insert, Prelude.{[], List, Option, Some, cond, option_map, slice_set}}
-use Rattle.std.proofs.Common.{ℕ, ◌++◌, ◌∙◌, ◌∷◌, ◌≡◌, ◌≢◌, Bool, ap, false, refl, subst, sym, true}
-use Rattle.std.proofs.lemmas.Option.{same_Some}
+use Rattle.std.proofs.{Common.{ℕ, ◌++◌, ◌∙◌, ◌∷◌, ◌≡◌, ◌≢◌, Bool, ap, false, refl, subst, sym, true}, lemmas.Option.same_Some}
 use Rattle.base.specs.declared.ids.{ObjId.ObjId, SlotRef.SlotRef}
-use Rattle.machine.specs.declared.{object.{Context.Context, Notification.Notification, Object.{Object, Object as o}, Share.Share}, thread.Tcb.Tcb}
-use Rattle.machine.specs.{declared.thread.RunState.RunState, Changes.{with_pending, with_tcb, with_word, with_words}, Machine.{Machine, cap_of}}
-use Rattle.machine.specs.Machine.{object_of, queue_of, same_id, with_object, with_queue, words_of}
-use Rattle.machine.specs.{Releasing.{SameRest, with_blocked, with_released}, Step.{Configure.with_share, Fetch.emptied}, WellFormed.{IsThread, LinksAgree, WaitsAt}}
-use Rattle.machine.proofs.{Ids.at_other, Leaving.{freed, tcb_is, without}, LookUps.{id_total, object_of-with_object, one_id, queue_of-with_object}}
-use Rattle.machine.proofs.LookUps.{queue_of-with_queue}
-use Rattle.steps.proofs.{ContextsFormed.share_is, Joins.blocked_is, NotificationRow.with_pending_there}
-use Rattle.steps.proofs.Releases.{IsReleased, released_is, rest_caps, rest_words}
-use Rattle.integrity.{specs.Shrinks.IsSame, proofs.Shrinking.{same_context, same_tcb}}
+use Rattle.machine.specs.declared.object.{Context.Context, Notification.Notification, Object.{Object, Object as o}, Share.Share}
+use Rattle.machine.specs.{declared.thread.{RunState.RunState, Tcb.Tcb}, Changes.{with_pending, with_tcb, with_word, with_words}}
+use Rattle.machine.specs.Machine.{Machine, cap_of, object_of, queue_of, same_id, with_object, with_queue, words_of}
+use Rattle.machine.specs.{Releasing.{SameRest, with_blocked, with_released}, Step.{Configure.with_share, Fetch.emptied}}
+use Rattle.machine.{specs.WellFormed.{IsThread, LinksAgree, WaitsAt}, proofs.{Ids.at_other, Leaving.{freed, tcb_is, without}}}
+use Rattle.machine.proofs.LookUps.{id_total, object_of-with_object, one_id, queue_of-with_object, queue_of-with_queue}
+use Rattle.steps.proofs.{ContextsFormed.share_is, Joins.blocked_is, NotificationRow.with_pending_there, Releases.{IsReleased, released_is}}
+use Rattle.{steps.proofs.Releases.{rest_caps, rest_words}, integrity.{specs.Shrinks.IsSame, proofs.Shrinking.{same_context, same_tcb}}}
 
 same_notification : (a b : Notification) → o.Notification a ≡ o.Notification b → a ≡ b
 same_notification a b e = cc

@@ -1,18 +1,16 @@
 -- A set of labels to which nothing flows from without but through filters: a thread that waits at an object on which a label of the set
 -- depends is of the set or of a filter, or the object is a filter's.
-use Rattle.std.proofs.Common.{ℕ, ◌∙◌, ◌≡◌, ◌⊎◌, Bool, Some, ap, false, inl, inr, refl, subst, sym, true}
-use Rattle.std.proofs.lemmas.{Bool.false≢true, Option.same_Some}
-use Rattle.base.specs.declared.{ids.ObjId.ObjId, kind.Kind.{Kind, Kind as authority}}
+use Rattle.std.proofs.{Common.{ℕ, ◌∙◌, ◌≡◌, ◌⊎◌, Bool, Some, ap, false, inl, inr, refl, subst, sym, true}, lemmas.Bool.false≢true}
+use Rattle.{std.proofs.lemmas.Option.same_Some, base.specs.declared.{ids.ObjId.ObjId, kind.Kind.{Kind, Kind as authority}}}
 use Rattle.machine.specs.declared.{object.Object.Object as o, thread.{RunState.{RunState, RunState as state}, Tcb.Tcb}}
 use Rattle.machine.specs.{Authority.{label_of, links, state_links}, Layout.Layout, Machine.{Machine, same_id}}
 use Rattle.machine.{specs.WellFormed.{IsSending, IsThread, WaitsAt}, proofs.Ids.itself}
 use Rattle.policy.specs.{Change.{ActorTest, WayToChange.{modifies, own}, is_changing}, Domain.EdgeTest}
-use Rattle.integrity.specs.{Acting.HoldsOfActors, Invariant.IsSound, Shrinks.{IsBlocked, IsSame}}
-use Rattle.integrity.proofs.{Asleep.blocked_acts, Awake.has_threads, Keeps.some_event, MessageParts.thread_edge, Runs.IsKept}
-use Rattle.integrity.proofs.Shrinking.{same_tcb}
+use Rattle.integrity.{specs.{Acting.HoldsOfActors, Invariant.IsSound, Shrinks.{IsBlocked, IsSame}}, proofs.Asleep.blocked_acts}
+use Rattle.integrity.proofs.{Awake.has_threads, Keeps.some_event, MessageParts.thread_edge, Runs.IsKept, Shrinking.same_tcb}
 use Rattle.flows.specs.{Flowing.{DependsOn, FilterTest, FlowsBy}, Seeing.{WayToSee, WayToSee.{awaits, receives, sends}}}
-use Rattle.noninterference.specs.{Alike.{IsAlikeAt, IsAlikeTo, WaitAlike}, Sets.{AreAlikeTo, FiltersShowAlike, IsClosedBeside, SetTest}}
-use Rattle.noninterference.proofs.Both.{limits}
+use Rattle.noninterference.specs.Alike.{IsAlikeAt, IsAlikeTo, WaitAlike}
+use Rattle.noninterference.{specs.Sets.{AreAlikeTo, FiltersShowAlike, IsClosedBeside, SetTest}, proofs.Both.limits}
 
 -- the authority by which a run state waits at an object: a label that has it may change the object, and sees it
 record IsWaitKind (run : RunState) (id : ObjId) : Type 0 where

@@ -1,10 +1,8 @@
 -- Ends of a call in two machines: it is refused for the same cause in both, or made alike.
 use Rattle.std.{specs.Prelude.{Err, Ok, Result}, proofs.Common.{◌∙◌, ◌≡◌, ap, refl, subst, sym}}
-use Rattle.base.specs.declared.refusal.Cause.{Cause}
-use Rattle.base.specs.Refusals.{refusal_of}
-use Rattle.machine.specs.{declared.call.{Made.Made, Outcome.TheVariants.Refused}, Machine.Machine, Outcomes.outcome_of, Refusing.◌>>=◌}
-use Rattle.machine.specs.Step.{settled}
-use Rattle.noninterference.specs.Alike.{KeepsAlike}
+use Rattle.base.specs.{declared.refusal.Cause.Cause, Refusals.refusal_of}
+use Rattle.machine.specs.{declared.call.{Made.Made, Outcome.TheVariants.Refused}, Machine.Machine}
+use Rattle.{machine.specs.{Outcomes.outcome_of, Refusing.◌>>=◌, Step.settled}, noninterference.specs.Alike.KeepsAlike}
 
 -- both calls have the same answer, and what is alike before is the same after
 abbrev pub AreMadeAlike : Machine → Machine → Made × Machine → Made × Machine → Type 0

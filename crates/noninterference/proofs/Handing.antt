@@ -1,22 +1,20 @@
 -- Changes of replies, of threads that call, and of contexts that are handed over: each leaves an object the same in two machines if it
 -- was the same before.
-use Rattle.std.{specs.Prelude.{None, Option, Some, cond, if◌then◌else◌, option_map}, proofs.Common.{ℕ, ◌∙◌, ◌≡◌, ◌≢◌, Bool, ap, false, refl, subst}}
-use Rattle.std.proofs.{Common.{sym, true}, lemmas.Option.same_Some}
-use Rattle.base.specs.declared.ids.ObjId.{ObjId}
-use Rattle.machine.specs.declared.object.{Context.Context, Object.{Object, Object as o}, ObjectKind.ObjectKind as kind, Reply.Reply, ReplyState.ReplyState}
-use Rattle.machine.specs.declared.thread.{Calling.Calling, Lent.Lent, RunState.RunState as state, Sending.Sending, Tcb.Tcb}
-use Rattle.machine.specs.declared.object.ReplyState.TheVariants as reply
-use Rattle.machine.specs.{Changes.with_tcb, Finalising.halted, Machine.{Machine, object_of, same_id, with_object}}
-use Rattle.machine.specs.Releasing.{ready, with_called, with_halted, with_holder_halted, with_holding, with_named, with_ready, with_unbound}
-use Rattle.machine.specs.Step.{Bind.{with_bound, with_handed, without_thread}, Deliver.{answer_through, linked, sent}}
-use Rattle.machine.specs.{Objects.kind_of_object, Step.{Receive.with_reply_ended, Send.with_lent}, WellFormed.{IsThread, LinksAgree, kind_of}}
-use Rattle.machine.proofs.{Ids.at_other, Leaving.{holding_is, rest-with_object, rest_itself}, LookUps.{object_of-with_object, one_id}}
-use Rattle.machine.proofs.LookUps.{queue_of-with_object}
+use Rattle.std.{specs.Prelude.{None, Option, Some, cond, if◌then◌else◌, option_map}, proofs.Common.{ℕ, ◌∙◌, ◌≡◌, ◌≢◌, Bool, ap}}
+use Rattle.{std.proofs.{Common.{false, refl, subst, sym, true}, lemmas.Option.same_Some}, base.specs.declared.ids.ObjId.ObjId}
+use Rattle.machine.specs.declared.object.{Context.Context, Object.{Object, Object as o}, ObjectKind.ObjectKind as kind, Reply.Reply}
+use Rattle.machine.specs.declared.{object.ReplyState.ReplyState, thread.{Calling.Calling, Lent.Lent, RunState.RunState as state}}
+use Rattle.machine.specs.{declared.thread.{Sending.Sending, Tcb.Tcb}, Changes.with_tcb, Finalising.halted, Machine.Machine}
+use Rattle.machine.specs.{Machine.{object_of, same_id, with_object}, Objects.kind_of_object, Releasing.{ready, with_called, with_halted}}
+use Rattle.machine.specs.{Releasing.{with_holder_halted, with_holding, with_named, with_ready, with_unbound}, Step.Bind.with_bound}
+use Rattle.machine.specs.Step.{Bind.{with_handed, without_thread}, Deliver.{answer_through, linked, sent}, Receive.with_reply_ended}
+use Rattle.machine.{specs.{Step.Send.with_lent, WellFormed.{IsThread, LinksAgree, kind_of}}, proofs.{Ids.at_other, Leaving.holding_is}}
+use Rattle.machine.proofs.{Leaving.{rest-with_object, rest_itself}, LookUps.{object_of-with_object, one_id, queue_of-with_object}}
 use Rattle.steps.proofs.{Beside.leaver_now, ContextsFormed.bound_is, FoundObjects.{context_of_kind, tcb_of_kind}}
-use Rattle.integrity.{specs.Shrinks.IsSame, proofs.Shrinking.{same_context, same_tcb}}
-use Rattle.fixed.proofs.Staying.{unbound_stays}
-use Rattle.noninterference.proofs.Carries.{Carries, Turns, carries_along, object_carries, released_carries, tcb_carries, turns_carry}
-use Rattle.noninterference.proofs.Unbinding.{unbinding_carries}
+use Rattle.{integrity.{specs.Shrinks.IsSame, proofs.Shrinking.{same_context, same_tcb}}, fixed.proofs.Staying.unbound_stays}
+use Rattle.noninterference.proofs.Carries.{Carries, Turns, carries_along, object_carries, released_carries}
+use Rattle.noninterference.proofs.{Carries.{tcb_carries, turns_carry}, Unbinding.unbinding_carries}
+use Rattle.machine.specs.declared.object.ReplyState.TheVariants as reply
 
 -- nothing changes in either machine
 pub carries_itself : (m n : Machine) → Carries m n m n

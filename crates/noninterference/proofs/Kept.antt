@@ -1,9 +1,8 @@
 -- Machines that a run reaches: threads whose labels may not act sleep, and each caller that a reply holds is served.
 use Rattle.machine.specs.{Boot.IsBoot, Layout.Layout, Machine.Machine, WellFormed.IsWellFormed}
-use Rattle.table.specs.Rules.{IsLawful}
-use Rattle.policy.specs.Domain.{EdgeTest}
-use Rattle.integrity.{specs.{Invariant.IsSound, Keeping.IsSharp, Safe.IsReached}, proofs.{Runs.{IsKept, kept_at, sound_at}, Starting.starts_kept}}
-use Rattle.reach.specs.Reach.{HasBootAuthority}
+use Rattle.{table.specs.Rules.IsLawful, policy.specs.Domain.EdgeTest}
+use Rattle.integrity.specs.{Invariant.IsSound, Keeping.IsSharp, Safe.IsReached}
+use Rattle.{integrity.proofs.{Runs.{IsKept, kept_at, sound_at}, Starting.starts_kept}, reach.specs.Reach.HasBootAuthority}
 
 module _
     (t : Layout) (allowed : EdgeTest) (lawful : IsLawful t) (sharp : IsSharp t allowed)

@@ -1,18 +1,15 @@
 -- Threads that wait first at an endpoint with the same queue in two machines; and that no capability arrives in a fixed system.
-use Rattle.std.{specs.Prelude.{Err, None, Ok, Option, Result, Some, option_map}, proofs.Common.{[], ◌∙◌, ◌∷◌, ◌≡◌, ◌⊎◌, List, ap, false, inl}}
-use Rattle.std.proofs.{Common.{inr, refl, subst, sym}, lemmas.Option.{same_Some}}
-use Rattle.base.specs.declared.{ids.ObjId.ObjId, refusal.Cause.Cause}
-use Rattle.machine.specs.declared.{call.{Answer.Answer as answer, Made.{TheVariants.Done}}, object.{Object.{Object, Object as o}}}
+use Rattle.std.proofs.Common.{[], ◌∙◌, ◌∷◌, ◌≡◌, ◌⊎◌, Err, List, None, Ok, Option, Result, Some, ap, false, inl, inr, option_map, refl}
+use Rattle.{std.proofs.{Common.{subst, sym}, lemmas.Option.same_Some}, base.specs.declared.{ids.ObjId.ObjId, refusal.Cause.Cause}}
+use Rattle.machine.specs.declared.{call.{Answer.Answer as answer, Made.TheVariants.Done}, object.Object.{Object, Object as o}}
 use Rattle.machine.specs.declared.{object.ObjectKind.{ObjectKind, ObjectKind as kind}, slot_address.{Ends.Ends, SlotAddress.SlotAddress}}
 use Rattle.machine.specs.declared.thread.{Receiving.Receiving, RunState.{RunState, RunState as state}, Sending.Sending, Tcb.Tcb}
-use Rattle.machine.specs.{Changes.first_waiting, Machine.{Machine, object_of, queue_of}, Releasing.with_given, Step.Receive.received_or_waits}
-use Rattle.machine.specs.Step.{Deliver.{arrival_of, delivered, first_at, message_of, sent}, Receive.with_reply_ended}
-use Rattle.machine.specs.WellFormed.{IsSending, IsThread, LinksAgree, WaitsAt, WaitsAtKind, kind_of}
-use Rattle.machine.specs.{Finalising.halted, Releasing.with_released}
-use Rattle.machine.proofs.{Ids.one_or_two, Leaving.freed, Queues.first_in}
+use Rattle.machine.specs.{Changes.first_waiting, Finalising.halted, Machine.{Machine, object_of, queue_of}}
+use Rattle.machine.specs.{Releasing.{with_given, with_released}, Step.Deliver.{arrival_of, delivered, first_at, message_of, sent}}
+use Rattle.machine.specs.{Step.Receive.{received_or_waits, with_reply_ended}, WellFormed.{IsSending, IsThread, LinksAgree}}
+use Rattle.machine.{specs.WellFormed.{WaitsAt, WaitsAtKind, kind_of}, proofs.{Ids.one_or_two, Leaving.freed, Queues.first_in}}
 use Rattle.steps.proofs.{Arrival.arrives, Beside.holder_leaves, Releases.{released_elsewhere, released_is, released_thread}}
-use Rattle.integrity.proofs.Shrinking.{same_tcb}
-use Rattle.fixed.proofs.Finds.{IsFixedAt, leads_nowhere}
+use Rattle.{integrity.proofs.Shrinking.same_tcb, fixed.proofs.Finds.{IsFixedAt, leads_nowhere}}
 
 -- the thread that waits first at an endpoint
 pub record IsFirstAt (m : Machine) (id first : ObjId) : Type 0 where

@@ -1,24 +1,18 @@
 -- Two runs of a fixed system that differ only in events of threads outside a set of labels: they stay alike to the labels of the set if
 -- nothing flows to these but through filters, and what filters show is alike.
 use Rattle.std.proofs.Common.{[], ℕ, ◌∙◌, ◌∷◌, ◌≡◌, ◌⊎◌, Bool, List, None, Option, Some, ap, false, inl, inr, refl, subst, sym, true}
-use Rattle.std.proofs.lemmas.{Bool.false≢true, Option.{none-some, same_Some}}
-use Rattle.base.specs.declared.ids.ObjId.{ObjId}
+use Rattle.{std.proofs.lemmas.{Bool.false≢true, Option.{none-some, same_Some}}, base.specs.declared.ids.ObjId.ObjId}
 use Rattle.machine.specs.declared.{call.{Event.Event, Outcome.Outcome}, object.Object.Object as o, thread.Tcb.Tcb}
-use Rattle.machine.specs.{Authority.label_of, Boot.IsBoot, Layout.Layout, Machine.{Machine}, Outcomes.IsRefused, Run.Run}
-use Rattle.machine.specs.{Step.Step, WellFormed.{IsSending, IsWellFormed}}
-use Rattle.steps.proofs.Steps.{refused_changes_nothing}
-use Rattle.table.specs.Rules.{IsLawful}
-use Rattle.policy.specs.{Change.ActorTest, Domain.EdgeTest}
+use Rattle.machine.specs.{Authority.label_of, Boot.IsBoot, Layout.Layout, Machine.Machine, Outcomes.IsRefused, Run.Run, Step.Step}
+use Rattle.{machine.specs.WellFormed.{IsSending, IsWellFormed}, steps.proofs.Steps.refused_changes_nothing}
+use Rattle.{table.specs.Rules.IsLawful, policy.specs.{Change.ActorTest, Domain.EdgeTest}}
 use Rattle.integrity.specs.{Acting.{HoldsOfActors, MayAct}, Keeping.IsSharp, Safe.{IsReached, IsSafe}, Shrinks.IsSame}
-use Rattle.integrity.proofs.{Aparts.never_changes, Runs.safe_from, Shrinking.same_tcb, Starting.starts_kept}
-use Rattle.reach.specs.Reach.{HasBootAuthority}
-use Rattle.flows.specs.Flowing.{DependsOn, FilterTest, IsClosedOff, MayAffect}
-use Rattle.fixed.specs.Fixed.{IsFixed}
-use Rattle.noninterference.specs.Alike.{KeepsAlike}
-use Rattle.noninterference.specs.Sets.{AreAlikeTo, AreBeside, DifferBeside, EndAlike, FiltersShowAlike, IsClosedBeside, IsClosedSet, IsOfFilter, IsOfSet}
-use Rattle.noninterference.specs.Sets.{IsPosition, RunsBeside, SetTest}
-use Rattle.noninterference.proofs.{Both.limits, Carries.same_around, Closed.{alike_at, alike_to}, Kept.{kept_of, sound_of}, Looking.looks_alike}
-use Rattle.noninterference.proofs.Reaching.{boot_reached, labels_alike, reached_next}
+use Rattle.{integrity.proofs.{Aparts.never_changes, Runs.safe_from, Shrinking.same_tcb, Starting.starts_kept}, fixed.specs.Fixed.IsFixed}
+use Rattle.{reach.specs.Reach.HasBootAuthority, flows.specs.Flowing.{DependsOn, FilterTest, IsClosedOff, MayAffect}}
+use Rattle.noninterference.specs.{Alike.KeepsAlike, Sets.{AreAlikeTo, AreBeside, DifferBeside, EndAlike, FiltersShowAlike}}
+use Rattle.noninterference.specs.Sets.{IsClosedBeside, IsClosedSet, IsOfFilter, IsOfSet, IsPosition, RunsBeside, SetTest}
+use Rattle.noninterference.proofs.{Both.limits, Carries.same_around, Closed.{alike_at, alike_to}, Kept.{kept_of, sound_of}}
+use Rattle.noninterference.proofs.{Looking.looks_alike, Reaching.{boot_reached, labels_alike, reached_next}}
 
 same_itself : (m : Machine) (id : ObjId) → IsSame m m id
 same_itself m id = record { content = refl; queue = refl; words = refl; slots = λ index. refl }

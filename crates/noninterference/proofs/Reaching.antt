@@ -1,12 +1,11 @@
 -- Machines that a run of a fixed system reaches: what threads find, and the kinds and the labels of objects, stay as at boot.
 use Rattle.std.{specs.Prelude.{List, None, Option, Some, option_map}, proofs.Common.{[], ◌++◌, ◌∙◌, ◌∷◌, ◌≡◌, ap, refl, subst, sym}}
-use Rattle.std.proofs.lemmas.Option.{none-some, same_Some}
-use Rattle.base.specs.declared.ids.ObjId.{ObjId}
-use Rattle.machine.specs.declared.{call.{Event.Event, Outcome.Outcome}, object.{Object.{Object, Object as o}, ObjectKind.{ObjectKind, ObjectKind as kind}}}
-use Rattle.machine.specs.{Authority.label_of, Boot.IsBoot, Layout.Layout, Machine.{Machine, object_of}, Objects.{address_of, kind_of_object}}
+use Rattle.{std.proofs.lemmas.Option.{none-some, same_Some}, base.specs.declared.ids.ObjId.ObjId}
+use Rattle.machine.specs.declared.{call.{Event.Event, Outcome.Outcome}, object.Object.{Object, Object as o}}
+use Rattle.machine.specs.{declared.object.ObjectKind.{ObjectKind, ObjectKind as kind}, Authority.label_of, Boot.IsBoot}
+use Rattle.machine.specs.{Layout.Layout, Machine.{Machine, object_of}, Objects.{address_of, kind_of_object}}
 use Rattle.machine.{specs.{Run.Run, Step.Step, WellFormed.IsWellFormed}, proofs.LookUps.same_machine}
-use Rattle.table.specs.Rules.{IsLawful}
-use Rattle.integrity.{specs.Safe.IsReached, proofs.ObjectLabels.label_stays}
+use Rattle.{table.specs.Rules.IsLawful, integrity.{specs.Safe.IsReached, proofs.ObjectLabels.label_stays}}
 use Rattle.fixed.specs.Fixed.{IsFixed, IsStill, StaysFixed}
 use Rattle.fixed.proofs.{Finds.IsFixedAt, RunsStay.{boot_fixed, run_stays}, Staying.fixed_stays}
 

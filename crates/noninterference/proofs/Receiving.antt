@@ -1,37 +1,26 @@
 -- A receive ends alike in two machines that are alike to its label: the same thread waits first at the endpoint in both, and if it sends,
 -- its message is the same.
-use Rattle.std.{specs.Prelude.{None, Ok, Option, Some}, proofs.Common.{ℕ, ◌∙◌, ◌≡◌, ap}}
-use Rattle.std.proofs.{Common.{false, inl, inr, option_map, refl, subst, sym, true}, lemmas.{Option.{none-some, same_Some}}}
+use Rattle.std.{specs.Prelude.{None, Ok, Option, Some}, proofs.Common.{ℕ, ◌∙◌, ◌≡◌, ap, false, inl, inr}}
+use Rattle.std.proofs.{Common.{option_map, refl, subst, sym, true}, lemmas.Option.{none-some, same_Some}}
 use Rattle.base.specs.declared.{ids.{ObjId.ObjId, SlotRef.SlotRef}, kind.Kind.Kind as authority}
-use Rattle.machine.specs.declared.call.{Answer.Answer as answer, Made.{Made, TheVariants.{Done}}}
-use Rattle.machine.specs.declared.{cap.{Cap.Cap}, object.{Endpoint.Endpoint, Object.{Object as o}, ObjectKind.ObjectKind as kind}}
-use Rattle.machine.specs.declared.{slot_address.SlotAddress.SlotAddress}
-use Rattle.machine.specs.declared.thread.{Receiving.Receiving, RunState.{RunState, RunState as state}}
-use Rattle.machine.specs.declared.thread.{Sending.Sending, Tcb.Tcb}
-use Rattle.machine.specs.declared.object.ReplyState.TheVariants as reply
-use Rattle.machine.specs.{Authority.label_of, Capabilities.{badged_of, can_read}, Layout.Layout}
-use Rattle.machine.specs.{Machine.{Machine, object_of}, Objects.kind_of_object, Releasing.{with_blocked}}
-use Rattle.machine.specs.Step.{Deliver.{first_at, message_of, sender_in}}
-use Rattle.machine.specs.Step.{Deliver.{sent}, Find.{find, permitted}, Receive.{awaiting_message, find_named_reply, receive_of}}
-use Rattle.machine.specs.Step.{Receive.{received, received_or_waits, with_reply_ended}}
-use Rattle.machine.specs.WellFormed.{IsSending, IsThread, IsWellFormed, WaitsAt}
+use Rattle.machine.specs.declared.{call.{Answer.Answer as answer, Made.{Made, TheVariants.Done}}, cap.Cap.Cap, object.Endpoint.Endpoint}
+use Rattle.machine.specs.declared.{object.{Object.Object as o, ObjectKind.ObjectKind as kind}, slot_address.SlotAddress.SlotAddress}
+use Rattle.machine.specs.declared.thread.{Receiving.Receiving, RunState.{RunState, RunState as state}, Sending.Sending, Tcb.Tcb}
+use Rattle.machine.specs.{Authority.label_of, Capabilities.{badged_of, can_read}, Layout.Layout, Machine.{Machine, object_of}}
+use Rattle.machine.specs.{Objects.kind_of_object, Releasing.with_blocked, Step.Deliver.{first_at, message_of, sender_in, sent}}
+use Rattle.machine.specs.Step.{Find.{find, permitted}, Receive.{awaiting_message, find_named_reply, receive_of, received}}
+use Rattle.machine.specs.{Step.Receive.{received_or_waits, with_reply_ended}, WellFormed.{IsSending, IsThread, IsWellFormed, WaitsAt}}
 use Rattle.steps.proofs.{Admission.IsCaller, Beside.{ended_endpoint, ended_formed, ended_idle}, Conditions.{both_done, same_ok}}
-use Rattle.steps.proofs.{EndpointRow.{IsSender}, Finding.{is_permitted}, FoundObjects.endpoint_of_kind}
-use Rattle.steps.proofs.{MessageRows.{caller_idle}}
-use Rattle.policy.specs.{Change.{ActorTest}, Domain.EdgeTest}
-use Rattle.integrity.specs.{Shrinks.{IsSame}}
-use Rattle.integrity.proofs.{Shrinking.same_tcb}
+use Rattle.steps.proofs.{EndpointRow.IsSender, Finding.is_permitted, FoundObjects.endpoint_of_kind, MessageRows.caller_idle}
+use Rattle.{policy.specs.{Change.ActorTest, Domain.EdgeTest}, integrity.{specs.Shrinks.IsSame, proofs.Shrinking.same_tcb}}
+use Rattle.fixed.{specs.Fixed.StaysFixed, proofs.Staying.{fixed_stays, holder_halted_stays, stays_itself}}
 use Rattle.flows.specs.Seeing.WayToSee.{receives}
-use Rattle.fixed.proofs.{Staying.{fixed_stays, holder_halted_stays, stays_itself}}
-use Rattle.fixed.specs.Fixed.{StaysFixed}
-use Rattle.noninterference.proofs.Waiters.{sender_same, sender_same_too}
-use Rattle.noninterference.proofs.Answering.{used_same}
-use Rattle.noninterference.proofs.Both.{AreBoth, same_find}
-use Rattle.noninterference.proofs.Carries.{Carries, blocked_carries, carries_along}
-use Rattle.noninterference.proofs.{Ends.{AreMadeAlike, EndsAlike, follows_alike, follows_same}}
+use Rattle.noninterference.proofs.{Answering.used_same, Both.{AreBoth, same_find}, Carries.{Carries, blocked_carries, carries_along}}
+use Rattle.noninterference.proofs.Ends.{AreMadeAlike, EndsAlike, follows_alike, follows_same}
 use Rattle.noninterference.proofs.Handing.{ended_carries, named_carries, sent_carries}
 use Rattle.noninterference.proofs.Meeting.{IsFirstAt, IsWay, Meets, Meets.{nobody, somebody}, meet, sender_before, taken_plain, way_of}
-use Rattle.noninterference.proofs.Rows.{carried, caller_too, found_same, found_there, to_found}
+use Rattle.noninterference.proofs.{Rows.{caller_too, carried, found_same, found_there, to_found}, Waiters.{sender_same, sender_same_too}}
+use Rattle.machine.specs.declared.object.ReplyState.TheVariants as reply
 
 -- a machine stays fixed when a reply lets go of its thread
 ended_stays : (m : Machine) (named : Option ObjId) → StaysFixed m (with_reply_ended m named)

@@ -1,18 +1,15 @@
 -- Calls that need a capability for a CNode or for a thread are refused for the same cause in two machines of a fixed system.
-use Rattle.std.{specs.Prelude.{Err, None, Ok, Option, Result, Some, option_map}, proofs.Common.{ℕ, ◌≡◌, ◌≢◌, ap, refl, subst, sym}}
-use Rattle.std.proofs.Common.{◌∙◌}
+use Rattle.std.{specs.Prelude.{Err, None, Ok, Option, Result, Some, option_map}, proofs.Common.{ℕ, ◌∙◌, ◌≡◌, ◌≢◌, ap, refl, subst, sym}}
 use Rattle.base.specs.declared.{ids.{ObjId.ObjId, SlotRef.SlotRef}, refusal.Cause.Cause}
 use Rattle.machine.specs.declared.{call.{Call.{Call, Call as call}, Made.Made}, object.Object.{Object, Object as o}}
 use Rattle.machine.specs.declared.{object.{ObjectKind.ObjectKind as kind, Untyped.Untyped}, slot_address.SlotAddress.SlotAddress}
-use Rattle.machine.specs.{Capabilities.kind_of_detail, Lookup.{Level, level_at, lookup_of}, Machine.{Machine, object_of}, Objects.kind_of_object, Refusing.◌>>=◌}
-use Rattle.machine.specs.Step.{Bind.bind_of, Copy.copy_of, Delete.delete_of, Find.find, Mint.mint_of, Move.move_of, Revoke.revoke_of}
-use Rattle.machine.specs.Step.{Retype.{a_few, find_taker, find_untyped, memory_in, retype_of, sized, taker}, Space.{clear_space_of, set_space_of}}
-use Rattle.machine.specs.Step.{Suspend.{resume_of, suspend_of}, Target.{ends_of, target_of}}
-use Rattle.machine.specs.{Memory.Source, Step.call_of}
-use Rattle.steps.proofs.{Finding.{finds, found_kind}}
-use Rattle.policy.specs.{Change.ActorTest, Domain.EdgeTest}
+use Rattle.machine.specs.{Capabilities.kind_of_detail, Layout.Layout, Lookup.{Level, level_at, lookup_of}}
+use Rattle.machine.specs.{Machine.{Machine, object_of}, Memory.Source, Objects.kind_of_object, Refusing.◌>>=◌}
+use Rattle.machine.specs.Step.{Bind.bind_of, Copy.copy_of, Delete.delete_of, Find.find, Mint.mint_of, Move.move_of}
+use Rattle.machine.specs.Step.{Retype.{a_few, find_taker, find_untyped, memory_in, retype_of, sized, taker}, Revoke.revoke_of}
+use Rattle.machine.specs.Step.{Space.{clear_space_of, set_space_of}, Suspend.{resume_of, suspend_of}, Target.{ends_of, target_of}, call_of}
+use Rattle.{steps.proofs.Finding.{finds, found_kind}, policy.specs.{Change.ActorTest, Domain.EdgeTest}}
 use Rattle.fixed.{specs.Fixed.NeedsNodeOrThread, proofs.Finds.{finds_no_taker, finds_no_thread, found_apart}}
-use Rattle.machine.specs.Layout.{Layout}
 use Rattle.noninterference.proofs.{Both.{AreBoth, same_find}, Ends.{EndsAlike, follows_same}}
 
 abbrev AreRefused : {A : Type 0} → Result A Cause → Result A Cause → Type 0

@@ -1,26 +1,21 @@
 -- Calls that read, write, fetch, poll, wait, signal, configure and unbind end alike in two machines that are alike to their label.
-use Rattle.std.{specs.Prelude.{None, Ok, Option, Some, option_map, unwrap_or}, proofs.Common.{ℕ, ◌∙◌, ◌≡◌, ap, false, refl, subst, sym, true}}
+use Rattle.std.proofs.Common.{ℕ, ◌∙◌, ◌≡◌, None, Ok, Option, Some, ap, false, option_map, refl, subst, sym, true, unwrap_or}
 use Rattle.base.specs.{declared.{ids.{ObjId.ObjId, SlotRef.SlotRef}, kind.Kind.{Kind, Kind as authority}}, Kinds.is_structural}
-use Rattle.machine.specs.declared.{call.{Answer.Answer as answer, Made.{TheVariants.{Done}}}, cap.Cap.Cap}
-use Rattle.machine.specs.declared.object.{Control.Control, Object.{Object, Object as o}, Share.Share}
-use Rattle.machine.specs.declared.object.ObjectKind.{ObjectKind, ObjectKind as kind}
-use Rattle.machine.specs.declared.thread.{RunState.RunState as state}
-use Rattle.machine.specs.{Authority.label_of, Changes.with_pending, Capabilities.{badged_of, can_read, can_write, gives, kind_of_detail}, Layout.Layout}
-use Rattle.machine.specs.{Machine.{Machine, object_of}, Objects.kind_of_object, Step.Configure.{configure_of, core_in, in_limits, with_share}}
-use Rattle.machine.specs.Step.{Bind.{thread_on, unbind_of, without_thread}, Fetch.{fetch_of, fetched_in}, Find.{find, permitted}, Poll.poll_of, Signal.{pending_in, signal_of}}
-use Rattle.machine.specs.Step.{Wait.{taken_or_awaited, wait_of}, Words.{in_frame, read_of, word_in, write_of}}
-use Rattle.machine.specs.WellFormed.{IsThread, kind_of}
+use Rattle.machine.specs.declared.{call.{Answer.Answer as answer, Made.TheVariants.Done}, cap.Cap.Cap}
+use Rattle.machine.specs.declared.object.{Control.Control, Object.{Object, Object as o}, ObjectKind.{ObjectKind, ObjectKind as kind}}
+use Rattle.machine.specs.{declared.{object.Share.Share, thread.RunState.RunState as state}, Authority.label_of}
+use Rattle.machine.specs.{Capabilities.{badged_of, can_read, can_write, gives, kind_of_detail}, Changes.with_pending, Layout.Layout}
+use Rattle.machine.specs.{Machine.{Machine, object_of}, Objects.kind_of_object, Step.Bind.{thread_on, unbind_of, without_thread}}
+use Rattle.machine.specs.Step.{Configure.{configure_of, core_in, in_limits, with_share}, Fetch.{fetch_of, fetched_in}}
+use Rattle.machine.specs.Step.{Find.{find, permitted}, Poll.poll_of, Signal.{pending_in, signal_of}, Wait.{taken_or_awaited, wait_of}}
+use Rattle.machine.specs.{Step.Words.{in_frame, read_of, word_in, write_of}, WellFormed.{IsThread, kind_of}}
 use Rattle.steps.proofs.{Admission.IsCaller, Finding.{as_kind, finds, found_kind, is_permitted}}
-use Rattle.steps.proofs.FoundObjects.{context_of_kind, notification_of_kind}
-use Rattle.policy.specs.{Change.ActorTest, Domain.EdgeTest}
-use Rattle.integrity.specs.Shrinks.{IsSame}
-use Rattle.integrity.proofs.{Keeps.some_event, MessageParts.{IsReached, reached}, ObjectLabels.kind_there}
+use Rattle.{steps.proofs.FoundObjects.{context_of_kind, notification_of_kind}, policy.specs.{Change.ActorTest, Domain.EdgeTest}}
+use Rattle.integrity.{specs.Shrinks.IsSame, proofs.{Keeps.some_event, MessageParts.{IsReached, reached}, ObjectLabels.kind_there}}
 use Rattle.flows.specs.Seeing.{WayToSee, WayToSee.{awaits, reads}}
-use Rattle.noninterference.specs.Alike.{KeepsAlike}
-use Rattle.noninterference.proofs.Both.{AreBoth, own_same, same_find, seen_same}
+use Rattle.noninterference.{specs.Alike.KeepsAlike, proofs.Both.{AreBoth, own_same, same_find, seen_same}}
 use Rattle.noninterference.proofs.Carries.{Carries, blocked_carries, emptied_carries, pending_carries, share_carries, word_carries}
-use Rattle.noninterference.proofs.{Signalling.signal_carries, Unbinding.unbinding_carries}
-use Rattle.noninterference.proofs.Ends.{AreMadeAlike, EndsAlike, follows_alike}
+use Rattle.noninterference.proofs.{Ends.{AreMadeAlike, EndsAlike, follows_alike}, Signalling.signal_carries, Unbinding.unbinding_carries}
 
 control_of_kind :
     (object : Option Object) → option_map kind_of_object object ≡ Some kind.Control → (control : Control) × (object ≡ Some (o.Control control))

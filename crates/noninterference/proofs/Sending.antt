@@ -1,35 +1,24 @@
 -- Sends and calls end alike in two machines that are alike to their label: the same thread waits first at the endpoint in both, and it
 -- receives in both or in neither.
-use Rattle.std.{specs.Prelude.{None, Ok, Option, Some, if◌then◌else◌}, proofs.Common.{ℕ, ◌∙◌, ◌≡◌, ◌≢◌, Bool, List, ap}}
-use Rattle.std.proofs.{Common.{false, inl, inr, option_map, refl, subst, sym, true}, lemmas.{Bool.and_from, Option.{none-some, same_Some}}}
+use Rattle.std.{specs.Prelude.{None, Ok, Option, Some, if◌then◌else◌}, proofs.Common.{ℕ, ◌∙◌, ◌≡◌, ◌≢◌, Bool, List, ap, false}}
+use Rattle.std.proofs.{Common.{inl, inr, option_map, refl, subst, sym, true}, lemmas.{Bool.and_from, Option.{none-some, same_Some}}}
 use Rattle.base.specs.declared.{ids.{ObjId.ObjId, SlotRef.SlotRef}, kind.Kind.Kind as authority}
-use Rattle.machine.specs.declared.{cap.{Cap.Cap}, object.{Object.{Object as o}, ObjectKind.ObjectKind as kind}}
-use Rattle.machine.specs.declared.thread.{Lent.Lent, Receiving.Receiving, RunState.{RunState, RunState as state}}
-use Rattle.machine.specs.declared.thread.{Sending.Sending, Tcb.Tcb}
-use Rattle.machine.specs.{Authority.label_of, Capabilities.{badged_of, can_write}, Layout.Layout}
-use Rattle.machine.specs.{Machine.{Machine, object_of}, Objects.kind_of_object, Releasing.{given, with_blocked}}
-use Rattle.machine.specs.Releasing.{with_called, with_given, with_halted}
-use Rattle.machine.specs.Step.{Bind.{context_under}, Deliver.{delivered, first_at, message_of, receiver_in}}
-use Rattle.machine.specs.Step.{Deliver.{sending_by}, Find.{find, permitted}}
-use Rattle.machine.specs.Step.{Send.{called_or_waits, called_through, endpoint_call_of, loan, loan_made}}
-use Rattle.machine.specs.Step.Send.{send_of, sent_or_waits, with_lent}
-use Rattle.machine.specs.WellFormed.{IsFree, IsSending, IsThread, IsWellFormed, WaitsAt, kind_of}
-use Rattle.steps.proofs.{Admission.IsCaller}
-use Rattle.steps.proofs.{EndpointRow.{IsReceiver}, Finding.{is_permitted}, FoundObjects.endpoint_of_kind}
-use Rattle.steps.proofs.{Lending.{lends}, MessageRows.{caller_apart}}
-use Rattle.steps.proofs.MessageRows.{delivered_formed, delivered_free, delivered_other, delivered_there, waits_formed, waits_other, waits_there}
-use Rattle.policy.specs.{Change.{ActorTest}, Domain.EdgeTest}
-use Rattle.integrity.specs.{Shrinks.{IsSame}}
-use Rattle.integrity.proofs.{Shrinking.same_tcb}
-use Rattle.flows.specs.Seeing.WayToSee.{sends}
-use Rattle.noninterference.proofs.Waiters.{receiver_same}
-use Rattle.noninterference.specs.Alike.{KeepsAlike}
-use Rattle.noninterference.proofs.Both.{AreBoth, own_same, same_find}
+use Rattle.machine.specs.declared.{cap.Cap.Cap, object.{Object.Object as o, ObjectKind.ObjectKind as kind}}
+use Rattle.machine.specs.declared.thread.{Lent.Lent, Receiving.Receiving, RunState.{RunState, RunState as state}, Sending.Sending, Tcb.Tcb}
+use Rattle.machine.specs.{Authority.label_of, Capabilities.{badged_of, can_write}, Layout.Layout, Machine.{Machine, object_of}}
+use Rattle.machine.specs.{Objects.kind_of_object, Releasing.{given, with_blocked, with_called, with_given, with_halted}}
+use Rattle.machine.specs.Step.{Bind.context_under, Deliver.{delivered, first_at, message_of, receiver_in, sending_by}}
+use Rattle.machine.specs.Step.{Find.{find, permitted}, Send.{called_or_waits, called_through, endpoint_call_of, loan, loan_made, send_of}}
+use Rattle.machine.specs.{Step.Send.{sent_or_waits, with_lent}, WellFormed.{IsFree, IsSending, IsThread, IsWellFormed, WaitsAt, kind_of}}
+use Rattle.steps.proofs.{Admission.IsCaller, EndpointRow.IsReceiver, Finding.is_permitted, FoundObjects.endpoint_of_kind, Lending.lends}
+use Rattle.steps.proofs.MessageRows.{caller_apart, delivered_formed, delivered_free, delivered_other, delivered_there}
+use Rattle.{steps.proofs.MessageRows.{waits_formed, waits_other, waits_there}, policy.specs.{Change.ActorTest, Domain.EdgeTest}}
+use Rattle.{integrity.{specs.Shrinks.IsSame, proofs.Shrinking.same_tcb}, flows.specs.Seeing.WayToSee.sends}
+use Rattle.noninterference.{specs.Alike.KeepsAlike, proofs.Both.{AreBoth, own_same, same_find}}
 use Rattle.noninterference.proofs.Carries.{Carries, blocked_carries, carries_along, released_carries}
-use Rattle.noninterference.proofs.{Ends.{AreMadeAlike, EndsAlike, follows_alike}}
-use Rattle.noninterference.proofs.Handing.{halted_carries, halts_calls, lent_carries}
+use Rattle.noninterference.proofs.{Ends.{AreMadeAlike, EndsAlike, follows_alike}, Handing.{halted_carries, halts_calls, lent_carries}}
 use Rattle.noninterference.proofs.Meeting.{IsFirstAt, IsWay, Meets, Meets.{nobody, somebody}, delivered_plain, meet, way_of}
-use Rattle.noninterference.proofs.Rows.{carried, caller_too, found_same, found_there, found_too, to_found}
+use Rattle.noninterference.proofs.{Rows.{caller_too, carried, found_same, found_there, found_too, to_found}, Waiters.receiver_same}
 
 same_receiving : (one other : Receiving) → state.Receiving one ≡ state.Receiving other → one ≡ other
 same_receiving one other e = cc

@@ -1,16 +1,15 @@
 -- A signal in two machines: a thread is woken in both if it and the notification at which it waits are the same in both.
-use Rattle.std.{specs.{Int.RustNames.bit_or, Prelude.{None, Option, Some, option_and_then, slice_get, unwrap_or}}, proofs.Common.{ℕ, ◌∙◌}}
-use Rattle.std.proofs.{Common.{◌∷◌, ◌≡◌, ◌≢◌, List, ap, inl, inr, refl, subst, sym}, lemmas.Option.{none-some, same_Some}}
-use Rattle.base.specs.declared.ids.ObjId.{ObjId}
+use Rattle.std.specs.{Int.RustNames.bit_or, Prelude.{None, Option, Some, option_and_then, slice_get, unwrap_or}}
+use Rattle.std.proofs.Common.{ℕ, ◌∙◌, ◌∷◌, ◌≡◌, ◌≢◌, List, ap, inl, inr, refl, subst, sym}
+use Rattle.{std.proofs.lemmas.Option.{none-some, same_Some}, base.specs.declared.ids.ObjId.ObjId}
 use Rattle.machine.specs.declared.{object.{Notification.Notification, Object.{Object, Object as o}}, thread.Tcb.Tcb}
 use Rattle.machine.specs.{Changes.{first_waiting, with_pending, with_tcb, without_first}, Machine.{Machine, object_of, queue_of}}
 use Rattle.machine.specs.{Machine.with_queue, Step.Signal.{pending_in, signalled, woken}, WellFormed.{IsThread, IsWellFormed, WaitsAt}}
-use Rattle.machine.proofs.{Ids.one_or_two, LookUps.object_of-with_queue, Queues.{first_in, queue_by_first}}
+use Rattle.machine.proofs.{Ids.one_or_two, Leaving.tcb_is, LookUps.object_of-with_queue, Queues.{first_in, queue_by_first}}
 use Rattle.steps.proofs.{NotificationRow.with_pending_there, SignalRow.roused}
-use Rattle.machine.proofs.Leaving.{tcb_is}
 use Rattle.integrity.{specs.Shrinks.IsSame, proofs.Shrinking.same_same}
-use Rattle.noninterference.specs.Alike.{KeepsAlike}
-use Rattle.noninterference.proofs.Carries.{Carries, carries_along, object_beside, pending_carries, queue_beside, queue_carries, same_around, tcb_carries}
+use Rattle.noninterference.{specs.Alike.KeepsAlike, proofs.Carries.{Carries, carries_along, object_beside}}
+use Rattle.noninterference.proofs.Carries.{pending_carries, queue_beside, queue_carries, same_around, tcb_carries}
 
 -- the thread that waits first leaves its queue
 first_gone :

@@ -1,20 +1,18 @@
 -- Admission: two machines that are alike to a label both admit a thread of the label, or both refuse it for the same cause; so its step
 -- ends alike if its call does.
 use Rattle.std.{specs.Prelude.{None, Ok, Option, Some}, proofs.Common.{ℕ, ◌∙◌, ◌≡◌, ap, false, inl, inr, refl, subst, sym, true}}
-use Rattle.std.proofs.lemmas.Bool.{false≢true}
-use Rattle.base.specs.declared.{ids.ObjId.ObjId, kind.Kind.Kind as authority}
-use Rattle.machine.specs.declared.call.{Call.{Call, Call as call}, Event.Event, Outcome.Outcome}
-use Rattle.machine.specs.{declared.{object.{Object.{Object, Object as o}, Share.Share}, thread.Tcb.Tcb}, Authority.label_of, Layout.Layout, Machine.Machine}
-use Rattle.machine.specs.{Machine.object_of, Step.{LacksMemory, Step, admitted, call_of, made_by, running_share, settled, step_of, takes_memory}}
-use Rattle.machine.{specs.{Step.{Step.{ends, lacks}, thread_in}, WellFormed.{IsThread, IsWellFormed}}, proofs.RunsLinks.runs_bound}
+use Rattle.{std.proofs.lemmas.Bool.false≢true, base.specs.declared.{ids.ObjId.ObjId, kind.Kind.Kind as authority}}
+use Rattle.machine.specs.declared.{call.{Call.{Call, Call as call}, Event.Event, Outcome.Outcome}, object.Object.{Object, Object as o}}
+use Rattle.machine.specs.{declared.{object.Share.Share, thread.Tcb.Tcb}, Authority.label_of, Layout.Layout, Machine.{Machine, object_of}}
+use Rattle.machine.specs.Step.{LacksMemory, Step, Step.{ends, lacks}, admitted, call_of, made_by, running_share, settled, step_of}
+use Rattle.machine.{specs.{Step.{takes_memory, thread_in}, WellFormed.{IsThread, IsWellFormed}}, proofs.RunsLinks.runs_bound}
 use Rattle.steps.proofs.{Admission.{IsCaller, admits}, Calls.event_done, Conditions.both_done}
 use Rattle.policy.specs.{Change.ActorTest, Domain.EdgeTest}
 use Rattle.integrity.specs.{Acting.HoldsOfActors, Awake.{IsAsleep, SleepsOrActs}, Invariant.IsSound, Shrinks.IsSame}
 use Rattle.integrity.proofs.{Awake.has_threads, Keeps.some_event, MessageParts.thread_edge, Runs.IsKept}
-use Rattle.flows.specs.Seeing.WayToSee.{runs}
-use Rattle.fixed.{specs.Fixed.NeedsNodeOrThread, proofs.{CallsStay.none_done, Finds.IsFixedAt}}
-use Rattle.noninterference.specs.Alike.{KeepsAlike}
-use Rattle.noninterference.proofs.{Both.{AreBoth, own_same, seen_same}, Ends.{EndsAlike, follows_alike, follows_same, settled_alike}}
+use Rattle.{fixed.{specs.Fixed.NeedsNodeOrThread, proofs.{CallsStay.none_done, Finds.IsFixedAt}}, flows.specs.Seeing.WayToSee.runs}
+use Rattle.noninterference.{specs.Alike.KeepsAlike, proofs.Both.{AreBoth, own_same, seen_same}}
+use Rattle.noninterference.proofs.Ends.{EndsAlike, follows_alike, follows_same, settled_alike}
 
 thread_there : (object : Option Object) (thread : Tcb) → thread_in object ≡ Ok thread → object ≡ Some (o.Tcb thread)
 thread_there (Some (o.Tcb tcb)) thread e = cc

@@ -1,15 +1,12 @@
 -- A context that loses its thread: what becomes of each object.
-use Rattle.std.{specs.Prelude.{None, Option, Some, if◌then◌else◌, option_map}, proofs.Common.{◌∙◌, ◌≡◌, ◌≢◌, Bool, ap, false, inl}}
-use Rattle.std.proofs.{Common.{inr, refl, subst, sym, true}, lemmas.Option.{none-some, same_Some}}
-use Rattle.base.specs.declared.ids.ObjId.{ObjId}
-use Rattle.machine.specs.declared.{object.{Context.Context, Object.{Object, Object as o}}, thread.Tcb.Tcb}
-use Rattle.machine.specs.{Authority.names_object, Machine.{Machine, object_of, same_id, with_object}, Releasing.with_unbound}
-use Rattle.machine.specs.{Step.Bind.without_thread, WellFormed.{IsThread, LinksAgree}}
-use Rattle.machine.proofs.{Ids.{at_itself, at_other, itself, one_or_two}, Leaving.{rest-with_object, rest_along, rest_itself}}
-use Rattle.machine.proofs.{LookUps.{object_of-with_object, one_id, queue_of-with_object}, RunsLinks.named_so}
-use Rattle.steps.proofs.{ContextsFormed.unbound_is}
-use Rattle.integrity.proofs.Shrinking.{same_context}
-use Rattle.noninterference.proofs.Carries.{Carries, Turns, turns_carry}
+use Rattle.std.{specs.Prelude.{None, Option, Some, if◌then◌else◌, option_map}, proofs.Common.{◌∙◌, ◌≡◌, ◌≢◌, Bool, ap, false, inl, inr}}
+use Rattle.{std.proofs.{Common.{refl, subst, sym, true}, lemmas.Option.{none-some, same_Some}}, base.specs.declared.ids.ObjId.ObjId}
+use Rattle.machine.specs.{declared.{object.{Context.Context, Object.{Object, Object as o}}, thread.Tcb.Tcb}, Authority.names_object}
+use Rattle.machine.specs.{Machine.{Machine, object_of, same_id, with_object}, Releasing.with_unbound, Step.Bind.without_thread}
+use Rattle.machine.{specs.WellFormed.{IsThread, LinksAgree}, proofs.Ids.{at_itself, at_other, itself, one_or_two}}
+use Rattle.machine.proofs.{Leaving.{rest-with_object, rest_along, rest_itself}, LookUps.{object_of-with_object, one_id}}
+use Rattle.{machine.proofs.{LookUps.queue_of-with_object, RunsLinks.named_so}, steps.proofs.ContextsFormed.unbound_is}
+use Rattle.{integrity.proofs.Shrinking.same_context, noninterference.proofs.Carries.{Carries, Turns, turns_carry}}
 
 -- an object without its link to a context, at either end
 abbrev cut : ObjId → ObjId → Object → Object

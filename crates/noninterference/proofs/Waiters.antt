@@ -1,20 +1,12 @@
 -- Threads that wait where a label receives or calls: the label sees them, so they are the same in two machines that are alike to it.
-use Rattle.std.{specs.Prelude.{Some}, proofs.Common.{ℕ, ◌∙◌, ◌≡◌}}
-use Rattle.std.proofs.{Common.{subst, sym, true}}
-use Rattle.base.specs.declared.{ids.{ObjId.ObjId}, kind.Kind.Kind as authority}
-use Rattle.machine.specs.declared.{object.{Object.{Object as o}}}
-use Rattle.machine.specs.declared.thread.{Receiving.Receiving}
-use Rattle.machine.specs.declared.thread.{Sending.Sending, Tcb.Tcb}
-use Rattle.machine.specs.{Authority.label_of, Layout.Layout}
-use Rattle.machine.specs.{Machine.{Machine}}
-use Rattle.machine.specs.WellFormed.{IsThread}
-use Rattle.steps.proofs.{EndpointRow.{IsReceiver, IsSender}}
-use Rattle.policy.specs.{Change.{ActorTest}, Domain.EdgeTest}
-use Rattle.integrity.specs.{Invariant.IsSound, Shrinks.{IsBlocked, IsSame}}
-use Rattle.integrity.proofs.{Asleep.blocked_acts, Awake.has_threads, Keeps.some_event}
-use Rattle.integrity.proofs.{MessageParts.{receiver_receives, sender_sends}, Runs.IsKept}
-use Rattle.flows.specs.Seeing.WayToSee.{receivers, senders}
-use Rattle.noninterference.proofs.Both.{AreBoth, seen_same}
+use Rattle.std.{specs.Prelude.Some, proofs.Common.{ℕ, ◌∙◌, ◌≡◌, subst, sym, true}}
+use Rattle.base.specs.declared.{ids.ObjId.ObjId, kind.Kind.Kind as authority}
+use Rattle.machine.specs.declared.{object.Object.Object as o, thread.{Receiving.Receiving, Sending.Sending, Tcb.Tcb}}
+use Rattle.machine.specs.{Authority.label_of, Layout.Layout, Machine.Machine, WellFormed.IsThread}
+use Rattle.{steps.proofs.EndpointRow.{IsReceiver, IsSender}, policy.specs.{Change.ActorTest, Domain.EdgeTest}}
+use Rattle.integrity.{specs.{Invariant.IsSound, Shrinks.{IsBlocked, IsSame}}, proofs.Asleep.blocked_acts}
+use Rattle.integrity.proofs.{Awake.has_threads, Keeps.some_event, MessageParts.{receiver_receives, sender_sends}, Runs.IsKept}
+use Rattle.{flows.specs.Seeing.WayToSee.{receivers, senders}, noninterference.proofs.Both.{AreBoth, seen_same}}
 
 module _ (t : Layout) (allowed : EdgeTest) (acts : ActorTest) (a : ℕ) (m n : Machine) (both : AreBoth t allowed acts a m n) where
   -- the label of a thread that is blocked acts

@@ -1,11 +1,8 @@
 -- Machines that are alike to a label: what the label's calls can tell apart is the same in both, and its calls keep it so (confine's own).
 use Rattle.std.specs.Prelude.{ℕ, ◌≡◌, Some, true}
 use Rattle.base.specs.declared.{ids.ObjId.ObjId, kind.Kind.TheVariants.Send}
-use Rattle.machine.specs.declared.thread.Tcb.{Tcb}
-use Rattle.machine.specs.{Authority.label_of, Layout.Layout, Machine.Machine, WellFormed.{IsSending, IsThread, WaitsAt}}
-use Rattle.integrity.specs.Shrinks.{IsSame}
-use Rattle.reach.specs.Extents.{Limits}
-use Rattle.flows.specs.Flowing.{DependsOn}
+use Rattle.machine.specs.{declared.thread.Tcb.Tcb, Authority.label_of, Layout.Layout, Machine.Machine, WellFormed.{IsSending, IsThread}}
+use Rattle.{machine.specs.WellFormed.WaitsAt, integrity.specs.Shrinks.IsSame, reach.specs.Extents.Limits, flows.specs.Flowing.DependsOn}
 
 -- two threads wait in the same way: both send, or neither does
 abbrev pub WaitAlike : Tcb → Tcb → Type 0

@@ -2,12 +2,10 @@
 -- (confine's own; compare noninterference).
 use Rattle.std.specs.Prelude.{[], ℕ, ◌∷◌, ◌≡◌, ◌⊎◌, Bool, List, Some, false, true}
 use Rattle.base.specs.declared.{ids.ObjId.ObjId, kind.Kind.TheVariants.Send}
-use Rattle.machine.specs.declared.{call.{Event.Event, Outcome.Outcome}, thread.Tcb.Tcb}
-use Rattle.machine.specs.{Authority.label_of, Layout.Layout, Machine.Machine, Step.Step, WellFormed.{IsThread, WaitsAt}}
-use Rattle.integrity.specs.Shrinks.{IsSame}
-use Rattle.reach.specs.Extents.{Limits}
-use Rattle.flows.specs.Flowing.{DependsOn, FilterTest, FlowsBeside, FlowsTo}
-use Rattle.noninterference.specs.Alike.{WaitAlike}
+use Rattle.machine.specs.{declared.{call.{Event.Event, Outcome.Outcome}, thread.Tcb.Tcb}, Authority.label_of}
+use Rattle.machine.specs.{Layout.Layout, Machine.Machine, Step.Step, WellFormed.{IsThread, WaitsAt}}
+use Rattle.{integrity.specs.Shrinks.IsSame, reach.specs.Extents.Limits}
+use Rattle.{flows.specs.Flowing.{DependsOn, FilterTest, FlowsBeside, FlowsTo}, noninterference.specs.Alike.WaitAlike}
 
 -- whether a label is of a set
 abbrev pub SetTest : Type 0

@@ -2,26 +2,25 @@
 use Rattle.std.specs.FinMap as finite
 use Rattle.std.specs.{Global.Vec, List.{AllByRecursion, fold}, Prelude.{IfSome, IsSome, IsTrue, None, Option, Some, vec_capacity}}
 use Rattle.std.proofs.Common.{[], ℕ, ◌+◌, ◌-◌, ◌^◌, ◌∙◌, ◌∷◌, ◌≡◌, ◌≢◌, ◌≤◌, List, ap, arith, length, refl, subst, sym}
-use Rattle.std.proofs.lemmas.Bool.{false≢true}
-use Rattle.base.specs.declared.ids.{ObjId.ObjId, SlotRef.SlotRef}
-use Rattle.machine.specs.{declared.{cap.Cap.Cap, object.Object.Object}, Changes.{with_word, with_words}, Counts.{caps_to, objects_in}}
-use Rattle.machine.specs.{Counts.{slots_in, threads_in}, Machine.{Machine, cap_of, has_slot, object_of, with_cap, with_object, without_cap}}
-use Rattle.machine.{specs.{Machine.words_of, Objects.{slot_count, thread_count}}, proofs.CapCounts.{caps_to-empty, caps_to-with_cap}}
-use Rattle.machine.proofs.CapCounts.{caps_to-with_new, caps_to-with_object, caps_to-without_cap, none_for_others, one_for_its_own}
-use Rattle.machine.proofs.{FiniteLemmas.by_key, LookUps.{id_apart, id_total}}
-use Rattle.objects.specs.{declared.{counts.Counts.Counts, slots.Slot.Slot, state.State.TheInside.Inside}, Counts.{AreOfNumbers, counts_in}}
-use Rattle.objects.specs.{Counts.one_more, Entries.{caps_in, entry_of, new_entry, replace_in, set_caps_in, set_word_in}, Family.with_slot}
-use Rattle.objects.specs.{Pairs.{AreFilledOrGoing, MayEmpty}, Radices.HasRadix, State.{IsConsistent, IsCounted, IsSound, IsTallied}}
-use Rattle.objects.{specs.State.machine_of, proofs.{CapBounds.held_there, CapsKept.{CapsKept, caps-set, caps-with_entry, caps-with_slot}}}
-use Rattle.objects.proofs.{ChangeLemmas.bulk, ConsistentLemmas.{IsConsistent-added, IsConsistent-all_added, IsConsistent-changed}}
-use Rattle.objects.proofs.ConsistentLemmas.{IsConsistent-empty, IsConsistent-replace, added_gives, after, all_added_gives, caps_give}
-use Rattle.objects.proofs.ConsistentLemmas.{caps_same, empty_gives, found_there, none_of, replace_gives, vacant_number, with_added}
-use Rattle.objects.proofs.{ConsistentLemmas.{with_all_added, with_all_is, with_changed, word_gives}, CountLemmas.counts-empty}
-use Rattle.objects.proofs.CountLemmas.{counts-with_cap, counts-with_new, counts-with_object, counts-with_word, counts-without_cap}
-use Rattle.objects.proofs.{CountLemmas.{few_slots, few_threads}, PairLemmas.{paired-all_new, paired-empty, paired-with_cap}}
-use Rattle.objects.proofs.{PairLemmas.{paired-with_object, paired-with_word, paired-without_cap}, SlotLemmas.changes_slot}
-use Rattle.objects.proofs.{StateLemmas.{next-machine_of, object_at, present_kept, tells-machine_of}, TreeState.IsConsistent-cap_set}
-use Rattle.objects.proofs.TreeState.{put_cap_gives, take_cap_gives}
+use Rattle.{std.proofs.lemmas.Bool.false≢true, base.specs.declared.ids.{ObjId.ObjId, SlotRef.SlotRef}}
+use Rattle.machine.specs.{declared.{cap.Cap.Cap, object.Object.Object}, Changes.{with_word, with_words}}
+use Rattle.machine.specs.{Counts.{caps_to, objects_in, slots_in, threads_in}, Machine.{Machine, cap_of, has_slot, object_of}}
+use Rattle.machine.specs.{Machine.{with_cap, with_object, without_cap, words_of}, Objects.{slot_count, thread_count}}
+use Rattle.machine.proofs.CapCounts.{caps_to-empty, caps_to-with_cap, caps_to-with_new, caps_to-with_object, caps_to-without_cap}
+use Rattle.machine.proofs.{CapCounts.{none_for_others, one_for_its_own}, FiniteLemmas.by_key, LookUps.{id_apart, id_total}}
+use Rattle.objects.specs.declared.{counts.Counts.Counts, slots.Slot.Slot, state.State.TheInside.Inside}
+use Rattle.objects.specs.{Counts.{AreOfNumbers, counts_in, one_more}, Entries.{caps_in, entry_of, new_entry, replace_in}}
+use Rattle.objects.specs.{Entries.{set_caps_in, set_word_in}, Family.with_slot, Pairs.{AreFilledOrGoing, MayEmpty}}
+use Rattle.objects.specs.{Radices.HasRadix, State.{IsConsistent, IsCounted, IsSound, IsTallied, machine_of}}
+use Rattle.objects.proofs.{CapBounds.held_there, CapsKept.{CapsKept, caps-set, caps-with_entry, caps-with_slot}, ChangeLemmas.bulk}
+use Rattle.objects.proofs.ConsistentLemmas.{IsConsistent-added, IsConsistent-all_added, IsConsistent-changed, IsConsistent-empty}
+use Rattle.objects.proofs.ConsistentLemmas.{IsConsistent-replace, added_gives, after, all_added_gives, caps_give, caps_same}
+use Rattle.objects.proofs.ConsistentLemmas.{empty_gives, found_there, none_of, replace_gives, vacant_number, with_added, with_all_added}
+use Rattle.objects.proofs.{ConsistentLemmas.{with_all_is, with_changed, word_gives}, CountLemmas.{counts-empty, counts-with_cap}}
+use Rattle.objects.proofs.CountLemmas.{counts-with_new, counts-with_object, counts-with_word, counts-without_cap, few_slots, few_threads}
+use Rattle.objects.proofs.PairLemmas.{paired-all_new, paired-empty, paired-with_cap, paired-with_object, paired-with_word}
+use Rattle.objects.proofs.{PairLemmas.paired-without_cap, SlotLemmas.changes_slot, StateLemmas.{next-machine_of, object_at, present_kept}}
+use Rattle.objects.proofs.{StateLemmas.tells-machine_of, TreeState.{IsConsistent-cap_set, put_cap_gives, take_cap_gives}}
 
 -- a change that leaves the machine's counts as they are
 

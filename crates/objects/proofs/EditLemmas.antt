@@ -1,7 +1,6 @@
 -- A list edited at one place: its elements at each place, and an edit as a write.
-use Rattle.std.{specs.Prelude.{option_map, slice_get, slice_index_or}, proofs.Common.{[], ℕ, ◌<◌, ◌∷◌, ◌≡◌, ◌≢◌, List, ap, arith, length}}
-use Rattle.std.proofs.Common.{refl, set, suc, sym, zero}
-use Rattle.objects.specs.Edits.{edited}
+use Rattle.std.{specs.Prelude.{option_map, slice_get, slice_index_or}, proofs.Common.{[], ℕ, ◌<◌, ◌∷◌, ◌≡◌, ◌≢◌}}
+use Rattle.{std.proofs.Common.{List, ap, arith, length, refl, set, suc, sym, zero}, objects.specs.Edits.edited}
 
 module _ {X : Type 0} (change : X → X) where
   pub edited_past : (xs : List X) (place : ℕ) → (place < length xs → ⊥) → edited change xs place ≡ xs

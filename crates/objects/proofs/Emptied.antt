@@ -1,7 +1,6 @@
 -- A slot that is emptied: what it held; and the state stays sound if one capability less is counted for that object.
 use Rattle.std.{specs.Prelude.{None, Option, Some, option_map}, proofs.Common.{ℕ, ◌-◌, ◌∙◌, ◌≡◌, ◌≤◌, ap, arith, refl, subst, sym}}
-use Rattle.std.proofs.lemmas.Option.{same_Some}
-use Rattle.base.specs.declared.ids.{ObjId.ObjId, SlotRef.SlotRef}
+use Rattle.{std.proofs.lemmas.Option.same_Some, base.specs.declared.ids.{ObjId.ObjId, SlotRef.SlotRef}}
 use Rattle.machine.specs.{declared.cap.Cap.Cap, Counts.caps_to, Machine.{cap_of, without_cap}}
 use Rattle.machine.proofs.CapCounts.{caps_to-some, without_nothing}
 use Rattle.objects.specs.{declared.state.State.TheInside.Inside, Entries.{Entries, caps_in, entry_of, set_caps_in, slot_at, with_entry}}

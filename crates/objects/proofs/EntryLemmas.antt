@@ -1,10 +1,9 @@
 -- Entries after a change: each object has the entry that it had, except the one whose entry was changed or added.
 use Rattle.std.specs.FinMap as map
 use Rattle.std.{specs.Prelude.{IsSome, None, Option, Some, is_some, option_map, slice_get}, proofs.Common.{ℕ, ◌∙◌, ◌≡◌, ◌≢◌, ap, cond}}
-use Rattle.std.proofs.{Common.{refl, replicate, subst, suc, sym, zero}, lemmas.Bool.false≢true}
-use Rattle.base.specs.declared.ids.ObjId.{ObjId}
-use Rattle.machine.{specs.{Finite.put_some, Machine.same_id}, proofs.{FiniteLemmas.{by_key, cond_elsewhere, cond_here}, LookUps.id_apart}}
-use Rattle.machine.proofs.LookUps.{id_total}
+use Rattle.{std.proofs.{Common.{refl, replicate, subst, suc, sym, zero}, lemmas.Bool.false≢true}, base.specs.declared.ids.ObjId.ObjId}
+use Rattle.machine.specs.{Finite.put_some, Machine.same_id}
+use Rattle.machine.proofs.{FiniteLemmas.{by_key, cond_elsewhere, cond_here}, LookUps.{id_apart, id_total}}
 use Rattle.objects.specs.{declared.{entry.Entry.Entry, slots.Slot.Slot}, Entries.{Entries, entry_of, with_entry}}
 
 pub some-none : {X : Type 0} (o : Option X) → IsSome o → o ≡ None → ⊥

@@ -1,11 +1,10 @@
 -- The links of slots stay those of a forest as a slot comes under a parent, and as it leaves its own.
 use Rattle.std.{specs.Prelude.{IsSome, None, Option, Some}, proofs.Common.{ℕ, ◌<◌, ◌∙◌, ◌≡◌, ◌≢◌, ap, arith, inl, inr, refl, subst, sym}}
-use Rattle.base.specs.declared.ids.{ObjId.ObjId, SlotRef.SlotRef}
-use Rattle.machine.specs.declared.cap.Cap.{Cap}
-use Rattle.objects.specs.{declared.{entry.Entry.Entry, links.TreeLinks.TreeLinks}, Entries.{Entries, entry_of, slot_at}, Family.AreKin}
-use Rattle.objects.specs.{Family.{attached, by_links, cap_in, head_of, leaving, links_at, with_links}, Forest.{IsForest, Joins, Leaves}}
-use Rattle.objects.proofs.{Detaching.left_forest, Forests.{empty_forest, first_of, joined_forest}, SlotLemmas.{SetsLinks, SlotsAlone}}
-use Rattle.objects.proofs.SlotLemmas.{alone_twice, cases_slot, link_kept, linked_there, sets_links}
+use Rattle.{base.specs.declared.ids.{ObjId.ObjId, SlotRef.SlotRef}, machine.specs.declared.cap.Cap.Cap}
+use Rattle.objects.specs.{declared.{entry.Entry.Entry, links.TreeLinks.TreeLinks}, Entries.{Entries, entry_of, slot_at}}
+use Rattle.objects.specs.Family.{AreKin, attached, by_links, cap_in, head_of, leaving, links_at, with_links}
+use Rattle.objects.{specs.Forest.{IsForest, Joins, Leaves}, proofs.{Detaching.left_forest, Forests.{empty_forest, first_of, joined_forest}}}
+use Rattle.objects.proofs.SlotLemmas.{SetsLinks, SlotsAlone, alone_twice, cases_slot, link_kept, linked_there, sets_links}
 
 -- unchanged links
 pub same_kin : (old new : ObjId → Option Entry) → ((q : SlotRef) → links_at new q ≡ links_at old q) → AreKin old → AreKin new

@@ -1,14 +1,13 @@
 -- The links in entries after a thread has come to wait or has left.
 use Rattle.std.specs.{Option.option_or, Prelude.{Contains, IsSome, None, Option, Some, filter, is_some, not, option_map}}
 use Rattle.std.proofs.{Common.{[], ℕ, ◌++◌, ◌<◌, ◌∙◌, ◌∷◌, ◌≡◌, ◌≢◌, List, ap, arith, inl, inr, refl, subst, sym}, lemmas.Bool.false≢true}
-use Rattle.base.specs.declared.ids.ObjId.{ObjId}
-use Rattle.machine.specs.Machine.{same_id}
-use Rattle.objects.specs.{declared.{entry.Entry.Entry, links.{Ends.Ends, Standing.Standing}}, Entries.{Entries, entry_of, set_ends_in}}
-use Rattle.objects.specs.{Entries.{set_standing_in, with_entry}, Links.{AreQueued, end_after, ends_of, pushed, queue_in, quitting}}
-use Rattle.objects.{specs.{Links.{relinked, standing_of, with_standing}, Queues.walk}, proofs.ChangeLemmas.{changed_here, changed_other}}
-use Rattle.objects.proofs.{ChangeLemmas.rest, EntryLemmas.entry_of-with_entry, QueueLemmas.{Joins, cases_id, joined_elsewhere, joined_here}}
-use Rattle.objects.proofs.{QueueLemmas.{joined_queues, reaches, walk_none}, Quitting.{Quits, quit_elsewhere, quit_here, quit_queues}}
-use Rattle.objects.proofs.StateLemmas.{present_kept}
+use Rattle.{base.specs.declared.ids.ObjId.ObjId, machine.specs.Machine.same_id}
+use Rattle.objects.specs.declared.{entry.Entry.Entry, links.{Ends.Ends, Standing.Standing}}
+use Rattle.objects.specs.{Entries.{Entries, entry_of, set_ends_in, set_standing_in, with_entry}, Links.AreQueued}
+use Rattle.objects.specs.{Links.{end_after, ends_of, pushed, queue_in, quitting, relinked, standing_of, with_standing}, Queues.walk}
+use Rattle.objects.proofs.{ChangeLemmas.{changed_here, changed_other, rest}, EntryLemmas.entry_of-with_entry}
+use Rattle.objects.proofs.QueueLemmas.{Joins, cases_id, joined_elsewhere, joined_here, joined_queues, reaches, walk_none}
+use Rattle.objects.proofs.{Quitting.{Quits, quit_elsewhere, quit_here, quit_queues}, StateLemmas.present_kept}
 
 abbrev pub SameRest : (ObjId → Option Entry) → (ObjId → Option Entry) → Type 0
 SameRest old new = (q : ObjId) → option_map rest (new q) ≡ option_map rest (old q)

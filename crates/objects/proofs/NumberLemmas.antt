@@ -1,13 +1,11 @@
 -- The places of numbers after a change of the table of the first numbers, or of the hash map of the others; each number in use is listed.
 use Rattle.std.specs.{Cmp.unsigned_tied, List.list_any, Map.lookup, Prelude.{◌||◌, IsSome, None, Option, Some, is_some, nat_eq, option_map}}
-use Rattle.std.specs.HashMap as hash
-use Rattle.std.{specs.Prelude.slice_get, proofs.Common.{[], ℕ, ◌++◌, ◌+◌, ◌∙◌, ◌∷◌, ◌≡◌, ◌≢◌, Bool, List, ap, arith, cond, eq-eqb, false, length}}
-use Rattle.std.proofs.{Common.{map, refl, replicate, suc, sym, true, zero}, lemmas.{Bool.false≢true, List.{map-append, nil_from_length}}}
-use Rattle.std.proofs.lemmas.List.Folds.{list_any-append}
-use Rattle.base.specs.declared.ids.ObjId.{ObjId}
-use Rattle.machine.specs.Machine.{same_id}
+use Rattle.std.{specs.Prelude.slice_get, proofs.Common.{[], ℕ, ◌++◌, ◌+◌, ◌∙◌, ◌∷◌, ◌≡◌, ◌≢◌, Bool, List, ap, arith, cond, eq-eqb, false}}
+use Rattle.std.proofs.{Common.{length, map, refl, replicate, suc, sym, true, zero}, lemmas.{Bool.false≢true, List.Folds.list_any-append}}
+use Rattle.{std.proofs.lemmas.List.{map-append, nil_from_length}, base.specs.declared.ids.ObjId.ObjId, machine.specs.Machine.same_id}
 use Rattle.objects.specs.{declared.numbers.Places.Places, Edits.edited, Places.{from_either, numbers_from, numbers_in, places_in}}
 use Rattle.objects.proofs.EditLemmas.{slice_get_edited_other, slice_get_edited_same}
+use Rattle.std.specs.HashMap as hash
 
 -- a number that the table is for has the place that was set
 pub set_early :

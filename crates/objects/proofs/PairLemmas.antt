@@ -1,14 +1,13 @@
 -- The pairs of the derivation tree join slots that are filled or whose holders are going, also after each change.
 use Rattle.std.specs.FinMap as map
-use Rattle.std.{specs.{List.fold, Prelude.{Contains, IsSome, None, Option, Some}}, proofs.Common.{[], ℕ, ◌∙◌, ◌∷◌, ◌≡◌, ◌≢◌, Bool, List}}
-use Rattle.std.proofs.{Common.{ap, cond, false, inl, inr, refl, subst, sym, true}, lemmas.List.Elements.Contains-append_left}
-use Rattle.std.proofs.lemmas.Option.{same_Some}
-use Rattle.base.specs.declared.ids.{ObjId.ObjId, SlotRef.SlotRef}
-use Rattle.machine.specs.{declared.{cap.Cap.Cap, object.Object.Object}, Changes.{with_going, with_none_going, with_waiting, with_word}}
-use Rattle.machine.specs.{Changes.{with_words, without_object, without_waiting}, Machine.{Machine, cap_of, empty_machine, parent_of}}
-use Rattle.machine.specs.Machine.{queue_of, same_slot, with_cap, with_new, with_object, with_parent, with_queue, without_cap}
-use Rattle.machine.{specs.{Machine.{without_parent, words_of}, Tree.IsAlone}, proofs.LookUps.{cap_of-with_cap, one_slot, parent_of-empty}}
-use Rattle.machine.proofs.LookUps.{parent_of-with_parent, slot_total}
+use Rattle.std.{specs.{List.fold, Prelude.{Contains, IsSome, None, Option, Some}}, proofs.Common.{[], ℕ, ◌∙◌, ◌∷◌, ◌≡◌, ◌≢◌, Bool}}
+use Rattle.std.proofs.{Common.{List, ap, cond, false, inl, inr, refl, subst, sym, true}, lemmas.List.Elements.Contains-append_left}
+use Rattle.{std.proofs.lemmas.Option.same_Some, base.specs.declared.ids.{ObjId.ObjId, SlotRef.SlotRef}}
+use Rattle.machine.specs.declared.{cap.Cap.Cap, object.Object.Object}
+use Rattle.machine.specs.Changes.{with_going, with_none_going, with_waiting, with_word, with_words, without_object, without_waiting}
+use Rattle.machine.specs.Machine.{Machine, cap_of, empty_machine, parent_of, queue_of, same_slot, with_cap, with_new}
+use Rattle.machine.specs.{Machine.{with_object, with_parent, with_queue, without_cap, without_parent, words_of}, Tree.IsAlone}
+use Rattle.machine.proofs.LookUps.{cap_of-with_cap, one_slot, parent_of-empty, parent_of-with_parent, slot_total}
 use Rattle.objects.specs.Pairs.{AreFilled, AreFilledOrGoing, IsFilledOrGoing, MayEmpty}
 
 -- a change that makes no pair keeps this if each filled or going slot stays so

@@ -1,17 +1,16 @@
 -- Entries at places after a change: each object has the entry that it had, except the one whose entry was changed or added; and the
 -- entries by number are these.
 use Rattle.std.specs.FinMap as finite
-use Rattle.std.{specs.{List.list_any, Prelude.{IsSome, None, Option, Some, is_some, option_and_then, option_map}}, proofs.Common.{[], ℕ}}
-use Rattle.std.proofs.{Common.{◌∙◌, ◌≡◌, ◌≢◌, ◌⊎◌, ap, cond, inl, inr, map, refl, subst, sym, true}, lemmas.Bool.cases_eq}
-use Rattle.std.proofs.lemmas.Option.{same_Some}
-use Rattle.slab.{specs.Slab.Slab, proofs.SlabLemmas.Updates-with_value}
-use Rattle.slab.specs.Slab as slab
-use Rattle.base.specs.declared.ids.ObjId.{ObjId}
+use Rattle.std.specs.{List.list_any, Prelude.{IsSome, None, Option, Some, is_some, option_and_then, option_map}}
+use Rattle.std.proofs.Common.{[], ℕ, ◌∙◌, ◌≡◌, ◌≢◌, ◌⊎◌, ap, cond, inl, inr, map, refl, subst, sym, true}
+use Rattle.std.proofs.lemmas.{Bool.cases_eq, Option.same_Some}
+use Rattle.{slab.{specs.Slab.Slab, proofs.SlabLemmas.Updates-with_value}, base.specs.declared.ids.ObjId.ObjId}
 use Rattle.machine.{specs.Machine.{id_cmp, same_id}, proofs.{FiniteLemmas.{by_key, get-tabulate}, LookUps.{id_apart, id_total}}}
-use Rattle.objects.specs.{declared.{entry.Entry.Entry, numbers.Places.Places, store.Store.TheInside.Inside}, Entries.{Entries, entry_of}}
-use Rattle.objects.specs.{Entries.with_entry, Places.{AddsEntry, IsPlaced, RemovesEntry, SameEntries, changed, changed_at}}
-use Rattle.objects.{specs.Places.{entries_by_number, numbers_in, placed, places_in, with_placed}, proofs.EntryLemmas.entry_of-with_entry}
-use Rattle.objects.proofs.{EntryLemmas.some-none, NumberLemmas.{number_listed, unplaced}}
+use Rattle.objects.specs.declared.{entry.Entry.Entry, numbers.Places.Places, store.Store.TheInside.Inside}
+use Rattle.objects.specs.{Entries.{Entries, entry_of, with_entry}, Places.{AddsEntry, IsPlaced, RemovesEntry, SameEntries}}
+use Rattle.objects.specs.Places.{changed, changed_at, entries_by_number, numbers_in, placed, places_in, with_placed}
+use Rattle.objects.proofs.{EntryLemmas.{entry_of-with_entry, some-none}, NumberLemmas.{number_listed, unplaced}}
+use Rattle.slab.specs.Slab as slab
 
 -- no two numbers share a place
 abbrev pub IsApart : (ℕ → Option ℕ) → Type 0

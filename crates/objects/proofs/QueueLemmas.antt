@@ -1,11 +1,10 @@
 -- Links of queues stay so as a thread joins a queue, and the queues are then as they were, with the thread at the end of one.
-use Rattle.std.{specs.{Option.option_or, Prelude.{Contains, List, None, Option, Some, slice_get}}, proofs.Common.{[], ℕ, ◌++◌, ◌+◌, ◌<◌}}
-use Rattle.std.proofs.{Common.{◌∙◌, ◌∷◌, ◌≡◌, ◌≢◌, ◌≤◌, ◌⊎◌, ap, arith, inl, inr, refl, subst, suc, sym, zero}, lemmas.Bool.cases_eq}
-use Rattle.std.proofs.lemmas.Bool.{cases_lt}
-use Rattle.slab.proofs.SlabLemmas.{Contains-cons, Contains-cons_cases}
-use Rattle.base.specs.declared.ids.ObjId.{ObjId}
-use Rattle.objects.{specs.{declared.links.{Ends.Ends, Standing.Standing}, Queues.{AreQueues, walk}}, proofs.RankLemmas.{moved, moved_below}}
-use Rattle.objects.proofs.RankLemmas.{moved_beyond, moved_last, moved_later, moved_one_each}
+use Rattle.std.specs.{Option.option_or, Prelude.{Contains, List, None, Option, Some, slice_get}}
+use Rattle.std.proofs.Common.{[], ℕ, ◌++◌, ◌+◌, ◌<◌, ◌∙◌, ◌∷◌, ◌≡◌, ◌≢◌, ◌≤◌, ◌⊎◌, ap, arith, inl}
+use Rattle.std.proofs.{Common.{inr, refl, subst, suc, sym, zero}, lemmas.Bool.{cases_eq, cases_lt}}
+use Rattle.{slab.proofs.SlabLemmas.{Contains-cons, Contains-cons_cases}, base.specs.declared.ids.ObjId.ObjId}
+use Rattle.objects.specs.{declared.links.{Ends.Ends, Standing.Standing}, Queues.{AreQueues, walk}}
+use Rattle.objects.proofs.RankLemmas.{moved, moved_below, moved_beyond, moved_last, moved_later, moved_one_each}
 
 pub cases_id : (a b : ObjId) → (a ≡ b) ⊎ (a ≢ b)
 cases_id a b =

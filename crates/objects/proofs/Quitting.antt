@@ -1,8 +1,7 @@
 -- Links of queues stay so as any thread of a queue leaves it, and the others stay in order.
-use Rattle.std.{specs.Prelude.{Contains, None, Option, Some, filter, not}, proofs.Common.{ℕ, ◌+◌, ◌<◌, ◌∙◌, ◌∷◌, ◌≡◌, ◌≢◌, ◌≤◌, ◌⊎◌, Bool}}
-use Rattle.std.proofs.Common.{List, ap, arith, cond, false, inl, inr, refl, subst, suc, sym, true, zero}
-use Rattle.slab.proofs.SlabLemmas.{Contains-cons_cases}
-use Rattle.base.specs.declared.ids.ObjId.{ObjId}
+use Rattle.std.{specs.Prelude.{Contains, None, Option, Some, filter, not}, proofs.Common.{ℕ, ◌+◌, ◌<◌, ◌∙◌, ◌∷◌, ◌≡◌, ◌≢◌}}
+use Rattle.std.proofs.Common.{◌≤◌, ◌⊎◌, Bool, List, ap, arith, cond, false, inl, inr, refl, subst, suc, sym, true, zero}
+use Rattle.{slab.proofs.SlabLemmas.Contains-cons_cases, base.specs.declared.ids.ObjId.ObjId}
 use Rattle.machine.{specs.Machine.same_id, proofs.{Ids.{itself, two_ids}, LookUps.one_id}}
 use Rattle.objects.specs.{declared.links.{Ends.Ends, Standing.Standing}, Links.end_after, Queues.{AreQueues, walk}}
 use Rattle.objects.proofs.QueueLemmas.{cases_id, cases_some, walk_ends, walk_same}

@@ -1,13 +1,12 @@
 -- A state's entries and the machine that contracts see: what the machine answers, and what each change makes of it.
 use Rattle.std.specs.FinMap as finite
 use Rattle.std.specs.{List.{flat_map, list_any, range_with_len}, Prelude.{◌||◌, IsSome, None, Option, Some, is_some, option_and_then}}
-use Rattle.std.{specs.Prelude.{option_map, slice_get}, proofs.Common.{[], ℕ, ◌+◌, ◌<◌, ◌∙◌, ◌∷◌, ◌≡◌, ◌≤◌, Bool, List, ap, arith, inl, inr}}
-use Rattle.std.proofs.{Common.{length, map, refl, subst, suc, sym, true, zero}, lemmas.Bool.{cases_eq, false≢true, or_cases, or_left}}
-use Rattle.std.proofs.lemmas.{Bool.or_right, List.Folds.list_any-append}
-use Rattle.base.specs.declared.ids.{ObjId.ObjId, SlotRef.SlotRef}
+use Rattle.std.{specs.Prelude.{option_map, slice_get}, proofs.Common.{[], ℕ, ◌+◌, ◌<◌, ◌∙◌, ◌∷◌, ◌≡◌, ◌≤◌, Bool, List, ap, arith, inl}}
+use Rattle.std.proofs.{Common.{inr, length, map, refl, subst, suc, sym, true, zero}, lemmas.Bool.{cases_eq, false≢true, or_cases, or_left}}
+use Rattle.{std.proofs.lemmas.{Bool.or_right, List.Folds.list_any-append}, base.specs.declared.ids.{ObjId.ObjId, SlotRef.SlotRef}}
 use Rattle.machine.specs.{declared.object.Object.Object, Machine.{Machine, cap_of, object_of, parent_of, queue_of, same_id, same_slot}}
-use Rattle.machine.{specs.Machine.words_of, proofs.{FiniteLemmas.{get-tabulate, same_from_tie, ties_itself}, LookUps.{id_apart, id_total}}}
-use Rattle.machine.proofs.LookUps.{same_machine, slot_apart, slot_total}
+use Rattle.machine.{specs.Machine.words_of, proofs.FiniteLemmas.{get-tabulate, same_from_tie, ties_itself}}
+use Rattle.machine.proofs.LookUps.{id_apart, id_total, same_machine, slot_apart, slot_total}
 use Rattle.objects.specs.{declared.{entry.Entry.Entry, slots.Slot.Slot, state.State.TheInside.Inside}, Entries.{Entries, entry_of, slot_at}}
 use Rattle.objects.specs.{Family.{cap_in, parent_in}, Links.queue_in, State.{machine_from, machine_of, slots_of}}
 

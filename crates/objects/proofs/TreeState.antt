@@ -1,22 +1,21 @@
 -- Changes of slots and of the derivation tree keep a state consistent: a slot is filled or emptied, comes under a parent or leaves its own.
 use Rattle.std.specs.FinMap as map
 use Rattle.std.specs.Prelude.{IfNone, IfSome, IsSome, IsTrue, None, Option, Some, option_and_then, option_map, slice_get}
-use Rattle.std.proofs.{Common.{◌<◌, ◌∙◌, ◌≡◌, ◌≢◌, ap, arith, cond, inl, inr, length, refl, subst, sym}, lemmas.Bool.{false≢true, lt-ltb}}
-use Rattle.std.proofs.lemmas.Option.{same_Some}
-use Rattle.base.specs.declared.ids.{ObjId.ObjId, SlotRef.SlotRef}
-use Rattle.machine.specs.{declared.cap.Cap.Cap, Machine.{Machine, cap_of, has_slot, object_of, parent_of, queue_of, same_slot, with_cap}}
-use Rattle.machine.specs.{Machine.{with_parent, without_cap, without_parent, words_of}, Objects.slot_count, Tree.IsRanked}
-use Rattle.machine.{specs.WellFormed.Descends, proofs.{FiniteLemmas.{by_key, cond_here}, LookUps.{cap_of-with_cap, cap_of-with_parent}}}
-use Rattle.machine.proofs.{LookUps.{parent_of-with_parent, same_machine, slot_apart, slot_total}, SlotChanges.SameObjects}
-use Rattle.machine.proofs.TreeRanks.{ranked_acyclic}
+use Rattle.std.proofs.Common.{◌<◌, ◌∙◌, ◌≡◌, ◌≢◌, ap, arith, cond, inl, inr, length, refl, subst, sym}
+use Rattle.{std.proofs.lemmas.{Bool.{false≢true, lt-ltb}, Option.same_Some}, base.specs.declared.ids.{ObjId.ObjId, SlotRef.SlotRef}}
+use Rattle.machine.specs.{declared.cap.Cap.Cap, Machine.{Machine, cap_of, has_slot, object_of, parent_of}}
+use Rattle.machine.specs.Machine.{queue_of, same_slot, with_cap, with_parent, without_cap, without_parent, words_of}
+use Rattle.machine.{specs.{Objects.slot_count, Tree.IsRanked, WellFormed.Descends}, proofs.FiniteLemmas.{by_key, cond_here}}
+use Rattle.machine.proofs.LookUps.{cap_of-with_cap, cap_of-with_parent, parent_of-with_parent, same_machine, slot_apart, slot_total}
+use Rattle.machine.proofs.{SlotChanges.SameObjects, TreeRanks.ranked_acyclic}
 use Rattle.objects.specs.{declared.{entry.Entry.Entry, slots.Slot.Slot, state.State.TheInside.Inside}, Entries.{Entries, entry_of, slot_at}}
 use Rattle.objects.specs.Family.{AreKin, attached, by_links, cap_in, detached, leaving, leaving_from, links_at, links_of, parent_in}
-use Rattle.objects.{specs.{Family.with_slot, Radices.HasRadix, State.{IsConsistent, IsSized, machine_of}}, proofs.ChangeLemmas.bulk}
-use Rattle.objects.proofs.{ChangeLemmas.{links_kept, part_read, tells-slots}, ConsistentLemmas.found_slot, Families.attached_alone}
-use Rattle.objects.proofs.Families.{attached_caps, attached_kin, child_there, detached_alone, detached_caps, detached_kin, joins, leaves}
-use Rattle.objects.proofs.{Families.{parent_there, same_kin}, Forests.childless, SlotLemmas.{ChangesSlot, SlotsAlone, cases_slot}}
-use Rattle.objects.proofs.{SlotLemmas.{changes_slot, filled_there, there_within, within_there}, StateLemmas.going-machine_of}
-use Rattle.objects.proofs.StateLemmas.{next-machine_of, object_at, present_kept, same_from_tells, tells-machine_of}
+use Rattle.objects.specs.{Family.with_slot, Radices.HasRadix, State.{IsConsistent, IsSized, machine_of}}
+use Rattle.objects.proofs.{ChangeLemmas.{bulk, links_kept, part_read, tells-slots}, ConsistentLemmas.found_slot}
+use Rattle.objects.proofs.Families.{attached_alone, attached_caps, attached_kin, child_there, detached_alone}
+use Rattle.objects.proofs.{Families.{detached_caps, detached_kin, joins, leaves, parent_there, same_kin}, Forests.childless}
+use Rattle.objects.proofs.SlotLemmas.{ChangesSlot, SlotsAlone, cases_slot, changes_slot, filled_there, there_within, within_there}
+use Rattle.objects.proofs.StateLemmas.{going-machine_of, next-machine_of, object_at, present_kept, same_from_tells, tells-machine_of}
 
 abbrev with_entries : Inside → Entries → Inside
 with_entries s entries = record s { store = entries }

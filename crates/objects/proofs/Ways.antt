@@ -1,8 +1,7 @@
 -- The way up from a slot of the derivation tree: each step shortens it.
 use Rattle.std.specs.{FinMap.{contains_key-keys, keys}, List.{count_by, list_any}, Option.is_some, Prelude.{None, Option, Some, nat_lt}}
 use Rattle.std.proofs.Common.{ℕ, ◌+◌, ◌<◌, ◌∙◌, ◌≡◌, ◌≤◌, ap, arith, false, length, refl, suc, sym, true, zero}
-use Rattle.std.proofs.lemmas.{Bool.Decides.nat_tests, List.Sums.count_by-le-length}
-use Rattle.base.specs.declared.ids.SlotRef.{SlotRef}
+use Rattle.{std.proofs.lemmas.{Bool.Decides.nat_tests, List.Sums.count_by-le-length}, base.specs.declared.ids.SlotRef.SlotRef}
 use Rattle.machine.{specs.{Machine.{Machine, parent_of, same_slot}, Tree.IsRanked}, proofs.LookUps.one_slot}
 use Rattle.objects.proofs.Passing.{fewer_pass}
 

@@ -1,9 +1,8 @@
 -- Counts of objects, slots and threads in a state.
 use Rattle.std.specs.Prelude.{ℕ, ◌*◌, ◌+◌, ◌-◌, ◌^◌, ◌≤◌}
 use Rattle.base.specs.declared.limits.TheConstants.{MAX_RADIX}
-use Rattle.machine.specs.{declared.object.Object.Object, Counts.{objects_in, slots_in, threads_in}, Machine.Machine, Objects.slot_count}
-use Rattle.machine.specs.Objects.{thread_count}
-use Rattle.objects.specs.declared.counts.Counts.{Counts}
+use Rattle.machine.specs.{declared.object.Object.Object, Counts.{objects_in, slots_in, threads_in}, Machine.Machine}
+use Rattle.{machine.specs.Objects.{slot_count, thread_count}, objects.specs.declared.counts.Counts.Counts}
 
 -- the counts with one more object
 abbrev pub one_more : Counts → Object → Counts

@@ -1,10 +1,9 @@
 -- Entries of objects, what they say, and the entries after a change to one.
-use Rattle.std.specs.{FinMap.FinMap, Prelude.{[], ℕ, ◌+◌, ◌∷◌, List, None, Option, Some, option_and_then, option_map, replicate, slice_get}}
-use Rattle.std.specs.FinMap as map
-use Rattle.std.specs.Prelude.{slice_set}
-use Rattle.base.specs.declared.ids.{ObjId.ObjId, SlotRef.SlotRef}
+use Rattle.std.specs.{FinMap.FinMap, Prelude.{[], ℕ, ◌+◌, ◌∷◌, List, None, Option, Some, option_and_then, option_map}}
+use Rattle.{std.specs.Prelude.{replicate, slice_get, slice_set}, base.specs.declared.ids.{ObjId.ObjId, SlotRef.SlotRef}}
 use Rattle.machine.specs.{declared.object.Object.Object, Finite.put_some, Machine.id_cmp, Objects.{slot_count, word_count}}
 use Rattle.objects.specs.{declared.{entry.Entry.Entry, links.{Ends.Ends, Standing.Standing}, slots.Slot.Slot}, Edits.edited}
+use Rattle.std.specs.FinMap as map
 
 -- the entries of the objects, by number
 abbrev pub Entries : Type 0

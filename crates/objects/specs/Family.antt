@@ -1,8 +1,7 @@
 -- The derivation tree in the slots of entries: when the slots' links are those of a forest, and the entries after a slot has come under a
 -- parent or has left its own (confine's own).
 use Rattle.std.specs.Prelude.{None, Option, Some, option_and_then}
-use Rattle.base.specs.declared.ids.{ObjId.ObjId, SlotRef.SlotRef}
-use Rattle.machine.specs.declared.cap.Cap.{Cap}
+use Rattle.{base.specs.declared.ids.{ObjId.ObjId, SlotRef.SlotRef}, machine.specs.declared.cap.Cap.Cap}
 use Rattle.objects.specs.declared.{entry.Entry.Entry, links.TreeLinks.TreeLinks, slots.Slot.Slot}
 use Rattle.objects.specs.{Entries.{Entries, change_slot_in, entry_of, slot_at, with_entry}, Forest.{IsForest, Links}}
 

@@ -1,8 +1,7 @@
 -- Links in the entries of objects, and the entries after a thread has come to wait or has left (confine's own).
-use Rattle.std.specs.{Option.option_or, Prelude.{ℕ, List, None, Option, Some, option_map}}
-use Rattle.base.specs.declared.ids.ObjId.{ObjId}
-use Rattle.objects.specs.{declared.{entry.Entry.Entry, links.{Ends.Ends, Standing.Standing}}, Entries.{Entries, entry_of, set_ends_in}}
-use Rattle.objects.specs.{Entries.{set_standing_in, with_entry}, Queues.{AreQueues, walk}}
+use Rattle.{std.specs.{Option.option_or, Prelude.{ℕ, List, None, Option, Some, option_map}}, base.specs.declared.ids.ObjId.ObjId}
+use Rattle.objects.specs.declared.{entry.Entry.Entry, links.{Ends.Ends, Standing.Standing}}
+use Rattle.objects.specs.{Entries.{Entries, entry_of, set_ends_in, set_standing_in, with_entry}, Queues.{AreQueues, walk}}
 
 -- the ends of the queue at an object; nobody waits at one that is absent
 abbrev pub ends_of : Option Entry → Ends

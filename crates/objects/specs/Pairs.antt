@@ -1,8 +1,7 @@
 -- The slots that pairs of the derivation tree join (seL4 manual, "Capability Derivation Tree"; that an emptied slot keeps its place as
 -- long as its holder is going is confine's own).
 use Rattle.std.specs.Prelude.{◌≡◌, ◌⊎◌, Contains, IsSome, Some}
-use Rattle.base.specs.declared.ids.SlotRef.{SlotRef}
-use Rattle.machine.specs.{Machine.{Machine, cap_of, parent_of}, Tree.IsAlone}
+use Rattle.{base.specs.declared.ids.SlotRef.SlotRef, machine.specs.{Machine.{Machine, cap_of, parent_of}, Tree.IsAlone}}
 
 -- a slot is filled, or its holder has lost its last capability in a removal that is under way
 abbrev pub IsFilledOrGoing : Machine → SlotRef → Type 0

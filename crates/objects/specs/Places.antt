@@ -1,12 +1,9 @@
 -- Places of entries: a place for each number in use, and the entries at the places.
 use Rattle.std.specs.HashMap as hash
 use Rattle.std.specs.Prelude.{[], ℕ, ◌++◌, ◌∷◌, ◌≡◌, ◌≢◌, ◌≤◌, IsSome, List, None, Option, Some, map, nat_eq, option_and_then, slice_get}
-use Rattle.std.proofs.Common.{suc}
-use Rattle.slab.specs.Slab.{Slab}
-use Rattle.slab.specs.Slab as slab
-use Rattle.base.specs.declared.ids.ObjId.{ObjId}
-use Rattle.machine.specs.Finite.{tabulate}
+use Rattle.{std.proofs.Common.suc, slab.specs.Slab.Slab, base.specs.declared.ids.ObjId.ObjId, machine.specs.Finite.tabulate}
 use Rattle.objects.specs.{declared.{entry.Entry.Entry, numbers.Places.Places, store.Store.TheInside.Inside}, Entries.Entries}
+use Rattle.slab.specs.Slab as slab
 
 -- the table's answer for a number, or the hash map's if the table is not for that number
 abbrev pub from_either : Option (Option ℕ) → Option ℕ → Option ℕ

@@ -1,8 +1,7 @@
 -- Queues of threads as links: the ends of each queue, and the place of each thread; the queue as a list, and what is true of the links
 -- (confine's own).
 use Rattle.std.{specs.Prelude.{[], ℕ, ◌<◌, ◌∷◌, ◌≡◌, ◌≤◌, List, None, Option, Some}, proofs.Common.{suc, zero}}
-use Rattle.base.specs.declared.ids.ObjId.{ObjId}
-use Rattle.objects.specs.declared.links.{Ends.Ends, Standing.Standing}
+use Rattle.{base.specs.declared.ids.ObjId.ObjId, objects.specs.declared.links.{Ends.Ends, Standing.Standing}}
 
 -- the threads from this one on, at most this many
 abbrev pub walk : (ObjId → Standing) → ℕ → Option ObjId → List ObjId

@@ -1,6 +1,5 @@
 -- The capability in the root slot of a thread (seL4 manual, "Capability Address Lookup").
-use Rattle.std.specs.Prelude.{None, Option, Some, option_and_then, option_map, slice_get}
-use Rattle.base.specs.declared.ids.ObjId.{ObjId}
+use Rattle.{std.specs.Prelude.{None, Option, Some, option_and_then, option_map, slice_get}, base.specs.declared.ids.ObjId.ObjId}
 use Rattle.machine.specs.{declared.{cap.Cap.Cap, object.Object.{Object, Object as o}}, Lookup.root_of, Machine.{Machine, cap_of, object_of}}
 use Rattle.objects.specs.{declared.entry.Entry.Entry, Family.cap_in}
 

@@ -1,7 +1,6 @@
 -- Threads that stand in no queue, and threads that stand in one (seL4 manual, "Notifications" and "Endpoints").
 use Rattle.std.specs.Prelude.{◌≡◌, Contains, List, Some}
-use Rattle.base.specs.declared.ids.ObjId.{ObjId}
-use Rattle.machine.specs.Machine.{Machine, queue_of}
+use Rattle.{base.specs.declared.ids.ObjId.ObjId, machine.specs.Machine.{Machine, queue_of}}
 
 -- no object's queue has the thread
 abbrev pub WaitsNowhere : Machine → ObjId → Type 0

@@ -1,8 +1,7 @@
 //! Counts of objects, slots and threads.
 ghost use Rattle.std.specs.{List.fold, Prelude.{◌*◌, ◌+◌, ◌<◌, ◌^◌, ◌≡◌, ◌≤◌, length}};
 ghost use Rattle.base.specs.declared.limits.TheConstants.{MAX_RADIX};
-ghost use Rattle.machine.specs.Objects.{slot_count, thread_count};
-ghost use Rattle.objects.specs.Counts.{one_less, one_more};
+ghost use Rattle.{machine.specs.Objects.{slot_count, thread_count}, objects.specs.Counts.{one_less, one_more}};
 
 use machine::Object;
 

@@ -1,12 +1,11 @@
 -- Walks by labels of given sets, edge by edge: the labels from which a turn leads on, how the least walk begins, and its first edge.
-use Rattle.std.proofs.Common.{[], ℕ, ◌&&◌, ◌↔◌, ◌∙◌, ◌∷◌, ◌≡◌, ◌⊎◌, Bool, List, Option, Vec, ap, arith, inl, inr, length, refl, subst, sym, true}
-use Rattle.std.{specs.declared.{alloc.Global.Global, cmp.Ordering.TheVariants.Less}, proofs.lemmas.Bool.{and_from, and_parts}}
-use Rattle.base.specs.{declared.{edge.Edge.Edge, kind.Kind.Kind, labels.Labels.Labels}, Labels.is_in}
+use Rattle.std.{specs.declared.{alloc.Global.Global, cmp.Ordering.TheVariants.Less}, proofs.Common.{[], ℕ, ◌&&◌, ◌↔◌, ◌∙◌, ◌∷◌, ◌≡◌}}
+use Rattle.std.proofs.{Common.{◌⊎◌, Bool, List, Option, Vec, ap, arith, inl, inr, length, refl, subst, sym, true}, lemmas.Bool.and_from}
+use Rattle.{std.proofs.lemmas.Bool.and_parts, base.specs.{declared.{edge.Edge.Edge, kind.Kind.Kind, labels.Labels.Labels}, Labels.is_in}}
 use Rattle.policy.specs.{declared.guarded.Turn.Turn, Domain.EdgeTest, Guarded.{FindsLesserGuarded, IsGuardedWalk, lets_through}}
-use Rattle.policy.specs.{Places.{ComesBefore, IsLeast, IsNone}, Policy.edge_cmp, Reasons.{edge, reason_place}, Walks.{FindsWalk, GoesAgainst}}
-use Rattle.policy.specs.Walks.{GoesAlong, Leads, Passes, is_of, other_end, Passes.{against, along}}
-use Rattle.policy.proofs.{Places.only_least, StepWalks.{edge_against, edge_along, of_itself, only_of}, Walking.end_is}
-use Rattle.policy.proofs.WalkOrder.{before_front, least_either}
+use Rattle.policy.specs.{Places.{ComesBefore, IsLeast, IsNone}, Policy.edge_cmp, Reasons.{edge, reason_place}, Walks.FindsWalk}
+use Rattle.policy.{specs.Walks.{GoesAgainst, GoesAlong, Leads, Passes, Passes.{against, along}, is_of, other_end}, proofs.Places.only_least}
+use Rattle.policy.proofs.{StepWalks.{edge_against, edge_along, of_itself, only_of}, WalkOrder.{before_front, least_either}, Walking.end_is}
 
 module _ (test : EdgeTest) where
   pub stays_there : (turns : List Turn) → length turns ≡ 0 → (from to : ℕ) → from ≡ to → IsLeast reason_place (IsGuardedWalk test turns from to) []

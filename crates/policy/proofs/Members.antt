@@ -1,17 +1,16 @@
 -- Rising lists of edges by their members: which edge is the last, and that lists with the same members are equal.
+use mathlib.Core.Bool.{false≢true}
 use Rattle.std.specs.{declared.cmp.Ordering.{Ordering, TheVariants.{Equal, Greater, Less}}, List.{AllByRecursion, filter, range_with_len}}
 use Rattle.std.{specs.{Ordering.{is_eq, is_lt, ordering_reverse}, Prelude.IfSome}, proofs.Common.{[], ℕ, ◌&&◌, ◌++◌, ◌+◌, ◌-◌, ◌<◌, ◌||◌}}
 use Rattle.std.proofs.Common.{◌∙◌, ◌∷◌, ◌≡◌, ◌⊎◌, Bool, List, None, Option, Some, ap, arith, cond, false, get_or, inl, inr, length, map}
 use Rattle.std.proofs.{Common.{refl, subst, sym, true}, Math.{Bool.{or-false, or_comm}, Seq.get_or-append_seam}, lemmas.Bool.cases_lt}
-use Rattle.std.proofs.lemmas.{Bool.{cases_order, or_cases, or_left, or_right}, List.{get_or_append_left, length_push}}
-use Rattle.std.proofs.lemmas.List.{Folds.{Any-from_list_any, list_any-append, list_any_at}, FromFn.filter_of_map_range_with_len_more}
-use Rattle.std.proofs.lemmas.{List.Kept.IsStrictlySortedBy-filter, Map.Keys.{Less-from_sorted, sorted_from_all_adjacent, sorted_head}}
-use Rattle.std.proofs.lemmas.{Map.{Keys.sorted_tail, Views.any-filter_same}, Option.slice_get-get_or}
-use Rattle.base.specs.declared.{edge.Edge.Edge, kind.Kind.Kind}
-use Rattle.policy.specs.{Policy.{IsAboveLast, IsRising, JoinsBelow, allows, edge_cmp, is_edge, last_edge}, Rows.{all_edges, edge_at}}
-use Rattle.policy.{specs.Rows.{edge_count, last_with}, proofs.{KindNumbers.same_kind, Order.{edge_total, is_edge-edge_cmp}}}
-use Rattle.policy.proofs.RowEdges.{all_of, all_rising, is_possible, of_parts, possible, same_parts}
-use mathlib.Core.Bool.{false≢true}
+use Rattle.std.proofs.lemmas.{Bool.{cases_order, or_cases, or_left, or_right}, List.Folds.{Any-from_list_any, list_any-append, list_any_at}}
+use Rattle.std.proofs.lemmas.List.{FromFn.filter_of_map_range_with_len_more, Kept.IsStrictlySortedBy-filter, get_or_append_left}
+use Rattle.std.proofs.lemmas.{List.length_push, Map.Keys.{Less-from_sorted, sorted_from_all_adjacent, sorted_head, sorted_tail}}
+use Rattle.{std.proofs.lemmas.{Map.Views.any-filter_same, Option.slice_get-get_or}, base.specs.declared.{edge.Edge.Edge, kind.Kind.Kind}}
+use Rattle.policy.specs.Policy.{IsAboveLast, IsRising, JoinsBelow, allows, edge_cmp, is_edge, last_edge}
+use Rattle.policy.{specs.Rows.{all_edges, edge_at, edge_count, last_with}, proofs.KindNumbers.same_kind}
+use Rattle.policy.proofs.{Order.{edge_total, is_edge-edge_cmp}, RowEdges.{all_of, all_rising, is_possible, of_parts, possible, same_parts}}
 
 abbrev pub Has : List Edge → Edge → Bool
 Has edges edge = allows edges edge.from edge.kind edge.to

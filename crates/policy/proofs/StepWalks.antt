@@ -1,10 +1,9 @@
 -- The edge of a step: its ends, and its kind among those of the step.
-use Rattle.std.proofs.{Common.{[], ℕ, ◌∙◌, ◌∷◌, ◌≡◌, List, ap, false, refl, sym, true}, Math.Bool.or-false, lemmas.Bool.{eq-eqb, eqb-true}}
-use Rattle.std.proofs.lemmas.Bool.{or_left}
-use Rattle.base.specs.{declared.{edge.Edge.Edge, kind.Kind.Kind}, Kinds.kind_number}
-use Rattle.policy.specs.{declared.walks.Step.Step, Domain.EdgeTest, Reasons.edge, Walks.{GoesAgainst, GoesAlong, IsThere, Passes}}
-use Rattle.policy.{specs.Walks.{is_of, Passes.{against, along}}, proofs.KindNumbers.{is_kind, same_kind}}
 use mathlib.Core.Bool.{false≢true}
+use Rattle.std.proofs.{Common.{[], ℕ, ◌∙◌, ◌∷◌, ◌≡◌, List, ap, false, refl, sym, true}, Math.Bool.or-false}
+use Rattle.{std.proofs.lemmas.Bool.{eq-eqb, eqb-true, or_left}, base.specs.{declared.{edge.Edge.Edge, kind.Kind.Kind}, Kinds.kind_number}}
+use Rattle.policy.specs.{declared.walks.Step.Step, Domain.EdgeTest, Reasons.edge, Walks.{GoesAgainst, GoesAlong}}
+use Rattle.policy.{specs.Walks.{IsThere, Passes, Passes.{against, along}, is_of}, proofs.KindNumbers.{is_kind, same_kind}}
 
 -- the only kind of a list
 pub only_of : (kind other : Kind) → is_of (kind ∷ []) other ≡ true → other ≡ kind

@@ -1,9 +1,8 @@
 -- The sweep over the places of a rule: which place is found first, and the number of each place.
-use Rattle.std.{specs.{Borrow.Bor, List.{AllZip, range_with_len}, Prelude.{IsTrue, MatchOption, filter_map}}, proofs.Common.{[], ℕ, ◌++◌}}
-use Rattle.std.proofs.Common.{◌<◌, ◌∙◌, ◌∷◌, ◌≡◌, Bool, List, None, Option, Some, ap, arith, length, refl, slice_get, subst, suc, sym, zero}
-use Rattle.std.proofs.{Common.zero-add, lemmas.{List.FromFn.{get_or-range_with_len, length-range_with_len}, Option.same_Some}}
-use Rattle.std.proofs.lemmas.Option.{slice_get-get_or, slice_get_within}
-use Rattle.rayon.specs.Lists.{filter_by_mask}
+use Rattle.std.specs.{Borrow.Bor, List.{AllZip, range_with_len}, Prelude.{IsTrue, MatchOption, filter_map}}
+use Rattle.std.proofs.Common.{[], ℕ, ◌++◌, ◌<◌, ◌∙◌, ◌∷◌, ◌≡◌, Bool, List, None, Option, Some, ap, arith, length, refl, slice_get}
+use Rattle.std.proofs.{Common.{subst, suc, sym, zero, zero-add}, lemmas.List.FromFn.{get_or-range_with_len, length-range_with_len}}
+use Rattle.{std.proofs.lemmas.Option.{same_Some, slice_get-get_or, slice_get_within}, rayon.specs.Lists.filter_by_mask}
 use Rattle.policy.{specs.Places.{FindsLeast, IsUnder}, proofs.Places.{Searches, least_here, none_at_all}}
 
 -- the answer at the first element that has an answer

@@ -1,9 +1,8 @@
 -- The labels whose objects a label may change if only threads of some labels act: a bound within full authority (the integrity property of
 -- 'seL4 Enforces Integrity', section 4, restated for this profile; the labels that act, and the narrower cases, are confine's own).
 use Rattle.std.specs.Prelude.{ℕ, ◌≡◌, Bool, false, true}
-use Rattle.base.specs.declared.kind.Kind.{Kind, TheVariants.{Await, Call, Context, Control, Grant, Holds, Notify, Receive, Reply, Runs}}
-use Rattle.base.specs.declared.kind.Kind.TheVariants.{SchedControl, Send, Write}
-use Rattle.policy.specs.{Domain.EdgeTest, Sharp.MayIdle}
+use Rattle.base.specs.declared.kind.Kind.{Kind, TheVariants.{Await, Call, Context, Control, Grant, Holds, Notify, Receive, Reply}}
+use Rattle.{base.specs.declared.kind.Kind.TheVariants.{Runs, SchedControl, Send, Write}, policy.specs.{Domain.EdgeTest, Sharp.MayIdle}}
 
 abbrev pub ActorTest : Type 0
 ActorTest = ℕ → Bool

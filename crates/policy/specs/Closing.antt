@@ -1,8 +1,7 @@
 -- Closing a policy: the least closed policy that has some edges (the closed policies are those of `Closed`; compare
 -- 'seL4 Enforces Integrity', section 3, well-formed policies; closing one is confine's own).
 use Rattle.std.specs.Prelude.{ℕ, ◌≡◌, List, true}
-use Rattle.base.specs.declared.{edge.Edge.Edge, kind.Kind.Kind}
-use Rattle.policy.specs.{Closed.IsClosed, Domain.EdgeTest, Policy.allows}
+use Rattle.{base.specs.declared.{edge.Edge.Edge, kind.Kind.Kind}, policy.specs.{Closed.IsClosed, Domain.EdgeTest, Policy.allows}}
 
 -- every edge of the one is an edge of the other
 abbrev pub IsWithin : EdgeTest → EdgeTest → Type 0

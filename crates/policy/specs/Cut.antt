@@ -2,8 +2,7 @@
 -- (the deletions that 'seL4 Enforces Integrity', section 4, allows, restated for this profile).
 use Rattle.std.specs.Prelude.{ℕ, ◌≡◌, ◌⊎◌, Bool, false, true}
 use Rattle.base.specs.declared.kind.Kind.{Kind, TheVariants.{Await, Control, Derive, Holds, Receive, Reply, Runs, Send, Space}}
-use Rattle.base.specs.Kinds.{is_structural}
-use Rattle.policy.specs.Domain.{EdgeTest}
+use Rattle.{base.specs.Kinds.is_structural, policy.specs.Domain.EdgeTest}
 
 -- the kinds along which objects are linked: threads to what they wait at, run on or have as their space, replies to threads
 abbrev pub is_link : Kind → Bool

@@ -1,9 +1,8 @@
 -- Full authority: the labels on whose objects the acts of a label may have any effect
 -- (the integrity property of 'seL4 Enforces Integrity', section 4, restated for this profile).
 use Rattle.std.specs.Prelude.{ℕ, ◌≡◌, Bool, false, true}
-use Rattle.base.specs.declared.kind.Kind.{Kind, TheVariants.{Await, Context, Control, Grant, Holds, Notify, Receive, Reply, Runs, Send}}
-use Rattle.base.specs.declared.kind.Kind.TheVariants.{Write}
-use Rattle.policy.specs.Domain.{EdgeTest}
+use Rattle.base.specs.declared.kind.Kind.{Kind, TheVariants.{Await, Context, Control, Grant, Holds, Notify, Receive}}
+use Rattle.{base.specs.declared.kind.Kind.TheVariants.{Reply, Runs, Send, Write}, policy.specs.Domain.EdgeTest}
 
 -- the kinds whose use changes the object itself; of a context, binding it and running on it
 abbrev pub is_modifying : Kind → Bool

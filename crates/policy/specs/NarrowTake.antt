@@ -2,8 +2,7 @@
 -- (the deletions that 'seL4 Enforces Integrity', section 4, allows; the ways are confine's own).
 use Rattle.std.specs.Prelude.{ℕ, ◌≡◌, Bool, false, true}
 use Rattle.base.specs.declared.kind.Kind.{Kind, TheVariants.{Await, Context, Control, Derive, Holds, Receive, Reply, Reset, Runs}}
-use Rattle.base.specs.declared.kind.Kind.TheVariants.{SchedControl, Send, Space}
-use Rattle.policy.specs.{Change.ActorTest, Domain.EdgeTest}
+use Rattle.{base.specs.declared.kind.Kind.TheVariants.{SchedControl, Send, Space}, policy.specs.{Change.ActorTest, Domain.EdgeTest}}
 
 -- the kinds of edges from a controlled label to one that loses something: a copy of a capability (derive), the last capability to an
 -- object (space, reset, schedcontrol; other kinds that lead to it give more), or the thread of a context (runs)

@@ -1,10 +1,9 @@
 -- A policy as rows of bits: for each label and kind, the set of labels to which there is an edge (confine's own).
-use Rattle.std.specs.{List.range_with_len, Ordering.is_lt, Prelude.{ℕ, ◌%◌, ◌*◌, ◌+◌, ◌/◌, ◌<◌, ◌≡◌, ◌≤◌, List, None, Option, Some, filter}}
-use Rattle.std.specs.Prelude.{if◌then◌else◌, length, map, slice_index_or, true}
+use Rattle.std.specs.{List.range_with_len, Ordering.is_lt, Prelude.{ℕ, ◌%◌, ◌*◌, ◌+◌, ◌/◌, ◌<◌, ◌≡◌, ◌≤◌, List}}
+use Rattle.std.specs.Prelude.{None, Option, Some, filter, if◌then◌else◌, length, map, slice_index_or, true}
 use Rattle.base.specs.declared.{edge.Edge.Edge, kind.{Kind.{Kind, TheVariants.Control}, TheConstants.Kind.ALL}, labels.Labels.Labels}
+use Rattle.{base.specs.{Kinds.kind_number, Labels.{is_in, no_labels}}, policy.specs.Policy.{edge_cmp, last_edge}}
 use Rattle.base.specs.declared.label.TheConstants.Label as Label
-use Rattle.base.specs.{Kinds.kind_number, Labels.{is_in, no_labels}}
-use Rattle.policy.specs.Policy.{edge_cmp, last_edge}
 
 abbrev pub kind_count : ℕ
 kind_count = 17

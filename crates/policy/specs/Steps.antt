@@ -1,7 +1,6 @@
 -- Steps along edges, from a set of labels and to one (confine's own).
 use Rattle.std.specs.{List.list_any, Prelude.{ℕ, ◌≡◌, Bool, List, true}}
-use Rattle.base.specs.{declared.{kind.Kind.Kind, labels.Labels.Labels}, Labels.is_in}
-use Rattle.policy.specs.{Cut.IsNear, Domain.EdgeTest}
+use Rattle.{base.specs.{declared.{kind.Kind.Kind, labels.Labels.Labels}, Labels.is_in}, policy.specs.{Cut.IsNear, Domain.EdgeTest}}
 
 -- whether there is an edge of one of the kinds
 abbrev pub is_joined : EdgeTest → List Kind → ℕ → ℕ → Bool

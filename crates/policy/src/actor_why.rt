@@ -1,8 +1,7 @@
 //! Reasons why a label may change another's objects, or make them smaller, if only some labels act.
 ghost use Rattle.std.specs.Prelude.{◌≡◌, IfErr, IfOk};
 ghost use Rattle.base.specs.{Labels.is_in, Refusals.out_of_memory};
-ghost use Rattle.policy.specs.{ActorReasons.{IsChangeBy, IsShrinkBy, IsWhyAmong}, Policy.allows};
-ghost use Rattle.policy.specs.Walks.{FindsWalk, GoesAgainst, GoesAlong};
+ghost use Rattle.policy.specs.{ActorReasons.{IsChangeBy, IsShrinkBy, IsWhyAmong}, Policy.allows, Walks.{FindsWalk, GoesAgainst, GoesAlong}};
 
 use crate::change::CHANGING;
 use crate::guarded::Turn;

@@ -1,7 +1,6 @@
 //! Cut authority: the labels whose objects may shrink when threads of a label delete capabilities.
 ghost use Rattle.std.specs.Prelude.{ℕ, ◌↔◌, ◌≡◌, IsTrue, true};
-ghost use Rattle.base.specs.Labels.{is_in};
-ghost use Rattle.policy.specs.{Cut.{IsBase, IsCut, IsNear}, Policy.allows, Steps.IsNearSome};
+ghost use Rattle.{base.specs.Labels.is_in, policy.specs.{Cut.{IsBase, IsCut, IsNear}, Policy.allows, Steps.IsNearSome}};
 
 use crate::Policy;
 use base::{Kind, Label, Labels};

@@ -1,7 +1,6 @@
 //! Full authority: the labels whose objects the acts of a label's threads may change.
 ghost use Rattle.std.specs.Prelude.{ℕ, ◌↔◌, ◌≡◌, IsTrue, true};
-ghost use Rattle.base.specs.Labels.{is_in};
-ghost use Rattle.policy.specs.{Full.IsFull, Policy.allows};
+ghost use Rattle.{base.specs.Labels.is_in, policy.specs.{Full.IsFull, Policy.allows}};
 
 use crate::Policy;
 use base::{Kind, Label, Labels};

@@ -1,8 +1,7 @@
 //! The least walks whose steps end in given sets of labels.
 ghost use Rattle.std.specs.Prelude.{ℕ, ◌&&◌, ◌↔◌, ◌≡◌, IfErr, IfOk, List, true};
 ghost use Rattle.base.specs.{declared.edge.Edge.Edge, Labels.is_in, Refusals.out_of_memory};
-ghost use Rattle.policy.specs.{Guarded.{FindsLesserGuarded, IsGuardedWalk, lets_through}, Policy.allows};
-ghost use Rattle.policy.specs.Walks.{FindsWalk};
+ghost use Rattle.policy.specs.{Guarded.{FindsLesserGuarded, IsGuardedWalk, lets_through}, Policy.allows, Walks.FindsWalk};
 
 use crate::Policy;
 use crate::walks::{Step, end, lesser};

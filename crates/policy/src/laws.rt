@@ -1,8 +1,7 @@
 //! Laws on closed policies.
 ghost use Rattle.std.specs.Prelude.{ℕ, ◌↔◌, ◌≡◌, true};
 ghost use Rattle.policy.specs.{declared.broken.Broken.Broken as BrokenOf, Broken.IsBrokenAt, Closed.IsClosed};
-ghost use Rattle.policy.specs.{Domain.EdgeTest, Needed.{BreaksOnly, Obeys, Rule}};
-ghost use Rattle.policy.specs.Sharp.{IsSharplyClosed, KeeperTest, Told};
+ghost use Rattle.policy.specs.{Domain.EdgeTest, Needed.{BreaksOnly, Obeys, Rule}, Sharp.{IsSharplyClosed, KeeperTest, Told}};
 
 /// A law: a closed policy obeys each of the eight rules, and no rule follows from the others.
 ///

@@ -1,7 +1,6 @@
 //! The labels whose objects may shrink by what a label does, if only some labels act.
 ghost use Rattle.std.specs.Prelude.{ℕ, ◌↔◌, ◌≡◌, IsTrue, true};
-ghost use Rattle.base.specs.Labels.{is_in};
-ghost use Rattle.policy.specs.{NarrowTake.{MayHalt, MayHoldReceiver, MayShrink, TakesByControl}, Policy.allows};
+ghost use Rattle.{base.specs.Labels.is_in, policy.specs.{NarrowTake.{MayHalt, MayHoldReceiver, MayShrink, TakesByControl}, Policy.allows}};
 
 use crate::Policy;
 use base::{Kind, Label, Labels};

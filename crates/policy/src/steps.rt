@@ -1,7 +1,6 @@
 //! Steps along edges of some kinds: from a label, from a set of labels, and to a set.
 ghost use Rattle.std.specs.Prelude.{ℕ, ◌↔◌, ◌≡◌, true};
-ghost use Rattle.base.specs.Labels.{is_in};
-ghost use Rattle.policy.specs.{Policy.allows, Steps.{IsSource, IsTarget, is_joined}};
+ghost use Rattle.{base.specs.Labels.is_in, policy.specs.{Policy.allows, Steps.{IsSource, IsTarget, is_joined}}};
 
 use crate::Policy;
 use base::{Kind, Label, Labels};

@@ -1,6 +1,5 @@
 //! Steps of walks, along edges of a policy and against them, and the lesser of two walks.
-ghost use Rattle.std.specs.{Cmp.Lexicographic.slice_cmp, Ordering.{is_lt, nat_cmp}};
-ghost use Rattle.std.specs.Prelude.{ℕ, ◌&&◌, ◌↔◌, ◌≡◌, true};
+ghost use Rattle.std.specs.{Cmp.Lexicographic.slice_cmp, Ordering.{is_lt, nat_cmp}, Prelude.{ℕ, ◌&&◌, ◌↔◌, ◌≡◌, true}};
 ghost use Rattle.base.specs.{declared.edge.Edge.Edge, Labels.is_in};
 ghost use Rattle.policy.specs.{Policy.allows, Reasons.{edge, reason_place}};
 ghost use Rattle.policy.specs.Walks.{FindsFirst, GoesAgainst, GoesAlong, Leads, LeadsOf, is_of, lesser_of, other_end};

@@ -5,10 +5,9 @@
 
 ghost use Rattle.std.specs.Prelude.{◌≡◌, IsSome, None, Some};
 ghost use Rattle.base.specs.declared.ids.ObjId.{ObjId as Id};
-ghost use Rattle.machine.specs.declared.{object.ObjectKind.ObjectKind as Kind, thread.Tcb.Tcb as Thread};
-ghost use Rattle.machine.specs.Changes.{first_waiting, with_waiting, without_first, without_waiting};
-ghost use Rattle.machine.specs.{Machine.object_of, Releasing.with_blocked, WellFormed.{IsAlike, IsIdle}};
-ghost use Rattle.machine.specs.WellFormed.{IsReceivingWith, IsThread, IsWellFormed, WaitsAt, WaitsAtKind, kind_of};
+ghost use Rattle.machine.specs.{declared.{object.ObjectKind.ObjectKind as Kind, thread.Tcb.Tcb as Thread}, Changes.first_waiting};
+ghost use Rattle.machine.specs.{Changes.{with_waiting, without_first, without_waiting}, Machine.object_of, Releasing.with_blocked};
+ghost use Rattle.machine.specs.WellFormed.{IsAlike, IsIdle, IsReceivingWith, IsThread, IsWellFormed, WaitsAt, WaitsAtKind, kind_of};
 ghost use Rattle.objects.specs.Waiting.{WaitsNowhere, WaitsThere};
 
 use base::ObjId;

@@ -1,15 +1,12 @@
 -- Labels of CNodes that hold capabilities for CNodes at boot: they are those that the filled slots give, one after another.
 use Rattle.std.{specs.Option.option_and_then, proofs.Common.{ℕ, ◌+◌, ◌==◌, ◌||◌, ◌↔◌, ◌∙◌, ◌≡◌, ◌≤◌, Bool, None, Option, Some, ap}}
 use Rattle.std.proofs.{Common.{arith, cond, false, length, refl, slice_get, sym, true}, lemmas.Bool.{eq-eqb, eqb-true, false≢true}}
-use Rattle.std.proofs.lemmas.Option.{none-some, same_Some, slice_get_within}
-use Rattle.base.specs.declared.ids.SlotRef.{SlotRef}
+use Rattle.{std.proofs.lemmas.Option.{none-some, same_Some, slice_get_within}, base.specs.declared.ids.SlotRef.SlotRef}
 use Rattle.machine.specs.declared.{cap.{Cap.Cap, Detail.{Detail, Detail as d}}, layout.{Filled.Filled, Initial.Initial}}
 use Rattle.machine.specs.declared.object.{Object.{Object, Object as o}, ObjectKind.ObjectKind as kind}
 use Rattle.machine.specs.{Capabilities.kind_of_detail, Layout.{Layout, initial_cap, initial_of}, Objects.kind_of_object}
-use Rattle.policy.proofs.Stepping.{IsBelow, more_below, none_more}
-use Rattle.table.proofs.Lookups.{filled_at}
-use Rattle.integrity.specs.Keeping.{HoldsNode}
-use Rattle.reach.specs.Boot.{is_node, is_node_cap, is_node_detail, node_holder}
+use Rattle.{table.proofs.Lookups.filled_at, policy.proofs.Stepping.{IsBelow, more_below, none_more}}
+use Rattle.{integrity.specs.Keeping.HoldsNode, reach.specs.Boot.{is_node, is_node_cap, is_node_detail, node_holder}}
 
 -- what it is to be a CNode, and to be for one
 

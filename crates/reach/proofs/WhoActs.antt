@@ -1,17 +1,16 @@
 -- The search for labels that act: those that act from boot on are the labels of ready threads that bindings name.
-use Rattle.std.{specs.Option.option_and_then, proofs.Common.{[], ℕ, ◌&&◌, ◌+◌, ◌==◌, ◌||◌, ◌↔◌, ◌∙◌, ◌∷◌, ◌≡◌, ◌≤◌, ◌⊎◌, Bool, None}}
-use Rattle.std.proofs.{Common.{Option, Some, ap, arith, cond, false, inl, inr, length, refl, slice_get, sym, true}, lemmas.Bool.and_from}
-use Rattle.std.proofs.lemmas.{Bool.{and_parts, eq-eqb, eqb-true, false≢true, or_cases, or_left, or_right}, Option.{none-some, same_Some}}
-use Rattle.std.proofs.lemmas.Option.{slice_get_within}
+use Rattle.std.{specs.Option.option_and_then, proofs.Common.{[], ℕ, ◌&&◌, ◌+◌, ◌==◌, ◌||◌, ◌↔◌, ◌∙◌, ◌∷◌, ◌≡◌, ◌≤◌, ◌⊎◌}}
+use Rattle.std.proofs.Common.{Bool, None, Option, Some, ap, arith, cond, false, inl, inr, length, refl, slice_get, sym, true}
+use Rattle.std.proofs.lemmas.Bool.{and_from, and_parts, eq-eqb, eqb-true, false≢true, or_cases, or_left, or_right}
+use Rattle.std.proofs.lemmas.Option.{none-some, same_Some, slice_get_within}
 use Rattle.base.specs.{declared.{ids.ObjId.ObjId, kind.Kind.TheVariants.Control, labels.Labels.Labels}, Labels.is_in}
-use Rattle.machine.specs.declared.{layout.{Binding.Binding, Initial.Initial}, object.Object.{Object, Object as o}, thread.RunState.RunState}
-use Rattle.machine.specs.{declared.thread.{RunState.RunState as state, Tcb.Tcb}, Layout.{Layout, initial_of}}
-use Rattle.machine.specs.{Objects.kind_of_object}
-use Rattle.machine.specs.declared.object.ObjectKind.TheVariants as kind
-use Rattle.table.{specs.Rules.IsLawful, proofs.Lookups.{bound_at, bound_from}}
+use Rattle.machine.specs.declared.{layout.{Binding.Binding, Initial.Initial}, object.Object.{Object, Object as o}}
+use Rattle.machine.specs.{declared.thread.{RunState.{RunState, RunState as state}, Tcb.Tcb}, Layout.{Layout, initial_of}}
+use Rattle.{machine.specs.Objects.kind_of_object, table.{specs.Rules.IsLawful, proofs.Lookups.{bound_at, bound_from}}}
 use Rattle.policy.{specs.{Domain.EdgeTest, Steps.IsTarget}, proofs.Stepping.{IsBelow, more_below, none_more, only_kind, target_by}}
 use Rattle.integrity.specs.Acting.{MayAct, MayHaveThreads, Starts}
 use Rattle.reach.specs.Acting.{IsActor, has_threads, is_ready, is_ready_state, ready_label}
+use Rattle.machine.specs.declared.object.ObjectKind.TheVariants as kind
 
 -- what it is to be ready
 

@@ -2,9 +2,7 @@
 use Rattle.std.specs.{Option.option_and_then, Prelude.{ℕ, Bool, None, Option, Some, false, if◌then◌else◌, true}}
 use Rattle.base.specs.declared.ids.ObjId.{ObjId}
 use Rattle.machine.specs.declared.{object.Object.{Object, Object as o}, thread.RunState.{RunState, RunState as state}}
-use Rattle.machine.specs.Layout.{Layout, initial_of}
-use Rattle.policy.specs.Domain.{EdgeTest}
-use Rattle.integrity.specs.Acting.{MayAct, MayHaveThreads}
+use Rattle.{machine.specs.Layout.{Layout, initial_of}, policy.specs.Domain.EdgeTest, integrity.specs.Acting.{MayAct, MayHaveThreads}}
 
 -- whether a thread can run, once it has a context
 abbrev pub is_ready_state : RunState → Bool

@@ -1,9 +1,7 @@
 -- Extents to which a label goes with another by the reach of a table, and what every run then keeps (compare integrity in 'seL4 Enforces
 -- Integrity', section 4; told of two labels it is confine's own).
-use Rattle.std.specs.Prelude.{ℕ, List}
-use Rattle.base.specs.{declared.{edge.Edge.Edge, labels.Labels.Labels}, Labels.is_in}
-use Rattle.machine.specs.Layout.{Layout}
-use Rattle.policy.specs.{Change.{ActorTest, MayChange}, Domain.EdgeTest, NarrowTake.MayShrink, Policy.allows}
+use Rattle.{std.specs.Prelude.{ℕ, List}, base.specs.{declared.{edge.Edge.Edge, labels.Labels.Labels}, Labels.is_in}}
+use Rattle.{machine.specs.Layout.Layout, policy.specs.{Change.{ActorTest, MayChange}, Domain.EdgeTest, NarrowTake.MayShrink, Policy.allows}}
 use Rattle.integrity.specs.Apart.{NeverChanges, OnlyTakes}
 use Rattle.reach.specs.{declared.extent.Extent.{Extent, Extent as extent}, Reach.TableReach}
 

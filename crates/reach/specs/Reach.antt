@@ -3,11 +3,9 @@
 -- authority of an initial state in 'seL4 Enforces Integrity', section 3).
 use Rattle.std.specs.Prelude.{ℕ, ◌↔◌, ◌≡◌, List, true}
 use Rattle.base.specs.{declared.{edge.Edge.Edge, labels.Labels.Labels}, Labels.is_in}
-use Rattle.machine.specs.{Boot.IsBoot, Layout.Layout, Machine.Machine}
+use Rattle.{machine.specs.{Boot.IsBoot, Layout.Layout, Machine.Machine}, table.specs.Rules.IsLawful}
 use Rattle.policy.specs.{Closing.IsWithin, Domain.EdgeTest, Policy.allows, Sharp.MayIdle}
-use Rattle.integrity.specs.{Confined.IsConfined, Keeping.{IsSharp, MayKeep}}
-use Rattle.table.specs.Rules.{IsLawful}
-use Rattle.reach.specs.Acting.{IsActor}
+use Rattle.{integrity.specs.{Confined.IsConfined, Keeping.{IsSharp, MayKeep}}, reach.specs.Acting.IsActor}
 
 -- the policy has all authority of the table's boot state
 abbrev pub HasBootAuthority : Layout → EdgeTest → Type 0

@@ -1,7 +1,6 @@
 //! Labels that may act in runs of a table, and labels whose threads may make calls.
 ghost use Rattle.std.specs.Prelude.{ℕ, ◌↔◌, ◌≡◌, true};
-ghost use Rattle.base.specs.Labels.{is_in};
-ghost use Rattle.policy.specs.{Policy.allows, Sharp.UsesRise};
+ghost use Rattle.{base.specs.Labels.is_in, policy.specs.{Policy.allows, Sharp.UsesRise}};
 ghost use Rattle.integrity.specs.Acting.{MayAct, MayHaveThreads, Starts};
 ghost use Rattle.reach.specs.Acting.{IsActor, has_threads, is_ready, ready_label};
 

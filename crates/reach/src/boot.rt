@@ -1,8 +1,6 @@
 //! Labels that hold capabilities for CNodes at boot.
 ghost use Rattle.std.specs.Prelude.{ℕ, ◌↔◌, ◌≡◌, true};
-ghost use Rattle.base.specs.Labels.{is_in};
-ghost use Rattle.table.specs.Rules.{IsLawful};
-ghost use Rattle.integrity.specs.Keeping.{HoldsNode};
+ghost use Rattle.{base.specs.Labels.is_in, table.specs.Rules.IsLawful, integrity.specs.Keeping.HoldsNode};
 ghost use Rattle.reach.specs.Boot.{is_node, is_node_cap, node_holder};
 
 use base::{Label, Labels, SlotRef};

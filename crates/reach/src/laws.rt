@@ -1,11 +1,8 @@
 //! Laws on the reach of a table.
 ghost use Rattle.std.specs.Prelude.{ℕ, ◌≡◌, List};
-ghost use Rattle.base.specs.declared.{edge.Edge.Edge, kind.Kind.Kind};
-ghost use Rattle.machine.specs.Layout.{Layout};
-ghost use Rattle.policy.specs.{Change.{ActorTest, MayChange}, Closed.IsClosed, Closing.IsWithin, Domain.EdgeTest};
-ghost use Rattle.policy.specs.{NarrowTake.MayShrink, Policy.allows};
-ghost use Rattle.table.specs.Rules.{IsLawful};
-ghost use Rattle.integrity.specs.{Acting.HoldsOfActors, Apart.{NeverChanges, OnlyTakes}, Safe.IsSafe};
+ghost use Rattle.{base.specs.declared.{edge.Edge.Edge, kind.Kind.Kind}, machine.specs.Layout.Layout, table.specs.Rules.IsLawful};
+ghost use Rattle.policy.specs.{Change.{ActorTest, MayChange}, Closed.IsClosed, Closing.IsWithin, Domain.EdgeTest, NarrowTake.MayShrink};
+ghost use Rattle.{policy.specs.Policy.allows, integrity.specs.{Acting.HoldsOfActors, Apart.{NeverChanges, OnlyTakes}, Safe.IsSafe}};
 ghost use Rattle.reach.specs.Reach.{HasBootAuthority, IsReach};
 
 use integrity::{bounded_systems_keep_labels_apart, sharply_confined_systems_are_safe};

@@ -1,7 +1,6 @@
 //! The reach of a table.
 ghost use Rattle.std.specs.Prelude.{ℕ, ◌↔◌, ◌≡◌, IfErr, IfOk, false, true};
-ghost use Rattle.base.specs.{Labels.is_in, Refusals.out_of_memory};
-ghost use Rattle.policy.specs.{ActorReasons.IsWhyAmong, Policy.allows, Sharp.MayIdle};
+ghost use Rattle.{base.specs.{Labels.is_in, Refusals.out_of_memory}, policy.specs.{ActorReasons.IsWhyAmong, Policy.allows, Sharp.MayIdle}};
 ghost use Rattle.integrity.specs.{Apart.{NeverChanges, OnlyTakes}, Keeping.{HoldsNode, MayKeep}, Safe.IsSafe};
 ghost use Rattle.reach.specs.{Acting.IsActor, Extents.{GoesTo, KeepsTo, MayChangeIn, MayShrinkIn, limits_of}};
 ghost use Rattle.reach.specs.Reach.{IsReach, IsTableReach};

@@ -3,8 +3,7 @@ use Rattle.std.{specs.FinMap.FinMap, proofs.Common.{ℕ, ◌∙◌, ◌≡◌, B
 use Rattle.base.specs.declared.ids.SlotRef.{SlotRef}
 use Rattle.machine.specs.{Changes.with_none_going, Counts.caps_to, Machine.{Machine, cap_of, object_of, parent_of, slot_cmp}}
 use Rattle.machine.specs.WellFormed.{Descends, child, further}
-use Rattle.derivation.specs.Removing.{parent_without}
-use Rattle.removal.specs.UnderWay.{AreGoing, IsUnderWay}
+use Rattle.{derivation.specs.Removing.parent_without, removal.specs.UnderWay.{AreGoing, IsUnderWay}}
 
 -- a machine where nothing is going any more
 

@@ -1,14 +1,11 @@
 -- Slots that descend from one leave the tree and are emptied, child by child: how many have, and how many still descend.
 use Rattle.std.specs.{FinMap.keys, List.{count_by, list_any}, Prelude.{◌⊎◌, None, Option, Some, if◌then◌else◌, is_some, option_and_then}}
-use Rattle.std.proofs.{Common.{◌<◌, ◌∙◌, ◌≡◌, ◌≢◌, Bool, List, ap, cond, false, inl, inr, refl, subst, sym, true}, lemmas.Bool.false≢true}
-use Rattle.std.proofs.lemmas.Option.{none-some, same_Some}
-use Rattle.base.specs.declared.ids.SlotRef.{SlotRef}
+use Rattle.std.proofs.Common.{◌<◌, ◌∙◌, ◌≡◌, ◌≢◌, Bool, List, ap, cond, false, inl, inr, refl, subst, sym, true}
+use Rattle.{std.proofs.lemmas.{Bool.false≢true, Option.{none-some, same_Some}}, base.specs.declared.ids.SlotRef.SlotRef}
 use Rattle.machine.specs.{Below.is_below, Changes.with_none_going, Gone.given, Machine.{Machine, cap_of, parent_of, same_slot}}
-use Rattle.machine.{specs.{Orphans.past, WellFormed.{Descends, child, further}}, proofs.{FiniteLemmas.ties_itself, LookUps.one_slot}}
-use Rattle.machine.proofs.{LookUps.{slot_apart, slot_total}, RemovalStays.further_on}
-use Rattle.steps.proofs.BelowLemmas.{below_decided}
-use Rattle.objects.proofs.{Passing.fewer_pass, Ways.among_keys}
-use Rattle.derivation.specs.Removing.{parent_without}
+use Rattle.machine.{specs.{Orphans.past, WellFormed.{Descends, child, further}}, proofs.FiniteLemmas.ties_itself}
+use Rattle.{machine.proofs.{LookUps.{one_slot, slot_apart, slot_total}, RemovalStays.further_on}, steps.proofs.BelowLemmas.below_decided}
+use Rattle.{objects.proofs.{Passing.fewer_pass, Ways.among_keys}, derivation.specs.Removing.parent_without}
 use Rattle.removal.{specs.UnderWay.{AreGoing, IsUnderWay, emptied}, proofs.Beside.{descends_cleared, none_going, parent_of-with_none_going}}
 use Rattle.removal.proofs.{Beside.way_stays, Chosen.same_caps, Emptying.emptied_way, Ending.begun, Turns.{emptied_there, stays_emptied}}
 

@@ -1,14 +1,13 @@
 -- Objects to which nothing holds are removed one after another.
-use Rattle.std.{specs.{List.list_any, Prelude.{◌||◌, Contains, IsSome, None, Option, Some, option_and_then, slice_get}}, proofs.Common.[]}
-use Rattle.std.proofs.Common.{ℕ, ◌+◌, ◌∙◌, ◌∷◌, ◌≡◌, ◌≤◌, Bool, List, ap, arith, cond, false, inl, inr, length, refl, subst, suc, sym, take}
-use Rattle.std.proofs.{Common.{true, zero}, lemmas.Option.{get_or_from_slice_get, same_Some, slice_get_within}}
+use Rattle.std.specs.{List.list_any, Prelude.{◌||◌, Contains, IsSome, None, Option, Some, option_and_then, slice_get}}
+use Rattle.std.proofs.Common.{[], ℕ, ◌+◌, ◌∙◌, ◌∷◌, ◌≡◌, ◌≤◌, Bool, List, ap, arith, cond, false, inl, inr, length, refl, subst}
+use Rattle.std.proofs.{Common.{suc, sym, take, true, zero}, lemmas.Option.{get_or_from_slice_get, same_Some, slice_get_within}}
 use Rattle.base.specs.declared.ids.{ObjId.ObjId, SlotRef.SlotRef}
-use Rattle.machine.specs.{declared.cap.Cap.Cap, Changes.{first_waiting, with_none_going, without_object}, Machine.{Machine, cap_of}}
-use Rattle.machine.{specs.Machine.{object_of, parent_of, queue_of, same_id, words_of}, proofs.ObjectGone.cap_of-without_object}
-use Rattle.machine.proofs.ObjectGone.{caps_to-without_object, next-without_object, object_of-without_object, parent_of-without_object}
-use Rattle.machine.proofs.ObjectGone.{queue_of-without_object, words_of-without_object}
-use Rattle.objects.specs.Pairs.{AreFilled, AreFilledOrGoing, IsFilledOrGoing}
-use Rattle.removal.specs.Dropping.{IsCutOff, dropped, without_objects}
+use Rattle.machine.specs.{declared.cap.Cap.Cap, Changes.{first_waiting, with_none_going, without_object}}
+use Rattle.machine.specs.Machine.{Machine, cap_of, object_of, parent_of, queue_of, same_id, words_of}
+use Rattle.machine.proofs.ObjectGone.{cap_of-without_object, caps_to-without_object, next-without_object, object_of-without_object}
+use Rattle.machine.proofs.ObjectGone.{parent_of-without_object, queue_of-without_object, words_of-without_object}
+use Rattle.{objects.specs.Pairs.{AreFilled, AreFilledOrGoing, IsFilledOrGoing}, removal.specs.Dropping.{IsCutOff, dropped, without_objects}}
 
 -- nobody starts to wait at an object when another is removed
 nobody_waits : (m : Machine) (gone id : ObjId) → first_waiting m id ≡ None → first_waiting (without_object m gone) id ≡ None

@@ -1,9 +1,8 @@
 -- Look-ups after a slot is emptied: it is empty, and the other slots, the objects and the tree are as they were.
 use Rattle.std.{specs.{FinMap.FinMap, Prelude.{◌==◌, None, Option, Some}}, proofs.Common.{◌∙◌, ◌≡◌, Bool, ap, cond, false, refl, sym, true}}
 use Rattle.base.specs.declared.ids.{ObjId.ObjId, SlotRef.SlotRef}
-use Rattle.machine.specs.{declared.cap.Cap.Cap, Changes.with_going, Counts.caps_to, Machine.{Machine, cap_of, parent_of}}
-use Rattle.machine.{specs.Machine.{slot_cmp, without_cap}}
-use Rattle.removal.{specs.UnderWay.emptied}
+use Rattle.machine.specs.{declared.cap.Cap.Cap, Changes.with_going, Counts.caps_to}
+use Rattle.{machine.specs.Machine.{Machine, cap_of, parent_of, slot_cmp, without_cap}, removal.specs.UnderWay.emptied}
 
 module _ (m : Machine) (slot : SlotRef) where
   pub rest-emptied : emptied m slot ≡ record m { caps = (emptied m slot).caps; going = (emptied m slot).going }

@@ -3,12 +3,11 @@ use Rattle.std.specs.FinMap as map
 use Rattle.std.{specs.Prelude.{◌==◌, ◌⊎◌, Contains, None, Option, Some, slice_get}, proofs.Common.{[], ℕ, ◌++◌, ◌+◌, ◌<◌, ◌∙◌, ◌∷◌, ◌≡◌}}
 use Rattle.std.proofs.Common.{◌≢◌, ◌≤◌, Bool, List, ap, arith, cond, eq-eqb, eqb-true, false, inl, inr, length, length-append, refl, subst}
 use Rattle.std.proofs.{Common.{suc, sym, true, zero}, lemmas.{Bool.false≢true, List.Elements.{Contains-append_cases, Contains-append_left}}}
-use Rattle.std.proofs.lemmas.List.Elements.{Contains-append_right}
-use Rattle.base.specs.declared.ids.{ObjId.ObjId, SlotRef.SlotRef}
-use Rattle.machine.specs.{declared.cap.Cap.Cap, Changes.with_going, Counts.caps_to, Gone.IsGone, Machine.{Machine, cap_of, same_id}}
-use Rattle.machine.{specs.Machine.{same_slot, without_cap}, proofs.CapCounts.{caps_to-some, caps_to-without_cap, none_for_others, one_for}}
-use Rattle.machine.proofs.{CapCounts.one_for_its_own, FiniteLemmas.ties_itself, GoneLemmas.id_itself, LookUps.{one_id, one_slot}}
-use Rattle.machine.proofs.LookUps.{slot_apart, slot_total}
+use Rattle.{std.proofs.lemmas.List.Elements.Contains-append_right, base.specs.declared.ids.{ObjId.ObjId, SlotRef.SlotRef}}
+use Rattle.machine.specs.{declared.cap.Cap.Cap, Changes.with_going, Counts.caps_to, Gone.IsGone}
+use Rattle.machine.specs.Machine.{Machine, cap_of, same_id, same_slot, without_cap}
+use Rattle.machine.proofs.CapCounts.{caps_to-some, caps_to-without_cap, none_for_others, one_for, one_for_its_own}
+use Rattle.machine.proofs.{FiniteLemmas.ties_itself, GoneLemmas.id_itself, LookUps.{one_id, one_slot, slot_apart, slot_total}}
 use Rattle.removal.{specs.UnderWay.{HasNoneTwice, IsUnderWay, emptied, noted}, proofs.Fitting.{first_in, once_more, only_one}}
 
 pub cap_of-without_cap : (m : Machine) (slot q : SlotRef) → cap_of (without_cap m slot) q ≡ cond (same_slot q slot) None (cap_of m q)

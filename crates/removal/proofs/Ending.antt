@@ -1,12 +1,11 @@
 -- A removal is at its end when the chosen slots are empty and each object that is going has been looked through.
-use Rattle.std.{specs.Prelude.{◌⊎◌, Contains, None, Option, Some, is_some, not, slice_get}, proofs.Common.{[], ℕ, ◌∙◌, ◌∷◌, ◌≡◌, ◌≤◌, Bool}}
-use Rattle.std.proofs.{Common.{List, ap, arith, cond, false, inl, inr, length, refl, subst, suc, sym, true, zero}, lemmas.Bool.false≢true}
-use Rattle.std.proofs.lemmas.Option.{slice_get-get_or}
-use Rattle.base.specs.declared.ids.SlotRef.{SlotRef}
-use Rattle.machine.specs.{declared.cap.Cap.Cap, Changes.with_none_going, Counts.caps_to, Gone.{IsClosedSet, IsGone, LosesAll, gone_of}}
-use Rattle.machine.{specs.{Machine.{Machine, cap_of}, Removal.cap_after}, proofs.CapCounts.{all_lost, caps_to-some, none-caps_to}}
-use Rattle.machine.proofs.{CapCounts.none_left, GoneLemmas.{gone_decided, gone_least, losing_decided}}
-use Rattle.removal.specs.UnderWay.{AreEmptied, IsUnderWay}
+use Rattle.std.specs.Prelude.{◌⊎◌, Contains, None, Option, Some, is_some, not, slice_get}
+use Rattle.std.proofs.Common.{[], ℕ, ◌∙◌, ◌∷◌, ◌≡◌, ◌≤◌, Bool, List, ap, arith, cond, false, inl, inr, length, refl, subst, suc, sym, true}
+use Rattle.{std.proofs.{Common.zero, lemmas.{Bool.false≢true, Option.slice_get-get_or}}, base.specs.declared.ids.SlotRef.SlotRef}
+use Rattle.machine.specs.{declared.cap.Cap.Cap, Changes.with_none_going, Counts.caps_to}
+use Rattle.machine.specs.{Gone.{IsClosedSet, IsGone, LosesAll, gone_of}, Machine.{Machine, cap_of}, Removal.cap_after}
+use Rattle.machine.proofs.CapCounts.{all_lost, caps_to-some, none-caps_to, none_left}
+use Rattle.{machine.proofs.GoneLemmas.{gone_decided, gone_least, losing_decided}, removal.specs.UnderWay.{AreEmptied, IsUnderWay}}
 
 none_past : {A : Type 0} → (xs : List A) (k : ℕ) → slice_get xs k ≡ None → length xs ≤ k
 none_past [] k none = omega arith

@@ -1,13 +1,11 @@
 -- All that goes in a removal has been found, once the chosen slots have left the tree and all that goes with them is empty.
-use Rattle.std.{specs.Prelude.{None, Option, Some, if◌then◌else◌, is_some}, proofs.Common.{◌∙◌, ◌≡◌, Bool, ap, cond, false, refl, subst}}
-use Rattle.std.proofs.{Common.{sym, true}, lemmas.Bool.false≢true}
-use Rattle.base.specs.declared.ids.SlotRef.{SlotRef}
+use Rattle.std.{specs.Prelude.{None, Option, Some, if◌then◌else◌, is_some}, proofs.Common.{◌∙◌, ◌≡◌, Bool, ap, cond, false}}
+use Rattle.{std.proofs.{Common.{refl, subst, sym, true}, lemmas.Bool.false≢true}, base.specs.declared.ids.SlotRef.SlotRef}
 use Rattle.machine.specs.{Below.is_below, Gone.gone_of, Machine.{Machine, parent_of, same_slot}, Orphans.{Nearest, no_ancestor, survives}}
 use Rattle.machine.{specs.WellFormed.{IsWellFormed, child, further}, proofs.{Exchange.slot_itself, GoneLemmas.gone_least, LookUps.one_slot}}
-use Rattle.steps.proofs.BelowLemmas.{below_decided}
-use Rattle.objects.specs.Pairs.{AreFilled}
-use Rattle.derivation.{specs.Removing.{HasParents, HaveLeft, parent_without}, proofs.Leavings.{left_alike, left_alone, node_left}}
-use Rattle.derivation.proofs.Thinnings.{thinned_alike, thinned_at_first, thinned_where_left}
+use Rattle.{steps.proofs.BelowLemmas.below_decided, objects.specs.Pairs.AreFilled}
+use Rattle.derivation.specs.Removing.{HasParents, HaveLeft, parent_without}
+use Rattle.derivation.proofs.{Leavings.{left_alike, left_alone, node_left}, Thinnings.{thinned_alike, thinned_at_first, thinned_where_left}}
 use Rattle.removal.specs.{Sweeping.IsFound, UnderWay.{AreEmptied, AreGoing}}
 
 -- a machine with the tree of another

@@ -1,13 +1,11 @@
 -- Lists of objects that are there, none of them twice: such a list is no longer than there are objects.
 use Rattle.std.{specs.{FinMap.{FinMap, entries}, Prelude.{◌⊎◌, Contains, IsSome, None, is_some}}, proofs.Common.{[], ℕ, ◌++◌, ◌-◌, ◌<◌}}
-use Rattle.std.specs.FinMap as map
 use Rattle.std.proofs.Common.{◌∙◌, ◌∷◌, ◌≡◌, ◌≢◌, ◌≤◌, List, ap, arith, cond, inl, inr, length, length-append, refl, subst, suc, sym, zero}
-use Rattle.std.proofs.lemmas.{Bool.false≢true, List.{get_or_default, length-map, Elements.Contains-append_cases}}
-use Rattle.std.proofs.lemmas.List.Quantifiers.{all_pairs_push, all_pairs_remove}
-use Rattle.base.specs.declared.ids.ObjId.{ObjId}
+use Rattle.std.proofs.lemmas.{Bool.false≢true, List.{Elements.Contains-append_cases, Quantifiers.{all_pairs_push, all_pairs_remove}}}
+use Rattle.{std.proofs.lemmas.List.{get_or_default, length-map}, base.specs.declared.ids.ObjId.ObjId}
 use Rattle.machine.specs.{declared.object.Object.Object, Counts.objects_in, Machine.{Machine, id_cmp, object_of}}
-use Rattle.machine.proofs.{FiniteLemmas.cond_elsewhere, LookUps.{id_apart, id_total}}
-use Rattle.removal.specs.UnderWay.{HasNoneTwice}
+use Rattle.{machine.proofs.{FiniteLemmas.cond_elsewhere, LookUps.{id_apart, id_total}}, removal.specs.UnderWay.HasNoneTwice}
+use Rattle.std.specs.FinMap as map
 
 -- an object that stands first and once isn't among the rest
 first_apart : (id : ObjId) (ids : List ObjId) → HasNoneTwice (id ∷ ids) → ¬ (Contains ids id)

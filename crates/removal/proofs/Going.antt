@@ -1,9 +1,8 @@
 -- Objects that are going stay there, without a capability and once, as a slot is emptied; and there is room for one more.
 use Rattle.std.{specs.Prelude.{◌⊎◌, Contains, IsSome, Some}, proofs.Common.{[], ◌<◌, ◌∷◌, ◌≡◌, arith, inl, inr, length, refl, subst, sym}}
-use Rattle.std.proofs.lemmas.List.Elements.{Contains-append_cases}
-use Rattle.base.specs.declared.ids.{ObjId.ObjId, SlotRef.SlotRef}
-use Rattle.machine.specs.{declared.cap.Cap.Cap, Changes.with_going, Counts.{caps_to, objects_in}, Machine.{Machine, cap_of, object_of}}
-use Rattle.machine.{specs.Machine.without_cap, proofs.CapCounts.{caps_to-some, caps_to-without_cap}}
+use Rattle.{std.proofs.lemmas.List.Elements.Contains-append_cases, base.specs.declared.ids.{ObjId.ObjId, SlotRef.SlotRef}}
+use Rattle.machine.specs.{declared.cap.Cap.Cap, Changes.with_going, Counts.{caps_to, objects_in}}
+use Rattle.machine.{specs.Machine.{Machine, cap_of, object_of, without_cap}, proofs.CapCounts.{caps_to-some, caps_to-without_cap}}
 use Rattle.removal.{specs.UnderWay.AreGoing, proofs.Fitting.{once_more, only_one, room_for_one}}
 
 objects-without_cap : (m : Machine) (slot : SlotRef) → objects_in (without_cap m slot) ≡ objects_in m

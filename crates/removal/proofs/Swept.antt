@@ -1,17 +1,16 @@
 -- The rest of a removal once all that goes is empty: pass by pass, it ends as the removal does.
 use Rattle.std.specs.{FinMap.FinMap, List.list_any, Prelude.{Contains, IsTrue, None, Option, Some, count_by, option_map}}
-use Rattle.std.specs.FinMap as map
 use Rattle.std.proofs.{Common.{◌∙◌, ◌≡◌, Bool, List, ap, cond, false, inl, inr, refl, subst, sym, true}, lemmas.Bool.false≢true}
 use Rattle.base.specs.declared.ids.{ObjId.ObjId, SlotRef.SlotRef}
 use Rattle.machine.specs.{declared.{cap.Cap.Cap, object.Object.Object}, Counts.caps_to, Finalising.{finalised, staying_in}, Gone.is_for}
-use Rattle.machine.specs.{Machine.{Machine, cap_of, has_slot, object_of, parent_of, queue_of, same_id, slot_cmp, words_of}, Removal.removed}
-use Rattle.machine.{specs.{Removal.vanishes, Tree.IsAlone, WellFormed.LinksAgree}, proofs.{Ids.itself, LookUps.{one_id, same_machine}}}
-use Rattle.machine.proofs.RemovalLooks.{cap_of-removed, going-removed, next-removed, object_of-removed, parent_of-removed, queue_of-removed}
-use Rattle.machine.proofs.RemovalLooks.{words_of-removed}
+use Rattle.machine.specs.Machine.{Machine, cap_of, has_slot, object_of, parent_of, queue_of, same_id, slot_cmp, words_of}
+use Rattle.machine.specs.{Removal.{removed, vanishes}, Tree.IsAlone, WellFormed.LinksAgree}
+use Rattle.machine.proofs.{Ids.itself, LookUps.{one_id, same_machine}, RemovalLooks.{cap_of-removed, going-removed}}
+use Rattle.machine.proofs.RemovalLooks.{next-removed, object_of-removed, parent_of-removed, queue_of-removed, words_of-removed}
 use Rattle.derivation.{specs.{OwnSlots.is_going_slot, Removing.HaveLeft}, proofs.Leavings.{alone_where_left, left_alone}}
-use Rattle.derivation.proofs.TreeAfter.{any_listed, listed_any, there_or_alone, tree_after}
-use Rattle.finalising.specs.Pass.{IsFinalised}
+use Rattle.{derivation.proofs.TreeAfter.{any_listed, listed_any, there_or_alone, tree_after}, finalising.specs.Pass.IsFinalised}
 use Rattle.removal.{specs.{Dropping.{IsCutOff, dropped}, Sweeping.IsFound}, proofs.Dropped.{IsWithout, dropped_looks}}
+use Rattle.std.specs.FinMap as map
 
 -- links between objects agree whatever the capabilities and the tree
 links_beside :

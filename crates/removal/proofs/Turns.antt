@@ -1,14 +1,13 @@
 -- A removal stays under way as an object that is going is looked through, and then one more has been.
-use Rattle.std.{specs.Prelude.{◌==◌, ◌⊎◌, Contains, IsTrue, None, Option, Some, is_some, not, slice_get}, proofs.Common.{[], ℕ, ◌+◌, ◌<◌}}
-use Rattle.std.proofs.Common.{◌∙◌, ◌∷◌, ◌≡◌, ◌≤◌, Bool, ap, arith, cond, eqb-true, false, inl, inr, refl, subst, suc, sym, true, zero}
-use Rattle.std.proofs.lemmas.{Bool.{eqb-false, false≢true, ltb-true}, Option.{get_or_from_slice_get, same_Some, slice_get-get_or}}
-use Rattle.std.proofs.lemmas.Option.{slice_get_within}
-use Rattle.base.specs.declared.ids.{ObjId.ObjId, SlotRef.SlotRef}
+use Rattle.std.specs.Prelude.{◌==◌, ◌⊎◌, Contains, IsTrue, None, Option, Some, is_some, not, slice_get}
+use Rattle.std.proofs.Common.{[], ℕ, ◌+◌, ◌<◌, ◌∙◌, ◌∷◌, ◌≡◌, ◌≤◌, Bool, ap, arith, cond, eqb-true, false, inl, inr, refl, subst, suc, sym}
+use Rattle.std.proofs.{Common.{true, zero}, lemmas.{Bool.{eqb-false, false≢true, ltb-true}, Option.{get_or_from_slice_get, same_Some}}}
+use Rattle.{std.proofs.lemmas.Option.{slice_get-get_or, slice_get_within}, base.specs.declared.ids.{ObjId.ObjId, SlotRef.SlotRef}}
 use Rattle.machine.specs.{declared.{cap.Cap.Cap, object.Object.{Object, Object as o}}, Changes.with_going, Counts.caps_to, Gone.IsGone}
 use Rattle.machine.specs.{Gone.{LosesAll, has_slots, is_holder, with_last}, Machine.{Machine, cap_of, has_slot, object_of, without_cap}}
 use Rattle.machine.{specs.{Objects.slot_count, Removal.cap_after}, proofs.CapCounts.{all_lost, caps_to-none}}
-use Rattle.removal.{specs.UnderWay.{IsUnderWay, emptied, emptied_below, noted, slots_at, slots_of}, proofs.Dropped.listed_at}
-use Rattle.removal.proofs.Emptying.{cap_of-with_going, emptied_here, emptied_way, get_front, stays_empty}
+use Rattle.removal.specs.UnderWay.{IsUnderWay, emptied, emptied_below, noted, slots_at, slots_of}
+use Rattle.removal.proofs.{Dropped.listed_at, Emptying.{cap_of-with_going, emptied_here, emptied_way, get_front, stays_empty}}
 
 slots_held : (object : Object) (index : ℕ) → index < slot_count object → has_slots (Some object) ≡ true
 slots_held (o.CNode node) index less = refl

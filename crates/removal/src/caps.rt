@@ -1,8 +1,6 @@
 //! Slots of objects that are going, and how they are emptied.
 ghost use Rattle.std.specs.Prelude.{ℕ, ◌≡◌, Bool, Contains, None, Some, true};
-ghost use Rattle.base.specs.declared.ids.SlotRef.{SlotRef as Slot};
-ghost use Rattle.machine.specs.Machine.{Machine, cap_of};
-ghost use Rattle.objects.specs.Pairs.{MayEmpty};
+ghost use Rattle.{base.specs.declared.ids.SlotRef.SlotRef as Slot, machine.specs.Machine.{Machine, cap_of}, objects.specs.Pairs.MayEmpty};
 ghost use Rattle.removal.specs.UnderWay.{AreEmptied, AreGoing, IsUnderWay, emptied, emptied_below, slots_at};
 
 use base::{ObjId, SlotRef};

@@ -1,9 +1,7 @@
 //! Slots that a removal names, and how they are taken out of the tree and emptied.
 ghost use Rattle.std.specs.Prelude.{◌≡◌, None, if◌then◌else◌};
-ghost use Rattle.base.specs.declared.ids.SlotRef.{SlotRef as Slot};
-ghost use Rattle.machine.specs.{Below.is_below, Machine.{parent_of, same_slot}};
-ghost use Rattle.objects.specs.Pairs.{AreFilled};
-ghost use Rattle.derivation.specs.Removing.{parent_without};
+ghost use Rattle.{base.specs.declared.ids.SlotRef.SlotRef as Slot, machine.specs.{Below.is_below, Machine.{parent_of, same_slot}}};
+ghost use Rattle.{objects.specs.Pairs.AreFilled, derivation.specs.Removing.parent_without};
 ghost use Rattle.removal.specs.UnderWay.{AreEmptied, AreGoing, emptied};
 
 use crate::caps::{cascade, empty_slot};

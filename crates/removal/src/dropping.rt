@@ -1,7 +1,6 @@
 //! Removal of objects that lost their last capability.
 ghost use Rattle.std.specs.Prelude.{◌≡◌, Contains};
-ghost use Rattle.base.specs.declared.ids.ObjId.{ObjId as Id};
-ghost use Rattle.removal.specs.Dropping.{IsCutOff, dropped, without_objects};
+ghost use Rattle.{base.specs.declared.ids.ObjId.ObjId as Id, removal.specs.Dropping.{IsCutOff, dropped, without_objects}};
 
 use objects::State;
 

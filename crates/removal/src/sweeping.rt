@@ -1,8 +1,7 @@
 //! The end of a removal, once its slots are empty.
 ghost use Rattle.std.specs.Prelude.{◌≡◌, Bool};
 ghost use Rattle.base.specs.declared.ids.SlotRef.{SlotRef as Slot};
-ghost use Rattle.machine.specs.{Machine.Machine, Removal.removed};
-ghost use Rattle.removal.specs.Sweeping.{IsFound};
+ghost use Rattle.{machine.specs.{Machine.Machine, Removal.removed}, removal.specs.Sweeping.IsFound};
 
 use crate::dropping::drop_going;
 use derivation::leave_tree;

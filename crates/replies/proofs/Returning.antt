@@ -3,8 +3,7 @@ use Rattle.std.{specs.Prelude.{None, Option, Some, option_map}, proofs.{Common.{
 use Rattle.base.specs.declared.ids.ObjId.{ObjId}
 use Rattle.machine.specs.declared.{object.{Object.{Object, Object as o}, ObjectKind.ObjectKind as kind}, thread.Lent.Lent}
 use Rattle.machine.specs.{Machine.{Machine, object_of}, Objects.kind_of_object, Step.{Bind.context_under, Reply.{gives_back, loan_in}}}
-use Rattle.machine.specs.WellFormed.{kind_of}
-use Rattle.steps.proofs.Lending.{GivesBack, gives_back_is}
+use Rattle.{machine.specs.WellFormed.kind_of, steps.proofs.Lending.{GivesBack, gives_back_is}}
 
 -- a lender is a thread
 lender_is : (content : Option Object) (lent : Lent) → loan_in content ≡ Some lent → option_map kind_of_object content ≡ Some kind.Tcb

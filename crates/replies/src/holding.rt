@@ -1,13 +1,11 @@
 //! Replies that hold threads: one that waits for a message, or one that called.
 ghost use Rattle.std.specs.Prelude.{◌≡◌, Some};
 ghost use Rattle.base.specs.declared.ids.ObjId.{ObjId as Id};
-ghost use Rattle.machine.specs.declared.{object.ReplyState.TheVariants.Waiting, thread.Tcb.Tcb as Thread};
-ghost use Rattle.machine.specs.Releasing.{IsInItsQueue, with_called, with_free, with_holder_halted, with_holding};
-ghost use Rattle.machine.specs.Step.Receive.{awaiting_message};
-ghost use Rattle.machine.specs.WellFormed.{IsAlike, IsFree, IsIdle, IsThread, IsWellFormed, kind_of};
+ghost use Rattle.machine.specs.{declared.{object.ReplyState.TheVariants.Waiting, thread.Tcb.Tcb as Thread}, Releasing.IsInItsQueue};
+ghost use Rattle.machine.specs.{Releasing.{with_called, with_free, with_holder_halted, with_holding}, Step.Receive.awaiting_message};
+ghost use Rattle.{machine.specs.WellFormed.{IsAlike, IsFree, IsIdle, IsThread, IsWellFormed, kind_of}, objects.specs.Waiting.WaitsNowhere};
 ghost use Rattle.machine.specs.declared.object.ObjectKind.TheVariants as kind;
 ghost use Rattle.machine.specs.declared.thread.RunState.TheVariants as run;
-ghost use Rattle.objects.specs.Waiting.{WaitsNowhere};
 
 use crate::release::halt;
 use base::ObjId;

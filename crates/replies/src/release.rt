@@ -1,9 +1,8 @@
 //! Threads that leave their queue and their reply: halted, aborted, resumed, suspended, or with a message.
 ghost use Rattle.std.specs.Prelude.{◌≡◌, unwrap_or};
 ghost use Rattle.base.specs.declared.ids.ObjId.{ObjId as Id};
-ghost use Rattle.machine.specs.Releasing.{IsInItsQueue, unblocked, with_aborted, with_given, with_halted, with_ready};
-ghost use Rattle.machine.specs.{Releasing.{with_released, with_suspended}, WellFormed.{IsWellFormed, WaitsAt}};
-ghost use Rattle.objects.specs.Waiting.{WaitsThere};
+ghost use Rattle.machine.specs.Releasing.{IsInItsQueue, unblocked, with_aborted, with_given, with_halted, with_ready, with_released};
+ghost use Rattle.{machine.specs.{Releasing.with_suspended, WellFormed.{IsWellFormed, WaitsAt}}, objects.specs.Waiting.WaitsThere};
 
 use crate::holding::free;
 use base::ObjId;

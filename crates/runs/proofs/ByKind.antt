@@ -1,10 +1,8 @@
 -- The lessening of an object's content, kind by kind: a thread released, a reply freed, a scheduling context unbound.
 use Rattle.std.proofs.Common.{◌≡◌, subst}
 use Rattle.machine.specs.declared.{object.{Context.Context, Object.{Object, Object as o}, Reply.Reply}, thread.RunState.RunState as state}
-use Rattle.machine.specs.declared.thread.Tcb.{Tcb}
+use Rattle.{machine.specs.declared.thread.Tcb.Tcb, integrity.specs.Shrinks.Lessens, runs.specs.Comparing.{IsFreed, IsReleased, IsUnbound}}
 use Rattle.machine.specs.declared.thread.Inbox.TheVariants as inbox
-use Rattle.integrity.specs.Shrinks.{Lessens}
-use Rattle.runs.specs.Comparing.{IsFreed, IsReleased, IsUnbound}
 
 pub is_released_by :
     (old new : Object) (was is : Tcb) → old ≡ o.Tcb was → new ≡ o.Tcb is → ¬ (new ≡ old) → Lessens old new → IsReleased was is

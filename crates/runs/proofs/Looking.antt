@@ -1,7 +1,6 @@
 -- That a sight that is read part by part is one of the object.
 use Rattle.std.proofs.Common.{ℕ, ◌<◌, ◌∙◌, ◌≡◌, ◌≤◌, List, None, Option, Some, ap, arith, inl, inr, length, option_and_then, refl}
-use Rattle.std.proofs.{Common.{slice_get, subst, sym}, lemmas.{Bool.cases_lt, Option.slice_get_past}}
-use Rattle.base.specs.declared.ids.ObjId.{ObjId}
+use Rattle.{std.proofs.{Common.{slice_get, subst, sym}, lemmas.{Bool.cases_lt, Option.slice_get_past}}, base.specs.declared.ids.ObjId.ObjId}
 use Rattle.machine.specs.{declared.{cap.Cap.Cap, object.Object.Object}, Machine.{Machine, cap_of, object_of, queue_of, words_of}}
 use Rattle.machine.specs.{Objects.{slot_count, word_count}, WellFormed.IsWellFormed}
 use Rattle.runs.specs.{declared.sight.Sight.Sight, Sights.IsSightOf}

@@ -1,8 +1,7 @@
 -- That a short script leaves a policy if it leads to a machine whose authority lies outside.
 use Rattle.std.proofs.Common.{◌≤◌, IfSome, List, None, Option, Some, length}
 use Rattle.machine.specs.{declared.call.Event.Event, Layout.Layout, Machine.Machine}
-use Rattle.policy.specs.Domain.{EdgeTest}
-use Rattle.verdict.specs.declared.denial.Denial.{Denial}
+use Rattle.{policy.specs.Domain.EdgeTest, verdict.specs.declared.denial.Denial.Denial}
 use Rattle.runs.specs.declared.leaving.TheConstants.{MOST_CALLS}
 use Rattle.runs.specs.{Escapes.{IsAnywhereOutside, IsOutsideAt, Leaves, LeavesAt}, Shown.IsReachedBy}
 

@@ -1,8 +1,6 @@
 -- Parts of lists, which are some of their members in order: how a search for one goes on, member by member.
-use Rattle.std.proofs.Common.{[], ◌==◌, ◌∙◌, ◌∷◌, ◌↔◌, ◌≡◌, ◌≢◌, ◌⊎◌, Bool, IsTrue, List, inl, inr, length, refl, subst, sym, ap, arith}
-use Rattle.std.proofs.lemmas.Bool.{eqb-true}
-use Rattle.base.specs.declared.ids.ObjId.{ObjId}
-use Rattle.integrity.specs.Shrinks.{IsPart}
+use Rattle.std.proofs.Common.{[], ◌==◌, ◌↔◌, ◌∙◌, ◌∷◌, ◌≡◌, ◌≢◌, ◌⊎◌, Bool, IsTrue, List, ap, arith, inl, inr, length, refl, subst, sym}
+use Rattle.{std.proofs.lemmas.Bool.eqb-true, base.specs.declared.ids.ObjId.ObjId, integrity.specs.Shrinks.IsPart}
 
 pub nothing_is_part : (all : List ObjId) → IsPart [] all
 nothing_is_part [] = IsPart.ended

@@ -1,11 +1,10 @@
 -- The machine to which a script leads: one step further, and that there is only one.
-use Rattle.std.proofs.Common.{[], ℕ, ◌++◌, ◌+◌, ◌<◌, ◌∙◌, ◌∷◌, ◌≡◌, ◌≢◌, All, List, ap, append_assoc, arith, drop, get_or, length, refl}
-use Rattle.std.proofs.{Common.{subst, suc, sym, take}, lemmas.List.{take-append-drop, take_more, Elements.All-push}}
+use Rattle.std.proofs.Common.{[], ℕ, ◌++◌, ◌+◌, ◌<◌, ◌∙◌, ◌∷◌, ◌≡◌, ◌≢◌, All, List, ap, append_assoc, arith, drop, get_or}
+use Rattle.std.proofs.{Common.{length, refl, subst, suc, sym, take}, lemmas.List.{Elements.All-push, take-append-drop, take_more}}
 use Rattle.base.specs.{declared.refusal.Refusal.Refusal, Refusals.out_of_memory}
-use Rattle.machine.specs.{declared.call.{Event.Event, Outcome.{Outcome, Outcome as o}}, Boot.IsBoot, Layout.Layout, Machine.Machine}
-use Rattle.machine.specs.{Outcomes.IsRefused, Run.Run, Step.Step}
-use Rattle.kernel.proofs.RunLemmas.{run_further}
-use Rattle.runs.specs.Shown.{IsMade, IsReachedBy, IsStopped}
+use Rattle.machine.specs.declared.call.{Event.Event, Outcome.{Outcome, Outcome as o}}
+use Rattle.machine.specs.{Boot.IsBoot, Layout.Layout, Machine.Machine, Outcomes.IsRefused, Run.Run, Step.Step}
+use Rattle.{kernel.proofs.RunLemmas.run_further, runs.specs.Shown.{IsMade, IsReachedBy, IsStopped}}
 
 pub reached_first : (t : Layout) (boot : Machine) → IsBoot t boot → IsReachedBy t [] boot
 reached_first t boot booted = record {

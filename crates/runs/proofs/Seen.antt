@@ -1,7 +1,6 @@
 -- The difference between two sights of an object, as one of the object itself.
 use Rattle.std.proofs.Common.{ℕ, ◌<◌, ◌∙◌, ◌≡◌, List, None, Option, Some, ap, get_or, inl, inr, length, refl, subst, sym}
-use Rattle.std.proofs.lemmas.{List.same_lists, Option.slice_get-get_or}
-use Rattle.base.specs.declared.ids.ObjId.{ObjId}
+use Rattle.{std.proofs.lemmas.{List.same_lists, Option.slice_get-get_or}, base.specs.declared.ids.ObjId.ObjId}
 use Rattle.machine.specs.{declared.{cap.Cap.Cap, object.Object.Object}, Machine.Machine, Objects.slot_count}
 use Rattle.integrity.specs.Shrinks.{HasLess, IsPart, IsSame, Lessens, Shrinks}
 use Rattle.runs.specs.{declared.sight.Sight.Sight, Comparing.{AreAlike, HaveLess, IsLess}, Sights.{IsSeen, IsSightOf, held_at}}

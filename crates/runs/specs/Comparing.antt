@@ -1,9 +1,8 @@
 -- Sights of one object compared: all parts the same, or less in the second than in the first (confine's own).
 use Rattle.std.specs.Prelude.{ℕ, ◌≡◌, ◌⊎◌, List, None, Option, Some}
 use Rattle.machine.specs.declared.{cap.Cap.Cap, object.{Context.Context, Reply.Reply}, thread.Tcb.Tcb}
+use Rattle.{integrity.specs.Shrinks.{IsPart, Lessens, LosesLink, Stops}, runs.specs.{declared.sight.Sight.Sight, Sights.held_at}}
 use Rattle.machine.specs.declared.object.ReplyState.TheVariants as reply
-use Rattle.integrity.specs.Shrinks.{IsPart, Lessens, LosesLink, Stops}
-use Rattle.runs.specs.{Sights.held_at, declared.sight.Sight.Sight}
 
 -- the parts of two sights are the same
 pub record IsAlike (was is : Sight) : Type 0 where

@@ -1,8 +1,7 @@
 -- Scripts that lead out of a policy: their runs end where authority lies outside it (compare 'seL4 Enforces Integrity', section 3; that a
 -- short run shows it is confine's own).
 use Rattle.std.specs.Prelude.{◌≡◌, ◌≤◌, List, Some, length}
-use Rattle.machine.specs.{declared.call.Event.Event, Layout.Layout, Machine.Machine}
-use Rattle.policy.specs.Domain.{EdgeTest}
+use Rattle.{machine.specs.{declared.call.Event.Event, Layout.Layout, Machine.Machine}, policy.specs.Domain.EdgeTest}
 use Rattle.verdict.specs.{declared.denial.Denial.Denial, Rules.Excess, Verdict.{IsOutside, excess_of}}
 use Rattle.runs.specs.{declared.leaving.TheConstants.MOST_CALLS, Shown.IsReachedBy}
 

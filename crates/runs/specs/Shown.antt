@@ -2,10 +2,9 @@
 -- integrity in 'seL4 Enforces Integrity', section 4; showing it by a run is confine's own).
 use Rattle.std.specs.Prelude.{[], ℕ, ◌++◌, ◌∷◌, ◌≡◌, ◌≢◌, All, Bool, List, Some}
 use Rattle.base.specs.{declared.{ids.ObjId.ObjId, refusal.Refusal.Refusal}, Refusals.out_of_memory}
-use Rattle.machine.specs.{declared.call.{Event.Event, Outcome.{Outcome, TheVariants.Refused}}, Authority.label_of, Boot.IsBoot, Layout.Layout, Machine.Machine}
-use Rattle.machine.specs.{Outcomes.IsRefused, Run.Run, Step.Step}
-use Rattle.integrity.specs.{Allowed.IsLabelled, Shrinks.{IsSame, Shrinks}}
-use Rattle.runs.specs.declared.question.Question.{Question}
+use Rattle.machine.specs.{declared.call.{Event.Event, Outcome.{Outcome, TheVariants.Refused}}, Authority.label_of}
+use Rattle.machine.specs.{Boot.IsBoot, Layout.Layout, Machine.Machine, Outcomes.IsRefused, Run.Run, Step.Step}
+use Rattle.{integrity.specs.{Allowed.IsLabelled, Shrinks.{IsSame, Shrinks}}, runs.specs.declared.question.Question.Question}
 
 -- a call was made: it is done, or its thread waits
 abbrev pub IsMade : Outcome → Type 0

@@ -1,7 +1,6 @@
 //! Objects compared between two states: whether one differs, and whether it shrank.
 ghost use Rattle.std.specs.Prelude.{◌↔◌, ◌∷◌, ◌≡◌, ◌⊎◌, IsTrue, List, None};
-ghost use Rattle.base.specs.declared.ids.ObjId.{ObjId as Id};
-ghost use Rattle.machine.specs.Machine.{Machine};
+ghost use Rattle.{base.specs.declared.ids.ObjId.ObjId as Id, machine.specs.Machine.Machine};
 ghost use Rattle.integrity.specs.Shrinks.{IsPart, IsSame, Shrinks};
 ghost use Rattle.runs.specs.{Comparing.{AreAlike, HaveLess, IsAlike, IsLess, LoseCaps}, Sights.{IsSeen, held_at}};
 

@@ -1,8 +1,6 @@
 //! The test whether a script leads out of a policy, to a state whose authority lies outside it.
 ghost use Rattle.std.specs.Prelude.{◌≡◌, IfErr, IfOk, IfSome, IsTrue};
-ghost use Rattle.base.specs.Refusals.{plain};
-ghost use Rattle.policy.specs.Policy.{allows};
-ghost use Rattle.runs.specs.Escapes.{IsAnywhereOutside, Leaves, LeavesAt};
+ghost use Rattle.{base.specs.Refusals.plain, policy.specs.Policy.allows, runs.specs.Escapes.{IsAnywhereOutside, Leaves, LeavesAt}};
 
 use crate::reaching::reach;
 use base::Refusal;

@@ -1,8 +1,7 @@
 //! The test whether the content of an object only lost links.
 ghost use Rattle.std.specs.Prelude.{◌↔◌, ◌≡◌, IsTrue};
 ghost use Rattle.machine.specs.declared.thread.{Inbox.TheVariants.Aborted, RunState.TheVariants.{Inactive, Ready}};
-ghost use Rattle.integrity.specs.Shrinks.{IsBlocked, Lessens, LosesLink, Stops};
-ghost use Rattle.runs.specs.Comparing.{IsFreed, IsReleased, IsUnbound};
+ghost use Rattle.{integrity.specs.Shrinks.{IsBlocked, Lessens, LosesLink, Stops}, runs.specs.Comparing.{IsFreed, IsReleased, IsUnbound}};
 
 use base::ObjId;
 use machine::{

@@ -1,9 +1,8 @@
 //! The state to which a script leads.
 ghost use Rattle.std.specs.Prelude.{◌↔◌, ◌≡◌, IfErr, IfNone, IfOk, IfSome, IsTrue, List};
 ghost use Rattle.base.specs.Refusals.{out_of_memory, plain};
-ghost use Rattle.machine.specs.{declared.call.{Event.Event as Ev, Outcome.TheVariants.Refused}, Layout.Layout};
-ghost use Rattle.machine.specs.{Machine.Machine, WellFormed.IsWellFormed};
-ghost use Rattle.runs.specs.Shown.{IsReachedBy, IsStopped};
+ghost use Rattle.machine.specs.{declared.call.{Event.Event as Ev, Outcome.TheVariants.Refused}, Layout.Layout, Machine.Machine};
+ghost use Rattle.{machine.specs.WellFormed.IsWellFormed, runs.specs.Shown.{IsReachedBy, IsStopped}};
 
 use base::Refusal;
 use kernel::{boot, each_table_has_one_boot_state, step};

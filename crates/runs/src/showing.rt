@@ -1,10 +1,9 @@
 //! The test whether a script answers a question.
 ghost use Rattle.std.specs.Prelude.{[], ◌++◌, ◌↔◌, ◌∷◌, ◌≡◌, IfErr, IfOk, IsTrue, Some};
 ghost use Rattle.base.specs.Refusals.{plain};
-ghost use Rattle.machine.specs.declared.call.Outcome.{Outcome as Ended};
-ghost use Rattle.machine.specs.{Authority.label_of, Machine.{Machine, object_of}, Step.Step, WellFormed.IsWellFormed};
-ghost use Rattle.integrity.specs.{Allowed.IsLabelled, Shrinks.IsSame};
-ghost use Rattle.runs.specs.Shown.{Answers, GoesSo, IsAsked, IsMade};
+ghost use Rattle.machine.specs.{declared.call.Outcome.Outcome as Ended, Authority.label_of};
+ghost use Rattle.machine.specs.{Machine.{Machine, object_of}, Step.Step, WellFormed.IsWellFormed};
+ghost use Rattle.{integrity.specs.{Allowed.IsLabelled, Shrinks.IsSame}, runs.specs.Shown.{Answers, GoesSo, IsAsked, IsMade}};
 
 use crate::comparing::{differs, shrinks};
 use crate::question::Question;

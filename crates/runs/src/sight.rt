@@ -1,8 +1,7 @@
 //! Sights of objects: all that a state has of an object.
 ghost use Rattle.std.specs.Prelude.{ℕ, ◌<◌, ◌≡◌, IfErr, IfOk, List, Some, length, slice_get};
 ghost use Rattle.base.specs.{declared.ids.ObjId.ObjId as Id, Refusals.plain};
-ghost use Rattle.machine.specs.{Machine.{cap_of, queue_of, words_of}, WellFormed.IsWellFormed};
-ghost use Rattle.runs.specs.Sights.{IsSeen};
+ghost use Rattle.{machine.specs.{Machine.{cap_of, queue_of, words_of}, WellFormed.IsWellFormed}, runs.specs.Sights.IsSeen};
 
 use base::{ObjId, Refusal, SlotRef};
 use machine::{Cap, Object};

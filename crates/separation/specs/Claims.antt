@@ -1,11 +1,10 @@
 -- The claims that a description makes: a label with a thread leaves alone each label that it isn't joined to (confine's own).
-use Rattle.std.specs.{List.{flat_map, range_with_len}, Option.option_map_or, Prelude.{[], ℕ, ◌&&◌, ◌++◌, ◌==◌, Bool, List, None, Option}}
-use Rattle.std.specs.Prelude.{Some, codes, false, filter, length, map, not, option_and_then, slice_get, unwrap_or}
+use Rattle.std.specs.{List.{flat_map, range_with_len}, Option.option_map_or, Prelude.{[], ℕ, ◌&&◌, ◌++◌, ◌==◌, Bool, List}}
+use Rattle.std.specs.Prelude.{None, Option, Some, codes, false, filter, length, map, not, option_and_then, slice_get, unwrap_or}
 use Rattle.microkit.specs.{declared.{description.User.User, labels.Subject.Subject}, Description.Description}
+use Rattle.{importing.specs.Groups.labelled_of, separation.specs.{declared.claims.Pair.Pair, Joined.is_joined, Lending.all_runners}}
 use Rattle.microkit.specs.declared.description.User.TheVariants as user
 use Rattle.microkit.specs.declared.labels.Subject.TheVariants as subject
-use Rattle.importing.specs.Groups.{labelled_of}
-use Rattle.separation.specs.{declared.claims.Pair.Pair, Joined.is_joined, Lending.all_runners}
 
 -- the user behind a label, if it has threads
 unfoldable pub user_of : Subject → Option User

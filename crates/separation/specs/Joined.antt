@@ -5,10 +5,9 @@
 -- an endpoint, a notification or a region is removed by that, all lose it that wait there or map it.
 use Rattle.std.specs.{List.list_any, Prelude.{[], ℕ, ◌&&◌, ◌==◌, ◌||◌, Bool, List, slice_get, unwrap_or}}
 use Rattle.microkit.specs.declared.{description.{Channel.Channel, End.End, Map.Map, User.User}, labels.Subject.Subject}
-use Rattle.microkit.specs.Description.{Description}
+use Rattle.{microkit.specs.Description.Description, separation.specs.Users.{acts_for, controls, is_child_of, may_answer}}
 use Rattle.microkit.specs.declared.description.User.TheVariants as user
 use Rattle.microkit.specs.declared.labels.Subject.TheVariants as subject
-use Rattle.separation.specs.Users.{acts_for, controls, is_child_of, may_answer}
 
 -- a user, or one inside it, may call a domain by an end
 unfoldable pub end_calls : Description → User → ℕ → End → End → Bool

@@ -1,8 +1,7 @@
 //! The domains on whose time a domain may run: its own, and those that call it directly or through others.
 ghost use Rattle.std.specs.{List.{list_any, range_with_len}, Prelude.{[], ◌∷◌, ◌≡◌, IfOk, filter}};
 ghost use Rattle.microkit.specs.{LabelView.bytes_of, View.description_of};
-ghost use Rattle.separation.specs.Lending.{all_runners, channel_lends, end_lends, is_among, is_lent, runners_by};
-ghost use Rattle.separation.specs.Lending.{runners_of, with_called};
+ghost use Rattle.separation.specs.Lending.{all_runners, channel_lends, end_lends, is_among, is_lent, runners_by, runners_of, with_called};
 
 use microkit::{Channel, Description, End};
 use std::alloc::{AllocError, Global};

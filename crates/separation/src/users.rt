@@ -1,10 +1,9 @@
 //! Users, which are domains and virtual machines, and which of them are inside which.
 ghost use Rattle.std.specs.Prelude.{◌==◌, ◌≡◌};
-ghost use Rattle.importing.specs.Maps.{is_user};
-ghost use Rattle.microkit.specs.View.{description_of};
+ghost use Rattle.{microkit.specs.View.description_of, importing.specs.Maps.is_user};
+ghost use Rattle.separation.specs.Users.{acts_for, controls, family_of, has_reply, home_of, is_child_of};
+ghost use Rattle.separation.specs.Users.{is_within, may_answer, parent_of, parent_of_user, top_of};
 ghost use Rattle.microkit.specs.declared.description.User.TheVariants as user;
-ghost use Rattle.separation.specs.Users.{acts_for, controls, family_of, has_reply, home_of, is_child_of, is_within};
-ghost use Rattle.separation.specs.Users.{may_answer, parent_of, parent_of_user, top_of};
 
 use microkit::{Description, User};
 

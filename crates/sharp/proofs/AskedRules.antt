@@ -1,13 +1,12 @@
 -- The edges that the sharp rules ask for: every sharply closed policy has them, and a policy that has all of them is sharply closed.
-use Rattle.std.proofs.Common.{ℕ, ◌<◌, ◌∙◌, ◌≡◌, false, inl, inr, refl, sym, true}
-use Rattle.base.specs.declared.kind.Kind.{Kind, Kind as kinds}
-use Rattle.base.specs.declared.kind.Kind.TheVariants.{Call, Context, Control, Derive, Grant, Receive, Reply, Runs, Space}
-use Rattle.base.specs.Kinds.{is_structural}
-use Rattle.policy.specs.{Closed.{MayBeGranted}, Closing.IsWithin, Domain.{EdgeTest, IsInDomain}}
-use Rattle.policy.specs.Sharp.{IsSharplyClosed, Keepers, MayIdle, MayPut, MayServe}
-use Rattle.sharp.specs.Asked.{DerivesSharply, HoldsSharply, IsAskedAmong, IsSharplyAsked, IsSharplyGiven, IsSharplySettled, RunsSharply, SharesSharply}
-use Rattle.sharp.specs.Asked.{bound, caller, controlled, derived, finds, granted, grants, lent, put, puts, server, shared}
 use mathlib.Core.Bool.{false≢true}
+use Rattle.std.proofs.Common.{ℕ, ◌<◌, ◌∙◌, ◌≡◌, false, inl, inr, refl, sym, true}
+use Rattle.base.specs.declared.kind.Kind.{Kind, Kind as kinds, TheVariants.{Call, Context, Control, Derive}}
+use Rattle.base.specs.{declared.kind.Kind.TheVariants.{Grant, Receive, Reply, Runs, Space}, Kinds.is_structural}
+use Rattle.policy.specs.{Closed.MayBeGranted, Closing.IsWithin, Domain.{EdgeTest, IsInDomain}}
+use Rattle.policy.specs.Sharp.{IsSharplyClosed, Keepers, MayIdle, MayPut, MayServe}
+use Rattle.sharp.specs.Asked.{DerivesSharply, HoldsSharply, IsAskedAmong, IsSharplyAsked, IsSharplyGiven, IsSharplySettled, RunsSharply}
+use Rattle.sharp.specs.Asked.{SharesSharply, bound, caller, controlled, derived, finds, granted, grants, lent, put, puts, server, shared}
 
 -- what a policy asks for, every greater policy asks for
 module _ (one other : EdgeTest) (Keeps : Keepers) (within : IsWithin one other) where

@@ -1,14 +1,13 @@
 -- The sets of labels to which the sharp rules ask for edges, as the search computes them.
+use mathlib.Core.Bool.{false≢true}
 use Rattle.std.proofs.Common.{ℕ, ◌&&◌, ◌==◌, ◌↔◌, ◌∙◌, ◌≡◌, ◌⊎◌, Bool, false, inl, inr, refl, subst, sym, true}
 use Rattle.base.specs.declared.kind.Kind.{Kind, Kind as kinds, TheVariants.{Call, Context, Control, Derive, Grant, Receive, Reply, Runs}}
 use Rattle.base.specs.{declared.labels.Labels.Labels, Kinds.is_structural, Labels.is_in}
 use Rattle.policy.specs.{Closed.{ControlGives, MayBeGranted}, Domain.{EdgeTest, IsInDomain}, Sharp.{Keepers, MayIdle, MayPut, Told}}
-use Rattle.policy.proofs.{Gathering.{both, either, itself_tells, only_tells, row_tells, source_tells, target_tells, told_as}}
-use Rattle.policy.proofs.RuleSets.{Holds, IsDifference, IsReached, IsReaching, IsUnion, lacking_told}
-use Rattle.policy.proofs.Stepping.{IsRow}
-use Rattle.sharp.specs.Asked.{DerivesSharply, HoldsSharply, IsAskedAmong, IsLentSharply, IsMissingAmong, IsSettledAmong, IsSharplyGiven}
-use Rattle.sharp.specs.Asked.{RunsSharply, bound, caller, controlled, derived, granted, lent, put, server, shared}
-use mathlib.Core.Bool.{false≢true}
+use Rattle.policy.proofs.Gathering.{both, either, itself_tells, only_tells, row_tells, source_tells, target_tells, told_as}
+use Rattle.policy.proofs.{RuleSets.{Holds, IsDifference, IsReached, IsReaching, IsUnion, lacking_told}, Stepping.IsRow}
+use Rattle.sharp.specs.Asked.{DerivesSharply, HoldsSharply, IsAskedAmong, IsLentSharply, IsMissingAmong, IsSettledAmong}
+use Rattle.sharp.specs.Asked.{IsSharplyGiven, RunsSharply, bound, caller, controlled, derived, granted, lent, put, server, shared}
 
 abbrev pub IsOnly : Labels → ℕ → Type 0
 IsOnly one label = (other : ℕ) → is_in one other ≡ (other == label)

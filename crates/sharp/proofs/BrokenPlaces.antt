@@ -1,16 +1,15 @@
 -- The places of each sharp rule, label by label and kind by kind, and their order.
-use Rattle.std.{specs.Option.option_map, proofs.Common.{[], ℕ, ◌↔◌, ◌∷◌, ◌≡◌, ◌⊎◌, IfNone, IfSome, List, Option, arith, false, inl}}
-use Rattle.std.proofs.Common.{inr, refl, sym, true}
-use Rattle.base.specs.{declared.{kind.Kind.{Kind, TheVariants.{Control, Derive, Runs, Space}}, labels.Labels.Labels}, Kinds.{is_structural, kind_number}}
+use Rattle.std.{specs.Option.option_map, proofs.Common.{[], ℕ, ◌↔◌, ◌∷◌, ◌≡◌, ◌⊎◌, IfNone}}
+use Rattle.std.proofs.Common.{IfSome, List, Option, arith, false, inl, inr, refl, sym, true}
+use Rattle.base.specs.declared.{kind.Kind.{Kind, TheVariants.{Derive, Runs}}, labels.Labels.Labels}
+use Rattle.base.specs.{Kinds.{is_structural, kind_number}, Labels.is_in}
+use Rattle.policy.specs.{Closed.MayBeGranted, Domain.{EdgeTest, IsInDomain}, Places.{Begins, IsLeast, IsNone, IsUnder}, Search.IsLeastIn}
+use Rattle.policy.{specs.{Search.IsNobody, Sharp.{Keepers, MayPut}}, proofs.{KindNumbers.{all_kinds, same_kind}, Places.{IsMade, Searches}}}
+use Rattle.sharp.specs.{declared.broken.SharpBroken.SharpBroken, Broken.{FindsSharply, IsSharplyBrokenAt, UsesSharply}}
+use Rattle.sharp.{specs.Broken.{falls, rises, s1, s2, s3, s4, s5, s6, s7, s8, sharp_place}, proofs.PlaceSearch.after}
+use Rattle.sharp.proofs.PlaceSearch.{found_in_set, kinds_search, label_decides, last_decides, least_of_set, none_of_set, of_kind, one_label}
 use Rattle.base.specs.declared.kind.Kind.TheVariants as kinds
-use Rattle.base.specs.Labels.{is_in}
-use Rattle.policy.specs.{Closed.MayBeGranted, Domain.{EdgeTest, IsInDomain}, Places.{Begins, IsLeast, IsNone, IsUnder}, Sharp.{Keepers, MayPut}}
-use Rattle.policy.specs.Search.{IsLeastIn, IsNobody}
-use Rattle.policy.proofs.{KindNumbers.{all_kinds, same_kind}, Places.{IsMade, Searches}}
-use Rattle.sharp.specs.{declared.broken.{SharpBroken.SharpBroken}}
 use Rattle.sharp.specs.declared.broken.SharpBroken.TheVariants as broken
-use Rattle.sharp.specs.Broken.{FindsSharply, IsSharplyBrokenAt, UsesSharply, falls, rises, s1, s2, s3, s4, s5, s6, s7, s8, sharp_place}
-use Rattle.sharp.proofs.PlaceSearch.{after, found_in_set, kinds_search, label_decides, last_decides, least_of_set, none_of_set, of_kind, one_label}
 
 module _ (test : EdgeTest) (Keeps : Keepers) where
   abbrev IsUnderAll : List ℕ → SharpBroken → Type 0

@@ -1,12 +1,10 @@
 -- The search for the first place, by labels, by kinds, and within a set of labels.
-use Rattle.std.{specs.Option.option_map, proofs.Common.{[], ℕ, ◌++◌, ◌<◌, ◌↔◌, ◌∷◌, ◌≡◌, IfNone, IfSome, List, None, Option, Some, arith, inl}}
-use Rattle.std.proofs.Common.{inr, length, true}
-use Rattle.std.proofs.lemmas.{List.FromFn.length-range_with_len, Option.slice_get_within}
+use Rattle.std.{specs.Option.option_map, proofs.Common.{[], ℕ, ◌++◌, ◌<◌, ◌↔◌, ◌∷◌, ◌≡◌, IfNone, IfSome, List, None, Option, Some}}
+use Rattle.std.proofs.{Common.{arith, inl, inr, length, true}, lemmas.{List.FromFn.length-range_with_len, Option.slice_get_within}}
 use Rattle.base.specs.{declared.{kind.Kind.Kind, labels.Labels.Labels}, Kinds.kind_number, Labels.is_in}
 use Rattle.policy.specs.{Places.{Begins, ComesBefore, FindsLeast, IsLeast, IsNone, IsUnder}, Search.{IsLeastIn, IsNobody}}
-use Rattle.policy.proofs.{Cells.not_both, KindNumbers.{all_kinds, kind_stands, number_stands}}
-use Rattle.policy.proofs.Places.{IsMade, Searches, decided, least_here, least_made, none_at_all, none_made}
-use Rattle.policy.proofs.Sweep.{numbers, stands, stands_alone}
+use Rattle.policy.proofs.{Cells.not_both, KindNumbers.{all_kinds, kind_stands, number_stands}, Places.IsMade}
+use Rattle.policy.proofs.{Places.{Searches, decided, least_here, least_made, none_at_all, none_made}, Sweep.{numbers, stands, stands_alone}}
 
 -- the number that a label adds to a place, and the one that a kind adds
 abbrev pub one_label : ℕ → List ℕ

@@ -1,15 +1,14 @@
 -- The order of the places at which sharp rules are broken: by rule, and then by label.
-use Rattle.std.proofs.Common.{[], ℕ, ◌+◌, ◌-◌, ◌<◌, ◌∷◌, ◌≡◌, List, None, Option, Some, ap, arith, inl, refl, slice_get, suc, sym, true, zero}
-use Rattle.std.proofs.lemmas.Option.{same_Some}
+use Rattle.std.proofs.Common.{[], ℕ, ◌+◌, ◌-◌, ◌<◌, ◌∷◌, ◌≡◌, List, None, Option, Some, ap, arith}
+use Rattle.std.proofs.{Common.{inl, refl, slice_get, suc, sym, true, zero}, lemmas.Option.same_Some}
 use Rattle.base.specs.declared.kind.Kind.{Kind, Kind as kinds, TheVariants.{Control, Derive, Grant, Receive}}
-use Rattle.policy.specs.{Domain.{EdgeTest}, Places.{Begins, FindsLeast, IsUnder}, Sharp.Keepers}
-use Rattle.policy.proofs.{ClosingRules.domain_joins, Places.{Searches}, Sweep.numbers}
-use Rattle.sharp.specs.{declared.broken.{Rule.Rule, SharpBroken.SharpBroken}, Sweep.rule_number}
+use Rattle.policy.specs.{Domain.EdgeTest, Places.{Begins, FindsLeast, IsUnder}, Sharp.Keepers}
+use Rattle.policy.proofs.{ClosingRules.domain_joins, Places.Searches, Sweep.numbers}
+use Rattle.sharp.specs.{declared.broken.{Rule.Rule, SharpBroken.SharpBroken}, Broken.{FindsSharply, IsSharplyBrokenAt, PutsByGrant}}
+use Rattle.sharp.specs.{Broken.{SharplyAsks, UsesSharply, derived, falls, granted, rises, s1, s3, sharp_place}, Sweep.rule_number}
+use Rattle.sharp.proofs.{AskedRules.sharply_asked_starts, PlaceSearch.{labels_search, one_label}}
 use Rattle.sharp.specs.declared.broken.Rule.TheVariants as rule
 use Rattle.sharp.specs.declared.broken.SharpBroken.TheVariants as broken
-use Rattle.sharp.specs.Broken.{FindsSharply, IsSharplyBrokenAt, PutsByGrant, SharplyAsks, UsesSharply, derived, falls, granted, rises, s1, s3, sharp_place}
-use Rattle.sharp.proofs.AskedRules.{sharply_asked_starts}
-use Rattle.sharp.proofs.PlaceSearch.{labels_search, one_label}
 
 -- the rules in order
 

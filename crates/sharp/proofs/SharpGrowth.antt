@@ -1,15 +1,13 @@
 -- Policies that grow until they are sharply closed: the policy that grows no more is the least sharply closed one.
+use mathlib.Core.Bool.{false≢true}
 use Rattle.std.proofs.Common.{ℕ, ◌<◌, ◌↔◌, ◌∙◌, ◌≡◌, Bool, List, false, inl, inr, refl, subst, sym, true}
-use Rattle.base.specs.declared.{edge.Edge.Edge, kind.Kind.Kind, labels.Labels.Labels}
-use Rattle.base.specs.declared.label.TheConstants.Label as Label
-use Rattle.base.specs.Labels.{is_in}
-use Rattle.policy.specs.{Closing.IsWithin, Domain.EdgeTest, Policy.{allows}, Settling.{Joins}}
-use Rattle.policy.specs.Sharp.{IsSharplyClosed, KeeperTest, Told}
-use Rattle.policy.proofs.Sharpness.{closed_sharply, fewer_keepers}
-use Rattle.policy.proofs.ClosingGrowth as closing
+use Rattle.base.specs.{declared.{edge.Edge.Edge, kind.Kind.Kind, labels.Labels.Labels}, Labels.is_in}
+use Rattle.policy.specs.{Closing.IsWithin, Domain.EdgeTest, Policy.allows, Settling.Joins}
+use Rattle.policy.{specs.Sharp.{IsSharplyClosed, KeeperTest, Told}, proofs.Sharpness.{closed_sharply, fewer_keepers}}
 use Rattle.sharp.specs.{Asked.{IsMissingAmong, SharesSharply}, Keeping.KeepsFrom, Least.{GrowsSharply, IsLeastSharp}}
 use Rattle.sharp.proofs.{AskedRules.{asked_among, has_sharply_asked}, KeeperSearch.keeps_grow}
-use mathlib.Core.Bool.{false≢true}
+use Rattle.base.specs.declared.label.TheConstants.Label as Label
+use Rattle.policy.proofs.ClosingGrowth as closing
 
 module _ (keeping : Labels) (old middle new : List Edge) (before : Bool) (first : GrowsSharply keeping old middle before) where
   -- steps of growth, the last of which adds edges

@@ -1,11 +1,10 @@
 -- That a policy is sharply closed exactly if no sharp rule is broken at any place.
-use Rattle.std.proofs.Common.{ℕ, ◌≡◌, Bool, true}
-use Rattle.std.proofs.lemmas.Bool.{true_from_ne_false}
-use Rattle.base.specs.declared.kind.Kind.{Kind, Kind as kinds, TheVariants.{Derive}}
+use Rattle.std.proofs.{Common.{ℕ, ◌≡◌, Bool, true}, lemmas.Bool.true_from_ne_false}
+use Rattle.base.specs.declared.kind.Kind.{Kind, Kind as kinds, TheVariants.Derive}
 use Rattle.policy.{specs.{Closed.IsLacking, Domain.EdgeTest, Sharp.{IsSharplyClosed, Keepers}}, proofs.Cells.not_both}
-use Rattle.sharp.specs.{declared.broken.SharpBroken.{SharpBroken, SharpBroken as broken}, Asked.{caller, server}}
-use Rattle.sharp.specs.Broken.{IsSharplyBrokenAt, SharplyAsks, derived, falls, granted, has_edge, rises, sharp_edge_at, UsesSharply, PutsByGrant}
-use Rattle.sharp.specs.Asked.{HoldsSharply}
+use Rattle.sharp.specs.declared.broken.SharpBroken.{SharpBroken, SharpBroken as broken}
+use Rattle.sharp.specs.{Asked.{HoldsSharply, caller, server}, Broken.{IsSharplyBrokenAt, PutsByGrant}}
+use Rattle.sharp.specs.Broken.{SharplyAsks, UsesSharply, derived, falls, granted, has_edge, rises, sharp_edge_at}
 
 abbrev pub IsUnbroken : EdgeTest → Keepers → Type 0
 IsUnbroken test Keeps = (place : SharpBroken) → ¬ IsSharplyBrokenAt test Keeps place

@@ -1,7 +1,6 @@
 -- The labels that keep capabilities for CNodes, given the labels that hold some at boot (confine's own).
 use Rattle.std.specs.Prelude.{ℕ, ◌≡◌, ◌⊎◌, false, true}
-use Rattle.base.specs.declared.kind.Kind.TheVariants.{Control, Space}
-use Rattle.policy.specs.{Domain.EdgeTest, Sharp.KeeperTest}
+use Rattle.{base.specs.declared.kind.Kind.TheVariants.{Control, Space}, policy.specs.{Domain.EdgeTest, Sharp.KeeperTest}}
 
 -- a label keeps capabilities: it holds some at boot, finds them with a label that keeps, or may be handed them by one
 pub data KeepsFrom (test : EdgeTest) (holds : KeeperTest) : ℕ → Type 0 where

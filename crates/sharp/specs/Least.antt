@@ -1,8 +1,6 @@
 -- The least sharply closed policy that has some edges; its keepers are the labels that keep capabilities for CNodes by its own edges
 -- (confine's own).
-use Rattle.std.specs.Prelude.{Bool, List}
-use Rattle.base.specs.declared.{edge.Edge.Edge, labels.Labels.Labels}
-use Rattle.base.specs.Labels.{is_in}
+use Rattle.{std.specs.Prelude.{Bool, List}, base.specs.{declared.{edge.Edge.Edge, labels.Labels.Labels}, Labels.is_in}}
 use Rattle.policy.specs.{Closing.IsWithin, Domain.EdgeTest, Policy.allows, Settling.Grows, Sharp.{IsSharplyClosed, KeeperTest, Told}}
 use Rattle.sharp.specs.Keeping.{KeepsFrom}
 

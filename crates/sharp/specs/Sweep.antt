@@ -1,6 +1,5 @@
 -- The numbers by which the search takes the sharp rules in order (confine's own).
-use Rattle.std.specs.Prelude.{ℕ}
-use Rattle.sharp.specs.{declared.broken.Rule.{Rule, Rule as rule}, Broken.{s1, s2, s3, s4, s5, s6, s7, s8}}
+use Rattle.{std.specs.Prelude.ℕ, sharp.specs.{declared.broken.Rule.{Rule, Rule as rule}, Broken.{s1, s2, s3, s4, s5, s6, s7, s8}}}
 
 abbrev pub rule_number : Rule → ℕ
 rule_number rule.S1 = s1

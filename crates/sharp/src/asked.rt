@@ -1,10 +1,9 @@
 //! The labels to which the sharp rules ask for an edge of a kind from a label.
 ghost use Rattle.std.specs.Prelude.{ℕ, ◌↔◌, ◌≡◌, ◌⊎◌, true};
 ghost use Rattle.base.specs.Labels.{is_in};
-ghost use Rattle.policy.specs.{Closed.{ControlGives, MayBeGranted}, Domain.IsInDomain, Policy.allows};
-ghost use Rattle.policy.specs.Sharp.{MayPut, Told};
-ghost use Rattle.sharp.specs.Asked.{DerivesSharply, HoldsSharply, IsLentSharply, IsMissingAmong, IsSharplyGiven};
-ghost use Rattle.sharp.specs.Asked.{RunsSharply, SharesSharply};
+ghost use Rattle.policy.specs.{Closed.{ControlGives, MayBeGranted}, Domain.IsInDomain, Policy.allows, Sharp.{MayPut, Told}};
+ghost use Rattle.sharp.specs.Asked.{DerivesSharply, HoldsSharply, IsLentSharply};
+ghost use Rattle.sharp.specs.Asked.{IsMissingAmong, IsSharplyGiven, RunsSharply, SharesSharply};
 
 use base::{Kind, Label, Labels};
 use policy::{DOMAIN, Policy, is_given_by_control, subjects};

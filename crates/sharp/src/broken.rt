@@ -2,10 +2,9 @@
 mod rules;
 
 ghost use Rattle.std.specs.Prelude.{[], ◌<◌, ◌↔◌, ◌∷◌, ◌≡◌, IsTrue};
-ghost use Rattle.base.specs.declared.label.TheConstants.Label as Label;
-ghost use Rattle.base.specs.Labels.{is_in};
-ghost use Rattle.policy.specs.{Places.FindsLeast, Policy.allows, Sharp.{IsSharplyClosed, Told}};
+ghost use Rattle.{base.specs.Labels.is_in, policy.specs.{Places.FindsLeast, Policy.allows, Sharp.{IsSharplyClosed, Told}}};
 ghost use Rattle.sharp.specs.{Broken.{FindsSharply, IsSharplyBrokenAt, sharp_edge_at, sharp_place, sharp_rule}, Sweep.rule_number};
+ghost use Rattle.base.specs.declared.label.TheConstants.Label as Label;
 
 use base::{Edge, Kind, Label, Labels};
 use policy::Policy;

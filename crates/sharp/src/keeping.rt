@@ -1,8 +1,6 @@
 //! The search for the labels that keep capabilities for CNodes.
 ghost use Rattle.std.specs.Prelude.{ℕ, ◌↔◌, ◌≡◌, true};
-ghost use Rattle.base.specs.Labels.{is_in};
-ghost use Rattle.policy.specs.Policy.{allows};
-ghost use Rattle.sharp.specs.Keeping.{IsBeside, KeepsFrom};
+ghost use Rattle.{base.specs.Labels.is_in, policy.specs.Policy.allows, sharp.specs.Keeping.{IsBeside, KeepsFrom}};
 
 use base::{Kind, Labels};
 use policy::Policy;

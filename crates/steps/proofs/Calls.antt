@@ -1,7 +1,6 @@
 -- That a step that was made has an admitted caller, that its call did what its row says, and that the machine stays well formed.
 use Rattle.std.{specs.Prelude.{Bool, Err, None, Ok, Result, Some, option_map}, proofs.Common.{[], ℕ, ◌∙◌, ◌∷◌, ◌≡◌, ◌≢◌, ◌⊎◌, List, ap}}
-use Rattle.std.proofs.Common.{inl, inr, refl, subst, sym}
-use Rattle.base.specs.declared.{ids.{ObjId.ObjId, SlotRef.SlotRef}, refusal.Cause.Cause}
+use Rattle.{std.proofs.Common.{inl, inr, refl, subst, sym}, base.specs.declared.{ids.{ObjId.ObjId, SlotRef.SlotRef}, refusal.Cause.Cause}}
 use Rattle.machine.specs.declared.{call.{Call.{Call, Call as call}, Event.Event, Made.Made, Outcome.Outcome}, cap.Cap.Cap}
 use Rattle.machine.specs.declared.object.{Notification.Notification, Object.{Object, Object as o}, ObjectKind.ObjectKind as kind}
 use Rattle.machine.specs.{declared.{slot_address.SlotAddress.SlotAddress, thread.RunState.RunState as state}, Below.is_below}

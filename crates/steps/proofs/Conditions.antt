@@ -1,7 +1,6 @@
 -- That conditions tested one after another were all met, if the last result is a value.
 use Rattle.std.{specs.Prelude.{Err, Ok, Result}, proofs.Common.{◌≡◌, refl}}
-use Rattle.base.specs.declared.refusal.Cause.{Cause}
-use Rattle.machine.specs.Refusing.{◌>>=◌}
+use Rattle.{base.specs.declared.refusal.Cause.Cause, machine.specs.Refusing.◌>>=◌}
 
 pub same_ok : {A : Type 0} {a b : A} → ◌≡◌ {A = Result A Cause} (Ok a) (Ok b) → a ≡ b
 same_ok e = cc

@@ -1,13 +1,12 @@
 -- That configure, bind and unbind keep a machine well formed: a context's share changes, or a link on which thread and context agree before
 -- and after.
 use Rattle.std.{specs.Prelude.{None, Option, Some}, proofs.Common.{ℕ, ◌∙◌, ◌≡◌, ◌≢◌, ◌⊎◌, ap, inl, inr, refl, subst, sym}}
-use Rattle.std.proofs.lemmas.Option.{none-some, same_Some}
-use Rattle.base.specs.declared.ids.ObjId.{ObjId}
+use Rattle.{std.proofs.lemmas.Option.{none-some, same_Some}, base.specs.declared.ids.ObjId.ObjId}
 use Rattle.machine.specs.declared.{object.{Context.Context, Object.{Object, Object as o}, Share.Share}, thread.Tcb.Tcb}
-use Rattle.machine.specs.{Changes.{with_context, with_tcb}, Machine.{Machine, object_of, with_object}, Releasing.with_idle_context}
-use Rattle.machine.specs.{Releasing.with_unbound, Step.Bind.{context_under, thread_on, with_bound, with_handed, without_thread}}
-use Rattle.machine.{specs.{Step.Configure.with_share, WellFormed.{IsThread, IsWellFormed}}, proofs.Ids.one_or_two}
-use Rattle.machine.proofs.{LookUps.object_of-with_object, RemovalTable.one_thread}
+use Rattle.machine.specs.{Changes.{with_context, with_tcb}, Machine.{Machine, object_of, with_object}}
+use Rattle.machine.specs.{Releasing.{with_idle_context, with_unbound}, Step.Bind.{context_under, thread_on, with_bound, with_handed}}
+use Rattle.machine.specs.{Step.{Bind.without_thread, Configure.with_share}, WellFormed.{IsThread, IsWellFormed}}
+use Rattle.machine.proofs.{Ids.one_or_two, LookUps.object_of-with_object, RemovalTable.one_thread}
 use Rattle.steps.proofs.{ContextLinks.{binds_binds, binds_formed, object_binds}, ContextRow.{BindDone, ConfigureDone, UnbindDone}}
 use Rattle.steps.proofs.{SetObject.{SetsObject, other_after, other_before, set_elsewhere, set_there}, Threads.with_tcb_there}
 

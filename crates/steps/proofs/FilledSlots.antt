@@ -1,9 +1,8 @@
 -- The slots and the derivation tree after an empty slot gets a capability, as a child or without a parent.
-use Rattle.std.{specs.Prelude.{None, Option, Some, if◌then◌else◌}, proofs.Common.{◌∙◌, ◌≡◌, ◌≢◌, ◌⊎◌, Bool, ap, false, inl, inr, refl, sym}}
-use Rattle.std.proofs.Common.{true}
-use Rattle.base.specs.declared.ids.SlotRef.{SlotRef}
-use Rattle.machine.specs.{declared.cap.Cap.Cap, Machine.{Machine, cap_of, parent_of, same_slot}, WellFormed.{Descends, SlotsFit}}
-use Rattle.machine.{specs.WellFormed.Descends.{child, further}, proofs.{Exchange.slot_itself, LookUps.one_slot}}
+use Rattle.std.{specs.Prelude.{None, Option, Some, if◌then◌else◌}, proofs.Common.{◌∙◌, ◌≡◌, ◌≢◌, ◌⊎◌, Bool}}
+use Rattle.{std.proofs.Common.{ap, false, inl, inr, refl, sym, true}, base.specs.declared.ids.SlotRef.SlotRef}
+use Rattle.machine.specs.{declared.cap.Cap.Cap, Machine.{Machine, cap_of, parent_of, same_slot}}
+use Rattle.machine.{specs.WellFormed.{Descends, Descends.{child, further}, SlotsFit}, proofs.{Exchange.slot_itself, LookUps.one_slot}}
 
 -- an empty slot gets a capability, as a child of a filled slot if it has a parent
 pub record FillsUnder (m : Machine) (slot : SlotRef) (above : Option SlotRef) (new : Cap) (next : Machine) : Type 0 where

@@ -1,11 +1,10 @@
 -- The capability that a call finds at an address: its slot, where the lookup ends, and its object, which is of a kind.
 use Rattle.std.{specs.Prelude.{None, Ok, Option, Some}, proofs.Common.{ℕ, ◌∙◌, ◌≡◌, Bool, ap, false, refl, sym, true}}
 use Rattle.base.specs.declared.ids.{ObjId.ObjId, SlotRef.SlotRef}
-use Rattle.machine.specs.declared.{cap.{Cap.Cap, Detail.{Detail, Detail as d}, Guard.Guard}, object.ObjectKind.ObjectKind}
-use Rattle.machine.specs.{declared.object.ObjectKind.ObjectKind as kind, Capabilities.{badged_of, kind_of_detail}, Lookup.lookup_of}
-use Rattle.machine.specs.{Machine.{Machine, cap_of}, Refusing.◌>>=◌, Step.Find.{find, find_cap, held_in, of_kind, permitted}}
-use Rattle.machine.specs.WellFormed.{IsWellFormed, kind_of}
-use Rattle.steps.proofs.Conditions.{both_done, same_ok}
+use Rattle.machine.specs.declared.cap.{Cap.Cap, Detail.{Detail, Detail as d}, Guard.Guard}
+use Rattle.machine.specs.{declared.object.ObjectKind.{ObjectKind, ObjectKind as kind}, Capabilities.{badged_of, kind_of_detail}}
+use Rattle.machine.specs.{Lookup.lookup_of, Machine.{Machine, cap_of}, Refusing.◌>>=◌, Step.Find.{find, find_cap, held_in, of_kind}}
+use Rattle.{machine.specs.{Step.Find.permitted, WellFormed.{IsWellFormed, kind_of}}, steps.proofs.Conditions.{both_done, same_ok}}
 
 -- the lookup of a thread's address ends at a slot that holds this capability
 pub record FindsCap (m : Machine) (caller : ObjId) (address : ℕ) (slot : SlotRef) (held : Cap) : Type 0 where

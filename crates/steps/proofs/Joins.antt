@@ -1,20 +1,19 @@
 -- A thread that begins to wait at an object, or for an answer: it is in a run state, is last in the queue where it waits, and is held by
 -- the reply that it names.
 use Rattle.std.{specs.Prelude.{None, Option, Some, is_some, length, option_map}, proofs.Common.{[], ℕ, ◌++◌, ◌∙◌, ◌∷◌, ◌≡◌, ◌≢◌, ◌⊎◌, List}}
-use Rattle.std.proofs.{Common.{ap, inl, inr, refl, subst, sym}, lemmas.Option.{none-some, same_Some}}
-use Rattle.base.specs.declared.ids.ObjId.{ObjId}
-use Rattle.machine.specs.declared.{object.{Object.{Object, Object as o}, ReplyState.ReplyState}, thread.Calling.Calling}
-use Rattle.machine.specs.{declared.thread.{Receiving.Receiving, RunState.RunState, Tcb.Tcb}, Changes.{with_tcb, with_waiting}}
-use Rattle.machine.specs.{Machine.{Machine, object_of, queue_of, with_object, with_queue}, Releasing.{SameRest, with_blocked, with_called}}
-use Rattle.machine.specs.{Releasing.{with_holding, with_named}, Step.Receive.awaiting_message, WellFormed.{IsThread, WaitsAt}}
-use Rattle.machine.proofs.{Ids.{at_itself, at_other, one_or_two}, Leaving.{Names, holding_is, rest-with_object, rest-with_queue}}
-use Rattle.machine.proofs.{Leaving.rest_along, LookUps.{object_of-with_object, object_of-with_queue, queue_of-with_object}}
-use Rattle.machine.proofs.LookUps.{queue_of-with_queue}
+use Rattle.{std.proofs.{Common.{ap, inl, inr, refl, subst, sym}, lemmas.Option.{none-some, same_Some}}, base.specs.declared.ids.ObjId.ObjId}
+use Rattle.machine.specs.declared.object.{Object.{Object, Object as o}, ReplyState.ReplyState}
+use Rattle.machine.specs.declared.thread.{Calling.Calling, Receiving.Receiving, RunState.RunState, Tcb.Tcb}
+use Rattle.machine.specs.{Changes.{with_tcb, with_waiting}, Machine.{Machine, object_of, queue_of, with_object, with_queue}}
+use Rattle.machine.specs.{Releasing.{SameRest, with_blocked, with_called, with_holding, with_named}, Step.Receive.awaiting_message}
+use Rattle.machine.{specs.WellFormed.{IsThread, WaitsAt}, proofs.Ids.{at_itself, at_other, one_or_two}}
+use Rattle.machine.proofs.Leaving.{Names, holding_is, rest-with_object, rest-with_queue, rest_along}
+use Rattle.machine.proofs.LookUps.{object_of-with_object, object_of-with_queue, queue_of-with_object, queue_of-with_queue}
+use Rattle.steps.proofs.{Outlines.{Steady, outline}, Releases.{rest_caps, rest_parents, rest_words}}
+use Rattle.steps.proofs.SetObject.{SetsObject, set_elsewhere, set_there}
 use Rattle.machine.specs.declared.object.ReplyState.TheVariants as reply
 use Rattle.machine.specs.declared.thread.Inbox.TheVariants as inbox
 use Rattle.machine.specs.declared.thread.RunState.TheVariants as state
-use Rattle.steps.proofs.{Outlines.{Steady, outline}, Releases.{rest_caps, rest_parents, rest_words}, SetObject.{SetsObject, set_elsewhere}}
-use Rattle.steps.proofs.SetObject.{set_there}
 
 -- the state of the reply that a run state names, which holds the thread
 abbrev pub hold_for : RunState → ObjId → ReplyState

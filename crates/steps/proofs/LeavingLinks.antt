@@ -1,18 +1,17 @@
 -- That queues, replies and contexts stay linked at both ends when threads leave their queues and replies, lose their contexts, or are
 -- removed with other objects.
-use Rattle.std.{specs.Prelude.{All, AllPairs, Contains, None, Option, Some, filter, if◌then◌else◌, option_map}, proofs.Common.{[], ◌∷◌}}
-use Rattle.std.proofs.{Common.{◌∙◌, ◌≡◌, ◌≢◌, Bool, List, ap, cond, false, not, refl, subst, sym, true}}
+use Rattle.std.specs.Prelude.{All, AllPairs, Contains, None, Option, Some, filter, if◌then◌else◌, option_map}
+use Rattle.std.proofs.Common.{[], ◌∙◌, ◌∷◌, ◌≡◌, ◌≢◌, Bool, List, ap, cond, false, not, refl, subst, sym, true}
 use Rattle.std.proofs.lemmas.List.Elements.{All-cons, All-contains, All-contains_itself, All-filter, All-nil, All-weaker, filter_passes}
-use Rattle.std.proofs.lemmas.{List.Kept.AllPairs-filter, Option.{none-some, same_Some}}
-use Rattle.base.specs.declared.ids.ObjId.{ObjId}
+use Rattle.{std.proofs.lemmas.{List.Kept.AllPairs-filter, Option.{none-some, same_Some}}, base.specs.declared.ids.ObjId.ObjId}
 use Rattle.machine.specs.declared.object.{Context.Context, Object.{Object, Object as o}, Reply.Reply, ReplyState.ReplyState}
+use Rattle.machine.specs.{declared.thread.{RunState.RunState, Tcb.Tcb}, Finalising.{IsHolding, link_after}}
+use Rattle.machine.specs.{Machine.{Machine, object_of, queue_of}, Objects.kind_of_object, Releasing.reply_by, WellFormed.IsCallingThrough}
+use Rattle.machine.specs.WellFormed.{IsIdle, IsReceivingWith, IsSending, IsThread, LinksAgree, WaitsAt, WaitsAtKind, kind_of}
+use Rattle.machine.proofs.{HeldThreads.{calling_names, receiving_names}, Idle.{idle_called, idle_receives, idle_waits}}
+use Rattle.machine.proofs.{Leaving.Names, Queues.{first_in, other_in}, RoundLemmas.not_passes}
 use Rattle.machine.specs.declared.object.ReplyState.TheVariants as reply
-use Rattle.machine.specs.{declared.thread.{RunState.RunState, Tcb.Tcb}, Finalising.{IsHolding, link_after}, Objects.kind_of_object}
 use Rattle.machine.specs.declared.thread.RunState.TheVariants as state
-use Rattle.machine.specs.{Machine.{Machine, object_of, queue_of}, Releasing.reply_by, WellFormed.{IsCallingThrough, IsIdle}}
-use Rattle.machine.specs.WellFormed.{IsReceivingWith, IsSending, IsThread, LinksAgree, WaitsAt, WaitsAtKind, kind_of}
-use Rattle.machine.proofs.{HeldThreads.{calling_names, receiving_names}, Idle.{idle_called, idle_receives, idle_waits}, Leaving.Names}
-use Rattle.machine.proofs.{Queues.{first_in, other_in}, RoundLemmas.not_passes}
 
 -- the members of a filtered list are those of the list that pass
 

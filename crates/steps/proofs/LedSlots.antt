@@ -1,13 +1,12 @@
 -- That a lookup ends at a slot of a CNode.
 use Rattle.std.{specs.Prelude.{Err, IsTrue, None, Ok, Option, Result, Some}, proofs.Common.{[], ℕ, ◌*◌, ◌+◌, ◌<◌, ◌^◌, ◌∙◌, ◌∷◌, ◌≡◌, Bool}}
 use Rattle.std.proofs.{Common.{List, ap, arith, false, length, refl, subst, suc, sym, true, zero}, Math.Nat.pow-succ', lemmas.Bool.lt-ltb}
-use Rattle.base.specs.declared.{ids.{ObjId.ObjId, SlotRef.SlotRef}, refusal.LookupFailure.{LookupFailure, TheVariants.DepthMismatch}}
-use Rattle.base.specs.declared.refusal.LookupFailure.TheVariants.{GuardMismatch}
-use Rattle.machine.specs.declared.{cap.{Cap.Cap, Detail.{Detail, Detail as d}, Guard.Guard}, object.{CNode.CNode, Object.Object}}
-use Rattle.machine.specs.{declared.{object.Object.Object as o, slot_address.SlotAddress.SlotAddress}, Bits.{after, number, number_from}}
-use Rattle.machine.specs.{Bits.split, Lookup.{Level, hop, level_at, level_of_cap, level_through, onward, walk}, Machine.{Machine, cap_of}}
-use Rattle.machine.specs.{Machine.{has_slot, object_of}, Objects.slot_count}
-use Rattle.steps.proofs.SlotRows.{LeadsTo}
+use Rattle.base.specs.declared.ids.{ObjId.ObjId, SlotRef.SlotRef}
+use Rattle.base.specs.declared.refusal.LookupFailure.{LookupFailure, TheVariants.{DepthMismatch, GuardMismatch}}
+use Rattle.machine.specs.declared.cap.{Cap.Cap, Detail.{Detail, Detail as d}, Guard.Guard}
+use Rattle.machine.specs.{declared.{object.{CNode.CNode, Object.{Object, Object as o}}, slot_address.SlotAddress.SlotAddress}, Bits.after}
+use Rattle.machine.specs.{Bits.{number, number_from, split}, Lookup.{Level, hop, level_at, level_of_cap, level_through, onward, walk}}
+use Rattle.{machine.specs.{Machine.{Machine, cap_of, has_slot, object_of}, Objects.slot_count}, steps.proofs.SlotRows.LeadsTo}
 
 -- a level is a CNode of that radix
 abbrev pub IsNode : Machine → Level → Type 0

@@ -1,7 +1,6 @@
 -- That a machine stays well formed when a thread is released, halted, or begins to wait at an object or for an answer.
 use Rattle.std.{specs.Prelude.{None, Option, Some, option_map}, proofs.Common.{ℕ, ◌∙◌, ◌≡◌, List, ap, refl, subst, sym}}
-use Rattle.std.proofs.lemmas.Option.{none-some}
-use Rattle.base.specs.declared.ids.ObjId.{ObjId}
+use Rattle.{std.proofs.lemmas.Option.none-some, base.specs.declared.ids.ObjId.ObjId}
 use Rattle.machine.specs.declared.object.{Object.{Object, Object as o}, ObjectKind.ObjectKind, Reply.Reply, ReplyState.ReplyState}
 use Rattle.machine.specs.declared.thread.{Calling.Calling, Message.Message, Receiving.Receiving, RunState.RunState, Tcb.Tcb}
 use Rattle.machine.specs.{Changes.with_tcb, Finalising.{IsHolding, aborted, halted}, Machine.{Machine, object_of, queue_of}}
@@ -9,12 +8,12 @@ use Rattle.machine.specs.{Objects.kind_of_object, Releasing.{given, ready, suspe
 use Rattle.machine.specs.{Releasing.{with_halted, with_holder_halted, with_ready, with_released, with_suspended}, Step.Fetch.emptied}
 use Rattle.machine.specs.{Step.Receive.awaiting_message, WellFormed.{IsAlike, IsFree, IsIdle, IsReceivingWith, IsThread, IsWellFormed}}
 use Rattle.machine.{specs.WellFormed.{WaitsAt, WaitsAtKind, kind_of}, proofs.{Idle.idle_stays, Leaving.{Names, released_there}}}
+use Rattle.steps.proofs.{JoinedLinks.{FitsIn, links_joined}, Joins.{IsJoined, awaiting_joins, blocked_joins, called_joins, joined_steady}}
+use Rattle.steps.proofs.{Joins.waits_at_one, Outlines.steady_formed, Releases.{links_released, released_is, released_steady, reply_freed}}
 use Rattle.machine.specs.declared.object.ObjectKind.TheVariants as kind
 use Rattle.machine.specs.declared.object.ReplyState.TheVariants as reply
 use Rattle.machine.specs.declared.thread.Inbox.TheVariants as inbox
 use Rattle.machine.specs.declared.thread.RunState.TheVariants as state
-use Rattle.steps.proofs.{JoinedLinks.{FitsIn, links_joined}, Joins.{IsJoined, awaiting_joins, blocked_joins, called_joins, joined_steady}}
-use Rattle.steps.proofs.{Joins.waits_at_one, Outlines.steady_formed, Releases.{links_released, released_is, released_steady, reply_freed}}
 
 -- a thread leaves its queue and its reply
 pub released_formed :

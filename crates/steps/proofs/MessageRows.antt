@@ -1,22 +1,21 @@
 -- That send, call, receive, reply and fetch keep a machine well formed, and that the machines between are well formed too.
 use Rattle.std.{specs.Prelude.{None, Option, Some, if◌then◌else◌, is_ok, option_map}, proofs.Common.{ℕ, ◌∙◌, ◌≡◌, ◌≢◌, Bool, List, ap}}
-use Rattle.std.proofs.{Common.{false, inl, inr, refl, subst, sym, true}, lemmas.Option.none-some}
-use Rattle.base.specs.declared.ids.ObjId.{ObjId}
+use Rattle.{std.proofs.{Common.{false, inl, inr, refl, subst, sym, true}, lemmas.Option.none-some}, base.specs.declared.ids.ObjId.ObjId}
 use Rattle.machine.specs.declared.{object.{Object.Object as o, ObjectKind.ObjectKind as kind}, slot_address.SlotAddress.SlotAddress}
 use Rattle.machine.specs.declared.thread.{Calling.Calling, Lent.Lent, Message.Message, Receiving.Receiving, RunState.RunState}
 use Rattle.machine.specs.{declared.thread.{Sending.Sending, Tcb.Tcb}, Finalising.halted, Machine.{Machine, object_of}}
 use Rattle.machine.specs.{Objects.kind_of_object, Releasing.{given, ready, with_called, with_given, with_halted, with_ready}}
 use Rattle.machine.specs.Step.{Bind.context_under, Deliver.{answer_through, arrival_of, delivered, linked, message_of, sending_by, sent}}
-use Rattle.machine.specs.Step.{Deliver.with_arrival, Receive.with_reply_ended, Reply.with_returned, Send.{called_through, loan_made}}
-use Rattle.machine.specs.{Step.Send.with_lent, WellFormed.{IsFree, IsIdle, IsReceivingWith, IsThread, IsWellFormed}}
+use Rattle.machine.specs.Step.{Deliver.with_arrival, Receive.with_reply_ended, Reply.with_returned, Send.called_through}
+use Rattle.machine.specs.{Step.Send.{loan_made, with_lent}, WellFormed.{IsFree, IsIdle, IsReceivingWith, IsThread, IsWellFormed}}
+use Rattle.steps.proofs.{Admission.IsCaller, Arrival.{arrival_formed, arrival_same}}
+use Rattle.steps.proofs.Beside.{ended_endpoint, ended_formed, ended_free, ended_idle, free_stays, leaver_now, named_free, other_stays}
+use Rattle.steps.proofs.{ContextsFormed.with_handed_formed, EndpointRow.{IsReceiver, IsSender}, FetchRow.FetchDone, Finding.found_kind}
+use Rattle.steps.proofs.{FoundObjects.reply_of_kind, Joins.{IsJoined, called_joins}, Lending.{lends, returned_formed}}
+use Rattle.steps.proofs.MessageFormed.{awaiting_formed, blocked_formed, called_formed, emptied_formed, given_formed, released_formed}
+use Rattle.steps.proofs.{ReceiveRow.ReceiveDone, ReplyRow.ReplyDone, SendRow.{EndpointCallDone, SendDone}}
 use Rattle.machine.specs.declared.object.ReplyState.TheVariants as reply
 use Rattle.machine.specs.declared.thread.RunState.TheVariants as state
-use Rattle.steps.proofs.{Admission.IsCaller, Arrival.{arrival_formed, arrival_same}, Beside.{ended_endpoint, ended_formed, ended_free}}
-use Rattle.steps.proofs.{Beside.{ended_idle, free_stays, leaver_now, named_free, other_stays}, ContextsFormed.with_handed_formed}
-use Rattle.steps.proofs.{EndpointRow.{IsReceiver, IsSender}, FetchRow.FetchDone, Finding.found_kind, FoundObjects.reply_of_kind}
-use Rattle.steps.proofs.{Joins.{IsJoined, called_joins}, Lending.{lends, returned_formed}, MessageFormed.{awaiting_formed, blocked_formed}}
-use Rattle.steps.proofs.{MessageFormed.{called_formed, emptied_formed, given_formed, released_formed}, ReceiveRow.ReceiveDone}
-use Rattle.steps.proofs.{ReplyRow.ReplyDone, SendRow.{EndpointCallDone, SendDone}}
 
 -- a caller waits for nothing
 pub caller_idle : (m : Machine) (caller : ObjId) (is : IsCaller m caller) → IsIdle is.thread.state

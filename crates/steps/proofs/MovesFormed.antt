@@ -1,14 +1,13 @@
 -- That a machine stays well formed when a capability moves: two of its slots exchange names.
-use Rattle.std.{specs.Prelude.{None, Option, Some, if◌then◌else◌, option_map}, proofs.Common.{◌<◌, ◌∙◌, ◌≡◌, ◌⊎◌, Bool, ap, false, inl}}
-use Rattle.std.proofs.Common.{inr, refl, subst, sym, true}
-use Rattle.base.specs.declared.ids.{ObjId.ObjId, SlotRef.SlotRef}
+use Rattle.std.{specs.Prelude.{None, Option, Some, if◌then◌else◌, option_map}, proofs.Common.{◌<◌, ◌∙◌, ◌≡◌, ◌⊎◌, Bool, ap}}
+use Rattle.{std.proofs.Common.{false, inl, inr, refl, subst, sym, true}, base.specs.declared.ids.{ObjId.ObjId, SlotRef.SlotRef}}
 use Rattle.machine.specs.declared.{cap.Cap.Cap, object.{Object.{Object, Object as o}, ObjectKind.ObjectKind as kind}}
-use Rattle.machine.specs.{declared.slot_address.SlotAddress.SlotAddress, Capabilities.kind_of_detail, Machine.{Machine, cap_of, object_of}}
-use Rattle.machine.specs.{Machine.{parent_of, same_slot}, Objects.slot_count, Tree.exchange, WellFormed.{Descends, IsWellFormed, SlotsFit}}
-use Rattle.machine.{specs.WellFormed.{kind_of, Descends.{child, further}}, proofs.{Exchange.exchange_twice, LookUps.one_slot}}
-use Rattle.machine.proofs.SlotChanges.{Moves}
-use Rattle.steps.proofs.{LedSlots.{InNode, led_slot}, SameObjects.{KeepsDescent, OneCap, kin_same, kinds_same, links_same, numbers_same}}
-use Rattle.steps.proofs.{SameObjects.parts_same, SlotRows.MoveDone}
+use Rattle.machine.specs.{declared.slot_address.SlotAddress.SlotAddress, Capabilities.kind_of_detail}
+use Rattle.machine.specs.{Machine.{Machine, cap_of, object_of, parent_of, same_slot}, Objects.slot_count, Tree.exchange}
+use Rattle.machine.specs.WellFormed.{Descends, Descends.{child, further}, IsWellFormed, SlotsFit, kind_of}
+use Rattle.machine.proofs.{Exchange.exchange_twice, LookUps.one_slot, SlotChanges.Moves}
+use Rattle.steps.proofs.{LedSlots.{InNode, led_slot}, SameObjects.{KeepsDescent, OneCap, kin_same}}
+use Rattle.steps.proofs.{SameObjects.{kinds_same, links_same, numbers_same, parts_same}, SlotRows.MoveDone}
 
 module _ (m next : Machine) (source target : SlotRef) (held : Cap) (formed : IsWellFormed m) (moves : Moves m source target held next)
     (within : InNode m target) (empty : cap_of m target ≡ None) (full : cap_of m source ≡ Some held) where

@@ -1,12 +1,11 @@
 -- The common part of the calls on notifications: the notification that a capability with a right leads to, its word, and who waits there.
-use Rattle.std.{specs.Prelude.{Contains, Ok, Option, Result, Some, option_map}, proofs.Common.{ℕ, ◌∙◌, ◌≡◌, Bool, List, ap, refl, subst}}
-use Rattle.std.proofs.{Common.{sym, true}, lemmas.Option.same_Some}
-use Rattle.base.specs.declared.{ids.ObjId.ObjId, refusal.Cause.Cause}
+use Rattle.std.{specs.Prelude.{Contains, Ok, Option, Result, Some, option_map}, proofs.Common.{ℕ, ◌∙◌, ◌≡◌, Bool, List, ap, refl}}
+use Rattle.{std.proofs.{Common.{subst, sym, true}, lemmas.Option.same_Some}, base.specs.declared.{ids.ObjId.ObjId, refusal.Cause.Cause}}
 use Rattle.machine.specs.declared.{cap.{Badged.Badged, Detail.Detail as d}, object.{Notification.Notification, Object.Object as o}}
 use Rattle.machine.specs.declared.{object.ObjectKind.ObjectKind as kind, thread.{RunState.{RunState, RunState as state}, Tcb.Tcb}}
 use Rattle.machine.specs.{Capabilities.badged_of, Changes.with_pending, Machine.{Machine, object_of, queue_of, with_object}}
-use Rattle.machine.specs.{Objects.kind_of_object, Refusing.◌>>=◌, Step.Find.{find, permitted}, WellFormed.{IsAlike, IsSending, IsThread}}
-use Rattle.machine.specs.WellFormed.{IsWellFormed, LinksAgree, WaitsAt, WaitsAtKind}
+use Rattle.machine.specs.{Objects.kind_of_object, Refusing.◌>>=◌, Step.Find.{find, permitted}}
+use Rattle.machine.specs.WellFormed.{IsAlike, IsSending, IsThread, IsWellFormed, LinksAgree, WaitsAt, WaitsAtKind}
 use Rattle.steps.proofs.{Conditions.both_done, Finding.{FindsObject, finds, found_kind, is_permitted}, FoundObjects.notification_of_kind}
 
 -- a notification is found by a capability with a right

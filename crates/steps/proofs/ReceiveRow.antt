@@ -1,17 +1,16 @@
 -- The effect of a receive that isn't refused: it halted the thread that the reply held. It received the message of the first sender, or the
 -- caller waits if there is none.
 use Rattle.std.{specs.Prelude.{None, Ok, Option, Some, option_map}, proofs.Common.{ℕ, ◌∙◌, ◌≡◌, ◌⊎◌, ap, inl, inr, refl, subst, sym}}
-use Rattle.std.proofs.lemmas.Option.{none-some, same_Some}
-use Rattle.base.specs.declared.ids.ObjId.{ObjId}
+use Rattle.{std.proofs.lemmas.Option.{none-some, same_Some}, base.specs.declared.ids.ObjId.ObjId}
 use Rattle.machine.specs.declared.{call.Made.Made, cap.Detail.Detail as d, object.{Endpoint.Endpoint, Object.Object as o}}
-use Rattle.machine.specs.declared.object.ObjectKind.TheVariants as kind
 use Rattle.machine.specs.declared.{slot_address.SlotAddress.SlotAddress, thread.{Receiving.Receiving, RunState.RunState as state}}
 use Rattle.machine.specs.{declared.thread.Sending.Sending, Capabilities.can_read, Machine.{Machine, object_of}, Objects.kind_of_object}
 use Rattle.machine.specs.{Refusing.◌>>=◌, Step.{Deliver.{arrival_of, first_at, sender_in, sent, with_arrival}, Find.find}}
 use Rattle.machine.specs.Step.Receive.{awaiting_message, find_named_reply, receive_of, received, received_or_waits, with_reply_ended}
 use Rattle.machine.specs.WellFormed.{IsAlike, IsWellFormed}
-use Rattle.steps.proofs.{Beside.{ended_endpoint, ended_formed}, Conditions.{both_done, same_ok}, EndpointRow.{IsEndOpen, IsSender}}
-use Rattle.steps.proofs.{EndpointRow.{no_sender, opens_end, sender_first}, Finding.{FindsObject, finds}}
+use Rattle.steps.proofs.{Beside.{ended_endpoint, ended_formed}, Conditions.{both_done, same_ok}}
+use Rattle.steps.proofs.{EndpointRow.{IsEndOpen, IsSender, no_sender, opens_end, sender_first}, Finding.{FindsObject, finds}}
+use Rattle.machine.specs.declared.object.ObjectKind.TheVariants as kind
 
 pub record ReceiveDone (m : Machine) (caller : ObjId) (address : ℕ) (named : Option ℕ) (slot : Option SlotAddress)
     (next : Machine) : Type 0 where

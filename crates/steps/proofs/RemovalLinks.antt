@@ -1,14 +1,12 @@
 -- That links agree after a removal, as a set of threads leaves its queues and replies, and a set of objects is removed.
 use Rattle.std.{specs.Prelude.{◌||◌, None, Option, Some, option_map}, proofs.Common.{◌∙◌, ◌≡◌, Bool, ap, cond, false, refl, sym, true}}
-use Rattle.std.proofs.lemmas.Bool.{false≢true}
-use Rattle.base.specs.declared.ids.{ObjId.ObjId, SlotRef.SlotRef}
+use Rattle.{std.proofs.lemmas.Bool.false≢true, base.specs.declared.ids.{ObjId.ObjId, SlotRef.SlotRef}}
 use Rattle.machine.specs.declared.object.{Object.{Object, Object as o}, ReplyState.{ReplyState, ReplyState as reply}}
 use Rattle.machine.specs.{declared.thread.{RunState.{RunState, RunState as state}, Tcb.Tcb}, Finalising.{aborted, finalised, halted}}
 use Rattle.machine.specs.Finalising.{is_aborted, is_halted, is_released, leads_nowhere, leaves, link_after, reply_after, tcb_after, unbound}
 use Rattle.machine.specs.{Machine.{Machine, object_of}, Releasing.reply_by, Removal.{removed, vanishes}, WellFormed.{IsIdle, IsThread}}
 use Rattle.machine.proofs.{Leaving.Names, RemovalLooks.{object_of-removed, queue_of-removed}, RemovalTable.waits_aborted}
-use Rattle.machine.proofs.RoundLemmas.{or_second}
-use Rattle.steps.proofs.LeavingLinks.{Becomes, AreReleased, Leavers, object_left}
+use Rattle.{machine.proofs.RoundLemmas.or_second, steps.proofs.LeavingLinks.{AreReleased, Becomes, Leavers, object_left}}
 
 -- a run state that names a vanished reply is halted
 names_halted :

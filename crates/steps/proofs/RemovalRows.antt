@@ -1,11 +1,10 @@
 -- The effect of a delete or revoke that isn't refused: the slot that it found, and the machine after it.
 use Rattle.std.{specs.Prelude.{None, Ok, Option, Some}, proofs.Common.{◌∙◌, ◌≡◌, ◌⊎◌, Bool, ap, cond, false, inl, inr, refl, subst, sym}}
-use Rattle.std.proofs.{Common.true, lemmas.{Bool.false≢true, Option.none-some}}
-use Rattle.base.specs.declared.ids.{ObjId.ObjId, SlotRef.SlotRef}
-use Rattle.machine.specs.{declared.{call.Made.Made, cap.Cap.Cap, slot_address.SlotAddress.SlotAddress}, Below.is_below, Gone.given}
-use Rattle.machine.specs.{Gone.gone_of, Machine.{Machine, cap_of, parent_of, same_slot}, Orphans.Nearest, Removal.removed}
-use Rattle.machine.specs.{Step.{Delete.{delete_of, deleted}, Revoke.{revoke_of, revoked}, Target.target_of}, WellFormed.Descends}
-use Rattle.machine.{specs.WellFormed.{IsWellFormed, child, further}, proofs.{Exchange.slot_itself, GoneLemmas.gone_decided}}
+use Rattle.{std.proofs.{Common.true, lemmas.{Bool.false≢true, Option.none-some}}, base.specs.declared.ids.{ObjId.ObjId, SlotRef.SlotRef}}
+use Rattle.machine.specs.{declared.{call.Made.Made, cap.Cap.Cap, slot_address.SlotAddress.SlotAddress}, Below.is_below}
+use Rattle.machine.specs.{Gone.{given, gone_of}, Machine.{Machine, cap_of, parent_of, same_slot}, Orphans.Nearest, Removal.removed}
+use Rattle.machine.specs.Step.{Delete.{delete_of, deleted}, Revoke.{revoke_of, revoked}, Target.target_of}
+use Rattle.machine.{specs.WellFormed.{Descends, IsWellFormed, child, further}, proofs.{Exchange.slot_itself, GoneLemmas.gone_decided}}
 use Rattle.machine.proofs.{OrphanLemmas.climbed, RemovalLooks.{cap_of-removed, gone_has_no_parent, nearest_survives}}
 use Rattle.steps.proofs.{BelowLemmas.below_decided, Conditions.{both_done, same_ok}}
 

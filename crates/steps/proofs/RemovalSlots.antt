@@ -1,7 +1,6 @@
 -- That slots, parts of objects, numbers and ranges fit after a removal.
 use Rattle.std.{specs.Prelude.{ℕ, None, Some}, proofs.Common.{◌<◌, ◌∙◌, ◌≡◌, Bool, List, ap, arith, cond, false, inl, inr, refl, subst}}
-use Rattle.std.proofs.{Common.{sym, true}, lemmas.Option.{none-some, same_Some}}
-use Rattle.base.specs.declared.ids.{ObjId.ObjId, SlotRef.SlotRef}
+use Rattle.{std.proofs.{Common.{sym, true}, lemmas.Option.{none-some, same_Some}}, base.specs.declared.ids.{ObjId.ObjId, SlotRef.SlotRef}}
 use Rattle.machine.specs.{declared.{cap.Cap.Cap, object.{Object.{Object, Object as o}, Untyped.Untyped}}, Finalising.finalised}
 use Rattle.machine.specs.{Finalising.staying_in, Machine.{Machine, cap_of, object_of, words_of}, Objects.{slot_count, word_count}}
 use Rattle.machine.specs.{Removal.{removed, vanishes}, WellFormed.{Descends, IsWellFormed, LiesIn, PartsFit, SlotsFit, child, further}}

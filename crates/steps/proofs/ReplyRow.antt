@@ -4,10 +4,9 @@ use Rattle.std.{specs.Prelude.{Ok, Option, Some}, proofs.Common.{ℕ, ◌∙◌,
 use Rattle.base.specs.declared.ids.ObjId.{ObjId}
 use Rattle.machine.specs.declared.{call.Made.Made, cap.Detail.Detail as d, object.{Object.{Object, Object as o}, ReplyState.ReplyState}}
 use Rattle.machine.specs.{Machine.{Machine, object_of}, Releasing.with_given, Step.{Find.find, Reply.{answered, caller_in, reply_of}}}
-use Rattle.machine.specs.Step.Reply.{with_returned}
+use Rattle.{machine.specs.Step.Reply.with_returned, steps.proofs.{Conditions.{both_done, same_ok}, Finding.{FindsObject, finds}}}
 use Rattle.machine.specs.declared.object.ObjectKind.TheVariants as kind
 use Rattle.machine.specs.declared.object.ReplyState.TheVariants as reply
-use Rattle.steps.proofs.{Conditions.{both_done, same_ok}, Finding.{FindsObject, finds}}
 
 -- the thread that has called through a reply is answered, if there is one
 abbrev pub Answers : Machine → ObjId → ObjId → List ℕ → Machine → Type 0

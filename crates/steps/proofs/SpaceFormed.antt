@@ -1,11 +1,10 @@
 -- That a machine stays well formed when a thread's root slot is cleared, or gets a CNode's capability.
 use Rattle.std.{specs.Prelude.{IsTrue, None, Option, Some}, proofs.Common.{ℕ, ◌∙◌, ◌≡◌, ◌⊎◌, ap, arith, inl, inr, refl, subst, sym}}
-use Rattle.std.proofs.lemmas.{Bool.lt-ltb, Option.same_Some}
-use Rattle.base.specs.declared.ids.{ObjId.ObjId, SlotRef.SlotRef}
+use Rattle.{std.proofs.lemmas.{Bool.lt-ltb, Option.same_Some}, base.specs.declared.ids.{ObjId.ObjId, SlotRef.SlotRef}}
 use Rattle.machine.specs.declared.{cap.{Cap.Cap, Detail.{Detail, Detail as d}}, object.{Object.Object as o, ObjectKind.ObjectKind as kind}}
 use Rattle.machine.specs.{Capabilities.kind_of_detail, Lookup.root_of, Machine.{Machine, cap_of, has_slot, object_of, same_slot}}
-use Rattle.machine.specs.{Step.{Delete.deleted, Space.{with_root, without_root}}, Tree.{copied, with_copy}, WellFormed.IsWellFormed}
-use Rattle.machine.{specs.WellFormed.kind_of, proofs.{Exchange.slot_itself, RemovalStays.cap_was}}
+use Rattle.machine.specs.{Step.{Delete.deleted, Space.{with_root, without_root}}, Tree.{copied, with_copy}}
+use Rattle.machine.{specs.WellFormed.{IsWellFormed, kind_of}, proofs.{Exchange.slot_itself, RemovalStays.cap_was}}
 use Rattle.steps.proofs.{FillsFormed.{Takes, fills_formed}, FoundObjects.tcb_of_kind, RemovalNumbers.removed_formed}
 use Rattle.steps.proofs.{RemovalRows.chosen_empty, SlotRows.with_copy_fills, SpaceRow.{ClearDone, RootFilled, SetDone, root_filled}}
 

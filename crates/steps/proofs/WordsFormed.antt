@@ -1,8 +1,7 @@
 -- That read and write keep a machine well formed: each object has as many words as before, and all else is as it was.
 use Rattle.std.specs.FinMap as map
-use Rattle.std.{specs.Prelude.{None, Option, Some, cond, option_map, slice_set}, proofs.Common.{ℕ, ◌∙◌, ◌≡◌, List, ap, length, refl, subst}}
-use Rattle.std.proofs.{Common.sym, lemmas.List.length-set}
-use Rattle.base.specs.declared.ids.ObjId.{ObjId}
+use Rattle.std.{specs.Prelude.{None, Option, Some, cond, option_map, slice_set}, proofs.Common.{ℕ, ◌∙◌, ◌≡◌, List, ap}}
+use Rattle.{std.proofs.{Common.{length, refl, subst, sym}, lemmas.List.length-set}, base.specs.declared.ids.ObjId.ObjId}
 use Rattle.machine.specs.{Changes.{with_word, with_words}, Machine.{Machine, cap_of, object_of, parent_of, queue_of, same_id, words_of}}
 use Rattle.machine.{specs.WellFormed.{IsWellFormed, LinksAgree}, proofs.LookUps.id_total}
 use Rattle.steps.proofs.{Outlines.{Steady, shown_kept, steady_formed}, WordsRow.WriteDone}

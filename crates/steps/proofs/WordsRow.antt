@@ -1,11 +1,10 @@
 -- The effect of a read or write that isn't refused: a read changes nothing, a write one word of the frame that it found.
 use Rattle.std.{specs.Prelude.{Ok, nat_lt}, proofs.Common.{ℕ, ◌<◌, ◌≡◌, Bool, ap, arith, false, refl, sym, true}}
-use Rattle.std.proofs.lemmas.Bool.Decides.{nat_tests}
-use Rattle.base.specs.declared.{ids.ObjId.ObjId, rights.Rights.Rights}
+use Rattle.{std.proofs.lemmas.Bool.Decides.nat_tests, base.specs.declared.{ids.ObjId.ObjId, rights.Rights.Rights}}
 use Rattle.machine.specs.{declared.{call.Made.Made, cap.Detail.Detail as d}, Capabilities.{badged_of, can_read, can_write}}
-use Rattle.machine.specs.declared.object.ObjectKind.TheVariants as kind
 use Rattle.machine.specs.{Changes.with_word, Machine.Machine, Step.{Find.{find, permitted}, Words.{in_frame, read_of, write_of}}}
 use Rattle.steps.proofs.{Conditions.{both_done, same_ok}, Finding.{FindsObject, finds, is_permitted}}
+use Rattle.machine.specs.declared.object.ObjectKind.TheVariants as kind
 
 pub record WriteDone (m : Machine) (caller : ObjId) (address index word : ℕ) (next : Machine) : Type 0 where
   pub id : ObjId

@@ -1,17 +1,15 @@
 //! Laws about removals: which capabilities and objects are removed, and what happens to those that stay.
-ghost use Rattle.std.specs.{Bool.Decides, Prelude.{[], ◌↔◌, ◌≡◌, ◌≢◌, ◌≤◌, Bool, Contains, List, None, Ok, Some}};
-ghost use Rattle.std.specs.Prelude.{false, if◌then◌else◌, true};
+ghost use Rattle.std.specs.{Bool.Decides, Prelude.{[], ◌↔◌, ◌≡◌, ◌≢◌, ◌≤◌, Bool, Contains}};
+ghost use Rattle.std.specs.Prelude.{List, None, Ok, Some, false, if◌then◌else◌, true};
 ghost use Rattle.base.specs.declared.ids.{ObjId.ObjId as Id, SlotRef.SlotRef as Slot};
-ghost use Rattle.machine.specs.declared.{call.Made.Made as Comes, cap.Cap.Cap as Held, object.Context.Context as Bound};
-ghost use Rattle.machine.specs.declared.object.{Object.Object as Thing, Reply.Reply as Holding};
+ghost use Rattle.machine.specs.declared.{call.Made.Made as Comes, cap.Cap.Cap as Held};
+ghost use Rattle.machine.specs.declared.object.{Context.Context as Bound, Object.Object as Thing, Reply.Reply as Holding};
 ghost use Rattle.machine.specs.declared.{slot_address.SlotAddress.SlotAddress as Place, thread.Tcb.Tcb as Thread};
-ghost use Rattle.machine.specs.{Below.is_below, Counts.caps_to, Finalising.{IsHolding, aborted, halted, has_links}};
-ghost use Rattle.machine.specs.{Finalising.{is_aborted, is_halted, leads_nowhere, leaves, unbound}, Gone.IsGone};
-ghost use Rattle.machine.specs.{Gone.{IsLeastSet, LosesAll, gone_of}, Machine.{Machine, cap_of, object_of, parent_of}};
-ghost use Rattle.machine.specs.{Machine.{queue_of, same_slot, words_of}, Orphans.Nearest, Removal.cap_after};
-ghost use Rattle.machine.specs.Removal.{object_after, parent_after, queue_after, removed, vanishes, words_after};
-ghost use Rattle.machine.specs.{Step.{Delete.delete_of, Revoke.revoke_of, Target.target_of}, WellFormed.Descends};
-ghost use Rattle.machine.specs.WellFormed.{IsThread, IsWellFormed};
+ghost use Rattle.machine.specs.{Below.is_below, Counts.caps_to, Finalising.{IsHolding, aborted, halted, has_links, is_aborted}};
+ghost use Rattle.machine.specs.{Finalising.{is_halted, leads_nowhere, leaves, unbound}, Gone.{IsGone, IsLeastSet, LosesAll, gone_of}};
+ghost use Rattle.machine.specs.{Machine.{Machine, cap_of, object_of, parent_of, queue_of, same_slot, words_of}, Orphans.Nearest};
+ghost use Rattle.machine.specs.Removal.{cap_after, object_after, parent_after, queue_after, removed, vanishes, words_after};
+ghost use Rattle.machine.specs.{Step.{Delete.delete_of, Revoke.revoke_of, Target.target_of}, WellFormed.{Descends, IsThread, IsWellFormed}};
 ghost use Rattle.machine.specs.declared.object.Object.TheVariants as o;
 ghost use Rattle.machine.specs.declared.object.ReplyState.TheVariants as reply;
 

@@ -3,10 +3,9 @@ ghost use Rattle.std.specs.{List.zip, Prelude.{ℕ, ◌≡◌, ◌≢◌, ◌⊎
 ghost use Rattle.base.specs.declared.{ids.ObjId.ObjId as Number, refusal.{Cause.Cause as Why, Misuse.Misuse as Wrong}};
 ghost use Rattle.base.specs.Refusals.{misuse_refusal};
 ghost use Rattle.machine.specs.declared.call.{Call.Call as Calls, Event.Event as Occurs, Made.Made as Comes};
-ghost use Rattle.machine.specs.declared.call.Outcome.{Outcome as Ended, TheVariants.Refused};
-ghost use Rattle.machine.specs.{declared.object.MemoryKind.MemoryKind as Kind, Machine.Machine, Makes.Makes};
-ghost use Rattle.machine.specs.{Outcomes.IsRefused, Run.Run, Step.{ChangesCaller, LacksMemory, MayEnd, Step, call_of}};
-ghost use Rattle.machine.specs.{Step.Retype.retype_of, WellFormed.{IsCaller, IsWellFormed}};
+ghost use Rattle.machine.specs.declared.{call.Outcome.{Outcome as Ended, TheVariants.Refused}, object.MemoryKind.MemoryKind as Kind};
+ghost use Rattle.machine.specs.{Machine.Machine, Makes.Makes, Outcomes.IsRefused, Run.Run, Step.ChangesCaller};
+ghost use Rattle.machine.specs.{Step.{LacksMemory, MayEnd, Retype.retype_of, Step, call_of}, WellFormed.{IsCaller, IsWellFormed}};
 
 /// A law: two steps of one event from one machine agree, unless one of them lacked memory.
 ///

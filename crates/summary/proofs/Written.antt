@@ -1,7 +1,6 @@
 -- Texts that are written piece by piece: groups of labels, and lists of names.
 use Rattle.std.proofs.Common.{ℕ, ◌++◌, ◌∙◌, ◌≡◌, List, ap, append_assoc, sym, true}
-use Rattle.machine.specs.Layout.{Layout}
-use Rattle.matrix.specs.Padding.{given}
+use Rattle.{machine.specs.Layout.Layout, matrix.specs.Padding.given}
 use Rattle.summary.specs.{declared.rows.Row.Row, Regions.{changers, group_of, group_text, leads, names_text, readers, takers, users_text}}
 
 -- the group of a label that is the first of its group

@@ -2,9 +2,8 @@
 -- `Change` of crate `policy`; the letters are confine's own).
 use Rattle.std.specs.Prelude.{ℕ, ◌≡◌}
 use Rattle.base.specs.declared.kind.Kind.{Kind, TheVariants.{Call, Notify, Receive, Reply, Send}}
-use Rattle.policy.specs.{Change.{ActorTest, MayChangeContext, WayToChange}, Domain.EdgeTest}
-use Rattle.policy.specs.Change.{binds, configures, grants, lends, links, modifies, notifies, own, receives, replies, returns, sends, shares}
-use Rattle.reach.specs.Extents.{MayChangeIn, Limits}
+use Rattle.policy.specs.Change.{ActorTest, MayChangeContext, WayToChange, binds, configures, grants, lends, links, modifies, notifies, own}
+use Rattle.{policy.specs.{Change.{receives, replies, returns, sends, shares}, Domain.EdgeTest}, reach.specs.Extents.{Limits, MayChangeIn}}
 
 -- a change by a call or a send, by an answer or by taking a call, by a signal, or by something else
 pub data Letter : Type 0 where

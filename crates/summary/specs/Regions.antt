@@ -1,11 +1,8 @@
 -- The text on labels without a thread: one line for those with the same users, and below it who these are (confine's own).
-use Rattle.std.specs.{List.{filter, flat_map, list_all, list_any}, Prelude.{[], ℕ, ◌&&◌, ◌++◌, ◌∷◌, Bool, List, codes, false}}
-use Rattle.std.specs.Prelude.{if◌then◌else◌, map, nat_lt, not, true}
-use Rattle.base.specs.Labels.{is_in}
-use Rattle.machine.specs.Layout.{Layout}
-use Rattle.captext.specs.PolicyText.{label_name}
-use Rattle.matrix.specs.Padding.{given}
-use Rattle.summary.specs.declared.rows.Row.{Row}
+use Rattle.std.specs.List.{filter, flat_map, list_all, list_any}
+use Rattle.std.specs.Prelude.{[], ℕ, ◌&&◌, ◌++◌, ◌∷◌, Bool, List, codes, false, if◌then◌else◌, map, nat_lt, not, true}
+use Rattle.{base.specs.Labels.is_in, machine.specs.Layout.Layout, captext.specs.PolicyText.label_name}
+use Rattle.{matrix.specs.Padding.given, summary.specs.declared.rows.Row.Row}
 
 abbrev pub is_same : Bool → Bool → Bool
 is_same true b = b

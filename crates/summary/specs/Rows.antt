@@ -1,10 +1,9 @@
 -- The rows of the matrix: what a label with a thread may do to others, and reads of them (confine's own).
 use Rattle.std.specs.{List.range_with_len, Prelude.{ℕ, ◌↔◌, ◌≡◌, All, List, length, map, true}}
-use Rattle.base.specs.Labels.{is_in}
-use Rattle.machine.specs.Layout.{Layout}
+use Rattle.{base.specs.Labels.is_in, machine.specs.Layout.Layout}
 use Rattle.reach.specs.{Extents.{Limits, MayChangeIn, MayShrinkIn, limits_of}, Reach.TableReach}
-use Rattle.summary.specs.{declared.rows.Row.Row, Labelled.programs_of, Letters.{HasLetter, by_answer, by_call, by_other, by_signal}}
-use Rattle.summary.specs.Sharing.{SharesMemory, reads_of}
+use Rattle.summary.specs.{declared.rows.Row.Row, Labelled.programs_of}
+use Rattle.summary.specs.{Letters.{HasLetter, by_answer, by_call, by_other, by_signal}, Sharing.{SharesMemory, reads_of}}
 
 -- a row says what threads of its label may do to objects of each other label
 pub record IsRowOf (t : Layout) (limits : Limits) (row : Row) : Type 0 where

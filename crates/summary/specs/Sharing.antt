@@ -1,10 +1,8 @@
 -- Memory and reading between labels: which labels have memory that another may write, and which labels read another (confine's own).
 use Rattle.std.specs.Prelude.{ℕ, ◌<◌, ◌||◌, ◌↔◌, ◌≡◌, ◌≢◌, ◌⊎◌, Bool, List, length, true}
 use Rattle.base.specs.{declared.{kind.Kind.TheVariants.{Await, Read, Receive, Write}, labels.Labels.Labels}, Labels.is_in}
+use Rattle.{machine.specs.Layout.Layout, policy.specs.Domain.EdgeTest, summary.specs.{Labelled.has_memory, Sources.row_at}}
 use Rattle.base.specs.declared.label.TheConstants.Label as Label
-use Rattle.machine.specs.Layout.{Layout}
-use Rattle.policy.specs.Domain.{EdgeTest}
-use Rattle.summary.specs.{Labelled.has_memory, Sources.row_at}
 
 -- a label may read or write memory of another
 pub record HasMemoryOf (t : Layout) (test : EdgeTest) (region l : ℕ) : Type 0 where

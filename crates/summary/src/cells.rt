@@ -1,7 +1,6 @@
 //! The cells of the matrix: the letters of the reasons, `t`, a dot, and an `m` for memory.
 ghost use Rattle.std.specs.Prelude.{◌++◌, ◌≡◌, IfOk, OnOk, string_bytes};
-ghost use Rattle.matrix.specs.Padding.{given};
-ghost use Rattle.summary.specs.Marks.{cells, extent_text, letters, marks};
+ghost use Rattle.{matrix.specs.Padding.given, summary.specs.Marks.{cells, extent_text, letters, marks}};
 
 use crate::rows::Row;
 use base::Label;

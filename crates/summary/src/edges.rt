@@ -1,8 +1,6 @@
 //! The labels to which a label has edges of a policy.
 ghost use Rattle.std.specs.Prelude.{ℕ, ◌↔◌, ◌≡◌, true};
-ghost use Rattle.base.specs.Labels.{is_in};
-ghost use Rattle.policy.specs.Policy.{allows};
-ghost use Rattle.summary.specs.Ways.{IsBeside};
+ghost use Rattle.{base.specs.Labels.is_in, policy.specs.Policy.allows, summary.specs.Ways.IsBeside};
 
 use base::{Kind, Label, Labels};
 use policy::Policy;

@@ -1,7 +1,6 @@
 //! The labels that have a thread in a table, and those that have memory.
 ghost use Rattle.std.specs.Prelude.{ℕ, ◌≡◌, IfOk};
-ghost use Rattle.base.specs.Labels.{is_in};
-ghost use Rattle.summary.specs.Labelled.{has_memory, has_thread, is_memory, is_thread, others_of, programs_of};
+ghost use Rattle.{base.specs.Labels.is_in, summary.specs.Labelled.{has_memory, has_thread, is_memory, is_thread, others_of, programs_of}};
 
 use base::{Label, Labels};
 use machine::Object;

@@ -1,8 +1,6 @@
 //! The rows of the matrix: for each label with a thread, the labels that it may change or read, and how.
 ghost use Rattle.std.specs.Prelude.{ℕ, ◌≡◌, IfOk};
-ghost use Rattle.base.specs.Labels.{is_in};
-ghost use Rattle.policy.specs.{Policy.allows};
-ghost use Rattle.reach.specs.Extents.{limits_by};
+ghost use Rattle.{base.specs.Labels.is_in, policy.specs.Policy.allows, reach.specs.Extents.limits_by};
 ghost use Rattle.summary.specs.{Rows.{AreRowsOf, IsRowOf}, Sharing.{IsShared, reads_of}};
 
 use crate::edges::row;

@@ -1,7 +1,6 @@
 //! The sharing of memory: which labels have memory that others may write.
 ghost use Rattle.std.specs.Prelude.{ℕ, ◌↔◌, ◌≡◌, IfOk, true};
-ghost use Rattle.base.specs.Labels.{is_in};
-ghost use Rattle.policy.specs.Policy.{allows};
+ghost use Rattle.{base.specs.Labels.is_in, policy.specs.Policy.allows};
 ghost use Rattle.summary.specs.{Labelled.has_memory, Sharing.{HasMemoryOf, IsShared, SharesMemory}};
 
 use crate::edges::row;

@@ -1,9 +1,7 @@
 //! The sources of each label: the labels that have an edge of a kind to it.
 ghost use Rattle.std.specs.Prelude.{[], ℕ, ◌<◌, ◌↔◌, ◌∷◌, ◌≡◌, ◌≤◌, IfOk, length, true};
+ghost use Rattle.{base.specs.Labels.is_in, policy.specs.{Policy.allows, Steps.IsSource}, summary.specs.Sources.{IsJoint, IsSources}};
 ghost use Rattle.base.specs.declared.label.TheConstants.Label as Label;
-ghost use Rattle.base.specs.Labels.{is_in};
-ghost use Rattle.policy.specs.{Policy.allows, Steps.IsSource};
-ghost use Rattle.summary.specs.Sources.{IsJoint, IsSources};
 
 use base::{Edge, Kind, Label, Labels};
 use policy::Policy;

@@ -1,11 +1,8 @@
 //! The ways in which threads of a label may change objects of others: a set of labels for each letter.
 ghost use Rattle.std.specs.Prelude.{ℕ, ◌↔◌, ◌≡◌, ◌⊎◌, IfOk, true};
+ghost use Rattle.{base.specs.Labels.is_in, policy.specs.{Change.MayHoldCaller, Policy.allows}, reach.specs.Extents.limits_by};
+ghost use Rattle.summary.specs.{Letters.{HasLetter, by_answer, by_call, by_other, by_signal}, Ways.{IsBeside, IsCallers, IsHeldBy}};
 ghost use Rattle.base.specs.declared.kind.Kind.TheVariants as authority;
-ghost use Rattle.base.specs.Labels.{is_in};
-ghost use Rattle.policy.specs.{Change.MayHoldCaller, Policy.allows};
-ghost use Rattle.reach.specs.Extents.{limits_by};
-ghost use Rattle.summary.specs.Letters.{HasLetter, by_answer, by_call, by_other, by_signal};
-ghost use Rattle.summary.specs.Ways.{IsBeside, IsCallers, IsHeldBy};
 
 use crate::edges::{beside, row, row_among};
 use crate::sources::{Sources, join, waiting};

@@ -1,7 +1,6 @@
 //! The summary of a system as one text.
 ghost use Rattle.std.specs.Prelude.{◌++◌, ◌≡◌, IfErr, IfOk, OnOk, string_bytes};
-ghost use Rattle.base.specs.Refusals.{out_of_memory};
-ghost use Rattle.summary.specs.{Labelled.others_of, Whole.{IsSummary, others_text, summary_text}};
+ghost use Rattle.{base.specs.Refusals.out_of_memory, summary.specs.{Labelled.others_of, Whole.{IsSummary, others_text, summary_text}}};
 
 use crate::labelled::others;
 use crate::regions::write_regions;

@@ -1,13 +1,11 @@
 -- The boot state of a table, read off the table: its objects with their links, their kinds and their labels.
-use Rattle.std.proofs.Common.{ℕ, ◌<◌, ◌∙◌, ◌≡◌, None, Option, Some, ap, false, if◌then◌else◌, length, nat_lt, option_and_then, option_map}
-use Rattle.std.proofs.{Common.{refl, subst, sym, true}, lemmas.{Bool.Decides.Decides-ltb, Option.{get_or_from_slice_get, none-some}}}
-use Rattle.std.proofs.lemmas.Option.{same_Some, slice_get_within}
-use Rattle.base.specs.declared.{ids.ObjId.ObjId, kind.Kind.Kind}
+use Rattle.std.proofs.Common.{ℕ, ◌<◌, ◌∙◌, ◌≡◌, None, Option, Some, ap, false, if◌then◌else◌, length, nat_lt, option_and_then}
+use Rattle.std.proofs.{Common.{option_map, refl, subst, sym, true}, lemmas.{Bool.Decides.Decides-ltb, Option.get_or_from_slice_get}}
+use Rattle.{std.proofs.lemmas.Option.{none-some, same_Some, slice_get_within}, base.specs.declared.{ids.ObjId.ObjId, kind.Kind.Kind}}
 use Rattle.machine.specs.declared.{layout.Initial.Initial, object.Object.Object, thread.RunState.{RunState, RunState as state}}
-use Rattle.machine.specs.{Authority.{label_at, label_of, context_lent, state_links}, Boot.{IsBoot, booted, bound}, Layout.Layout}
-use Rattle.machine.specs.{Layout.{declared_label, initial_of}, Machine.{Machine, object_of}, Objects.{address_of, kind_of_object}}
-use Rattle.machine.{specs.WellFormed.kind_of, proofs.Bound.kind-bound}
-use Rattle.table.specs.Rules.{IsAtRest, IsLawful, IsObjectOf, kind_at}
+use Rattle.machine.specs.{Authority.{context_lent, label_at, label_of, state_links}, Boot.{IsBoot, booted, bound}}
+use Rattle.machine.specs.{Layout.{Layout, declared_label, initial_of}, Machine.{Machine, object_of}, Objects.{address_of, kind_of_object}}
+use Rattle.{machine.{specs.WellFormed.kind_of, proofs.Bound.kind-bound}, table.specs.Rules.{IsAtRest, IsLawful, IsObjectOf, kind_at}}
 
 -- an object of the boot state is a declared one with its links
 pub record Declared (t : Layout) (id : ObjId) (object : Object) : Type 0 where

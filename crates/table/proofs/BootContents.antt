@@ -1,9 +1,8 @@
 -- The contents of objects in a boot state: which have a queue or words, and that their ranges obey the table's rules.
 use Rattle.std.{specs.Prelude.{Some, option_map}, proofs.Common.{[], ◌∙◌, ◌≡◌, ◌≤◌, ap, replicate, subst, sym}}
-use Rattle.std.proofs.lemmas.List.{length-replicate}
-use Rattle.base.specs.declared.{ids.ObjId.ObjId, limits.TheConstants.ADDRESS_END}
-use Rattle.machine.specs.{declared.object.Object.{Object, Object as o}, Boot.{IsBoot, booted, bound}, Layout.Layout, Machine.Machine}
-use Rattle.machine.specs.{Machine.object_of, Objects.{end_of, word_count}, WellFormed.{IsRanged, PartsFit}}
+use Rattle.{std.proofs.lemmas.List.length-replicate, base.specs.declared.{ids.ObjId.ObjId, limits.TheConstants.ADDRESS_END}}
+use Rattle.machine.specs.{declared.object.Object.{Object, Object as o}, Boot.{IsBoot, booted, bound}, Layout.Layout}
+use Rattle.machine.specs.{Machine.{Machine, object_of}, Objects.{end_of, word_count}, WellFormed.{IsRanged, PartsFit}}
 use Rattle.table.{specs.Rules.{IsBlank, IsLawful}, proofs.BootParts.{declared-law, declares, map-some}}
 
 pub boot-parts : (t : Layout) (m : Machine) → IsBoot t m → PartsFit m

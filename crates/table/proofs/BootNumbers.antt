@@ -1,13 +1,12 @@
 -- The ranges of memory in a boot state: no two objects overlap, and nothing is made of untyped memory yet.
 use Rattle.std.{specs.Prelude.Some, proofs.Common.{ℕ, ◌+◌, ◌<◌, ◌∙◌, ◌≡◌, ◌≢◌, ◌≤◌, ◌⊎◌, ap, arith, get_or, inl, inr, subst, sym}}
-use Rattle.std.proofs.lemmas.{Bool.cases_lt, Nat.pow_pos, Option.same_Some}
-use Rattle.base.specs.declared.ids.{ObjId.ObjId, SlotRef.SlotRef}
-use Rattle.machine.specs.declared.{cap.Cap.Cap, layout.{Filled.Filled, Initial.Initial}, object.Object.{Object, Object as o}}
-use Rattle.machine.specs.{declared.object.ObjectKind.ObjectKind as kind, Boot.IsBoot, Capabilities.kind_of_detail, Layout.Layout}
-use Rattle.machine.specs.{Machine.{Machine, cap_of, object_of}, Objects.{address_of, end_of}, WellFormed.{Meets, NumbersFit, kind_of}}
-use Rattle.machine.proofs.Bound.{address-bound, end-bound}
-use Rattle.table.{specs.{Placement.IsApart, Rules.IsLawful}, proofs.{BootContents.boot-ranged, BootParts.{at_boot, declares, fills}}}
-use Rattle.table.proofs.{BootParts.pair-cases, BootSlots.kind-aimed}
+use Rattle.{std.proofs.lemmas.{Bool.cases_lt, Nat.pow_pos, Option.same_Some}, base.specs.declared.ids.{ObjId.ObjId, SlotRef.SlotRef}}
+use Rattle.machine.specs.declared.{cap.Cap.Cap, layout.{Filled.Filled, Initial.Initial}}
+use Rattle.machine.specs.{declared.object.{Object.{Object, Object as o}, ObjectKind.ObjectKind as kind}, Boot.IsBoot}
+use Rattle.machine.specs.{Capabilities.kind_of_detail, Layout.Layout, Machine.{Machine, cap_of, object_of}, Objects.{address_of, end_of}}
+use Rattle.machine.{specs.WellFormed.{Meets, NumbersFit, kind_of}, proofs.Bound.{address-bound, end-bound}}
+use Rattle.table.{specs.{Placement.IsApart, Rules.IsLawful}, proofs.BootContents.boot-ranged}
+use Rattle.table.proofs.{BootParts.{at_boot, declares, fills, pair-cases}, BootSlots.kind-aimed}
 
 -- two capabilities for one object are in one slot if the first is for untyped memory
 one-slot :

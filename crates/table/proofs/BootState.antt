@@ -1,13 +1,12 @@
 -- That each table has exactly one boot state, whose maps list what the table declares.
 use Rattle.std.specs.FinMap as map
-use Rattle.std.{specs.{List.find, Prelude.{None, Option, Some, option_map, slice_get}}, proofs.Common.{[], ℕ, ◌+◌, ◌∙◌, ◌∷◌, ◌≡◌, ◌≢◌}}
-use Rattle.std.proofs.Common.{Bool, List, ap, arith, cond, false, length, refl, replicate, suc, sym, true, zero}
-use Rattle.std.proofs.lemmas.Cmp.{eq_by_cmp_equiv}
-use Rattle.base.specs.declared.ids.{ObjId.ObjId, SlotRef.SlotRef}
-use Rattle.machine.specs.{declared.{layout.{Filled.Filled, Initial.Initial, Pair.Pair}, object.Object.Object}, Boot.{IsBoot, booted, bound}}
-use Rattle.machine.specs.{Layout.{Layout, initial_cap, initial_of, initial_parent}, Machine.{Machine, cap_of, id_cmp, object_of, parent_of}}
-use Rattle.machine.{specs.{Machine.{queue_of, same_id, same_slot, slot_cmp, words_of}, Objects.word_count}, proofs.Ids.itself}
-use Rattle.machine.proofs.LookUps.{id_total, same_machine, slot_total}
+use Rattle.std.specs.{List.find, Prelude.{None, Option, Some, option_map, slice_get}}
+use Rattle.std.proofs.Common.{[], ℕ, ◌+◌, ◌∙◌, ◌∷◌, ◌≡◌, ◌≢◌, Bool, List, ap, arith, cond, false, length, refl, replicate, suc, sym, true}
+use Rattle.{std.proofs.{Common.zero, lemmas.Cmp.eq_by_cmp_equiv}, base.specs.declared.ids.{ObjId.ObjId, SlotRef.SlotRef}}
+use Rattle.machine.specs.declared.{layout.{Filled.Filled, Initial.Initial, Pair.Pair}, object.Object.Object}
+use Rattle.machine.specs.{Boot.{IsBoot, booted, bound}, Layout.{Layout, initial_cap, initial_of, initial_parent}}
+use Rattle.machine.specs.Machine.{Machine, cap_of, id_cmp, object_of, parent_of, queue_of, same_id, same_slot, slot_cmp, words_of}
+use Rattle.machine.{specs.Objects.word_count, proofs.{Ids.itself, LookUps.{id_total, same_machine, slot_total}}}
 
 abbrev id : ℕ → ObjId
 id n = record { 0 = n }

@@ -1,8 +1,7 @@
 -- The derivation tree of a boot state: ranks rise along its pairs. A chain has at most two pairs, as a child that is a parent has a badge
 -- and its own parent has none.
 use Rattle.std.{specs.{Option.option_and_then, Prelude.{None, Option, Some}}, proofs.Common.{ℕ, ◌<◌, ◌==◌, ◌∙◌, ◌≡◌, ◌⊎◌, Bool, ap, arith}}
-use Rattle.std.proofs.{Common.{false, inl, inr, not, refl, sym, true}, lemmas.Bool.eq-eqb}
-use Rattle.base.specs.declared.ids.SlotRef.{SlotRef}
+use Rattle.{std.proofs.{Common.{false, inl, inr, not, refl, sym, true}, lemmas.Bool.eq-eqb}, base.specs.declared.ids.SlotRef.SlotRef}
 use Rattle.machine.specs.{declared.cap.Cap.Cap, Boot.IsBoot, Capabilities.badge_of, Layout.{Layout, initial_cap, initial_parent}}
 use Rattle.machine.{specs.{Machine.{Machine, parent_of}, Tree.IsRanked, WellFormed.Descends}, proofs.TreeRanks.ranked_acyclic}
 use Rattle.table.{specs.{Rules.IsLawful, Tree.{is_original, is_original_from, source_of}}, proofs.BootParts.{marked, paired}}

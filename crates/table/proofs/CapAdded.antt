@@ -1,16 +1,15 @@
 -- That a draft stays a draft when a slot is filled.
-use Rattle.std.{specs.{declared.cmp.Ordering.TheVariants.Less, Ordering.is_eq}, proofs.Common.{ℕ, ◌&&◌, ◌<◌, ◌∙◌, ◌≡◌, ◌≢◌, None, Option}}
-use Rattle.std.proofs.{Common.{Some, ap, arith, false, get_or, length, refl, sym, true}, lemmas.Bool.{and_parts, false≢true, leb-true}}
-use Rattle.std.proofs.lemmas.{Bool.{ltb-true, not-true}, Cmp.tied_itself, List.{Elements.All-push, Quantifiers.all_pairs_push}}
-use Rattle.std.proofs.lemmas.Option.{slice_get_within}
-use Rattle.base.specs.declared.limits.TheConstants.{OBJECT_NUMBERS}
+use Rattle.std.{specs.{declared.cmp.Ordering.TheVariants.Less, Ordering.is_eq}, proofs.Common.{ℕ, ◌&&◌, ◌<◌, ◌∙◌, ◌≡◌, ◌≢◌, None}}
+use Rattle.std.proofs.{Common.{Option, Some, ap, arith, false, get_or, length, refl, sym, true}, lemmas.Bool.{and_parts, false≢true}}
+use Rattle.std.proofs.lemmas.{Bool.{leb-true, ltb-true, not-true}, Cmp.tied_itself, List.{Elements.All-push, Quantifiers.all_pairs_push}}
+use Rattle.{std.proofs.lemmas.Option.slice_get_within, base.specs.declared.limits.TheConstants.OBJECT_NUMBERS}
 use Rattle.machine.specs.declared.{cap.{Badged.Badged, Cap.Cap, Detail.Detail}, layout.{Filled.Filled, Initial.Initial}}
-use Rattle.machine.specs.declared.cap.Detail.TheVariants as d
 use Rattle.machine.specs.{declared.object.{Object.{Object, Object as o}, ObjectKind.ObjectKind as kind}, Capabilities.kind_of_detail}
 use Rattle.machine.{specs.{Layout.{Layout, initial_of}, Machine.{same_id, slot_cmp}, Objects.kind_of_object}, proofs.LookUps.id_total}
 use Rattle.table.specs.Building.{AdmitsCap, fits, fits_target, has_cap_to, is_above_caps, is_badged, is_fitting, may_hold, repeats_untyped}
 use Rattle.table.specs.{Building.with_filled, Rules.{IsBadged, IsCapOf, IsDetailOf, IsDraft, is_tcb}, Tree.is_for_untyped}
 use Rattle.table.proofs.{ListLemmas.not_any, Slots.{below_new, has_slot}}
+use Rattle.machine.specs.declared.cap.Detail.TheVariants as d
 
 badged_is : (rights : ℕ) (end : Badged) → is_badged rights end ≡ true → IsBadged rights end
 badged_is rights end e = let parts = and_parts _ _ e in (ltb-true _ _ parts.0, ltb-true _ _ parts.1)

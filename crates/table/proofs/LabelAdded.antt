@@ -1,11 +1,10 @@
 -- That a draft stays a draft when a label is added.
-use Rattle.std.{specs.Str.bytes_eq, proofs.Common.{[], ℕ, ◌++◌, ◌<◌, ◌∙◌, ◌∷◌, ◌≡◌, ◌≢◌, List, arith, false, get_or, is_some, length}}
-use Rattle.std.proofs.{Common.{position, sym, true}, lemmas.{Bool.false≢true, List.{length_push, Elements.{All-push, All-weaker}}}}
-use Rattle.std.proofs.lemmas.{List.Quantifiers.all_pairs_push, Slice.Eq.bytes_eq-Decides}
-use Rattle.machine.specs.Layout.{Layout}
-use Rattle.words.specs.Name.{is_name}
-use Rattle.table.{specs.{Building.{AdmitsLabel, with_label}, Names.label_named, Rules.{IsDraft, IsObjectOf}}, proofs.DraftKept.objects_kept}
-use Rattle.table.proofs.{ListLemmas.not_any, NameLemmas.list_any-none}
+use Rattle.std.{specs.Str.bytes_eq, proofs.Common.{[], ℕ, ◌++◌, ◌<◌, ◌∙◌, ◌∷◌, ◌≡◌, ◌≢◌, List, arith}}
+use Rattle.std.proofs.{Common.{false, get_or, is_some, length, position, sym, true}, lemmas.Bool.false≢true}
+use Rattle.std.proofs.lemmas.{List.{Elements.{All-push, All-weaker}, Quantifiers.all_pairs_push, length_push}, Slice.Eq.bytes_eq-Decides}
+use Rattle.{words.specs.Name.is_name, machine.specs.Layout.Layout}
+use Rattle.table.specs.{Building.{AdmitsLabel, with_label}, Names.label_named, Rules.{IsDraft, IsObjectOf}}
+use Rattle.table.proofs.{DraftKept.objects_kept, ListLemmas.not_any, NameLemmas.list_any-none}
 
 -- a name that isn't in a list differs from each name in it
 pub differs :

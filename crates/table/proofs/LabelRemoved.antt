@@ -1,7 +1,6 @@
 -- That a draft without its last label is a draft, and admits that label.
 use Rattle.std.proofs.{Common.{[], ℕ, ◌++◌, ◌∷◌, ◌≡◌, ◌≢◌, List, arith, length, true}, lemmas.List.length_push}
-use Rattle.machine.specs.Layout.{Layout}
-use Rattle.words.specs.Name.{is_name}
+use Rattle.{words.specs.Name.is_name, machine.specs.Layout.Layout}
 use Rattle.table.specs.{Building.{AdmitsLabel, with_label}, Items.BeforeObjects, Names.label_named, Rules.{IsDraft, IsObjectOf}}
 use Rattle.table.proofs.{DraftKept.objects_kept, FrontLemmas.{all_front, all_of_none, no_place, pairs_front}}
 

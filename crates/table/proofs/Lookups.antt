@@ -1,12 +1,11 @@
 -- Look-ups in a capability table: what a slot holds, a slot's parent and a thread's context stand at one place of one list.
-use Rattle.std.{specs.List.{AllPairs, find, slice_get}, proofs.Common.{[], ℕ, ◌<◌, ◌∙◌, ◌∷◌, ◌≡◌, Bool, List, None, Option, Some, ap}}
-use Rattle.std.proofs.Common.{arith, cond, false, get_or, length, option_map, refl, suc, sym, true, zero}
+use Rattle.std.{specs.List.{AllPairs, find, slice_get}, proofs.Common.{[], ℕ, ◌<◌, ◌∙◌, ◌∷◌, ◌≡◌, Bool, List, None}}
+use Rattle.std.proofs.Common.{Option, Some, ap, arith, cond, false, get_or, length, option_map, refl, suc, sym, true, zero}
 use Rattle.std.proofs.lemmas.Option.{get_or_from_slice_get, none-some, same_Some, slice_get-get_or, slice_get_within}
 use Rattle.base.specs.declared.ids.{ObjId.ObjId, SlotRef.SlotRef}
-use Rattle.machine.specs.{declared.{cap.Cap.Cap, layout.{Binding.Binding, Filled.Filled, Pair.Pair}}, Layout.{Layout, bound_context}}
-use Rattle.machine.{specs.{Layout.{initial_cap, initial_parent}, Machine.{same_id, same_slot}}, proofs.{Ids.itself, LookUps.one_id}}
-use Rattle.machine.proofs.LookUps.{one_slot}
-use Rattle.table.specs.Rules.{IsLawful}
+use Rattle.machine.specs.declared.{cap.Cap.Cap, layout.{Binding.Binding, Filled.Filled, Pair.Pair}}
+use Rattle.machine.specs.{Layout.{Layout, bound_context, initial_cap, initial_parent}, Machine.{same_id, same_slot}}
+use Rattle.{machine.proofs.{Ids.itself, LookUps.{one_id, one_slot}}, table.specs.Rules.IsLawful}
 
 -- an element that is found: where it is, that it passes, and that none before it passes
 pub record FoundAt {X : Type 0} (p : X → Bool) (xs : List X) (x : X) : Type 0 where

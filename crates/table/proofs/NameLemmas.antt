@@ -1,9 +1,8 @@
 -- Names that are kept as strings: the place of a name among them, and that a new name goes last.
-use Rattle.std.{specs.{List.{list_any, position_or_len, prefix_len}, Str.bytes_eq, String.{string_bytes, string_eq}}, proofs.Common.{[], ℕ}}
-use Rattle.std.proofs.Common.{◌++◌, ◌+◌, ◌||◌, ◌∙◌, ◌∷◌, ◌≡◌, Bool, List, None, Option, Some, String, ap, arith, cond, false, if◌then◌else◌}
-use Rattle.std.proofs.Common.{is_some, length, map, nat_lt, not, option_map, position, refl, suc, sym, true}
-use Rattle.std.proofs.lemmas.{Bool.Decides.nat_tests, List.{length-map, map_push}}
-use Rattle.indexmap.specs.IndexSet.{insert_key}
+use Rattle.std.specs.{List.{list_any, position_or_len, prefix_len}, Str.bytes_eq, String.{string_bytes, string_eq}}
+use Rattle.std.proofs.Common.{[], ℕ, ◌++◌, ◌+◌, ◌||◌, ◌∙◌, ◌∷◌, ◌≡◌, Bool, List, None, Option, Some, String, ap, arith, cond}
+use Rattle.std.proofs.Common.{false, if◌then◌else◌, is_some, length, map, nat_lt, not, option_map, position, refl, suc, sym, true}
+use Rattle.{std.proofs.lemmas.{Bool.Decides.nat_tests, List.{length-map, map_push}}, indexmap.specs.IndexSet.insert_key}
 
 prefix_len-map : {X Y : Type 0} (p : Y → Bool) (f : X → Y) (xs : List X) → prefix_len p (map f xs) ≡ prefix_len (λ x. p (f x)) xs
 prefix_len-map p f [] = refl

@@ -1,16 +1,15 @@
 -- That a draft stays a draft when an object is added.
-use Rattle.std.proofs.Common.{[], ℕ, ◌&&◌, ◌++◌, ◌+◌, ◌<◌, ◌||◌, ◌∙◌, ◌∷◌, ◌≡◌, ◌≢◌, ◌≤◌, Bool, List, ap, arith, cond, false, get_or}
-use Rattle.std.proofs.{Common.{length, nat_le, nat_lt, not, sym, true}, lemmas.Bool.{and_parts, eqb-true, false_from_ne_true, false≢true}}
-use Rattle.std.proofs.lemmas.{Bool.{leb-true, ltb-true, not-true, Decides.nat_tests}, List.{length_push, Elements.All-push}}
-use Rattle.std.proofs.lemmas.List.{Quantifiers.all_pairs_push, Sums.sum_by_push}
-use Rattle.base.specs.declared.limits.TheConstants.{MAX_OBJECTS, MAX_SLOTS, MAX_THREADS}
-use Rattle.machine.specs.{declared.{layout.Initial.Initial, object.Object.{Object, Object as o}}, Layout.Layout, Objects.address_of}
-use Rattle.machine.specs.Objects.{end_of, slot_count}
-use Rattle.words.specs.Name.{is_name}
+use Rattle.std.proofs.Common.{[], ℕ, ◌&&◌, ◌++◌, ◌+◌, ◌<◌, ◌||◌, ◌∙◌, ◌∷◌, ◌≡◌, ◌≢◌, ◌≤◌, Bool, List}
+use Rattle.std.proofs.Common.{ap, arith, cond, false, get_or, length, nat_le, nat_lt, not, sym, true}
+use Rattle.std.proofs.lemmas.Bool.{Decides.nat_tests, and_parts, eqb-true, false_from_ne_true, false≢true, leb-true, ltb-true, not-true}
+use Rattle.std.proofs.lemmas.List.{Elements.All-push, Quantifiers.all_pairs_push, Sums.sum_by_push, length_push}
+use Rattle.{base.specs.declared.limits.TheConstants.{MAX_OBJECTS, MAX_SLOTS, MAX_THREADS}, words.specs.Name.is_name}
+use Rattle.machine.specs.declared.{layout.Initial.Initial, object.Object.{Object, Object as o}}
+use Rattle.machine.specs.{Layout.Layout, Objects.{address_of, end_of, slot_count}}
 use Rattle.table.specs.{Building.{AdmitsObject, has_control, has_room, is_free, repeats_control, with_initial}, Names.object_named}
 use Rattle.table.specs.{Placement.{IsApart, meets}, Rules.{IsDraft, IsObjectOf, is_control_of, is_tcb, slots_in, threads_in}}
-use Rattle.table.proofs.{DraftKept.{Keeps, bindings_kept, caps_kept, pairs_kept}, LabelAdded.differs, ListLemmas.not_any}
-use Rattle.table.proofs.{ListLemmas.slice_get-append_left, NameLemmas.is_some-option_map}
+use Rattle.table.proofs.{DraftKept.{Keeps, bindings_kept, caps_kept, pairs_kept}, LabelAdded.differs}
+use Rattle.table.proofs.{ListLemmas.{not_any, slice_get-append_left}, NameLemmas.is_some-option_map}
 
 pub apart_from_meets : (one other : Object) → meets one other ≡ false → IsApart one other
 apart_from_meets one other misses address in_one in_other =

@@ -1,12 +1,11 @@
 -- That a draft without its last object is a draft, and admits that object.
-use Rattle.std.proofs.Common.{ℕ, ◌+◌, ◌<◌, ◌||◌, ◌∙◌, ◌≡◌, ◌≢◌, ◌≤◌, ◌⊎◌, Bool, List, arith, cond, false, get_or, inl, inr, length, nat_lt}
-use Rattle.std.proofs.{Common.{not, refl, subst, sym, true}, lemmas.Bool.{and_from, and_parts, cases_lt, eq-eqb, false_from_ne_true}}
-use Rattle.std.proofs.lemmas.{Bool.{false≢true, le-leb, lt-ltb, ltb-true, not_from_false, Decides.nat_tests}, List.length_push}
-use Rattle.std.proofs.lemmas.{List.Sums.sum_by_push, Nat.pow_pos}
-use Rattle.base.specs.declared.limits.TheConstants.{MAX_OBJECTS, MAX_SLOTS, MAX_THREADS}
-use Rattle.machine.specs.{declared.{layout.Initial.Initial, object.Object.{Object, Object as o}}, Layout.Layout, Objects.address_of}
-use Rattle.machine.specs.Objects.{end_of, slot_count}
-use Rattle.words.specs.Name.{is_name}
+use Rattle.std.proofs.Common.{ℕ, ◌+◌, ◌<◌, ◌||◌, ◌∙◌, ◌≡◌, ◌≢◌, ◌≤◌, ◌⊎◌, Bool, List, arith, cond}
+use Rattle.std.proofs.Common.{false, get_or, inl, inr, length, nat_lt, not, refl, subst, sym, true}
+use Rattle.std.proofs.lemmas.Bool.{Decides.nat_tests, and_from, and_parts, cases_lt, eq-eqb, false_from_ne_true, false≢true}
+use Rattle.std.proofs.lemmas.{Bool.{le-leb, lt-ltb, ltb-true, not_from_false}, List.{Sums.sum_by_push, length_push}, Nat.pow_pos}
+use Rattle.{base.specs.declared.limits.TheConstants.{MAX_OBJECTS, MAX_SLOTS, MAX_THREADS}, words.specs.Name.is_name}
+use Rattle.machine.specs.declared.{layout.Initial.Initial, object.Object.{Object, Object as o}}
+use Rattle.machine.specs.{Layout.Layout, Objects.{address_of, end_of, slot_count}}
 use Rattle.table.specs.{Building.{AdmitsObject, has_control, has_room, is_free, repeats_control, with_initial}, Items.BeforeCaps}
 use Rattle.table.specs.{Names.object_named, Placement.{IsApart, meets}, Rules.{BindingsFit, CapsFit, IsDraft, IsObjectOf, PairsFit}}
 use Rattle.table.{specs.Rules.{is_control_of, is_tcb, slots_in, threads_in}, proofs.DraftKept.{no_bindings, no_caps, no_pairs}}

@@ -1,9 +1,8 @@
 -- That a draft stays a draft when a pair of the derivation tree is added; and that a draft without its last pair is one, and admits it.
 use Rattle.std.{specs.declared.cmp.Ordering.TheVariants.Less, proofs.{Common.◌≡◌, lemmas.List.Elements.All-push}}
-use Rattle.std.proofs.lemmas.List.Quantifiers.{all_pairs_push}
-use Rattle.machine.specs.{declared.layout.Pair.Pair, Layout.Layout, Machine.slot_cmp}
-use Rattle.table.{specs.{Building.{AdmitsPair, is_above_pairs, with_pair}, Rules.{IsDraft, IsSlotPair}}, proofs.FrontLemmas.all_front}
-use Rattle.table.proofs.{FrontLemmas.pairs_front, Slots.{below_new, has_slot, rises_after, slot_declared}}
+use Rattle.{std.proofs.lemmas.List.Quantifiers.all_pairs_push, machine.specs.{declared.layout.Pair.Pair, Layout.Layout, Machine.slot_cmp}}
+use Rattle.table.specs.{Building.{AdmitsPair, is_above_pairs, with_pair}, Rules.{IsDraft, IsSlotPair}}
+use Rattle.table.proofs.{FrontLemmas.{all_front, pairs_front}, Slots.{below_new, has_slot, rises_after, slot_declared}}
 
 pub draft_pair : (t : Layout) (pair : Pair) → IsDraft t → AdmitsPair t pair → IsDraft (with_pair t pair)
 unfolding is_above_pairs

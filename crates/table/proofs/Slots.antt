@@ -1,11 +1,10 @@
 -- The slots that objects have, and slots above all those of a rising list.
-use Rattle.std.{specs.{declared.cmp.Ordering.{Ordering, TheVariants.{Equal, Greater, Less}}, Ordering.is_lt}, proofs.Common.{◌-◌, ◌∙◌, ◌≡◌}}
-use Rattle.std.proofs.Common.{All, AllPairs, List, None, Option, Some, ap, length, option_map, refl, slice_get, sym, true}
-use Rattle.std.proofs.lemmas.Bool.{false≢true, lt-ltb, ltb-true}
-use Rattle.base.specs.declared.ids.SlotRef.{SlotRef}
+use Rattle.std.specs.{declared.cmp.Ordering.{Ordering, TheVariants.{Equal, Greater, Less}}, Ordering.is_lt}
+use Rattle.std.proofs.Common.{◌-◌, ◌∙◌, ◌≡◌, All, AllPairs, List, None, Option, Some, ap, length, option_map, refl, slice_get, sym, true}
+use Rattle.{std.proofs.lemmas.Bool.{false≢true, lt-ltb, ltb-true}, base.specs.declared.ids.SlotRef.SlotRef}
 use Rattle.machine.{specs.{declared.layout.Initial.Initial, Layout.{Layout, initial_of}, Machine.slot_cmp}, proofs.LookUps.slot_total}
-use Rattle.table.{specs.{Building.{declares_slot, has_index, is_above}, Rules.HasSlot}, proofs.FrontLemmas.at_last}
-use Rattle.table.proofs.ListLemmas.{all_from_last}
+use Rattle.table.specs.{Building.{declares_slot, has_index, is_above}, Rules.HasSlot}
+use Rattle.table.proofs.{FrontLemmas.at_last, ListLemmas.all_from_last}
 
 pub has_slot : (t : Layout) (slot : SlotRef) → declares_slot t slot ≡ true → HasSlot t.objects slot
 unfolding declares_slot initial_of

@@ -1,8 +1,7 @@
 -- The indices that a draft keeps by object number: whether some capability is for the object, and which thread is bound to it (confine's
 -- own).
 use Rattle.std.specs.{List.{find, list_any}, Prelude.{◌≡◌, Bool, List, None, Option, false, option_map, slice_index_or}}
-use Rattle.base.specs.declared.ids.ObjId.{ObjId}
-use Rattle.machine.specs.{declared.layout.{Binding.Binding, Filled.Filled}, Machine.same_id}
+use Rattle.{base.specs.declared.ids.ObjId.ObjId, machine.specs.{declared.layout.{Binding.Binding, Filled.Filled}, Machine.same_id}}
 
 -- the mark at each object's number says whether some capability is for the object
 abbrev pub Marks : List Filled → List Bool → Type 0

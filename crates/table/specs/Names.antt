@@ -1,9 +1,8 @@
 -- The labels of a table, and the numbers of labels and objects by name (confine's own; labels are those of 'seL4 Enforces Integrity',
 -- section 3).
 use Rattle.std.specs.{Prelude.{ℕ, ◌<◌, ◌↔◌, ◌≡◌, ◌≤◌, List, Option, length, option_map, position, true}, Str.bytes_eq}
-use Rattle.base.specs.{declared.{ids.ObjId.ObjId, labels.Labels.Labels}, Labels.is_in}
+use Rattle.{base.specs.{declared.{ids.ObjId.ObjId, labels.Labels.Labels}, Labels.is_in}, machine.specs.Layout.Layout}
 use Rattle.base.specs.declared.label.TheConstants.Label as Label
-use Rattle.machine.specs.Layout.{Layout}
 
 -- the labels with their names, as the table has them
 pub record AreLabelsOf (t : Layout) (labels : Labels) : Type 0 where

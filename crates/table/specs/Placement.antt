@@ -1,7 +1,6 @@
 -- The place of objects in memory: alignment, and which objects overlap (compare the seL4 manual, "Memory Allocation").
 use Rattle.std.specs.{List.{All, AllPairs}, Prelude.{ℕ, ◌%◌, ◌&&◌, ◌<◌, ◌==◌, ◌^◌, ◌≤◌, Bool, List, None, Option, Some, nat_le, nat_lt}}
-use Rattle.std.specs.Prelude.{true}
-use Rattle.machine.specs.{declared.object.Object.Object, Objects.{address_of, end_of, size_bits}}
+use Rattle.{std.specs.Prelude.true, machine.specs.{declared.object.Object.Object, Objects.{address_of, end_of, size_bits}}}
 use Rattle.table.specs.declared.extent.Extent.{Extent}
 
 -- an object has a byte at an address

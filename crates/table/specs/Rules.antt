@@ -1,18 +1,17 @@
 -- The rules that a capability table keeps on its names, objects and their addresses, filled slots, derivation tree and bindings (compare
 -- the seL4 manual, "Bootstrapping").
-use Rattle.std.specs.{declared.cmp.Ordering.TheVariants.Less, Prelude.{ℕ, ⊤, ◌+◌, ◌<◌, ◌==◌, ◌^◌, ◌≡◌, ◌≢◌, ◌≤◌, All, AllPairs, Bool, List}}
-use Rattle.std.specs.Prelude.{None, Option, Some, count_by, false, length, option_map, slice_get, sum_by, true}
-use Rattle.base.specs.declared.core_number.TheConstants.CoreNo as CoreNo
-use Rattle.base.specs.declared.{ids.{ObjId.ObjId, SlotRef.SlotRef}, limits.TheConstants.{ADDRESS_END, MAX_OBJECTS, MAX_PERIOD, MAX_RADIX}}
-use Rattle.base.specs.declared.limits.TheConstants.{MAX_SLOTS, MAX_THREADS}
-use Rattle.machine.specs.declared.{cap.{Badged.Badged, Detail.{Detail, Detail as d}}, layout.{Binding.Binding, Filled.Filled}}
-use Rattle.machine.specs.declared.{layout.{Initial.Initial, Pair.Pair}, object.{Object.{Object, Object as o}, ObjectKind.ObjectKind}}
-use Rattle.machine.specs.declared.object.ObjectKind.TheVariants as kind
-use Rattle.machine.specs.declared.{object.{ReplyState.ReplyState as reply, Share.Share}, thread.{Inbox.Inbox as inbox, RunState.RunState}}
-use Rattle.machine.specs.{declared.thread.RunState.RunState as run, Capabilities.kind_of_detail, Layout.{Layout, initial_of, most_labels}}
-use Rattle.machine.specs.{Machine.slot_cmp, Objects.{end_of, kind_of_object, slot_count}}
-use Rattle.words.specs.Name.{is_name}
+use Rattle.std.specs.{declared.cmp.Ordering.TheVariants.Less, Prelude.{ℕ, ⊤, ◌+◌, ◌<◌, ◌==◌, ◌^◌, ◌≡◌, ◌≢◌, ◌≤◌, All, AllPairs}}
+use Rattle.std.specs.Prelude.{Bool, List, None, Option, Some, count_by, false, length, option_map, slice_get, sum_by, true}
+use Rattle.base.specs.declared.{ids.{ObjId.ObjId, SlotRef.SlotRef}, limits.TheConstants.{ADDRESS_END, MAX_OBJECTS}}
+use Rattle.{base.specs.declared.limits.TheConstants.{MAX_PERIOD, MAX_RADIX, MAX_SLOTS, MAX_THREADS}, words.specs.Name.is_name}
+use Rattle.machine.specs.declared.cap.{Badged.Badged, Detail.{Detail, Detail as d}}
+use Rattle.machine.specs.declared.layout.{Binding.Binding, Filled.Filled, Initial.Initial, Pair.Pair}
+use Rattle.machine.specs.declared.object.{Object.{Object, Object as o}, ObjectKind.ObjectKind, ReplyState.ReplyState as reply, Share.Share}
+use Rattle.machine.specs.{declared.thread.{Inbox.Inbox as inbox, RunState.{RunState, RunState as run}}, Capabilities.kind_of_detail}
+use Rattle.machine.specs.{Layout.{Layout, initial_of, most_labels}, Machine.slot_cmp, Objects.{end_of, kind_of_object, slot_count}}
 use Rattle.table.specs.{Placement.{IsApart, is_aligned}, Tree.{IsPairOf, is_original}}
+use Rattle.base.specs.declared.core_number.TheConstants.CoreNo as CoreNo
+use Rattle.machine.specs.declared.object.ObjectKind.TheVariants as kind
 
 -- a thread starts ready or inactive
 abbrev pub IsAtRest : RunState → Type 0

@@ -1,11 +1,10 @@
 -- The derivation tree of a capability table: which capabilities may be parent and child, and which are original (seL4 manual, "Capability
 -- Derivation Tree").
-use Rattle.std.specs.{Int.RustNames.bit_and, Option.option_and_then, Prelude.{ℕ, ◌&&◌, ◌==◌, ◌||◌, ◌≡◌, ◌⊎◌, Bool, List, None, Option}}
-use Rattle.std.specs.Prelude.{Some, false, map, not, position, true}
-use Rattle.base.specs.declared.ids.SlotRef.{SlotRef}
-use Rattle.machine.specs.declared.{cap.{Cap.Cap, Detail.{Detail, Detail as d}}, layout.{Filled.Filled, Pair.Pair}}
-use Rattle.machine.specs.{declared.layout.Version.Version as version, Capabilities.badge_of, Layout.{Layout, empty_layout, initial_cap}}
-use Rattle.machine.specs.{Layout.initial_parent, Machine.same_id}
+use Rattle.std.specs.{Int.RustNames.bit_and, Option.option_and_then, Prelude.{ℕ, ◌&&◌, ◌==◌, ◌||◌, ◌≡◌, ◌⊎◌, Bool, List}}
+use Rattle.{std.specs.Prelude.{None, Option, Some, false, map, not, position, true}, base.specs.declared.ids.SlotRef.SlotRef}
+use Rattle.machine.specs.declared.cap.{Cap.Cap, Detail.{Detail, Detail as d}}
+use Rattle.machine.specs.declared.layout.{Filled.Filled, Pair.Pair, Version.Version as version}
+use Rattle.machine.specs.{Capabilities.badge_of, Layout.{Layout, empty_layout, initial_cap, initial_parent}, Machine.same_id}
 
 -- a capability's rights, as bits; a kind without rights has none
 abbrev pub rights_of : Detail → ℕ

@@ -1,6 +1,5 @@
 -- The numbers of the versions of capability tables (confine's own).
-use Rattle.std.specs.Prelude.{ℕ}
-use Rattle.machine.specs.declared.layout.Version.{Version}
+use Rattle.{std.specs.Prelude.ℕ, machine.specs.declared.layout.Version.Version}
 use Rattle.machine.specs.declared.layout.Version.TheVariants as version
 
 abbrev pub version_number : Version → ℕ

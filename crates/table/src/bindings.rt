@@ -1,7 +1,6 @@
 //! The bindings of threads to scheduling contexts in a capability table.
 ghost use Rattle.std.specs.Prelude.{[], ◌++◌, ◌<◌, ◌∷◌, ◌≡◌, None, OnErr, OnOk};
-ghost use Rattle.base.specs.declared.limits.TheConstants.{OBJECT_NUMBERS};
-ghost use Rattle.table.specs.Aims.{thread_bound_to};
+ghost use Rattle.{base.specs.declared.limits.TheConstants.OBJECT_NUMBERS, table.specs.Aims.thread_bound_to};
 
 use base::ObjId;
 use machine::Binding;

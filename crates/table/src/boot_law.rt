@@ -2,8 +2,7 @@
 ghost use Rattle.std.specs.Prelude.{◌≡◌, Some};
 ghost use Rattle.base.specs.declared.ids.SlotRef.{SlotRef};
 ghost use Rattle.machine.specs.{Boot.{IsBoot, IsFresh}, Layout.{Layout, initial_parent}, Machine.{Machine, parent_of}};
-ghost use Rattle.machine.specs.{Tree.IsRanked, WellFormed.IsWellFormed};
-ghost use Rattle.table.specs.Rules.{IsLawful};
+ghost use Rattle.{machine.specs.{Tree.IsRanked, WellFormed.IsWellFormed}, table.specs.Rules.IsLawful};
 
 /// A law: the boot state of a lawful capability table is well formed, and obeys the boot rule.
 ///

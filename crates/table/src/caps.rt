@@ -1,7 +1,6 @@
 //! The filled slots of a capability table.
 ghost use Rattle.std.specs.{List.list_any, Prelude.{[], ◌++◌, ◌<◌, ◌∷◌, ◌≡◌, OnErr, OnOk}};
-ghost use Rattle.base.specs.declared.limits.TheConstants.{OBJECT_NUMBERS};
-ghost use Rattle.machine.specs.Machine.{same_id};
+ghost use Rattle.{base.specs.declared.limits.TheConstants.OBJECT_NUMBERS, machine.specs.Machine.same_id};
 ghost use Rattle.table.specs.{Rules.{Rises, RisesByChild}, Tree.{tree_of, with_originals}};
 
 use crate::tree::mark_originals;

@@ -1,16 +1,14 @@
 //! A capability table that is being built up, item by item.
-ghost use Rattle.std.specs.{List.list_any, Option.option_copied, Prelude.{◌<◌, ◌≡◌, ◌≤◌, IfErr, IfOk, IfSome, None}};
-ghost use Rattle.std.specs.Prelude.{OnErr, OnOk, Some, is_some, length, slice_get};
+ghost use Rattle.std.specs.{List.list_any, Option.option_copied};
+ghost use Rattle.std.specs.Prelude.{◌<◌, ◌≡◌, ◌≤◌, IfErr, IfOk, IfSome, None, OnErr, OnOk, Some, is_some, length, slice_get};
 ghost use Rattle.base.specs.declared.limits.TheConstants.{MAX_OBJECTS};
+ghost use Rattle.machine.specs.{Authority.label_at, Layout.{bound_thread, empty_layout, initial_of, most_labels, upgraded}, Objects.end_of};
+ghost use Rattle.table.specs.Building.{AdmitsBinding, AdmitsCap, AdmitsLabel, AdmitsObject, AdmitsPair, declares_slot, fits};
+ghost use Rattle.table.specs.Building.{has_cap_to, has_control, has_room, is_above_bindings, is_above_caps, is_above_pairs};
+ghost use Rattle.table.specs.Building.{is_badged, is_bound, is_fitting, is_free, last_binding, last_cap, may_hold, with_binding};
+ghost use Rattle.table.specs.{Building.{with_filled, with_initial, with_label, with_pair}, Names.{label_named, object_named}};
+ghost use Rattle.table.specs.{Rules.{IsLawful, is_control_of, kind_at}, Tree.{tree_fault, with_originals}};
 ghost use Rattle.base.specs.declared.label.TheConstants.Label as LabelLimits;
-ghost use Rattle.machine.specs.{Authority.label_at, Layout.{bound_thread, empty_layout, initial_of, most_labels}};
-ghost use Rattle.machine.specs.{Layout.upgraded, Objects.end_of};
-ghost use Rattle.table.specs.Building.{AdmitsBinding, AdmitsCap, AdmitsLabel, AdmitsObject, AdmitsPair, declares_slot};
-ghost use Rattle.table.specs.Building.{fits, has_cap_to, has_control, has_room, is_above_bindings, is_above_caps};
-ghost use Rattle.table.specs.Building.{is_above_pairs, is_badged, is_bound, is_fitting, is_free, last_binding};
-ghost use Rattle.table.specs.Building.{last_cap, may_hold, with_binding, with_filled, with_initial, with_label};
-ghost use Rattle.table.specs.{Building.with_pair, Names.{label_named, object_named}, Rules.{IsLawful, is_control_of}};
-ghost use Rattle.table.specs.{Rules.kind_at, Tree.{tree_fault, with_originals}};
 
 use crate::bindings::Bindings;
 use crate::caps::Caps;

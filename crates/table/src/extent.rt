@@ -1,9 +1,7 @@
 //! The addresses at which objects lie: which objects overlap, and which holds an address.
-ghost use Rattle.std.specs.List.{All, Contains, list_any, Sorted.{IsPartitionPoint, IsPermutation}};
-ghost use Rattle.std.specs.Prelude.{⊤, ◌<◌, ◌∷◌, ◌≡◌, ◌≤◌, MatchOption, Some, false, length, nat_le, true, vec_len};
-ghost use Rattle.std.specs.Vec.{vec_capacity};
-ghost use Rattle.machine.specs.Objects.{address_of, end_of, size_bits};
-ghost use Rattle.table.specs.Placement.{AreApart, holds, touches};
+ghost use Rattle.std.specs.List.{All, Contains, Sorted.{IsPartitionPoint, IsPermutation}, list_any};
+ghost use Rattle.std.specs.{Prelude.{⊤, ◌<◌, ◌∷◌, ◌≡◌, ◌≤◌, MatchOption, Some, false, length, nat_le, true, vec_len}, Vec.vec_capacity};
+ghost use Rattle.{machine.specs.Objects.{address_of, end_of, size_bits}, table.specs.Placement.{AreApart, holds, touches}};
 ghost use Rattle.table.specs.Placement as placement;
 
 use base::{ADDRESS_BITS, ADDRESS_END};

@@ -1,10 +1,8 @@
 //! Laws on lawful capability tables: how they are built up, and what no version changes.
 ghost use Rattle.std.specs.Prelude.{◌↔◌, ◌≡◌, Contains, None};
 ghost use Rattle.base.specs.declared.ids.ObjId.{ObjId};
-ghost use Rattle.machine.specs.{declared.layout.Pair.Pair, Authority.label_of, Boot.IsBoot, Layout.{Layout, upgraded}};
-ghost use Rattle.machine.specs.Machine.{Machine};
-ghost use Rattle.table.specs.{Items.IsBuiltUp, Rules.IsLawful, Tree.{tree_fault, with_originals}};
-ghost use Rattle.table.specs.UntypedPairs.{IsForNoUntyped};
+ghost use Rattle.machine.specs.{declared.layout.Pair.Pair, Authority.label_of, Boot.IsBoot, Layout.{Layout, upgraded}, Machine.Machine};
+ghost use Rattle.table.specs.{Items.IsBuiltUp, Rules.IsLawful, Tree.{tree_fault, with_originals}, UntypedPairs.IsForNoUntyped};
 
 /// A law: the tables that keep the rules are exactly those that are built up from an empty table, item by item.
 ///

@@ -1,10 +1,9 @@
 //! The type of finished capability tables, and what can be asked of a table.
-ghost use Rattle.std.specs.{List.find, Option.option_copied, Prelude.{◌<◌, ◌≡◌, ◌≤◌, AllPairs, IfSome, length}};
-ghost use Rattle.std.specs.Prelude.{slice_get};
-ghost use Rattle.base.specs.declared.label.TheConstants.Label as LabelLimits;
-ghost use Rattle.machine.specs.{Authority.label_at, Layout.{bound_context, bound_thread, initial_cap, initial_of}};
-ghost use Rattle.machine.specs.{Layout.{initial_parent, upgraded}, Machine.same_id};
+ghost use Rattle.std.specs.{List.find, Option.option_copied, Prelude.{◌<◌, ◌≡◌, ◌≤◌, AllPairs, IfSome, length, slice_get}};
+ghost use Rattle.machine.specs.{Authority.label_at, Layout.{bound_context, bound_thread, initial_cap}};
+ghost use Rattle.machine.specs.{Layout.{initial_of, initial_parent, upgraded}, Machine.same_id};
 ghost use Rattle.table.specs.{Names.{AreLabelsOf, label_named, object_named}, Rules.{IsLawful, kind_at}, Versions.version_number};
+ghost use Rattle.base.specs.declared.label.TheConstants.Label as LabelLimits;
 
 use crate::draft::Draft;
 use crate::tree::{cap_in, parent_in};

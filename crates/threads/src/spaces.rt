@@ -1,8 +1,7 @@
 //! The calls ClearSpace and SetSpace, on the root of a thread's capability space.
 ghost use Rattle.std.specs.Prelude.{◌≡◌, IsTrue, None, Some};
 ghost use Rattle.machine.specs.{declared.cap.Cap.Cap as Held, Lookup.root_of, Machine.{cap_of, has_slot}, Makes.Makes};
-ghost use Rattle.machine.specs.Step.Space.{clear_space_of, set_space_of, with_root, without_root};
-ghost use Rattle.machine.specs.WellFormed.{IsWellFormed};
+ghost use Rattle.machine.specs.{Step.Space.{clear_space_of, set_space_of, with_root, without_root}, WellFormed.IsWellFormed};
 
 use base::{Cause, ObjId, SlotRef};
 use cnodeops::derive;

@@ -1,15 +1,13 @@
 -- That a thread that waits nowhere still waits nowhere after others leave their queues.
-use Rattle.std.{specs.Prelude.{Contains, None, Option, Some, filter}, proofs.Common.{◌∙◌, ◌≡◌, Bool, List, cond, false, not, refl, subst}}
-use Rattle.std.proofs.{Common.{sym, true}, lemmas.Option.same_Some}
-use Rattle.base.specs.declared.ids.ObjId.{ObjId}
+use Rattle.std.{specs.Prelude.{Contains, None, Option, Some, filter}, proofs.Common.{◌∙◌, ◌≡◌, Bool, List, cond, false}}
+use Rattle.{std.proofs.{Common.{not, refl, subst, sym, true}, lemmas.Option.same_Some}, base.specs.declared.ids.ObjId.ObjId}
 use Rattle.machine.specs.declared.{object.{Object.{Object, Object as o}, ReplyState.ReplyState}, thread.{RunState.RunState, Tcb.Tcb}}
 use Rattle.machine.specs.{Changes.{with_reply, with_tcb, without_waiting}, Finalising.halted, Machine.{Machine, object_of, queue_of}}
 use Rattle.machine.specs.{Machine.{same_id, with_queue}, Releasing.{unblocked, with_holder_halted, with_holding, with_named, with_released}}
 use Rattle.machine.proofs.LookUps.{queue_of-with_object, queue_of-with_queue}
+use Rattle.{steps.proofs.LeavingLinks.in_whole, objects.specs.Waiting.WaitsNowhere}
 use Rattle.machine.specs.declared.object.ReplyState.TheVariants as reply
 use Rattle.machine.specs.declared.thread.RunState.TheVariants as state
-use Rattle.steps.proofs.LeavingLinks.{in_whole}
-use Rattle.objects.specs.Waiting.{WaitsNowhere}
 
 free_along :
     (m next : Machine) (thread : ObjId) → ((q : ObjId) → queue_of next q ≡ queue_of m q) → WaitsNowhere m thread

@@ -1,7 +1,6 @@
 //! The delivery of messages, each with at most one capability.
 ghost use Rattle.std.specs.Prelude.{◌≡◌, is_ok};
-ghost use Rattle.machine.specs.Step.Deliver.{arrival_of, delivered, message_of, with_arrival};
-ghost use Rattle.machine.specs.WellFormed.{IsWellFormed};
+ghost use Rattle.machine.specs.{Step.Deliver.{arrival_of, delivered, message_of, with_arrival}, WellFormed.IsWellFormed};
 
 use base::{Cause, ObjId};
 use cnodeops::{copyable, derive, target, vacant};

@@ -1,8 +1,7 @@
 //! The context that a caller lends to its receiver.
 ghost use Rattle.std.specs.Prelude.{◌≡◌, ◌≢◌, Some};
 ghost use Rattle.base.specs.declared.ids.ObjId.{ObjId as Id};
-ghost use Rattle.machine.specs.{Machine.object_of, Step.Send.{called_through, loan_made}};
-ghost use Rattle.machine.specs.WellFormed.{IsFree, IsWellFormed, kind_of};
+ghost use Rattle.machine.specs.{Machine.object_of, Step.Send.{called_through, loan_made}, WellFormed.{IsFree, IsWellFormed, kind_of}};
 ghost use Rattle.machine.specs.declared.object.ObjectKind.TheVariants as kind;
 
 use base::ObjId;

@@ -2,8 +2,7 @@
 ghost use Rattle.std.specs.Prelude.{◌≡◌};
 ghost use Rattle.base.specs.declared.ids.ObjId.{ObjId as Id};
 ghost use Rattle.machine.specs.{Makes.Makes, Step.Receive.{find_named_reply, receive_of, received, with_reply_ended}};
-ghost use Rattle.machine.specs.WellFormed.{IsCaller, IsWellFormed};
-ghost use Rattle.objects.specs.Waiting.{WaitsNowhere};
+ghost use Rattle.{machine.specs.WellFormed.{IsCaller, IsWellFormed}, objects.specs.Waiting.WaitsNowhere};
 
 use crate::arrivals::{arrive, message};
 use crate::firsts::first_sender;

@@ -1,9 +1,8 @@
 //! The calls Send and Call, which send a message.
 ghost use Rattle.std.specs.Prelude.{◌≡◌};
-ghost use Rattle.machine.specs.{Makes.Makes, Step.{Deliver.{first_at, receiver_in, sending_by}, Send.called_or_waits}};
-ghost use Rattle.machine.specs.{Step.Send.{endpoint_call_of, send_of, sent_or_waits}, WellFormed.IsCaller};
-ghost use Rattle.machine.specs.WellFormed.{IsWellFormed};
-ghost use Rattle.objects.specs.Waiting.{WaitsNowhere};
+ghost use Rattle.machine.specs.{Makes.Makes, Step.Deliver.{first_at, receiver_in, sending_by}};
+ghost use Rattle.machine.specs.Step.Send.{called_or_waits, endpoint_call_of, send_of, sent_or_waits};
+ghost use Rattle.{machine.specs.WellFormed.{IsCaller, IsWellFormed}, objects.specs.Waiting.WaitsNowhere};
 
 use crate::arrivals::deliver;
 use crate::firsts::first_receiver;

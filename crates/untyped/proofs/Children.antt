@@ -1,9 +1,8 @@
 -- That a slot has a child exactly if it is the parent of some slot.
-use Rattle.std.specs.{declared.cmp.Ordering.{Ordering, TheVariants.{Equal, Greater, Less}}, FinMap.{entries, entries_sorted, find}}
-use Rattle.std.specs.{FinMap.{get-entries, is_sorted, Entries.below_all}, List.list_any, Ordering.{is_eq, is_lt}, Prelude.{◌&&◌, ◌||◌, ◌≢◌}}
-use Rattle.std.{specs.Prelude.{None, Some}, proofs.Common.{[], ◌∙◌, ◌∷◌, ◌≡◌, Bool, List, T, ap, cond, false, refl, subst, sym, true}}
-use Rattle.std.proofs.lemmas.Bool.{false≢true}
-use Rattle.base.specs.declared.ids.SlotRef.{SlotRef}
+use Rattle.std.specs.declared.cmp.Ordering.{Ordering, TheVariants.{Equal, Greater, Less}}
+use Rattle.std.specs.{FinMap.{Entries.below_all, entries, entries_sorted, find, get-entries, is_sorted}, List.list_any}
+use Rattle.std.{specs.{Ordering.{is_eq, is_lt}, Prelude.{◌&&◌, ◌||◌, ◌≢◌, None, Some}}, proofs.Common.{[], ◌∙◌, ◌∷◌, ◌≡◌, Bool, List, T}}
+use Rattle.{std.proofs.{Common.{ap, cond, false, refl, subst, sym, true}, lemmas.Bool.false≢true}, base.specs.declared.ids.SlotRef.SlotRef}
 use Rattle.machine.specs.{Machine.{Machine, parent_of, same_slot, slot_cmp}, Memory.{Source, begun, has_child}}
 use Rattle.machine.proofs.{Exchange.slot_itself, FiniteLemmas.same_from_tie, LookUps.{slot_apart, slot_total}}
 use Rattle.steps.proofs.RetypeFormed.{childless}

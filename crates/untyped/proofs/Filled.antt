@@ -1,11 +1,10 @@
 -- Empty slots that are filled one after another.
 use Rattle.std.{specs.Prelude.{IsSome, IsTrue, None, Option, Some}, proofs.Common.{◌∙◌, ◌≡◌, ◌≢◌, Bool, ap, cond, false, refl, subst, sym}}
-use Rattle.std.proofs.{Common.true, lemmas.{Bool.false≢true, Option.same_Some}}
-use Rattle.base.specs.declared.ids.{ObjId.ObjId, SlotRef.SlotRef}
+use Rattle.{std.proofs.{Common.true, lemmas.{Bool.false≢true, Option.same_Some}}, base.specs.declared.ids.{ObjId.ObjId, SlotRef.SlotRef}}
 use Rattle.machine.specs.{declared.cap.Cap.Cap, Machine.{Machine, cap_of, has_slot, object_of, parent_of, same_slot, with_cap, with_parent}}
-use Rattle.machine.{specs.Tree.IsAlone, proofs.{Exchange.slot_itself, FiniteLemmas.cond_elsewhere, LookUps.cap_of-with_cap}}
-use Rattle.machine.proofs.LookUps.{cap_of-with_parent, object_of-with_cap, object_of-with_parent, one_slot, parent_of-with_cap}
-use Rattle.machine.proofs.LookUps.{parent_of-with_parent, slot_apart, slot_total}
+use Rattle.machine.{specs.Tree.IsAlone, proofs.{Exchange.slot_itself, FiniteLemmas.cond_elsewhere}}
+use Rattle.machine.proofs.LookUps.{cap_of-with_cap, cap_of-with_parent, object_of-with_cap, object_of-with_parent}
+use Rattle.machine.proofs.LookUps.{one_slot, parent_of-with_cap, parent_of-with_parent, slot_apart, slot_total}
 
 -- a slot that is in no pair of the tree is in none when it is filled
 pub filled_alone : (m : Machine) (slot : SlotRef) (held : Cap) → IsAlone m slot → IsAlone (with_cap m slot held) slot

@@ -1,16 +1,15 @@
 -- That machines keep what they have when objects are added and their capabilities put into slots; and so that a whole retype can be made.
-use Rattle.std.{specs.{List.fold, Prelude.{IsSome, Some, is_some}}, proofs.Common.{[], ℕ, ◌+◌, ◌<◌, ◌∙◌, ◌∷◌, ◌≡◌, ◌≤◌, Bool, List, ap}}
-use Rattle.std.proofs.{Common.{arith, cond, false, inl, inr, length, refl, suc, sym, true, zero}, lemmas.Bool.cases_eq}
-use Rattle.std.proofs.lemmas.List.FromFn.{length-map-range_with_len}
-use Rattle.base.specs.declared.ids.{ObjId.ObjId, SlotRef.SlotRef}
+use Rattle.std.{specs.{List.fold, Prelude.{IsSome, Some, is_some}}, proofs.Common.{[], ℕ, ◌+◌, ◌<◌, ◌∙◌, ◌∷◌, ◌≡◌, ◌≤◌, Bool}}
+use Rattle.std.proofs.{Common.{List, ap, arith, cond, false, inl, inr, length, refl, suc, sym, true, zero}, lemmas.Bool.cases_eq}
+use Rattle.{std.proofs.lemmas.List.FromFn.length-map-range_with_len, base.specs.declared.ids.{ObjId.ObjId, SlotRef.SlotRef}}
 use Rattle.machine.specs.{declared.object.{MemoryKind.MemoryKind, Object.{Object, Object as o}, Untyped.Untyped}, Changes.with_watermark}
 use Rattle.machine.specs.Machine.{Machine, cap_of, object_of, parent_of, same_id, with_cap, with_new, with_object, with_parent}
 use Rattle.machine.specs.{Memory.{Source, all_taken, new_cap, new_size, taken, with_all_made}, Step.Retype.window, Tree.IsAlone}
-use Rattle.machine.proofs.{GoneLemmas.id_itself, LookUps.{cap_of-with_new, object_of-with_cap, object_of-with_new, object_of-with_parent}}
-use Rattle.machine.proofs.LookUps.{one_id, parent_of-with_new}
-use Rattle.untyped.specs.{declared.{filling.Window.Window, making.Making.Making}, Batch.{new_objects, with_batch, with_caps}}
-use Rattle.untyped.specs.{Making.{CanBeMade, with_making}, Shown.source_shown, Windows.{AreThere, IsFree, slots_of}}
-use Rattle.untyped.proofs.Batches.{made_at_once}
+use Rattle.machine.proofs.{GoneLemmas.id_itself, LookUps.{cap_of-with_new, object_of-with_cap}}
+use Rattle.machine.proofs.LookUps.{object_of-with_new, object_of-with_parent, one_id, parent_of-with_new}
+use Rattle.untyped.specs.declared.{filling.Window.Window, making.Making.Making}
+use Rattle.untyped.specs.{Batch.{new_objects, with_batch, with_caps}, Making.{CanBeMade, with_making}, Shown.source_shown}
+use Rattle.untyped.{specs.Windows.{AreThere, IsFree, slots_of}, proofs.Batches.made_at_once}
 
 number_after : (m : Machine) (object : Object) → (with_new m object).next ≡ m.next + 1
 unfolding with_new

@@ -1,9 +1,6 @@
 -- The values of this crate as the definition of a retype has them.
-use Rattle.std.specs.Prelude.{Err, Ok, Result}
-use Rattle.base.specs.declared.refusal.Cause.{Cause}
-use Rattle.machine.specs.{Lookup.Level, Memory.Source}
-use Rattle.cspace.specs.{declared.level.Level.Level as Node, Strings.level_shown}
-use Rattle.untyped.specs.declared.finding.Source.{Source as Found}
+use Rattle.{std.specs.Prelude.{Err, Ok, Result}, base.specs.declared.refusal.Cause.Cause, machine.specs.{Lookup.Level, Memory.Source}}
+use Rattle.{cspace.specs.{declared.level.Level.Level as Node, Strings.level_shown}, untyped.specs.declared.finding.Source.Source as Found}
 
 abbrev pub source_shown : Found → Source
 source_shown source = record { slot = source.slot; id = source.id; memory = source.memory }

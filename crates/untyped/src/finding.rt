@@ -1,7 +1,6 @@
 //! The look-ups of the untyped memory and the CNode that a retype names.
 ghost use Rattle.std.specs.Prelude.{◌≡◌};
-ghost use Rattle.machine.specs.Step.Retype.{find_taker, find_untyped, memory_in};
-ghost use Rattle.untyped.specs.Shown.{found_shown, taker_shown};
+ghost use Rattle.{machine.specs.Step.Retype.{find_taker, find_untyped, memory_in}, untyped.specs.Shown.{found_shown, taker_shown}};
 
 use base::{Cause, LookupFailure, ObjId, SlotRef};
 use cspace::{Level, find, level_at, resolve};

@@ -1,7 +1,6 @@
 //! The limits of a kernel on objects, slots, threads and object numbers, which a retype keeps.
 ghost use Rattle.std.specs.Prelude.{◌≡◌, ◌≤◌};
-ghost use Rattle.base.specs.declared.limits.TheConstants.{MAX_MADE};
-ghost use Rattle.machine.specs.Step.Retype.{within_limits};
+ghost use Rattle.{base.specs.declared.limits.TheConstants.MAX_MADE, machine.specs.Step.Retype.within_limits};
 
 use base::{Cause, MAX_PRESENT, MAX_SLOTS, MAX_THREADS, OBJECT_NUMBERS};
 use machine::Object;

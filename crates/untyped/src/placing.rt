@@ -1,8 +1,7 @@
 //! The placing of new objects in memory, one after another.
 ghost use Rattle.std.specs.Prelude.{◌≡◌, ◌≤◌, Ok, length};
 ghost use Rattle.base.specs.declared.limits.TheConstants.{ADDRESS_END, MAX_MADE};
-ghost use Rattle.machine.specs.{Memory.{all_taken, new_size}, Step.Retype.sized};
-ghost use Rattle.untyped.specs.Batch.{new_objects};
+ghost use Rattle.{machine.specs.{Memory.{all_taken, new_size}, Step.Retype.sized}, untyped.specs.Batch.new_objects};
 
 use crate::making::new_object;
 use crate::room::new_size;

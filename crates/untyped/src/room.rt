@@ -1,9 +1,8 @@
 //! The room that objects take in untyped memory.
 ghost use Rattle.std.specs.Prelude.{◌<◌, ◌^◌, ◌≡◌, ◌≤◌, Ok};
 ghost use Rattle.base.specs.declared.limits.TheConstants.{ADDRESS_END, MAX_MADE};
+ghost use Rattle.{machine.specs.{Memory.{begun, new_size}, Objects.end_of, Step.Retype.{roomy, sized}}, untyped.specs.Shown.source_shown};
 ghost use Rattle.machine.specs.declared.object.Object.TheVariants as o;
-ghost use Rattle.machine.specs.{Memory.{begun, new_size}, Objects.end_of, Step.Retype.{roomy, sized}};
-ghost use Rattle.untyped.specs.Shown.{source_shown};
 
 use crate::finding::Source;
 use base::Cause;

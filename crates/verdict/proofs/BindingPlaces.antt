@@ -1,12 +1,11 @@
 -- The search for a broken binding: each place that breaks A4 is a binding of the table, and bindings rise.
 use Rattle.std.proofs.Common.{[], ℕ, ◌<◌, ◌∷◌, ◌≡◌, ◌⊎◌, List, Some, ap, arith, get_or, inl, inr, refl, slice_get}
-use Rattle.std.proofs.lemmas.Option.{none-some}
-use Rattle.base.specs.declared.ids.ObjId.{ObjId}
+use Rattle.{std.proofs.lemmas.Option.none-some, base.specs.declared.ids.ObjId.ObjId}
 use Rattle.machine.specs.{declared.layout.Binding.Binding, Layout.{Layout, bound_context}}
-use Rattle.policy.{specs.{Broken.broken_place, Domain.EdgeTest, Places.Begins}, proofs.Places.{IsBelow, NoneSoFar, Searches}}
 use Rattle.table.{specs.Rules.IsLawful, proofs.Lookups.{bound_at, pair_at}}
-use Rattle.verdict.specs.{declared.denial.Denial.{Denial, Denial as denial}, Rules.{a1, a4}, Sources.of_table, Verdict.Breaks}
-use Rattle.verdict.{specs.Verdict.{BreaksUnder, place_of}, proofs.RuleOrder.first_rules}
+use Rattle.policy.{specs.{Broken.broken_place, Domain.EdgeTest, Places.Begins}, proofs.Places.{IsBelow, NoneSoFar, Searches}}
+use Rattle.verdict.specs.{declared.denial.Denial.{Denial, Denial as denial}, Rules.{a1, a4}, Sources.of_table}
+use Rattle.verdict.{specs.Verdict.{Breaks, BreaksUnder, place_of}, proofs.RuleOrder.first_rules}
 
 abbrev pub of_binding : Binding → List ℕ
 of_binding binding = binding.thread.0 ∷ []

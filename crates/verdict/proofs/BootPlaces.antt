@@ -2,18 +2,17 @@
 use Rattle.std.proofs.Common.{◌↔◌, ◌∙◌, ◌≡◌, None, Option, Some, ap, false, option_map, refl, subst, sym}
 use Rattle.std.proofs.lemmas.Option.{get_or_from_slice_get, none-some, same_Some, slice_get_within}
 use Rattle.base.specs.declared.{ids.ObjId.ObjId, kind.Kind.Kind}
-use Rattle.machine.specs.{declared.{layout.Initial.Initial, object.Object.{Object, Object as o}}, Authority.holds_thread, Boot.IsBoot}
-use Rattle.machine.specs.{Boot.bound, Layout.{Layout, bound_context, initial_of}, Machine.Machine, Objects.kind_of_object}
-use Rattle.machine.specs.declared.object.ObjectKind.TheVariants as kind
-use Rattle.table.{specs.Rules.{IsBindingOf, IsBlank, IsLawful, kind_at}, proofs.AtBoot.{boot_kind, boot_label, initial_lawful, rest_lends}}
-use Rattle.table.proofs.{AtBoot.rest_links, Lookups.bound_at}
+use Rattle.machine.specs.{declared.{layout.Initial.Initial, object.Object.{Object, Object as o}}, Authority.holds_thread}
+use Rattle.machine.specs.{Boot.{IsBoot, bound}, Layout.{Layout, bound_context, initial_of}, Machine.Machine, Objects.kind_of_object}
+use Rattle.table.specs.Rules.{IsBindingOf, IsBlank, IsLawful, kind_at}
+use Rattle.table.proofs.{AtBoot.{boot_kind, boot_label, initial_lawful, rest_lends, rest_links}, Lookups.bound_at}
 use Rattle.policy.{specs.{Closed.IsClosed, Domain.EdgeTest, Places.IsNone}, proofs.Unbroken.{closed_if, unbroken}}
 use Rattle.integrity.specs.Confined.{IsConfined}
 use Rattle.verdict.specs.{declared.denial.Denial.Denial, Rules.{Exceeds, Excess}, Sources.{Sources, holds_in, keeps_in, lent_context_in}}
 use Rattle.verdict.specs.{Sources.{of_machine, of_table, own_context_in}, Verdict.{Breaks, IsAccepted, IsExceeded, IsLeastBroken}}
-use Rattle.verdict.specs.Verdict.{IsOutside, excess_of}
-use Rattle.verdict.proofs.{DenialPlaces.{denial_at, exceeded_at, exceeded_there, numbered}, Outsides.{confined_within, within_confined}}
-use Rattle.verdict.proofs.RuleOrder.{policy_first}
+use Rattle.verdict.{specs.Verdict.{IsOutside, excess_of}, proofs.DenialPlaces.{denial_at, exceeded_at, exceeded_there, numbered}}
+use Rattle.verdict.proofs.{Outsides.{confined_within, within_confined}, RuleOrder.policy_first}
+use Rattle.machine.specs.declared.object.ObjectKind.TheVariants as kind
 use Rattle.verdict.specs.declared.denial.Denial.TheVariants as denial
 
 bound_thread : (t : Layout) → IsLawful t → (thread context : ObjId) → bound_context t thread ≡ Some context → kind_at t thread ≡ Some kind.Tcb

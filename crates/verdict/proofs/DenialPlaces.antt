@@ -1,9 +1,8 @@
 -- Denials by A1 to A6 and the places that they name: each denial has its place, and each place its denial.
-use Rattle.std.specs.Option.{option_map_or}
-use Rattle.std.proofs.{Common.{[], ◌↔◌, ◌≡◌, MatchOption, None, Option, Some, ap, refl, subst, sym}, lemmas.Option.none-some}
-use Rattle.policy.specs.Domain.{EdgeTest}
-use Rattle.verdict.specs.{declared.denial.Denial.{Denial, Denial as denial}, Sources.Sources, Verdict.{IsExceeded, excess_of, place_of}}
-use Rattle.verdict.specs.Rules.{Exceeds, Excess, binding, capability, excess_place, holding, pair, recorded, root}
+use Rattle.std.{specs.Option.option_map_or, proofs.Common.{[], ◌↔◌, ◌≡◌, MatchOption, None, Option, Some, ap, refl, subst, sym}}
+use Rattle.{std.proofs.lemmas.Option.none-some, policy.specs.Domain.EdgeTest}
+use Rattle.verdict.specs.{declared.denial.Denial.{Denial, Denial as denial}, Rules.{Exceeds, Excess, binding, capability, excess_place}}
+use Rattle.verdict.specs.{Rules.{holding, pair, recorded, root}, Sources.Sources, Verdict.{IsExceeded, excess_of, place_of}}
 
 -- a denial and its place have the same numbers
 pub numbered : (d : Denial) (place : Excess) → excess_of d ≡ Some place → place_of d ≡ excess_place place

@@ -1,15 +1,13 @@
 -- The first broken place of a set of rules: first the policy's own rules, then the slots, then the bindings.
-use Rattle.std.proofs.{Common.{[], ℕ, ◌∷◌, ◌≡◌, ◌⊎◌, List, None, Option, Some, arith, get_or, inl, inr, lit<, refl, sym}}
-use Rattle.machine.specs.Layout.{Layout}
-use Rattle.policy.specs.{Broken.broken_place, Domain.EdgeTest}
-use Rattle.policy.specs.Places.{Begins, ComesBefore, FindsLeast, IsLeast, IsNone}
-use Rattle.verdict.specs.{ByRules.{BreaksBy, BreaksOwn}, declared.{denial.Denial.Denial, rules.Rules.Rules}}
-use Rattle.verdict.specs.declared.denial.Denial.TheVariants as denial
-use Rattle.verdict.specs.{Rules.a4, Slots.BreaksSlots, Sources.of_table, Verdict.{BreaksUnder, IsExceeded, place_of}}
-use Rattle.verdict.proofs.{BindingPlaces.begins_later, LeastOfSlots.rule_is}
-use Rattle.verdict.proofs.RuleOrder.{before_by_rule, first_rules, never_both}
-use Rattle.verdict.proofs.RuleSets.{broken_either, excess_breaks, own_breaks, own_first}
 use mathlib.Core.Bool.{false≢true}
+use Rattle.std.proofs.Common.{[], ℕ, ◌∷◌, ◌≡◌, ◌⊎◌, List, None, Option, Some, arith, get_or, inl, inr, lit<, refl, sym}
+use Rattle.machine.specs.Layout.{Layout}
+use Rattle.policy.specs.{Broken.broken_place, Domain.EdgeTest, Places.{Begins, ComesBefore, FindsLeast, IsLeast, IsNone}}
+use Rattle.verdict.specs.{declared.{denial.Denial.Denial, rules.Rules.Rules}, ByRules.{BreaksBy, BreaksOwn}}
+use Rattle.verdict.specs.{Rules.a4, Slots.BreaksSlots, Sources.of_table, Verdict.{BreaksUnder, IsExceeded, place_of}}
+use Rattle.verdict.proofs.{BindingPlaces.begins_later, LeastOfSlots.rule_is, RuleOrder.{before_by_rule, first_rules, never_both}}
+use Rattle.verdict.proofs.RuleSets.{broken_either, excess_breaks, own_breaks, own_first}
+use Rattle.verdict.specs.declared.denial.Denial.TheVariants as denial
 
 -- a property of two sorts: each place of the one sort comes before each of the other
 pub record InTwoSorts (One Other All : Denial → Type 0) : Type 0 where

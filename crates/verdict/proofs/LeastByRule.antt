@@ -1,7 +1,6 @@
 -- The least denial of those found place by place: a later denial replaces the first one only if its rule is less.
 use Rattle.std.proofs.{Common.{◌<◌, ◌≤◌, ◌⊎◌, None, Option, Some, arith, inl, inr}, lemmas.{Bool.cases_order, Cmp.nat_list_cmp_total}}
-use Rattle.policy.specs.Places.{ComesBefore, FindsLeast}
-use Rattle.verdict.specs.{declared.denial.Denial.Denial, Verdict.{place_of, rule_number}}
+use Rattle.{policy.specs.Places.{ComesBefore, FindsLeast}, verdict.specs.{declared.denial.Denial.Denial, Verdict.{place_of, rule_number}}}
 
 -- the denials at the places looked at before, at the next one, and at all of these
 pub record LooksFurther (Before Here After : Denial → Type 0) : Type 0 where

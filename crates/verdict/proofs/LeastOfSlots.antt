@@ -1,17 +1,16 @@
 -- The least denial of all slots, found slot by slot: slots rise, and each broken place of A1 to A3 is at a filled one.
 use Rattle.std.specs.{declared.cmp.Ordering.TheVariants.Less, Cmp.tied_itself, List.find, Option.option_and_then, Ordering.is_eq}
-use Rattle.std.proofs.Common.{[], ℕ, ◌+◌, ◌<◌, ◌∙◌, ◌∷◌, ◌≡◌, ◌≤◌, ◌⊎◌, List, None, Option, Some, ap, arith, get_or, inl, inr, length, map}
-use Rattle.std.proofs.{Common.{option_map, refl, slice_get, subst, sym}, lemmas.{Bool.cases_order, List.get_or-map}}
-use Rattle.std.proofs.lemmas.Option.{get_or_from_slice_get, same_Some, slice_get_within}
+use Rattle.std.proofs.Common.{[], ℕ, ◌+◌, ◌<◌, ◌∙◌, ◌∷◌, ◌≡◌, ◌≤◌, ◌⊎◌, List, None, Option, Some, ap}
+use Rattle.std.proofs.Common.{arith, get_or, inl, inr, length, map, option_map, refl, slice_get, subst, sym}
+use Rattle.std.proofs.lemmas.{Bool.cases_order, List.get_or-map, Option.{get_or_from_slice_get, same_Some, slice_get_within}}
 use Rattle.base.specs.{declared.{edge.Edge.Edge, ids.SlotRef.SlotRef}, Kinds.kind_number}
-use Rattle.machine.specs.{declared.{cap.Cap.Cap, layout.Filled.Filled}, Layout.{Layout, initial_cap}, Machine.{same_slot, slot_cmp}}
-use Rattle.machine.proofs.LookUps.{slot_total}
+use Rattle.machine.specs.{declared.{cap.Cap.Cap, layout.Filled.Filled}, Layout.{Layout, initial_cap}}
+use Rattle.machine.{specs.Machine.{same_slot, slot_cmp}, proofs.LookUps.slot_total}
 use Rattle.table.{specs.{Rules.IsLawful, Tree.IsPairOf}, proofs.Lookups.{filled_at, found_first, pair_at, parent_at}}
-use Rattle.policy.specs.{Domain.EdgeTest, Places.{ComesBefore, FindsLeast}}
-use Rattle.labels.specs.SlotEdges.{edges_with}
-use Rattle.verdict.specs.{declared.denial.Denial.Denial, Rules.{a1, a2, a3, a4}, Slots.{BreaksSlots, denial_by, is_missing, missing_edge}}
-use Rattle.verdict.{specs.Verdict.{place_of, rule_number}, proofs.{LeastByRule.LooksFurther, RuleOrder.{before_by_rule, never_both}}}
-use Rattle.verdict.proofs.SlotPlaces.{BreaksAt, IsAt, slot_least}
+use Rattle.{policy.specs.{Domain.EdgeTest, Places.{ComesBefore, FindsLeast}}, labels.specs.SlotEdges.edges_with}
+use Rattle.verdict.specs.{declared.denial.Denial.Denial, Rules.{a1, a2, a3, a4}}
+use Rattle.verdict.specs.{Slots.{BreaksSlots, denial_by, is_missing, missing_edge}, Verdict.{place_of, rule_number}}
+use Rattle.verdict.proofs.{LeastByRule.LooksFurther, RuleOrder.{before_by_rule, never_both}, SlotPlaces.{BreaksAt, IsAt, slot_least}}
 use Rattle.verdict.specs.declared.denial.Denial.TheVariants as denial
 
 -- the place of a denial at a slot begins with the number of its rule

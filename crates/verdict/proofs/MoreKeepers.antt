@@ -1,8 +1,7 @@
 -- Sharp rules for two sets of keepers: with more keepers they ask for no less, and with the same they are broken at the same places.
-use Rattle.std.proofs.Common.{ℕ, None, Option, Some}
-use Rattle.policy.specs.{Domain.EdgeTest, Places.FindsLeast, Sharp.{Keepers, MayPut}}
-use Rattle.sharp.specs.{declared.broken.SharpBroken.{SharpBroken, SharpBroken as broken}, Broken.{IsSharplyBrokenAt, SharplyAsks}}
-use Rattle.sharp.specs.Broken.{derived, falls, granted, rises, sharp_place}
+use Rattle.{std.proofs.Common.{ℕ, None, Option, Some}, policy.specs.{Domain.EdgeTest, Places.FindsLeast, Sharp.{Keepers, MayPut}}}
+use Rattle.sharp.specs.declared.broken.SharpBroken.{SharpBroken, SharpBroken as broken}
+use Rattle.sharp.specs.Broken.{IsSharplyBrokenAt, SharplyAsks, derived, falls, granted, rises, sharp_place}
 
 module _ (test : EdgeTest) (Keeps More : Keepers) (more : (a : ℕ) → Keeps a → More a) where
   puts : (a b : ℕ) → MayPut test Keeps a b → MayPut test More a b

@@ -1,16 +1,15 @@
 -- That there is one verdict by a set of rules: no two denials by the set have the same place, so only one is first.
 use Rattle.std.specs.{declared.cmp.Ordering.{Ordering, TheVariants.{Equal, Greater, Less}}, Cmp.Lexicographic.slice_cmp}
-use Rattle.std.{specs.{FinMap.{nat_cmp-IsAntisymmetric, slice_cmp-IsAntisymmetric}, Ordering.{nat_cmp, ordering_reverse}}, proofs.Common.ℕ}
-use Rattle.std.proofs.Common.{◌∙◌, ◌≡◌, Err, List, Ok, Result, Some, ap, arith, get_or, inl, inr, refl, sym}
-use Rattle.std.proofs.lemmas.Cmp.{nat_list_cmp_total}
-use Rattle.base.specs.declared.{edge.Edge.Edge, ids.{ObjId.ObjId, SlotRef.SlotRef}}
-use Rattle.machine.specs.Layout.{Layout}
-use Rattle.policy.specs.{declared.broken.Broken.{Broken, Broken as broken}, Broken.broken_place, Domain.EdgeTest, Places.IsLeast}
-use Rattle.policy.{specs.Policy.allows, proofs.KindNumbers.same_kind}
+use Rattle.std.specs.{FinMap.{nat_cmp-IsAntisymmetric, slice_cmp-IsAntisymmetric}, Ordering.{nat_cmp, ordering_reverse}}
+use Rattle.std.proofs.Common.{ℕ, ◌∙◌, ◌≡◌, Err, List, Ok, Result, Some, ap, arith, get_or}
+use Rattle.std.proofs.{Common.{inl, inr, refl, sym}, lemmas.Cmp.nat_list_cmp_total}
+use Rattle.{base.specs.declared.{edge.Edge.Edge, ids.{ObjId.ObjId, SlotRef.SlotRef}}, machine.specs.Layout.Layout}
+use Rattle.policy.specs.{declared.broken.Broken.{Broken, Broken as broken}, Broken.broken_place}
+use Rattle.policy.{specs.{Domain.EdgeTest, Places.IsLeast, Policy.allows}, proofs.KindNumbers.same_kind}
 use Rattle.sharp.specs.{declared.broken.SharpBroken.{SharpBroken, SharpBroken as sharp}, Broken.sharp_place}
-use Rattle.verdict.specs.{ByRules.{BreaksBy, BreaksOwn, IsLeastBrokenBy, IsVerdictBy}, Sources.of_table, System.{IsVerdict, System}}
-use Rattle.verdict.specs.declared.{denial.Denial.{Denial, Denial as denial}, rules.Rules.{Rules, Rules as rules}}
-use Rattle.verdict.specs.{Rules.{Excess, binding, capability, excess_place, holding, pair, recorded, root}, Verdict.{excess_of, place_of}}
+use Rattle.verdict.specs.{declared.{denial.Denial.{Denial, Denial as denial}, rules.Rules.{Rules, Rules as rules}}, ByRules.BreaksBy}
+use Rattle.verdict.specs.{ByRules.{BreaksOwn, IsLeastBrokenBy, IsVerdictBy}, Rules.{Excess, binding, capability, excess_place, holding}}
+use Rattle.verdict.specs.{Rules.{pair, recorded, root}, Sources.of_table, System.{IsVerdict, System}, Verdict.{excess_of, place_of}}
 use Rattle.verdict.proofs.{DenialPlaces.{denial_at, denial_is, exceeded_at, numbered}, RuleSets.{broken_either, own_below}}
 
 -- two least elements are equal if no two elements of the property have the same place

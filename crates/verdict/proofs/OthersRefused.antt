@@ -1,10 +1,7 @@
 -- That all calls are refused but those of a set of labels, if the set holds exactly the labels that may act.
 use Rattle.std.proofs.Common.{ℕ, ◌↔◌, ◌≡◌, ◌⊎◌, Some, inl, inr, true}
-use Rattle.base.specs.{declared.labels.Labels.Labels, Labels.is_in}
-use Rattle.machine.specs.{Authority.label_of, Layout.Layout, Outcomes.IsRefused}
-use Rattle.policy.specs.Domain.{EdgeTest}
-use Rattle.integrity.specs.{Acting.MayAct, Safe.RefusesOthers}
-use Rattle.verdict.specs.Acting.{RefusesAllBut}
+use Rattle.{base.specs.{declared.labels.Labels.Labels, Labels.is_in}, machine.specs.{Authority.label_of, Layout.Layout, Outcomes.IsRefused}}
+use Rattle.{policy.specs.Domain.EdgeTest, integrity.specs.{Acting.MayAct, Safe.RefusesOthers}, verdict.specs.Acting.RefusesAllBut}
 
 pub others_refused :
     (t : Layout) (allowed : EdgeTest) (labels : Labels) → ((a : ℕ) → (is_in labels a ≡ true) ↔ MayAct t allowed a)

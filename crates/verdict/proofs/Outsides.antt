@@ -1,14 +1,13 @@
 -- That a machine is confined exactly if no authority lies outside the policy at any place.
+use mathlib.Core.Bool.{false≢true}
 use Rattle.std.proofs.Common.{ℕ, ◌∙◌, ◌≡◌, ◌⊎◌, Bool, Option, Some, ap, false, inl, inr, refl, sym, true}
 use Rattle.base.specs.declared.{ids.ObjId.ObjId, kind.Kind.{Kind, Kind as authority}}
 use Rattle.machine.specs.declared.{object.Object.{Object, Object as o}, thread.{RunState.{RunState, RunState as state}, Tcb.Tcb}}
-use Rattle.machine.specs.Authority.{HasAuthority, label_of, links, state_links, HasAuthority.{by_cap, by_link, by_pair, by_root}}
+use Rattle.machine.specs.Authority.{HasAuthority, HasAuthority.{by_cap, by_link, by_pair, by_root}, label_of, links, state_links}
 use Rattle.machine.{specs.{Layout.Layout, Machine.{Machine, object_of}}, proofs.RunsLinks.{runs_bound, runs_by, runs_lent}}
-use Rattle.policy.specs.Domain.{EdgeTest}
-use Rattle.integrity.specs.Confined.{IsConfined}
+use Rattle.{policy.specs.Domain.EdgeTest, integrity.specs.Confined.IsConfined}
 use Rattle.verdict.specs.Rules.{Exceeds, Excess, IsThere, binding, capability, ends_at, holding, pair, recorded, root}
-use Rattle.verdict.specs.Sources.{Sources, own_context_in, holds_in, keeps_in, lent_context_in, of_machine}
-use mathlib.Core.Bool.{false≢true}
+use Rattle.verdict.specs.Sources.{Sources, holds_in, keeps_in, lent_context_in, of_machine, own_context_in}
 
 either : (b : Bool) → (b ≡ false → b ≡ true) → b ≡ true
 either true has = refl

@@ -1,13 +1,10 @@
 -- The verdict by a set of rules: P1 to P8 of closed policies or S1 to S8 of sharply closed ones, and A1 to A4 with either (confine's own).
-use Rattle.std.specs.Prelude.{Err, List, Ok, Result}
-use Rattle.base.specs.declared.edge.Edge.{Edge}
-use Rattle.machine.specs.Layout.{Layout}
+use Rattle.{std.specs.Prelude.{Err, List, Ok, Result}, base.specs.declared.edge.Edge.Edge, machine.specs.Layout.Layout}
 use Rattle.policy.specs.{Broken.IsBrokenAt, Domain.EdgeTest, Places.{IsLeast, IsNone}, Policy.allows}
-use Rattle.integrity.specs.Keeping.{MayKeep}
-use Rattle.sharp.specs.Broken.{IsSharplyBrokenAt}
+use Rattle.{sharp.specs.Broken.IsSharplyBrokenAt, integrity.specs.Keeping.MayKeep}
 use Rattle.verdict.specs.declared.{denial.Denial.Denial, rules.Rules.{Rules, Rules as rules}}
-use Rattle.verdict.specs.declared.denial.Denial.TheVariants as denial
 use Rattle.verdict.specs.{Sources.of_table, Verdict.{Breaks, IsExceeded, place_of}}
+use Rattle.verdict.specs.declared.denial.Denial.TheVariants as denial
 
 -- the policy breaks one of its own rules: P1 to P8, or S1 to S8 with the labels that may keep as keepers
 abbrev pub BreaksOwn : Rules → Layout → EdgeTest → Denial → Type 0

@@ -1,7 +1,6 @@
 -- The authority of a machine that lies outside a policy, as denials say it (confine's own).
 use Rattle.std.specs.Prelude.{ℕ, ◌≡◌, List, get_or}
-use Rattle.base.specs.declared.ids.ObjId.{ObjId}
-use Rattle.machine.specs.{Layout.Layout, Machine.Machine}
+use Rattle.{base.specs.declared.ids.ObjId.ObjId, machine.specs.{Layout.Layout, Machine.Machine}}
 use Rattle.policy.specs.{Domain.EdgeTest, Places.IsUnder}
 use Rattle.verdict.specs.{declared.denial.Denial.Denial, Sources.of_machine, Verdict.{IsExceeded, place_of}}
 

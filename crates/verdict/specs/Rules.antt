@@ -2,11 +2,10 @@
 -- (compare 'seL4 Enforces Integrity', section 3: states whose authority lies within a policy; the rules and their order are confine's own).
 use Rattle.std.specs.Prelude.{[], ℕ, ◌∷◌, ◌≡◌, ◌⊎◌, List, None, Option, Some, false, true}
 use Rattle.base.specs.{declared.{edge.Edge.Edge, ids.{ObjId.ObjId, SlotRef.SlotRef}, kind.Kind.Kind}, Kinds.kind_number}
-use Rattle.base.specs.declared.kind.Kind.TheVariants as authority
 use Rattle.machine.specs.{declared.cap.Cap.Cap, Capabilities.gives}
+use Rattle.{policy.specs.{Broken.edge_of, Domain.EdgeTest}, verdict.specs.Sources.Sources}
+use Rattle.base.specs.declared.kind.Kind.TheVariants as authority
 use Rattle.machine.specs.declared.object.ObjectKind.TheVariants as object
-use Rattle.policy.specs.{Broken.edge_of, Domain.EdgeTest}
-use Rattle.verdict.specs.Sources.{Sources}
 
 -- the numbers of the rules: 1 to 8 for the policy's own, P1 to P8 or S1 to S8; then A1 to A6, and then C1
 

@@ -2,8 +2,7 @@
 use Rattle.std.specs.{List.find, Option.option_and_then, Prelude.{ℕ, ◌<◌, Bool, Option, Some, not, option_map}}
 use Rattle.base.specs.declared.{edge.Edge.Edge, ids.SlotRef.SlotRef, kind.Kind.{Kind, TheVariants.{Derive, Space}}}
 use Rattle.machine.specs.{declared.layout.Filled.Filled, Layout.{Layout, initial_parent}}
-use Rattle.policy.specs.Domain.{EdgeTest}
-use Rattle.labels.specs.SlotEdges.{edges_with, slot_edges_of}
+use Rattle.{policy.specs.Domain.EdgeTest, labels.specs.SlotEdges.{edges_with, slot_edges_of}}
 use Rattle.verdict.specs.{declared.denial.Denial.{Denial, Denial as denial}, Rules.a4, Verdict.{Breaks, rule_number}}
 
 abbrev pub is_missing : EdgeTest → Edge → Bool

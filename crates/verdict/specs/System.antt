@@ -1,10 +1,7 @@
 -- Systems, which are a capability table and a policy; the verdict on one, and what holds of an accepted one (confine's own).
 use Rattle.std.specs.Prelude.{◌≡◌, Err, List, Ok, Result}
-use Rattle.base.specs.declared.edge.Edge.{Edge}
-use Rattle.machine.specs.Layout.{Layout}
-use Rattle.policy.specs.Policy.{allows}
-use Rattle.integrity.specs.Safe.{IsSafe}
-use Rattle.verdict.specs.{declared.denial.Denial.Denial, Verdict.{IsAccepted, IsLeastBroken}}
+use Rattle.{base.specs.declared.edge.Edge.Edge, machine.specs.Layout.Layout, policy.specs.Policy.allows}
+use Rattle.{integrity.specs.Safe.IsSafe, verdict.specs.{declared.denial.Denial.Denial, Verdict.{IsAccepted, IsLeastBroken}}}
 
 pub record System : Type 0 where
   pub table : Layout

@@ -1,13 +1,12 @@
 -- The verdict on a capability table and a policy: the rules that they break, and which broken place comes first; and the first place where
 -- a machine's authority lies outside a policy (confine's own).
 use Rattle.std.specs.{Option.{option_and_then, option_map_or}, Prelude.{[], ℕ, ◌∷◌, List, MatchOption, None, Option, Some, codes}}
-use Rattle.base.specs.declared.edge.Edge.{Edge}
-use Rattle.machine.specs.{Layout.Layout, Machine.Machine}
+use Rattle.{base.specs.declared.edge.Edge.Edge, machine.specs.{Layout.Layout, Machine.Machine}}
 use Rattle.policy.specs.{Broken.{IsBrokenAt, broken_place, broken_rule, edge_asked_at}, Domain.EdgeTest, Places.{IsLeast, IsNone, IsUnder}}
 use Rattle.sharp.specs.Broken.{sharp_edge_at, sharp_place, sharp_rule}
 use Rattle.verdict.specs.{declared.denial.Denial.Denial, Rules.{Exceeds, Excess, a1, a2, a3, a4, a5, a6, binding, c1, capability}}
-use Rattle.verdict.specs.declared.denial.Denial.TheVariants as denial
 use Rattle.verdict.specs.{Rules.{edge_needed_at, excess_place, holding, pair, recorded, root}, Sources.{Sources, of_machine, of_table}}
+use Rattle.verdict.specs.declared.denial.Denial.TheVariants as denial
 
 -- the place where a denial by A1 to A6 says that authority lies outside
 abbrev pub excess_of : Denial → Option Excess

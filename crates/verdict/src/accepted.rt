@@ -1,8 +1,6 @@
 //! Pairs of a capability table and a policy that are accepted.
 ghost use Rattle.std.specs.Prelude.{◌≡◌};
-ghost use Rattle.policy.specs.Policy.{allows};
-ghost use Rattle.integrity.specs.Safe.{IsSafe};
-ghost use Rattle.verdict.specs.{System.IsAcceptedSystem, Verdict.IsAccepted};
+ghost use Rattle.{policy.specs.Policy.allows, integrity.specs.Safe.IsSafe, verdict.specs.{System.IsAcceptedSystem, Verdict.IsAccepted}};
 
 use crate::safe::accepted_systems_are_safe;
 use policy::Policy;

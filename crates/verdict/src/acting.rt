@@ -1,9 +1,7 @@
 //! The labels that may act in runs of an accepted system.
 ghost use Rattle.std.specs.Prelude.{ℕ, ◌↔◌, ◌≡◌, false, true};
-ghost use Rattle.base.specs.Labels.{is_in};
-ghost use Rattle.policy.specs.Policy.{allows};
-ghost use Rattle.integrity.specs.{Acting.MayAct, Apart.NeverChanges};
-ghost use Rattle.verdict.specs.Acting.{RefusesAllBut};
+ghost use Rattle.{base.specs.Labels.is_in, policy.specs.Policy.allows};
+ghost use Rattle.{integrity.specs.{Acting.MayAct, Apart.NeverChanges}, verdict.specs.Acting.RefusesAllBut};
 
 use crate::Accepted;
 use base::Labels;

@@ -1,7 +1,6 @@
 //! The least place where the bindings of a table break A4, which asks for runs edges.
 ghost use Rattle.std.specs.Prelude.{[], ◌∷◌, ◌≡◌, Some};
-ghost use Rattle.machine.specs.Layout.{bound_context};
-ghost use Rattle.policy.specs.{Places.FindsLeast, Policy.allows};
+ghost use Rattle.{machine.specs.Layout.bound_context, policy.specs.{Places.FindsLeast, Policy.allows}};
 ghost use Rattle.verdict.specs.{Rules.a4, Verdict.{BreaksUnder, place_of}};
 
 use crate::Denial;

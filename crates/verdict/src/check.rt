@@ -1,12 +1,10 @@
 //! The check of a capability table and a policy, with what it promises for those that it accepts.
 ghost use Rattle.std.specs.Prelude.{ℕ, ◌<◌, ◌≡◌, ◌≤◌, IfErr, IfNone, IfOk};
-ghost use Rattle.base.specs.Refusals.{out_of_memory};
-ghost use Rattle.policy.specs.{Places.FindsLeast, Policy.allows};
-ghost use Rattle.integrity.specs.Safe.{GuardsBudgets, KeepsIntegrity, KeepsNarrowBounds, LabelsObjects, RefusesOthers};
-ghost use Rattle.integrity.specs.{Keeping.MayKeep, Safe.{IsSafe, StaysConfined}};
+ghost use Rattle.{base.specs.Refusals.out_of_memory, policy.specs.{Places.FindsLeast, Policy.allows}};
 ghost use Rattle.sharp.specs.Broken.{IsSharplyBrokenAt, sharp_place};
-ghost use Rattle.verdict.specs.ByRules.{BreaksBy, BreaksOwn, IsAcceptedBy, IsVerdictBy};
-ghost use Rattle.verdict.specs.{System.IsVerdict, Verdict.place_of};
+ghost use Rattle.integrity.specs.{Keeping.MayKeep, Safe.{GuardsBudgets, IsSafe, KeepsIntegrity}};
+ghost use Rattle.integrity.specs.Safe.{KeepsNarrowBounds, LabelsObjects, RefusesOthers, StaysConfined};
+ghost use Rattle.verdict.specs.{ByRules.{BreaksBy, BreaksOwn, IsAcceptedBy, IsVerdictBy}, System.IsVerdict, Verdict.place_of};
 
 use crate::bindings::first_binding;
 use crate::safe::sharply_accepted_systems_are_safe;

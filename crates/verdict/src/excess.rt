@@ -1,8 +1,6 @@
 //! The first place where a state's authority lies outside a policy.
 ghost use Rattle.std.specs.Prelude.{◌≡◌, IfNone, IfSome, Some};
-ghost use Rattle.machine.specs.Machine.{object_of};
-ghost use Rattle.policy.specs.{Places.FindsLeast, Policy.allows};
-ghost use Rattle.integrity.specs.Confined.{IsConfined};
+ghost use Rattle.{machine.specs.Machine.object_of, policy.specs.{Places.FindsLeast, Policy.allows}, integrity.specs.Confined.IsConfined};
 ghost use Rattle.verdict.specs.{Outside.{LiesAt, LiesOutside}, Rules.Excess, Verdict.{IsOutside, excess_of, place_of}};
 
 mod links;

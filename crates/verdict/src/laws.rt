@@ -1,15 +1,11 @@
 //! Laws about verdicts: that there is one, and that it is a verdict on the boot state; and about authority outside a policy.
 ghost use Rattle.std.specs.Prelude.{◌↔◌, ◌≡◌, List, Result, Some};
-ghost use Rattle.base.specs.declared.edge.Edge.{Edge};
-ghost use Rattle.machine.specs.{Boot.IsBoot, Layout.Layout, Machine.Machine};
-ghost use Rattle.policy.specs.{Closed.IsClosed, Domain.EdgeTest, Policy.allows};
-ghost use Rattle.table.specs.Rules.{IsLawful};
+ghost use Rattle.{base.specs.declared.edge.Edge.Edge, machine.specs.{Boot.IsBoot, Layout.Layout, Machine.Machine}};
+ghost use Rattle.{table.specs.Rules.IsLawful, policy.specs.{Closed.IsClosed, Domain.EdgeTest, Policy.allows}};
 ghost use Rattle.integrity.specs.{Confined.IsConfined, Keeping.IsSharp};
-ghost use Rattle.verdict.specs.ByRules.{IsAcceptedBy, IsVerdictBy};
 ghost use Rattle.verdict.specs.declared.{denial.Denial.Denial, rules.Rules.{Rules, Rules as rules}};
-ghost use Rattle.verdict.specs.{Rules.{Exceeds, Excess}, Sources.of_machine};
-ghost use Rattle.verdict.specs.System.{IsVerdict, System};
-ghost use Rattle.verdict.specs.Verdict.{Breaks, IsAccepted, IsLeastBroken, IsOutside, excess_of};
+ghost use Rattle.verdict.specs.{ByRules.{IsAcceptedBy, IsVerdictBy}, Rules.{Exceeds, Excess}, Sources.of_machine};
+ghost use Rattle.verdict.specs.{System.{IsVerdict, System}, Verdict.{Breaks, IsAccepted, IsLeastBroken, IsOutside, excess_of}};
 
 /// A law: a state is confined exactly if no authority lies outside the policy at any place of the rules A1 to A6.
 pub fn confined_states_have_nothing_outside()

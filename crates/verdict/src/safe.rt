@@ -1,9 +1,7 @@
 //! The headline: laws about the runs of accepted systems.
 ghost use Rattle.std.specs.Prelude.{ℕ, List};
-ghost use Rattle.base.specs.declared.edge.Edge.{Edge};
-ghost use Rattle.machine.specs.Layout.{Layout};
+ghost use Rattle.{base.specs.declared.edge.Edge.Edge, machine.specs.Layout.Layout, table.specs.Rules.IsLawful};
 ghost use Rattle.policy.specs.{Change.{ActorTest, MayChange}, NarrowTake.MayShrink, Policy.allows};
-ghost use Rattle.table.specs.Rules.{IsLawful};
 ghost use Rattle.integrity.specs.{Acting.HoldsOfActors, Apart.{NeverChanges, OnlyTakes}, Safe.IsSafe};
 ghost use Rattle.verdict.specs.{ByRules.IsAcceptedBy, Verdict.IsAccepted};
 ghost use Rattle.verdict.specs.declared.rules.Rules.TheVariants as rules;

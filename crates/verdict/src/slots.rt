@@ -1,7 +1,6 @@
 //! The first denial at the filled slots of a table, by the rules A1 to A3.
 ghost use Rattle.std.specs.{List.find, Option.option_and_then, Prelude.{ℕ, ◌<◌, ◌≡◌, ◌≤◌, IfErr, IfOk, map}};
-ghost use Rattle.base.specs.Refusals.{out_of_memory};
-ghost use Rattle.policy.specs.{Places.FindsLeast, Policy.allows};
+ghost use Rattle.{base.specs.Refusals.out_of_memory, policy.specs.{Places.FindsLeast, Policy.allows}};
 ghost use Rattle.verdict.specs.{Slots.{BreaksSlots, denial_by, is_missing, missing_edge}, Verdict.place_of};
 
 use crate::denial::{Denial, rule_number};

@@ -3,10 +3,9 @@ use Rattle.std.specs.{Char.digit_value, Fmt.{digit_glyph, digits, digits_onto}, 
 use Rattle.std.proofs.Common.{[], ℕ, ◌%◌, ◌*◌, ◌++◌, ◌+◌, ◌-◌, ◌/◌, ◌<◌, ◌==◌, ◌^◌, ◌∙◌, ◌∷◌, ◌≡◌, ◌≢◌, ◌≤◌, Bool, List, ap, arith, eq-eqb}
 use Rattle.std.proofs.Common.{false, get_or, length, lit<, lit≤, ltb-false, ltb-true, nat_lt, not, refl, suc, sym, true, zero, zero-add}
 use Rattle.std.proofs.Math.Nat.{div-eq_of_lt, div-lt_iff_lt-mul, mod-eq_of_lt, mod-lt, mul-le-mul_right, pow-le-pow_right, pow-suc}
-use Rattle.std.proofs.lemmas.Bool.{and_from, and_parts, cond-false, cond-true, cond_both, eqb-false, eqb-true, false≢true, ne_eqb}
-use Rattle.std.proofs.lemmas.{Bool.Decides.nat_tests, Fmt.{digits_is_IsNumeral, hex_one_digit}, List.append-nil, Nat.div-mul-add}
-use Rattle.std.proofs.lemmas.Nat.{mod-mul-add}
-use Rattle.words.{specs.Number.{is_hex_digit, is_hexadecimal}, proofs.Decimals.not_zero_first}
+use Rattle.std.proofs.lemmas.Bool.{Decides.nat_tests, and_from, and_parts, cond-false, cond-true, cond_both, eqb-false, eqb-true}
+use Rattle.std.proofs.lemmas.{Bool.{false≢true, ne_eqb}, Fmt.{digits_is_IsNumeral, hex_one_digit}, List.append-nil, Nat.div-mul-add}
+use Rattle.{std.proofs.lemmas.Nat.mod-mul-add, words.{specs.Number.{is_hex_digit, is_hexadecimal}, proofs.Decimals.not_zero_first}}
 
 -- a digit's glyph is a hexadecimal digit, not 0 if the digit isn't
 glyph_is_digit : (d : ℕ) → d < 16 → is_hex_digit (digit_glyph false d) ≡ true

@@ -1,13 +1,12 @@
 -- Lists of bytes split at a byte: their parts, and what these say of words and lines.
-use Rattle.std.{specs.{List.{join_with_byte, onto_first, position, position_or_len, slice_split}, Str.bytes_eq}, proofs.Common.{[], ℕ, ◌+◌}}
-use Rattle.std.proofs.Common.{◌-◌, ◌<◌, ◌==◌, ◌∙◌, ◌∷◌, ◌≡◌, Bool, Err, List, None, Ok, Option, Some, ap, arith, cond, drop, false, get_or}
-use Rattle.std.proofs.{Common.{length, ltb-false, ltb-true, nat_lt, refl, subst, sym, take, true}, lemmas.Bool.Decides.same_from_decides}
-use Rattle.std.proofs.lemmas.List.{take_rest, Splits.{join_with_byte-slice_split, slice_split_first, slice_split_none}}
-use Rattle.std.proofs.lemmas.{List.Sums.{fails_before_first, position_or_len_is}, Option.none-some, Slice.Eq.bytes_eq-Decides}
-use Rattle.std.proofs.lemmas.Slice.Eq.{slice_eq-Decides}
-use Rattle.memchr.specs.Find.{IsFirstByte, is_byte}
-use Rattle.words.specs.{declared.faults.Wrong.TheVariants.Syntax, Fault.fault_at, FirstFault.{Line, TextLines}, Reading.after_line}
-use Rattle.words.specs.{Reading.{end_at, ended_at}, Text.{IsOver, Progress, line_is, lines_of, lines_of_parts, words_of}}
+use Rattle.std.specs.{List.{join_with_byte, onto_first, position, position_or_len, slice_split}, Str.bytes_eq}
+use Rattle.std.proofs.Common.{[], ℕ, ◌+◌, ◌-◌, ◌<◌, ◌==◌, ◌∙◌, ◌∷◌, ◌≡◌, Bool, Err, List, None, Ok, Option, Some, ap, arith}
+use Rattle.std.proofs.Common.{cond, drop, false, get_or, length, ltb-false, ltb-true, nat_lt, refl, subst, sym, take, true}
+use Rattle.std.proofs.lemmas.{Bool.Decides.same_from_decides, List.Splits.{join_with_byte-slice_split, slice_split_first, slice_split_none}}
+use Rattle.std.proofs.lemmas.{List.{Sums.{fails_before_first, position_or_len_is}, take_rest}, Option.none-some}
+use Rattle.{std.proofs.lemmas.Slice.Eq.{bytes_eq-Decides, slice_eq-Decides}, memchr.specs.Find.{IsFirstByte, is_byte}}
+use Rattle.words.specs.{declared.faults.Wrong.TheVariants.Syntax, Fault.fault_at, FirstFault.{Line, TextLines}}
+use Rattle.words.specs.{Reading.{after_line, end_at, ended_at}, Text.{IsOver, Progress, line_is, lines_of, lines_of_parts, words_of}}
 
 pub parts_some : {X : Type 0} (p : X → Bool) (xs : List X)
     → (part : List X) × (parts : List (List X)) × (slice_split p xs ≡ part ∷ parts)

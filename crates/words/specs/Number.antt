@@ -1,8 +1,7 @@
 -- Numbers in texts, below 2 ^ 64: decimal, and hexadecimal in lower case after `0x`, both without a leading zero (confine's own).
 use Rattle.std.specs.{Char.is_ascii_digit, Fmt.digits, Int.is_in_range, List.list_all, Prelude.{[], ℕ, ◌&&◌, ◌++◌, ◌==◌, ◌^◌, ◌||◌, ◌∷◌}}
 use Rattle.std.specs.Prelude.{Bool, List, None, Ok, Option, Result, Some, codes, drop, false, if◌then◌else◌, nat_lt, not, take, true}
-use Rattle.std.specs.Str.{bytes_eq, Parse.digits_value}
-use Rattle.words.specs.{declared.faults.Wrong.Wrong, Reading.{◌>>=◌, or_syntax, word_at}}
+use Rattle.{std.specs.Str.{Parse.digits_value, bytes_eq}, words.specs.{declared.faults.Wrong.Wrong, Reading.{◌>>=◌, or_syntax, word_at}}}
 
 -- at least one digit, and no leading zero unless it is the only digit
 abbrev pub has_no_leading_zero : List ℕ → Bool

@@ -1,7 +1,6 @@
 //! The faults for which a text is refused, by number and line.
 ghost use Rattle.std.specs.Prelude.{◌≡◌};
-ghost use Rattle.words.specs.declared.faults.LineError.TheVariants.{Memory, Text};
-ghost use Rattle.words.specs.Fault.{fault_at, no_memory, number_of};
+ghost use Rattle.words.specs.{declared.faults.LineError.TheVariants.{Memory, Text}, Fault.{fault_at, no_memory, number_of}};
 
 use std::alloc::{AllocError, AllocFailed};
 use thiserror::Error;

@@ -1,9 +1,7 @@
 //! Laws about the first fault of a text: a text is refused for it, and so is each text that is cut.
-ghost use Rattle.std.specs.List.{count_by};
-ghost use Rattle.std.specs.Prelude.{ℕ, ◌++◌, ◌+◌, ◌<◌, ◌==◌, ◌↔◌, ◌≡◌, ◌⊎◌, Err, List, Ok, Result, length};
-ghost use Rattle.words.specs.{declared.faults.Wrong.{Wrong, TheVariants.Syntax}, Fault.fault_at};
-ghost use Rattle.words.specs.{FirstFault.{IsFirstFault, IsText, TextLines}, Reading.{Format, read_format}};
-ghost use Rattle.words.specs.Text.{lines_of};
+ghost use Rattle.std.specs.{List.count_by, Prelude.{ℕ, ◌++◌, ◌+◌, ◌<◌, ◌==◌, ◌↔◌, ◌≡◌, ◌⊎◌, Err, List, Ok, Result, length}};
+ghost use Rattle.words.specs.{declared.faults.Wrong.{TheVariants.Syntax, Wrong}, Fault.fault_at};
+ghost use Rattle.words.specs.{FirstFault.{IsFirstFault, IsText, TextLines}, Reading.{Format, read_format}, Text.lines_of};
 
 /// A law: a text is refused for its first fault, by the fault's line and by what is wrong there.
 ///

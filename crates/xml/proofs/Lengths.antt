@@ -1,7 +1,6 @@
 -- How the count of the bytes of a comment goes on by one byte, or ends.
 use Rattle.std.proofs.Common.{ℕ, ◌+◌, ◌-◌, ◌<◌, ◌∷◌, ◌≡◌, ◌≤◌, List, add-one, drop, drop-cons, false, get_or, length, refl, take, true}
-use Rattle.std.proofs.lemmas.List.{drop_all, take_rest}
-use Rattle.xml.specs.Characters.{comment_length, in_comment}
+use Rattle.{std.proofs.lemmas.List.{drop_all, take_rest}, xml.specs.Characters.{comment_length, in_comment}}
 
 -- a byte of a comment, and those behind it
 pub comment_more : (bytes : List ℕ) (i : ℕ) → i < length bytes → in_comment (take (length bytes - i) (drop i bytes)) ≡ true

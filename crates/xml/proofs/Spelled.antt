@@ -1,17 +1,16 @@
 -- What the parts of a document are read from is spelled as they are.
 use Rattle.std.{specs.{List.{count_by, list_all, list_any, prefix_len}, Str.bytes_eq}, proofs.Common.{[], ℕ, ◌&&◌, ◌++◌, ◌+◌, ◌<◌, ◌==◌}}
-use Rattle.std.proofs.Common.{◌||◌, ◌∙◌, ◌∷◌, ◌≡◌, ◌≢◌, ◌≤◌, ◌⊎◌, Bool, Err, List, None, Ok, Option, Result, Some, ap, append_assoc, arith}
-use Rattle.std.proofs.Common.{codes, cond, eqb-true, false, inl, inr, length, length-append, length-take, ltb-false, nat_lt, not, refl}
-use Rattle.std.proofs.{Common.{subst, suc, sym, take, true, zero}, lemmas.List.{take-append-drop, Sums.sum_by-append}}
-use Rattle.std.proofs.lemmas.Slice.Eq.{bytes_eq-Decides}
-use Rattle.words.{specs.{declared.faults.Fault.Fault, Reading.bind}, proofs.WordLaws.bind_ok}
-use Rattle.xml.specs.{declared.values.TheConstants.MAX_VALUE_LENGTH, Characters.{begins_with, comment_length, in_comment, is_comment_byte}}
-use Rattle.xml.specs.{Characters.{is_name_byte, is_name_start, is_space, is_value_byte, name_length}, Document.{comment_at, declaration_at}}
-use Rattle.xml.specs.{Document.{declared_at, encoding_at, is_one_of}, Place.{Place, after, after_spaces, expected_at, spaced_at}}
-use Rattle.xml.specs.Spelling.{AreAttributes, IsAttribute, IsEquals, IsName, IsQuoted, IsSpaces, IsValue, SpellsComment, SpellsDeclaration}
-use Rattle.xml.specs.{Spelling.{SpellsDeclared, SpellsEnd, SpellsStart, Stands, encodings}, Tag.{Pair, admitted, attribute_at}}
-use Rattle.xml.specs.{Tag.{attributes_at, ends_tag, is_given, name_at, tag_end_at}, Value.{equals_at, quote_at, quoted_at, text_of}}
-use Rattle.xml.specs.Value.{value_at, value_of}
+use Rattle.std.proofs.Common.{◌||◌, ◌∙◌, ◌∷◌, ◌≡◌, ◌≢◌, ◌≤◌, ◌⊎◌, Bool, Err, List, None, Ok, Option, Result, Some, ap, append_assoc}
+use Rattle.std.proofs.Common.{arith, codes, cond, eqb-true, false, inl, inr, length, length-append, length-take, ltb-false, nat_lt}
+use Rattle.std.proofs.{Common.{not, refl, subst, suc, sym, take, true, zero}, lemmas.List.{Sums.sum_by-append, take-append-drop}}
+use Rattle.{std.proofs.lemmas.Slice.Eq.bytes_eq-Decides, words.{specs.{declared.faults.Fault.Fault, Reading.bind}, proofs.WordLaws.bind_ok}}
+use Rattle.xml.specs.{declared.values.TheConstants.MAX_VALUE_LENGTH, Characters.{begins_with, comment_length, in_comment}}
+use Rattle.xml.specs.Characters.{is_comment_byte, is_name_byte, is_name_start, is_space, is_value_byte, name_length}
+use Rattle.xml.specs.{Document.{comment_at, declaration_at, declared_at, encoding_at, is_one_of}, Place.{Place, after, after_spaces}}
+use Rattle.xml.specs.{Place.{expected_at, spaced_at}, Spelling.{AreAttributes, IsAttribute, IsEquals, IsName, IsQuoted, IsSpaces}}
+use Rattle.xml.specs.Spelling.{IsValue, SpellsComment, SpellsDeclaration, SpellsDeclared, SpellsEnd, SpellsStart, Stands, encodings}
+use Rattle.xml.specs.Tag.{Pair, admitted, attribute_at, attributes_at, ends_tag, is_given, name_at, tag_end_at}
+use Rattle.xml.specs.Value.{equals_at, quote_at, quoted_at, text_of, value_at, value_of}
 
 abbrev done : {X : Type 0} → X → Result X Fault
 done x = Ok x

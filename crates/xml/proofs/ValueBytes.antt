@@ -1,7 +1,6 @@
 -- How the text of a value, and the number of a reference, go on by one byte.
-use Rattle.std.proofs.Common.{[], ℕ, ◌++◌, ◌+◌, ◌<◌, ◌==◌, ◌∷◌, ◌≡◌, ◌≤◌, List, None, Some, add-one, drop, drop-cons, false, get_or, length}
-use Rattle.std.proofs.{Common.{refl, true}, lemmas.List.drop_all}
-use Rattle.xml.specs.Value.{character_of, text_of}
+use Rattle.std.proofs.Common.{[], ℕ, ◌++◌, ◌+◌, ◌<◌, ◌==◌, ◌∷◌, ◌≡◌, ◌≤◌, List, None, Some, add-one, drop, drop-cons, false}
+use Rattle.{std.proofs.{Common.{get_or, length, refl, true}, lemmas.List.drop_all}, xml.specs.Value.{character_of, text_of}}
 
 -- a byte that stands for itself
 pub plain_byte : (text bytes : List ℕ) (i : ℕ) → i < length bytes → (get_or bytes i 0 == 38) ≡ false

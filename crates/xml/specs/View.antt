@@ -1,6 +1,5 @@
 -- What a list of elements is, without where it lies in memory (confine's own).
-use Rattle.std.specs.Prelude.{List, map}
-use Rattle.xml.specs.{declared.element.{Attribute.Attribute, Element.Element}, Document.Node, Tag.Pair}
+use Rattle.{std.specs.Prelude.{List, map}, xml.specs.{declared.element.{Attribute.Attribute, Element.Element}, Document.Node, Tag.Pair}}
 
 -- an attribute
 abbrev pub pair_of : Attribute → Pair

@@ -1,10 +1,9 @@
 //! Documents: the declaration, and the comments and tags behind it.
-ghost use Rattle.std.specs.{List.list_any, Prelude.{[], ℕ, ◌+◌, ◌≡◌, IfOk, List, OnOk, codes, length, map, reverse}};
-ghost use Rattle.std.specs.Str.{bytes_eq};
+ghost use Rattle.std.specs.{List.list_any, Prelude.{[], ℕ, ◌+◌, ◌≡◌, IfOk, List, OnOk, codes, length, map, reverse}, Str.bytes_eq};
 ghost use Rattle.words.specs.Reading.{Gives, Reads};
 ghost use Rattle.xml.specs.{Characters.begins_with, Document.{begin_at, closed_at, comment_at, declaration_at}};
-ghost use Rattle.xml.specs.Document.{declared_at, document_of, encoding_at, end_at, finished_at, is_one_of, is_whole};
-ghost use Rattle.xml.specs.{Document.{item_at, items_at, no_nodes, room_at, with_node}, Grammar.IsDocument};
+ghost use Rattle.xml.specs.Document.{declared_at, document_of, encoding_at, end_at, finished_at, is_one_of};
+ghost use Rattle.xml.specs.{Document.{is_whole, item_at, items_at, no_nodes, room_at, with_node}, Grammar.IsDocument};
 ghost use Rattle.xml.specs.{Limits.AreLimited, Lines.AreAtLines, Place.after_spaces, View.{nodes_of, pairs_of}};
 
 use crate::characters::{begins_with, comment_length, space_length};

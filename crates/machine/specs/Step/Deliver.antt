@@ -1,15 +1,14 @@
 -- The delivery of a message (seL4 manual, "Endpoints"; at most one capability, copied with all its rights to an empty slot): the threads
 -- that wait at an endpoint, the capability that arrives with the message, and how a call waits for its answer.
 use Rattle.std.specs.Prelude.{ℕ, ◌&&◌, ◌||◌, Bool, Err, List, None, Ok, Option, Result, Some, if◌then◌else◌, is_ok, option_and_then}
-use Rattle.std.specs.Prelude.{option_map}
-use Rattle.base.specs.declared.{ids.ObjId.ObjId, refusal.Cause.{Cause, Cause as cause}}
-use Rattle.machine.specs.declared.{cap.Badged.Badged, object.Object.{Object, Object as o}, slot_address.Ends.Ends}
-use Rattle.machine.specs.declared.{slot_address.SlotAddress.SlotAddress, thread.{Message.Message, Receiving.Receiving, RunState.RunState}}
+use Rattle.{std.specs.Prelude.option_map, base.specs.declared.{ids.ObjId.ObjId, refusal.Cause.{Cause, Cause as cause}}}
+use Rattle.machine.specs.declared.{cap.Badged.Badged, object.Object.{Object, Object as o}}
+use Rattle.machine.specs.declared.slot_address.{Ends.Ends, SlotAddress.SlotAddress}
+use Rattle.machine.specs.declared.thread.{Message.Message, Receiving.Receiving, RunState.RunState, Sending.Sending}
+use Rattle.machine.specs.{Capabilities.{can_grant, can_grant_reply, can_write}, Changes.first_waiting, Machine.{Machine, cap_of, object_of}}
+use Rattle.machine.specs.{Refusing.◌>>=◌, Releasing.{with_called, with_given, with_halted, with_ready}}
+use Rattle.machine.specs.{Step.{Copy.copyable, Find.{find_cap, permitted}, Target.{target_of, vacant}}, Tree.with_copy}
 use Rattle.machine.specs.declared.thread.RunState.TheVariants as state
-use Rattle.machine.specs.{declared.thread.{Sending.Sending}, Capabilities.{can_grant, can_grant_reply, can_write}}
-use Rattle.machine.specs.{Changes.first_waiting, Machine.{Machine, cap_of, object_of}, Refusing.◌>>=◌, Releasing.{with_called, with_given}}
-use Rattle.machine.specs.{Releasing.{with_halted, with_ready}, Step.{Copy.copyable, Find.{find_cap, permitted}, Target.{target_of, vacant}}}
-use Rattle.machine.specs.Tree.{with_copy}
 
 -- the record of a message sent by a capability to an endpoint: the badge, and what the rights allow
 abbrev pub sending_by : ObjId → Badged → Bool → List ℕ → Option ℕ → Sending

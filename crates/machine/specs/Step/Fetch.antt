@@ -1,10 +1,9 @@
 -- Fetch (confine's own): the caller takes what it was given and has not fetched yet.
-use Rattle.std.specs.Prelude.{Err, Ok, Option, Result, Some}
-use Rattle.base.specs.declared.{ids.ObjId.ObjId, refusal.Cause.{Cause, Cause as cause}}
-use Rattle.machine.specs.declared.{call.{Answer.{Answer, Answer as answer}, Made.{Made, TheVariants.Done}}, object.Object.Object}
-use Rattle.machine.specs.{declared.{object.Object.Object as o, thread.Inbox.Inbox}, Changes.with_tcb, Machine.{Machine, object_of}}
+use Rattle.{std.specs.Prelude.{Err, Ok, Option, Result, Some}, base.specs.declared.{ids.ObjId.ObjId, refusal.Cause.{Cause, Cause as cause}}}
+use Rattle.machine.specs.declared.call.{Answer.{Answer, Answer as answer}, Made.{Made, TheVariants.Done}}
+use Rattle.machine.specs.declared.{object.Object.{Object, Object as o}, thread.Inbox.Inbox}
+use Rattle.machine.specs.{Changes.with_tcb, Machine.{Machine, object_of}, Refusing.◌>>=◌}
 use Rattle.machine.specs.declared.thread.Inbox.TheVariants as inbox
-use Rattle.machine.specs.Refusing.{◌>>=◌}
 
 -- what an inbox answers
 abbrev pub fetched : Inbox → Result Answer Cause

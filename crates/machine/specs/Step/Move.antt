@@ -1,6 +1,5 @@
 -- Move (seL4 manual, seL4_CNode_Move): a capability goes to an empty slot, with its place in the derivation tree.
-use Rattle.std.specs.Prelude.{Ok, Result}
-use Rattle.base.specs.declared.{ids.ObjId.ObjId, refusal.Cause.Cause}
+use Rattle.{std.specs.Prelude.{Ok, Result}, base.specs.declared.{ids.ObjId.ObjId, refusal.Cause.Cause}}
 use Rattle.machine.specs.declared.{call.{Answer.Answer as answer, Made.{Made, TheVariants.Done}}, slot_address.SlotAddress.SlotAddress}
 use Rattle.machine.specs.{Machine.Machine, Refusing.◌>>=◌, Step.Target.ends_of, Tree.with_moved}
 

@@ -1,6 +1,5 @@
 -- Poll (seL4 manual, "Notifications"): answers the word and takes it, or answers 0 if there is none.
-use Rattle.std.specs.Prelude.{ℕ, None, Ok, Result, unwrap_or}
-use Rattle.base.specs.declared.{ids.ObjId.ObjId, refusal.Cause.Cause}
+use Rattle.{std.specs.Prelude.{ℕ, None, Ok, Result, unwrap_or}, base.specs.declared.{ids.ObjId.ObjId, refusal.Cause.Cause}}
 use Rattle.machine.specs.declared.{call.{Answer.Answer as answer, Made.{Made, TheVariants.Done}}, object.ObjectKind.ObjectKind as kind}
 use Rattle.machine.specs.{Capabilities.{badged_of, can_read}, Changes.with_pending, Machine.{Machine, object_of}}
 use Rattle.machine.specs.{Refusing.◌>>=◌, Step.{Find.{find, permitted}, Signal.pending_in}}

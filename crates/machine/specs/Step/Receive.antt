@@ -1,12 +1,11 @@
 -- Receive (seL4 manual, seL4_Recv): the message of the thread that waits first to send; if none does, the receiver waits. The thread
 -- that the receiver's reply held until then is halted (confine's own).
-use Rattle.std.specs.Prelude.{ℕ, None, Ok, Option, Result, Some, is_ok}
-use Rattle.base.specs.declared.{ids.ObjId.ObjId, refusal.Cause.Cause}
-use Rattle.machine.specs.declared.{call.{Answer.Answer as answer, Made.{Made, TheVariants.{Blocked, Done}}}, slot_address.Ends.Ends}
-use Rattle.machine.specs.declared.{slot_address.SlotAddress.SlotAddress, thread.{Receiving.Receiving, RunState.RunState as state}}
-use Rattle.machine.specs.{declared.thread.Sending.Sending, Capabilities.{badged_of, can_read}, Machine.Machine, Refusing.◌>>=◌}
-use Rattle.machine.specs.{Releasing.{with_blocked, with_holder_halted, with_named}, Step.Deliver.{arrival_of, first_at, message_of}}
-use Rattle.machine.specs.Step.{Deliver.{sender_in, sent, with_arrival}, Find.{find, permitted}}
+use Rattle.{std.specs.Prelude.{ℕ, None, Ok, Option, Result, Some, is_ok}, base.specs.declared.{ids.ObjId.ObjId, refusal.Cause.Cause}}
+use Rattle.machine.specs.declared.call.{Answer.Answer as answer, Made.{Made, TheVariants.{Blocked, Done}}}
+use Rattle.machine.specs.declared.{slot_address.{Ends.Ends, SlotAddress.SlotAddress}, thread.Receiving.Receiving}
+use Rattle.machine.specs.{declared.thread.{RunState.RunState as state, Sending.Sending}, Capabilities.{badged_of, can_read}}
+use Rattle.machine.specs.{Machine.Machine, Refusing.◌>>=◌, Releasing.{with_blocked, with_holder_halted, with_named}}
+use Rattle.machine.specs.Step.{Deliver.{arrival_of, first_at, message_of, sender_in, sent, with_arrival}, Find.{find, permitted}}
 use Rattle.machine.specs.declared.object.ObjectKind.TheVariants as kind
 use Rattle.machine.specs.declared.object.ReplyState.TheVariants as reply
 

@@ -1,14 +1,13 @@
 -- Send and Call (seL4 manual, seL4_Send and seL4_Call): the message goes to the thread that waits first to receive; if none does, the
 -- sender waits. A call waits for its answer, and lends its scheduling context to a receiver that has none ("Scheduling Contexts",
 -- passive servers).
-use Rattle.std.specs.Prelude.{ℕ, Bool, List, None, Ok, Option, Result, Some}
-use Rattle.base.specs.declared.{ids.ObjId.ObjId, refusal.Cause.Cause}
+use Rattle.{std.specs.Prelude.{ℕ, Bool, List, None, Ok, Option, Result, Some}, base.specs.declared.{ids.ObjId.ObjId, refusal.Cause.Cause}}
+use Rattle.machine.specs.declared.call.Made.{Made, TheVariants.{Blocked, Done}}
+use Rattle.machine.specs.declared.thread.{Lent.Lent, Receiving.Receiving, RunState.RunState as state, Sending.Sending}
+use Rattle.machine.specs.{Capabilities.{badged_of, can_write}, Machine.{Machine, object_of}, Refusing.◌>>=◌}
+use Rattle.machine.specs.{Releasing.{with_blocked, with_called, with_halted}, Step.Bind.{context_under, with_handed}}
+use Rattle.machine.specs.Step.{Deliver.{answer_through, delivered, first_at, receiver_in, sending_by}, Find.{find, permitted}}
 use Rattle.machine.specs.declared.call.Answer.TheVariants as answer
-use Rattle.machine.specs.declared.{call.Made.{Made, TheVariants.{Blocked, Done}}, thread.{Lent.Lent, Receiving.Receiving}}
-use Rattle.machine.specs.{declared.thread.{RunState.RunState as state, Sending.Sending}, Capabilities.{badged_of, can_write}}
-use Rattle.machine.specs.{Machine.{Machine, object_of}, Refusing.◌>>=◌, Releasing.{with_blocked, with_called, with_halted}}
-use Rattle.machine.specs.Step.{Bind.{context_under, with_handed}, Deliver.{answer_through, delivered, first_at, receiver_in, sending_by}}
-use Rattle.machine.specs.Step.Find.{find, permitted}
 use Rattle.machine.specs.declared.object.ObjectKind.TheVariants as kind
 
 -- a message goes to a receiver, or its sender waits

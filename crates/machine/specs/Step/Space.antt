@@ -1,10 +1,9 @@
 -- Setspace and Clearspace (seL4 manual, seL4_TCB_SetSpace; confine's own as two calls): a thread gets another root for its capability
 -- space, or loses the one that it has.
-use Rattle.std.specs.Prelude.{ℕ, Ok, Option, Result, Some}
-use Rattle.base.specs.declared.{ids.{ObjId.ObjId, SlotRef.SlotRef}, refusal.Cause.Cause}
-use Rattle.machine.specs.declared.{call.{Answer.Answer as answer, Made.{Made, TheVariants.Done}}, cap.Cap.Cap}
-use Rattle.machine.specs.{declared.object.ObjectKind.ObjectKind as kind, Lookup.root_of, Machine.{Machine, cap_of}, Refusing.◌>>=◌}
-use Rattle.machine.specs.{Step.{Delete.deleted, Find.find}, Tree.with_copy}
+use Rattle.{std.specs.Prelude.{ℕ, Ok, Option, Result, Some}, base.specs.declared.{ids.{ObjId.ObjId, SlotRef.SlotRef}, refusal.Cause.Cause}}
+use Rattle.machine.specs.declared.call.{Answer.Answer as answer, Made.{Made, TheVariants.Done}}
+use Rattle.machine.specs.{declared.{cap.Cap.Cap, object.ObjectKind.ObjectKind as kind}, Lookup.root_of}
+use Rattle.machine.specs.{Machine.{Machine, cap_of}, Refusing.◌>>=◌, Step.{Delete.deleted, Find.find}, Tree.with_copy}
 
 -- a thread's root slot loses its capability, and what can't stay without it goes too
 abbrev pub without_root : Machine → ObjId → Machine

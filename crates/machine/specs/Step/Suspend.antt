@@ -1,7 +1,6 @@
 -- Suspend and Resume (seL4 manual, seL4_TCB_Suspend, seL4_TCB_Resume): a thread stops, or goes on. One that is blocked and goes on is
 -- aborted (confine's own).
-use Rattle.std.specs.Prelude.{ℕ, Ok, Option, Result, Some}
-use Rattle.base.specs.declared.{ids.ObjId.ObjId, refusal.Cause.Cause}
+use Rattle.{std.specs.Prelude.{ℕ, Ok, Option, Result, Some}, base.specs.declared.{ids.ObjId.ObjId, refusal.Cause.Cause}}
 use Rattle.machine.specs.declared.{call.{Answer.Answer as answer, Made.{Made, TheVariants.Done}}, object.Object.{Object, Object as o}}
 use Rattle.machine.specs.{declared.{object.ObjectKind.ObjectKind as kind, thread.RunState.{RunState, RunState as state}}, Machine.Machine}
 use Rattle.machine.specs.{Machine.object_of, Refusing.◌>>=◌, Releasing.{with_aborted, with_ready, with_suspended}, Step.Find.find}

@@ -1,10 +1,9 @@
 -- Wait (seL4 manual, "Notifications"): answers the word and takes it; if there is none, the thread waits for one, after those that wait.
-use Rattle.std.specs.Prelude.{ℕ, None, Ok, Option, Result, Some}
-use Rattle.base.specs.declared.{ids.ObjId.ObjId, refusal.Cause.Cause}
+use Rattle.{std.specs.Prelude.{ℕ, None, Ok, Option, Result, Some}, base.specs.declared.{ids.ObjId.ObjId, refusal.Cause.Cause}}
 use Rattle.machine.specs.declared.call.{Answer.Answer as answer, Made.{Made, TheVariants.{Blocked, Done}}}
-use Rattle.machine.specs.{declared.thread.RunState.RunState as state, Capabilities.{badged_of, can_read}, Changes.with_pending}
-use Rattle.machine.specs.{Machine.{Machine, object_of}, Refusing.◌>>=◌, Releasing.with_blocked, Step.Find.{find, permitted}}
-use Rattle.machine.specs.Step.Signal.{pending_in}
+use Rattle.machine.specs.{declared.thread.RunState.RunState as state, Capabilities.{badged_of, can_read}}
+use Rattle.machine.specs.{Changes.with_pending, Machine.{Machine, object_of}, Refusing.◌>>=◌}
+use Rattle.machine.specs.{Releasing.with_blocked, Step.{Find.{find, permitted}, Signal.pending_in}}
 use Rattle.machine.specs.declared.object.ObjectKind.TheVariants as kind
 
 -- the word is taken, or the caller waits

@@ -1,7 +1,6 @@
 //! Steps from label to label that the rules name: to a domain, and by a grant.
 ghost use Rattle.std.specs.Prelude.{ℕ, ◌↔◌, ◌≡◌, IsTrue, true};
-ghost use Rattle.base.specs.Labels.{is_in};
-ghost use Rattle.policy.specs.{Closed.MayBeGranted, Domain.IsInDomain, Policy.allows};
+ghost use Rattle.{base.specs.Labels.is_in, policy.specs.{Closed.MayBeGranted, Domain.IsInDomain, Policy.allows}};
 
 use crate::Policy;
 use base::{Kind, Label, Labels};

@@ -1,6 +1,5 @@
 -- A thread that was ready or inactive waits as the others there do.
-use Rattle.std.proofs.Common.{subst, sym}
-use Rattle.machine.specs.{Machine.Machine, WellFormed.IsWellFormed}
+use Rattle.{std.proofs.Common.{subst, sym}, machine.specs.{Machine.Machine, WellFormed.IsWellFormed}}
 use Rattle.queues.proofs.block.Goals as goal
 
 pub returns-clause-well_formed : goal.returns-clause-well_formed

@@ -1,7 +1,6 @@
 -- A thread that waits nowhere still waits nowhere with another run state.
 use Rattle.std.{specs.{Option.is_some, Prelude.Some}, proofs.Common.{◌∙◌, ap, sym}}
-use Rattle.machine.specs.{declared.thread.Tcb.Tcb, Machine.{object_of, queue_of}}
-use Rattle.steps.proofs.Threads.{queue_with_tcb, thread_with_tcb}
+use Rattle.{machine.specs.{declared.thread.Tcb.Tcb, Machine.{object_of, queue_of}}, steps.proofs.Threads.{queue_with_tcb, thread_with_tcb}}
 use Rattle.queues.proofs.wait_at.Goals as goal
 
 pub push_last-requires-clause-present : goal.push_last-requires-clause-present

@@ -1,10 +1,8 @@
 //! The slots of an object that lie outside a policy, by the rules A1 to A3.
 ghost use Rattle.std.specs.Prelude.{[], ◌∷◌, ◌≡◌, Some};
-ghost use Rattle.base.specs.Kinds.{kind_number};
+ghost use Rattle.{base.specs.Kinds.kind_number, machine.specs.{Authority.label_of, Machine.cap_of, WellFormed.kind_of}};
+ghost use Rattle.{policy.specs.{Places.FindsLeast, Policy.allows}, verdict.specs.{Outside.LiesUnder, Rules.{a1, a2, a3}, Verdict.place_of}};
 ghost use Rattle.machine.specs.declared.object.ObjectKind.TheVariants as kinds;
-ghost use Rattle.machine.specs.{Authority.label_of, Machine.cap_of, WellFormed.kind_of};
-ghost use Rattle.policy.specs.{Places.FindsLeast, Policy.allows};
-ghost use Rattle.verdict.specs.{Outside.LiesUnder, Rules.{a1, a2, a3}, Verdict.place_of};
 
 use super::links::missing_label;
 use crate::Denial;

@@ -1,5 +1,4 @@
-use Rattle.std.proofs.Common.{refl}
-use Rattle.base.proofs.KindNames.{bit_at_number, in_order, kind_once, named_iff, number_below, number_once}
+use Rattle.{std.proofs.Common.refl, base.proofs.KindNames.{bit_at_number, in_order, kind_once, named_iff, number_below, number_once}}
 use Rattle.base.proofs.kind.kind_names_are_read_back.Goals as goal
 
 pub returns : goal.returns

@@ -1,6 +1,5 @@
 -- The number of a pair is small enough to number its line.
-use Rattle.std.proofs.Common.{rules}
-use Rattle.captext.proofs.TableLaws.{fault_within}
+use Rattle.{std.proofs.Common.rules, captext.proofs.TableLaws.fault_within}
 use Rattle.captext.proofs.tables.grown.Goals as goal
 
 pub overflow_add-result : goal.overflow_add-result

@@ -1,7 +1,6 @@
 -- The draft so far and the lines left make what the whole text makes.
 use Rattle.std.proofs.Common.{◌≡◌, length}
-use Rattle.words.specs.Reading.{judged, read_lines}
-use Rattle.captext.specs.Tables.{grown, read_table_of, table_line}
+use Rattle.{words.specs.Reading.{judged, read_lines}, captext.specs.Tables.{grown, read_table_of, table_line}}
 use Rattle.captext.proofs.tables.table_of.Given as goal
 
 abbrev pub invariant-loop-words : goal.invariant-loop-words

@@ -1,6 +1,5 @@
 use Rattle.std.proofs.Common.{◌++◌, ◌≡◌, map, string_bytes, take}
-use Rattle.words.specs.Text.{text_of}
-use Rattle.captext.specs.TableText.{label_words}
+use Rattle.{words.specs.Text.text_of, captext.specs.TableText.label_words}
 use Rattle.captext.proofs.write.write_labels.Given as goal
 
 -- the lines of the labels so far are written

@@ -1,6 +1,5 @@
 use Rattle.std.{specs.List.zip, proofs.Common.{◌++◌, ◌≡◌, map, string_bytes, take}}
-use Rattle.words.specs.Text.{text_of}
-use Rattle.captext.specs.TableText.{object_words}
+use Rattle.{words.specs.Text.text_of, captext.specs.TableText.object_words}
 use Rattle.captext.proofs.write.write_objects.Given as goal
 
 -- the lines of the objects so far are written

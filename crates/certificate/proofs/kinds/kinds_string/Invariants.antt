@@ -1,6 +1,5 @@
 use Rattle.std.proofs.Common.{filter, map, string_bytes, take}
-use Rattle.base.specs.{declared.kind.TheConstants.Kind.ALL, Kinds.{is_among, kind_name}}
-use Rattle.certificate.proofs.KindWords.{IsWritten}
+use Rattle.{base.specs.{declared.kind.TheConstants.Kind.ALL, Kinds.{is_among, kind_name}}, certificate.proofs.KindWords.IsWritten}
 use Rattle.certificate.proofs.kinds.kinds_string.Given as goal
 
 -- the names of the kinds so far are written

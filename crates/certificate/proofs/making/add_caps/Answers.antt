@@ -1,8 +1,7 @@
 use Rattle.std.proofs.Common.{[], ◌++◌, ◌∙◌, ◌∷◌, ap, sym}
-use Rattle.table.specs.Rules.{kind_at}
-use Rattle.machine.specs.declared.layout.Filled.{Filled}
+use Rattle.{machine.specs.declared.layout.Filled.Filled, table.specs.Rules.kind_at}
 use Rattle.certificate.{specs.Right.{cap_line, is_cnode}, proofs.MoreLines.{none_more, one_more_kept}}
-use Rattle.certificate.proofs.making.add_caps.Goals.{then-is_of_cnode+in_ok-push, else-is_of_cnode}
+use Rattle.certificate.proofs.making.add_caps.Goals.{else-is_of_cnode, then-is_of_cnode+in_ok-push}
 use Rattle.certificate.proofs.making.add_caps.Goals as goal
 
 pub loop-filled-preserved : goal.loop-filled-preserved

@@ -1,6 +1,5 @@
 use Rattle.std.proofs.Common.{◌++◌, ◌≡◌, filter, map, take}
-use Rattle.table.specs.Rules.{kind_at}
-use Rattle.certificate.specs.Right.{cap_line, is_cnode}
+use Rattle.{table.specs.Rules.kind_at, certificate.specs.Right.{cap_line, is_cnode}}
 use Rattle.certificate.proofs.making.add_caps.Given as goal
 
 -- the lines so far are added

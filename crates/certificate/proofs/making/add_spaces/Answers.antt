@@ -1,8 +1,7 @@
 use Rattle.std.proofs.Common.{[], ◌++◌, ◌∙◌, ◌∷◌, ap, sym}
-use Rattle.table.specs.Rules.{kind_at}
-use Rattle.machine.specs.declared.layout.Filled.{Filled}
-use Rattle.certificate.{specs.Right.{space_line, is_thread}, proofs.MoreLines.{none_more, one_more_kept}}
-use Rattle.certificate.proofs.making.add_spaces.Goals.{then-is_of_thread+in_ok-push, else-is_of_thread}
+use Rattle.{machine.specs.declared.layout.Filled.Filled, table.specs.Rules.kind_at}
+use Rattle.certificate.{specs.Right.{is_thread, space_line}, proofs.MoreLines.{none_more, one_more_kept}}
+use Rattle.certificate.proofs.making.add_spaces.Goals.{else-is_of_thread, then-is_of_thread+in_ok-push}
 use Rattle.certificate.proofs.making.add_spaces.Goals as goal
 
 pub loop-filled-preserved : goal.loop-filled-preserved

@@ -1,6 +1,5 @@
 use Rattle.std.proofs.Common.{◌++◌, ◌≡◌, filter, map, take}
-use Rattle.table.specs.Rules.{kind_at}
-use Rattle.certificate.specs.Right.{is_thread, space_line}
+use Rattle.{table.specs.Rules.kind_at, certificate.specs.Right.{is_thread, space_line}}
 use Rattle.certificate.proofs.making.add_spaces.Given as goal
 
 -- the lines so far are added

@@ -1,8 +1,7 @@
 use Rattle.std.proofs.Common.{◌++◌, ◌∙◌, ◌≡◌, List, ap, filter, map}
-use Rattle.machine.specs.declared.layout.{Binding.Binding, Filled.Filled, Pair.Pair}
-use Rattle.table.specs.Rules.{kind_at}
-use Rattle.certificate.specs.Right.{cap_line, cap_lines, derive_line, is_cnode, is_thread, runs_line, space_line, space_lines}
-use Rattle.certificate.proofs.RightLines.{sections}
+use Rattle.{machine.specs.declared.layout.{Binding.Binding, Filled.Filled, Pair.Pair}, table.specs.Rules.kind_at}
+use Rattle.certificate.specs.Right.{cap_line, cap_lines, derive_line, is_cnode, is_thread}
+use Rattle.certificate.{specs.Right.{runs_line, space_line, space_lines}, proofs.RightLines.sections}
 use Rattle.certificate.proofs.making.right_lines.Goals as goal
 
 -- one section after another is added

@@ -1,6 +1,5 @@
 use Rattle.std.proofs.Common.{◌∷◌, ◌≡◌, map, string_bytes, take}
-use Rattle.words.specs.Text.{text_of}
-use Rattle.certificate.specs.{Certificate.certificate_header, Line.line_words}
+use Rattle.{words.specs.Text.text_of, certificate.specs.{Certificate.certificate_header, Line.line_words}}
 use Rattle.certificate.proofs.writing.certificate_string.Given as goal
 
 -- the lines so far are the header's and those of the certificate so far

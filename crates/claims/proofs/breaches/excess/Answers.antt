@@ -1,7 +1,5 @@
 use Rattle.std.proofs.Common.{◌||◌, ◌≡◌, ◌≢◌, subst, sym, true}
-use Rattle.base.specs.Labels.{is_in}
-use Rattle.claims.specs.Holding.{HasAtMost}
-use Rattle.claims.proofs.FirstBreach.{nothing_excess, take_excess}
+use Rattle.{base.specs.Labels.is_in, claims.{specs.Holding.HasAtMost, proofs.FirstBreach.{nothing_excess, take_excess}}}
 use Rattle.claims.proofs.breaches.excess.Goals as goal
 
 pub returns-in-Nothing : goal.returns-in-Nothing

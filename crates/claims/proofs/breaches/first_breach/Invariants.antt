@@ -1,7 +1,5 @@
 -- The labels so far have no more authority than the claim leaves them.
-use Rattle.machine.specs.Layout.{Layout}
-use Rattle.table.specs.Names.{AreLabelsOf}
-use Rattle.reach.specs.Extents.{Limits}
+use Rattle.{machine.specs.Layout.Layout, table.specs.Names.AreLabelsOf, reach.specs.Extents.Limits}
 use Rattle.claims.{specs.Rows.AreRows, proofs.FirstBreach.HoldsBelow}
 use Rattle.claims.proofs.breaches.first_breach.Given as goal
 

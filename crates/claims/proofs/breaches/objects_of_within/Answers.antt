@@ -1,7 +1,6 @@
 -- The objects of the label that `within` bounds are those of the others that aren't named.
 use Rattle.std.proofs.Common.{◌&&◌, ◌∙◌, ◌≡◌, ap, not, rules}
-use Rattle.base.specs.Labels.{is_in}
-use Rattle.claims.proofs.FirstBreach.{outside}
+use Rattle.{base.specs.Labels.is_in, claims.proofs.FirstBreach.outside}
 use Rattle.claims.proofs.breaches.objects_of_within.Goals as goal
 
 pub returns : goal.returns

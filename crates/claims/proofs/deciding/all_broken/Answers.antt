@@ -1,8 +1,6 @@
 -- Claims that hold of a table are kept, in a fixed system also by what calls return.
-use Rattle.std.proofs.Common.{[], refl, subst}
-use Rattle.reach.specs.Extents.{limits_of}
-use Rattle.claims.specs.{Claims.is_one_of, Holding.AreBroken}
-use Rattle.claims.proofs.{Gathered.all_hold, Learnt.claim_learnt, Promised.claim_kept}
+use Rattle.{std.proofs.Common.{[], refl, subst}, reach.specs.Extents.limits_of}
+use Rattle.claims.{specs.{Claims.is_one_of, Holding.AreBroken}, proofs.{Gathered.all_hold, Learnt.claim_learnt, Promised.claim_kept}}
 use Rattle.claims.proofs.deciding.all_broken.Goals as goal
 use Rattle.claims.specs.declared.lines.TheConstants.ClaimLines as ClaimLines
 

@@ -1,10 +1,9 @@
 -- Each turn adds the claim of one line more, if it doesn't hold.
-use Rattle.std.proofs.{Common.{[], ◌++◌, ◌+◌, ◌∙◌, ◌∷◌, ◌≡◌, ap, arith, get_or, refl, subst, sym, take}, lemmas.Grind.common_steps}
-use Rattle.std.proofs.lemmas.List.{append-nil}
-use Rattle.reach.specs.Extents.{limits_of}
+use Rattle.std.proofs.Common.{[], ◌++◌, ◌+◌, ◌∙◌, ◌∷◌, ◌≡◌, ap, arith, get_or, refl, subst, sym, take}
+use Rattle.{std.proofs.lemmas.{Grind.common_steps, List.append-nil}, reach.specs.Extents.limits_of}
 use Rattle.claims.specs.{declared.deciding.Broken.Broken, Holding.{AreBroken, AreBroken.{broke, ended, held, silent}}}
-use Rattle.claims.proofs.{Gathered.one_line, Promised.fails_breaks, deciding.broken_by.Goals.in-Some+in-Some-failure_of+in_ok-push}
-use Rattle.claims.proofs.deciding.broken_by.Goals.{in-Some+in_default-failure_of, in_default}
+use Rattle.claims.proofs.{Gathered.one_line, Promised.fails_breaks}
+use Rattle.claims.proofs.deciding.broken_by.Goals.{in-Some+in-Some-failure_of+in_ok-push, in-Some+in_default-failure_of, in_default}
 use Rattle.claims.proofs.deciding.broken_by.Goals as goal
 use Rattle.claims.specs.declared.lines.TheConstants.ClaimLines as ClaimLines
 

@@ -1,8 +1,6 @@
 -- The broken claims of the lines so far.
-use Rattle.std.proofs.Common.{take}
-use Rattle.reach.specs.Extents.{limits_of}
+use Rattle.{std.proofs.Common.take, reach.specs.Extents.limits_of, claims.specs.Holding.AreBroken}
 use Rattle.claims.specs.declared.lines.TheConstants.ClaimLines as ClaimLines
-use Rattle.claims.specs.Holding.{AreBroken}
 use Rattle.claims.proofs.deciding.broken_by.Given as goal
 
 abbrev pub invariant-loop-index : goal.invariant-loop-index

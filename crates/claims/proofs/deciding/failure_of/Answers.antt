@@ -1,9 +1,6 @@
 -- A claim holds if no failure is told of it.
-use Rattle.std.proofs.Common.{subst}
-use Rattle.machine.specs.Layout.{Layout}
-use Rattle.policy.specs.Policy.{allows}
-use Rattle.table.specs.Names.{AreLabelsOf}
-use Rattle.reach.specs.Extents.{Limits, limits_of}
+use Rattle.{std.proofs.Common.subst, machine.specs.Layout.Layout, table.specs.Names.AreLabelsOf}
+use Rattle.{policy.specs.Policy.allows, reach.specs.Extents.{Limits, limits_of}}
 use Rattle.claims.specs.{Holding.{Holds, HoldsOnEdges, HoldsOnPairs}, Rows.AreRows}
 use Rattle.claims.proofs.Promised.{ends_hold, if_none, only_holds, readers_hold, within_holds, without_holds}
 use Rattle.claims.proofs.deciding.failure_of.Goals as goal

@@ -1,7 +1,5 @@
 -- A chain that goes through none of the set's labels goes through none of the list's.
-use Rattle.std.proofs.Common.{refl, subst}
-use Rattle.reach.specs.Extents.{limits_of}
-use Rattle.flows.specs.Flowing.{FilterTest, Leads}
+use Rattle.{std.proofs.Common.{refl, subst}, reach.specs.Extents.limits_of, flows.specs.Flowing.{FilterTest, Leads}}
 use Rattle.claims.proofs.deciding.through_failure.Goals as goal
 
 pub returns-clause-some : goal.returns-clause-some

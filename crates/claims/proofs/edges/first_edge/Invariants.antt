@@ -1,8 +1,5 @@
 -- The labels so far have no edge that the claim excludes.
-use Rattle.machine.specs.Layout.{Layout}
-use Rattle.policy.specs.Policy.{allows}
-use Rattle.table.specs.Names.{AreLabelsOf}
-use Rattle.claims.proofs.FirstEdge.{LacksBelow}
+use Rattle.{machine.specs.Layout.Layout, table.specs.Names.AreLabelsOf, policy.specs.Policy.allows, claims.proofs.FirstEdge.LacksBelow}
 use Rattle.claims.proofs.edges.first_edge.Given as goal
 
 abbrev pub invariant-loop-number : goal.invariant-loop-number

@@ -1,7 +1,5 @@
 -- The first edge that `readers` excludes is one by which a label that it bars reads.
-use Rattle.machine.specs.Layout.{Layout}
-use Rattle.policy.specs.Policy.{allows}
-use Rattle.table.specs.Names.{AreLabelsOf}
+use Rattle.{machine.specs.Layout.Layout, table.specs.Names.AreLabelsOf, policy.specs.Policy.allows}
 use Rattle.claims.specs.Edges.{IsFirstEdgeBy, IsFirstRead, LacksEdgesOf, LacksReads}
 use Rattle.claims.proofs.{FirstEdge.{if_some, readers_first, readers_lack}, Promised.if_none}
 use Rattle.claims.proofs.edges.first_edge_by.Goals as goal

@@ -1,6 +1,5 @@
 -- The strongest claims hold of a table, and so they are kept.
-use Rattle.std.proofs.Common.{refl, subst}
-use Rattle.reach.specs.Extents.{limits_of}
+use Rattle.{std.proofs.Common.{refl, subst}, reach.specs.Extents.limits_of}
 use Rattle.claims.{specs.Strongest.AreStrongest, proofs.{Gathered.all_hold, Promised.claim_kept, StrongestLaws.strongest_hold}}
 use Rattle.claims.proofs.gathering.strongest.Goals as goal
 use Rattle.claims.specs.declared.lines.TheConstants.ClaimLines as ClaimLines

@@ -1,9 +1,8 @@
 -- The strongest claims are made by the rows, of which each label has one.
 use Rattle.std.proofs.{Common.{◌∙◌, ◌≡◌, ◌≤◌, arith, length}, lemmas.Grind.common_steps}
-use Rattle.base.specs.declared.label.TheConstants.Label as Label
 use Rattle.machine.specs.{declared.layout.Version.{Version, Version as version}, Layout.most_labels}
-use Rattle.reach.specs.Extents.{limits_of}
-use Rattle.claims.{specs.Rows.extents_of, proofs.StrongestLaws.{all_said, rows_go}}
+use Rattle.{reach.specs.Extents.limits_of, claims.{specs.Rows.extents_of, proofs.StrongestLaws.{all_said, rows_go}}}
+use Rattle.base.specs.declared.label.TheConstants.Label as Label
 use Rattle.claims.proofs.gathering.strongest_by.Goals as goal
 
 most_few : (v : Version) → most_labels v ≤ Label.COUNT

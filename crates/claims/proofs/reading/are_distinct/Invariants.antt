@@ -1,7 +1,6 @@
 -- The labels so far are distinct, and these are in the set.
 use Rattle.std.proofs.Common.{[], ℕ, ◌≡◌, drop, take}
-use Rattle.base.specs.Labels.{is_in}
-use Rattle.claims.specs.{Claims.is_one_of, Reading.are_distinct}
+use Rattle.{base.specs.Labels.is_in, claims.specs.{Claims.is_one_of, Reading.are_distinct}}
 use Rattle.claims.proofs.reading.are_distinct.Given as goal
 
 abbrev pub invariant-loop-label : goal.invariant-loop-label

@@ -1,5 +1,4 @@
-use Rattle.words.{specs.Text.lines_of, proofs.FirstFaults.{faults, refused_for}}
-use Rattle.claims.specs.Reading.{read_claims_of, claims_format}
+use Rattle.{words.{specs.Text.lines_of, proofs.FirstFaults.{faults, refused_for}}, claims.specs.Reading.{claims_format, read_claims_of}}
 use Rattle.claims.proofs.reading.read.Goals as goal
 
 pub returns-clause-faults : goal.returns-clause-faults

@@ -1,7 +1,6 @@
 -- The lines so far are the header's and these.
 use Rattle.std.proofs.Common.{◌∷◌, ◌≡◌, map, string_bytes, take}
-use Rattle.words.specs.Text.{text_of}
-use Rattle.claims.specs.Text.{entry_words, claims_header}
+use Rattle.{words.specs.Text.text_of, claims.specs.Text.{claims_header, entry_words}}
 use Rattle.claims.proofs.writing.lines_string.Given as goal
 
 abbrev pub invariant-loop-line : goal.invariant-loop-line

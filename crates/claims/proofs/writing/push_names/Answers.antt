@@ -1,7 +1,6 @@
 -- Each turn writes one word more.
-use Rattle.std.{specs.List.join_with_byte, proofs.Common.{◌++◌, ◌<◌, ◌∙◌, ◌∷◌, ◌≡◌, ap, append-nil, arith, get_or, length, string_bytes, sym}}
-use Rattle.captext.specs.PolicyText.{label_name}
-use Rattle.claims.proofs.Joined.{joined_more}
+use Rattle.std.{specs.List.join_with_byte, proofs.Common.{◌++◌, ◌<◌, ◌∙◌, ◌∷◌, ◌≡◌, ap, append-nil, arith, get_or, length}}
+use Rattle.{std.proofs.Common.{string_bytes, sym}, captext.specs.PolicyText.label_name, claims.proofs.Joined.joined_more}
 use Rattle.claims.proofs.writing.push_names.Goals as goal
 
 pub loop-label-init : goal.loop-label-init

@@ -1,9 +1,7 @@
 -- The names follow the first three words, if there are some.
-use Rattle.std.{specs.List.join_with_byte, proofs.{Common.{[], ℕ, ◌==◌, ◌∙◌, ◌∷◌, ◌≡◌, List, ap, codes, false, length, map, refl, rules, string_bytes}}}
-use Rattle.std.proofs.{Common.sym, lemmas.Bool.false≢true}
-use Rattle.machine.specs.Layout.{Layout}
-use Rattle.captext.specs.PolicyText.{label_name}
-use Rattle.claims.specs.Text.{through_words}
+use Rattle.std.{specs.List.join_with_byte, proofs.Common.{[], ℕ, ◌==◌, ◌∙◌, ◌∷◌, ◌≡◌, List, ap, codes}}
+use Rattle.std.proofs.{Common.{false, length, map, refl, rules, string_bytes, sym}, lemmas.Bool.false≢true}
+use Rattle.{machine.specs.Layout.Layout, captext.specs.PolicyText.label_name, claims.specs.Text.through_words}
 use Rattle.claims.proofs.writing.through_text.Goals as goal
 
 with_filters : (t : Layout) (from to : ℕ) (filters : List ℕ) → (length filters == 0) ≡ false

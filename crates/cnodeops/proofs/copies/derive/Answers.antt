@@ -1,6 +1,5 @@
 -- A copy of the same kind fills a slot that takes it.
-use Rattle.std.proofs.Common.{subst, sym}
-use Rattle.machine.specs.{Machine.Machine, WellFormed.IsWellFormed}
+use Rattle.{std.proofs.Common.{subst, sym}, machine.specs.{Machine.Machine, WellFormed.IsWellFormed}}
 use Rattle.cnodeops.proofs.CopyLemmas.{derived_formed}
 use Rattle.cnodeops.proofs.copies.derive.Goals as goal
 

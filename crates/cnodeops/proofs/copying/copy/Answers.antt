@@ -1,6 +1,5 @@
 -- A copy fills an empty slot that is there, and the machine stays well formed.
-use Rattle.std.proofs.Common.{sym}
-use Rattle.cnodeops.proofs.CopyLemmas.{copied_formed, source_filled, target_there, target_vacant}
+use Rattle.{std.proofs.Common.sym, cnodeops.proofs.CopyLemmas.{copied_formed, source_filled, target_there, target_vacant}}
 use Rattle.cnodeops.proofs.copying.copy.Goals as goal
 
 pub derive-requires-clause-there : goal.derive-requires-clause-there

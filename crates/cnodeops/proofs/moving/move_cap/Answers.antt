@@ -1,6 +1,5 @@
 -- A move fills an empty slot that is there, and the machine stays well formed.
-use Rattle.std.proofs.Common.{sym}
-use Rattle.cnodeops.proofs.CopyLemmas.{relocated_formed, source_filled, target_there, target_vacant}
+use Rattle.{std.proofs.Common.sym, cnodeops.proofs.CopyLemmas.{relocated_formed, source_filled, target_there, target_vacant}}
 use Rattle.cnodeops.proofs.moving.move_cap.Goals as goal
 
 pub relocate-requires-clause-there : goal.relocate-requires-clause-there

@@ -1,7 +1,5 @@
 -- The filled target is in no pair of the tree.
-use Rattle.std.proofs.Common.{inl}
-use Rattle.machine.specs.Machine.{with_cap}
-use Rattle.derivation.proofs.Moves.{exchanged_alone}
+use Rattle.{std.proofs.Common.inl, machine.specs.Machine.with_cap, derivation.proofs.Moves.exchanged_alone}
 use Rattle.cnodeops.proofs.CopyLemmas.{filled_alone, filled_now, object_there}
 use Rattle.cnodeops.proofs.moving.relocate.Goals as goal
 

@@ -1,9 +1,8 @@
 -- Each turn deals one seat more.
 use Rattle.std.{specs.Prelude.slice_get, proofs.Common.{ℕ, ◌+◌, ◌∙◌, ◌≡◌, List, Some, ap, arith, length, refl, subst, sym}}
-use Rattle.std.proofs.lemmas.{List.length_push, Option.{slice_get_read, slice_get_within}}
-use Rattle.atomic_table.specs.Seated.{TableId}
-use Rattle.cores.specs.{declared.view.{About.About, View.View}, Moves.after_deal, Seats.{CanDeal, Known, about_in, new_seat}}
-use Rattle.cores.proofs.{Seating.each_more, Visiting.Knowing}
+use Rattle.{std.proofs.lemmas.{List.length_push, Option.{slice_get_read, slice_get_within}}, atomic_table.specs.Seated.TableId}
+use Rattle.cores.specs.{declared.view.{About.About, View.View}, Moves.after_deal}
+use Rattle.cores.{specs.Seats.{CanDeal, Known, about_in, new_seat}, proofs.{Seating.each_more, Visiting.Knowing}}
 use Rattle.cores.proofs.opened.all_seats.Goals as goal
 
 pub deal-requires-clause-next : goal.deal-requires-clause-next

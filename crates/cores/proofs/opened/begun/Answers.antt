@@ -1,6 +1,5 @@
 use Rattle.std.{specs.Vec.vec_capacity, proofs.Common.{ℕ, List, arith, subst, sym}}
-use Rattle.machine.specs.Machine.{Machine}
-use Rattle.cores.{specs.Seats.{IsOpened, ticket_of}, proofs.Seating.in_order_first}
+use Rattle.{machine.specs.Machine.Machine, cores.{specs.Seats.{IsOpened, ticket_of}, proofs.Seating.in_order_first}}
 use Rattle.cores.proofs.opened.begun.Goals as goal
 
 pub invariant_of-opened : goal.invariant_of-opened

@@ -1,6 +1,4 @@
-use Rattle.std.proofs.lemmas.Result.{IfOk-weaker}
-use Rattle.machine.specs.{Boot.IsBoot, Machine.Machine}
-use Rattle.cores.specs.SplitRun.{IsSplitRun}
+use Rattle.{std.proofs.lemmas.Result.IfOk-weaker, machine.specs.{Boot.IsBoot, Machine.Machine}, cores.specs.SplitRun.IsSplitRun}
 use Rattle.cores.proofs.splitting.split.Goals as goal
 
 pub returns-clause-split : goal.returns-clause-split

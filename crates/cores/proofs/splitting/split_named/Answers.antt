@@ -1,5 +1,4 @@
-use Rattle.std.proofs.Common.{List, subst}
-use Rattle.cores.{specs.Seats.{Closes, Known}, proofs.AllCores.{all_fresh, is_split}}
+use Rattle.{std.proofs.Common.{List, subst}, cores.{specs.Seats.{Closes, Known}, proofs.AllCores.{all_fresh, is_split}}}
 use Rattle.cores.proofs.splitting.split_named.Goals as goal
 
 pub all_workers-requires-clause-fresh : goal.all_workers-requires-clause-fresh

@@ -1,5 +1,4 @@
-use Rattle.std.proofs.Common.{rules}
-use Rattle.cores.proofs.Keeps.{deals}
+use Rattle.{std.proofs.Common.rules, cores.proofs.Keeps.deals}
 use Rattle.cores.proofs.word.deal.Goals as goal
 
 pub split_seat-requires : goal.split_seat-requires

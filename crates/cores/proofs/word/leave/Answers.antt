@@ -1,5 +1,4 @@
-use Rattle.std.proofs.Common.{rules}
-use Rattle.cores.proofs.Keeps.{leaves, returns}
+use Rattle.{std.proofs.Common.rules, cores.proofs.Keeps.{leaves, returns}}
 use Rattle.cores.proofs.word.leave.Goals as goal
 
 pub split_seat-hand-requires : goal.split_seat-hand-requires

@@ -1,5 +1,4 @@
-use Rattle.std.proofs.Common.{rules}
-use Rattle.cores.proofs.Keeps.{sees}
+use Rattle.{std.proofs.Common.rules, cores.proofs.Keeps.sees}
 use Rattle.cores.proofs.word.see.Goals as goal
 
 pub load-requires : goal.load-requires

@@ -1,5 +1,4 @@
-use Rattle.std.proofs.Common.{rules}
-use Rattle.cores.proofs.Keeps.{hosts, visits}
+use Rattle.{std.proofs.Common.rules, cores.proofs.Keeps.{hosts, visits}}
 use Rattle.cores.proofs.word.visit.Goals as goal
 
 pub split_seat-guest-requires : goal.split_seat-guest-requires

@@ -1,8 +1,7 @@
-use Rattle.std.{specs.Prelude.{slice_set, true}, proofs.{Common.{◌+◌, ◌<◌, ◌∙◌, All, List, arith, subst, sym, take}, lemmas.List.take_all}}
-use Rattle.std.proofs.lemmas.List.Elements.{All-more}
-use Rattle.base.specs.declared.core_number.TheConstants.CoreNo as CoreNo
-use Rattle.machine.specs.declared.call.Event.{Event}
+use Rattle.std.{specs.Prelude.{slice_set, true}, proofs.Common.{◌+◌, ◌<◌, ◌∙◌, All, List, arith, subst, sym, take}}
+use Rattle.{std.proofs.lemmas.List.{Elements.All-more, take_all}, machine.specs.declared.call.Event.Event}
 use Rattle.cores.{specs.Workers.AreBusy, proofs.BusyCores.one_busy}
+use Rattle.base.specs.declared.core_number.TheConstants.CoreNo as CoreNo
 use Rattle.cores.proofs.workers.busy_cores.Goals as goal
 
 pub loop-event-preserved : goal.loop-event-preserved

@@ -1,6 +1,5 @@
 use Rattle.std.proofs.Common.{◌≡◌, ◌≤◌, List}
-use Rattle.machine.specs.declared.call.Event.{Event}
-use Rattle.cores.specs.Workers.{AreBusy, worker_number}
+use Rattle.{machine.specs.declared.call.Event.Event, cores.specs.Workers.{AreBusy, worker_number}}
 use Rattle.cores.proofs.workers.number_of_worker.Given as goal
 
 -- as many of the cores below this one are busy

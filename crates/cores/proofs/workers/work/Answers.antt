@@ -1,6 +1,5 @@
 use Rattle.std.proofs.Common.{◌<◌, ◌∙◌, ◌≡◌, ap, eqb-true, inr, length, rules, subst, sym}
-use Rattle.base.specs.Refusals.{plain}
-use Rattle.machine.specs.declared.call.Outcome.TheVariants.{Refused}
+use Rattle.{base.specs.Refusals.plain, machine.specs.declared.call.Outcome.TheVariants.Refused}
 use Rattle.cores.{specs.{SplitRun.on_core, Workers.events_of}, proofs.OneCore.one_left}
 use Rattle.cores.proofs.workers.work.Goals as goal
 

@@ -1,7 +1,6 @@
 -- The slot is the walk's end, if no bits are left there.
 use Rattle.std.proofs.Common.{ℕ, ◌∙◌, ◌≡◌, Ok, ap, arith, sym}
-use Rattle.base.specs.declared.ids.SlotRef.{SlotRef}
-use Rattle.machine.specs.{Bits.bits, Lookup.{counted, walk}}
+use Rattle.{base.specs.declared.ids.SlotRef.SlotRef, machine.specs.{Bits.bits, Lookup.{counted, walk}}}
 use Rattle.cspace.{specs.Strings.level_shown, proofs.{RootLemmas.{counted-shown, failed-cases}, TargetLemmas.{below-ends, deep}}}
 use Rattle.cspace.proofs.target.target_below.Goals as goal
 

@@ -1,7 +1,6 @@
 -- A walk ends with a hop that fails, with no bits left, or at a slot that shows no CNode; else it goes on.
 use Rattle.std.proofs.{Common.{ℕ, ◌∙◌, ◌≡◌, Bool, List, Ok, Result, ap, arith, sym}, lemmas.Result.err_from_is_err_and}
-use Rattle.base.specs.declared.{ids.SlotRef.SlotRef, refusal.LookupFailure.LookupFailure}
-use Rattle.machine.specs.Bits.{bits}
+use Rattle.{base.specs.declared.{ids.SlotRef.SlotRef, refusal.LookupFailure.LookupFailure}, machine.specs.Bits.bits}
 use Rattle.cspace.{specs.Strings.level_shown, proofs.WalkLemmas.{walk-done, walk-err, walk-none, walk-some}}
 use Rattle.cspace.proofs.walk.+walk.Goals as goal
 

@@ -1,6 +1,5 @@
 -- Each worker's share was worked, so that each has arrived.
-use Rattle.std.proofs.Common.{IfOk, Result, Err, Ok}
-use Rattle.base.specs.Refusals.{out_of_memory}
+use Rattle.{std.proofs.Common.{Err, IfOk, Ok, Result}, base.specs.Refusals.out_of_memory}
 use Rattle.deal.proofs.workers.shares.Goals as goal
 
 if_ok : {T E : Type 0} (r : Result T E) (P : Type 0) → P → IfOk r (λ _. P)

@@ -1,8 +1,6 @@
 -- No slot of a lower holder is a descendant behind the last.
 use Rattle.std.specs.Prelude.{◌<◌}
-use Rattle.base.specs.declared.ids.SlotRef.{SlotRef}
-use Rattle.machine.specs.WellFormed.{Descends}
-use Rattle.derivation.specs.Descendants.{IsBehind}
+use Rattle.{base.specs.declared.ids.SlotRef.SlotRef, machine.specs.WellFormed.Descends, derivation.specs.Descendants.IsBehind}
 use Rattle.derivation.proofs.descendants.next_descendant.Given as goal
 
 abbrev pub invariant-loop-holder : goal.invariant-loop-holder

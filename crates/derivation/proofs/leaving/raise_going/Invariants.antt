@@ -1,7 +1,6 @@
 -- All slots are raised once those of the objects that remain are.
 use Rattle.std.proofs.Common.{◌≡◌, drop}
-use Rattle.machine.specs.Machine.{Machine}
-use Rattle.derivation.specs.{OwnSlots.{is_going_slot, is_slot_among}, Raising.AreRaisedFrom}
+use Rattle.{machine.specs.Machine.Machine, derivation.specs.{OwnSlots.{is_going_slot, is_slot_among}, Raising.AreRaisedFrom}}
 use Rattle.derivation.proofs.leaving.raise_going.Given as goal
 
 abbrev pub invariant-loop-index : goal.invariant-loop-index

@@ -1,7 +1,6 @@
 -- All slots have left once those of the objects that remain have.
 use Rattle.std.proofs.Common.{◌≡◌, drop}
-use Rattle.machine.specs.Machine.{Machine}
-use Rattle.derivation.specs.{OwnSlots.{is_going_slot, is_slot_among}, Removing.HaveLeft}
+use Rattle.{machine.specs.Machine.Machine, derivation.specs.{OwnSlots.{is_going_slot, is_slot_among}, Removing.HaveLeft}}
 use Rattle.derivation.proofs.leaving.remove_going.Given as goal
 
 abbrev pub invariant-loop-index : goal.invariant-loop-index

@@ -1,9 +1,7 @@
 -- The way up goes on from an empty slot to its parent, and ends at a filled one.
-use Rattle.std.{specs.Prelude.{None, Option, Some}, proofs.Common.{subst, sym}}
-use Rattle.base.specs.declared.ids.SlotRef.{SlotRef}
+use Rattle.{std.{specs.Prelude.{None, Option, Some}, proofs.Common.{subst, sym}}, base.specs.declared.ids.SlotRef.SlotRef}
 use Rattle.machine.specs.{Machine.parent_of, Orphans.{Nearest, climbs, no_ancestor, survives}}
-use Rattle.objects.proofs.Ways.{way_shortens}
-use Rattle.derivation.{specs.Raising.is_empty, proofs.Hangs.seen_empty}
+use Rattle.{objects.proofs.Ways.way_shortens, derivation.{specs.Raising.is_empty, proofs.Hangs.seen_empty}}
 use Rattle.derivation.proofs.raising.first_filled.Goals as goal
 
 pub returns : goal.returns

@@ -1,9 +1,6 @@
 -- The way from the first slot ends where that from the present slot does.
-use Rattle.std.specs.Prelude.{Option, Some}
-use Rattle.base.specs.declared.ids.SlotRef.{SlotRef}
-use Rattle.machine.specs.{Machine.parent_of, Orphans.Nearest}
-use Rattle.objects.proofs.Ways.{steps_up}
-use Rattle.derivation.specs.Raising.{is_empty}
+use Rattle.{std.specs.Prelude.{Option, Some}, base.specs.declared.ids.SlotRef.SlotRef}
+use Rattle.{machine.specs.{Machine.parent_of, Orphans.Nearest}, objects.proofs.Ways.steps_up, derivation.specs.Raising.is_empty}
 use Rattle.derivation.proofs.raising.first_filled.Given as goal
 
 abbrev pub invariant-loop-at : goal.invariant-loop-at

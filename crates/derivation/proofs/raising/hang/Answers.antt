@@ -1,10 +1,9 @@
 -- A slot may come below what it descends from, since that stands above it.
 use Rattle.std.{specs.Prelude.{None, Option, Some}, proofs.Common.{◌∙◌, ap, subst, sym}}
-use Rattle.base.specs.declared.ids.SlotRef.{SlotRef}
-use Rattle.machine.specs.{Machine.with_parent, Tree.IsRanked}
+use Rattle.{base.specs.declared.ids.SlotRef.SlotRef, machine.specs.{Machine.with_parent, Tree.IsRanked}}
 use Rattle.objects.proofs.PairLemmas.{place-without_parent}
-use Rattle.derivation.{specs.{Raising.parent_hung, Removing.HasParents}, proofs.Hangs.{below_named, high_end, hung_below, hung_root}}
-use Rattle.derivation.proofs.{Hangs.{low_end, ranked_hung}, Moves.slot_without_parent, Pairs.taken_from_parent}
+use Rattle.derivation.{specs.{Raising.parent_hung, Removing.HasParents}, proofs.Hangs.{below_named, high_end, hung_below}}
+use Rattle.derivation.proofs.{Hangs.{hung_root, low_end, ranked_hung}, Moves.slot_without_parent, Pairs.taken_from_parent}
 use Rattle.derivation.proofs.raising.hang.Goals as goal
 
 pub attach-requires-clause-below : goal.attach-requires-clause-below

@@ -1,9 +1,8 @@
 -- Each turn hangs one slot, and goes on to the parent that it had.
 use Rattle.std.{specs.Prelude.Some, proofs.Common.{◌∙◌, ◌≡◌, sym, true}}
-use Rattle.machine.specs.Machine.{parent_of}
-use Rattle.objects.proofs.Ways.{way_shortens}
-use Rattle.derivation.{specs.Raising.is_empty, proofs.Hangs.{below_heir, below_next, filled_raised, parent_as_first, rest_raised}}
-use Rattle.derivation.proofs.{Hangs.{root_raised, seen_empty, way_next}, raising.hang_way.Goals.In-Some}
+use Rattle.{machine.specs.Machine.parent_of, objects.proofs.Ways.way_shortens}
+use Rattle.derivation.{specs.Raising.is_empty, proofs.Hangs.{below_heir, below_next, filled_raised, parent_as_first}}
+use Rattle.derivation.proofs.{Hangs.{rest_raised, root_raised, seen_empty, way_next}, raising.hang_way.Goals.In-Some}
 use Rattle.derivation.proofs.raising.hang_way.Goals as goal
 
 pub hang-requires : goal.hang-requires

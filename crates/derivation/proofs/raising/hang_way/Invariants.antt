@@ -2,8 +2,7 @@
 use Rattle.std.{specs.Prelude.Some, proofs.Common.{◌≡◌, ◌⊎◌}}
 use Rattle.base.specs.declared.ids.SlotRef.{SlotRef}
 use Rattle.machine.specs.{Machine.{Machine, parent_of, same_slot}, Orphans.Nearest, WellFormed.Descends}
-use Rattle.objects.proofs.Ways.{steps_up}
-use Rattle.derivation.specs.Raising.{AreRaisedFrom, is_empty}
+use Rattle.{objects.proofs.Ways.steps_up, derivation.specs.Raising.{AreRaisedFrom, is_empty}}
 use Rattle.derivation.proofs.raising.hang_way.Given as goal
 
 abbrev pub invariant-loop-heir : goal.invariant-loop-heir

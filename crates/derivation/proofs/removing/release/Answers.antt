@@ -1,9 +1,8 @@
 -- Each child that is left is taken away, until there is none.
 use Rattle.std.{specs.{FinMap.keys, Prelude.None}, proofs.Common.{◌<◌, ◌∙◌, ap, subst, sym}}
-use Rattle.machine.specs.Machine.{Machine, parent_of}
-use Rattle.objects.proofs.Ways.{among_keys}
-use Rattle.derivation.{specs.Removing.parent_past, proofs.{Children.{children_among, one_taken}, Removals.{had_parent, leaf_past}}}
-use Rattle.derivation.proofs.Removals.{released_step, rest_without}
+use Rattle.{machine.specs.Machine.{Machine, parent_of}, objects.proofs.Ways.among_keys}
+use Rattle.derivation.{specs.Removing.parent_past, proofs.Children.{children_among, one_taken}}
+use Rattle.derivation.proofs.Removals.{had_parent, leaf_past, released_step, rest_without}
 use Rattle.derivation.proofs.removing.release.Goals as goal
 
 pub loop-child-smaller : goal.loop-child-smaller

@@ -1,7 +1,6 @@
 -- The tree, once all children are given up, is the one that it would be if all had been at first. Each turn leaves one less.
 use Rattle.std.{specs.{FinMap.keys, Prelude.{None, Some}}, proofs.Common.◌≡◌}
-use Rattle.base.specs.declared.ids.SlotRef.{SlotRef}
-use Rattle.machine.specs.Machine.{parent_of}
+use Rattle.{base.specs.declared.ids.SlotRef.SlotRef, machine.specs.Machine.parent_of}
 use Rattle.derivation.{specs.Removing.parent_past, proofs.Children.children_among}
 use Rattle.derivation.proofs.removing.release.Given as goal
 

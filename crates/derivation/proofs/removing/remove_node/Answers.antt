@@ -1,5 +1,4 @@
-use Rattle.std.proofs.Common.{subst, sym}
-use Rattle.derivation.{specs.Removing.{HasParents, parent_past, parent_without}, proofs.Removals.leaves}
+use Rattle.{std.proofs.Common.{subst, sym}, derivation.{specs.Removing.{HasParents, parent_past, parent_without}, proofs.Removals.leaves}}
 use Rattle.derivation.proofs.removing.remove_node.Goals as goal
 
 pub returns : goal.returns

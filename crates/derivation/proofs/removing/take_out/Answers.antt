@@ -1,5 +1,4 @@
-use Rattle.machine.specs.WellFormed.{child}
-use Rattle.derivation.proofs.Leavings.{node_left}
+use Rattle.{machine.specs.WellFormed.child, derivation.proofs.Leavings.node_left}
 use Rattle.derivation.proofs.removing.take_out.Goals as goal
 
 pub returns : goal.returns

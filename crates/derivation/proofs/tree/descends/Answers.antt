@@ -1,8 +1,7 @@
 -- Each step up the tree leaves a shorter way, and a slot descends from its parent and from what stands above that.
 use Rattle.std.proofs.Common.{◌∙◌, inl, inr, refl, subst, sym}
 use Rattle.machine.{specs.WellFormed.{Descends, child, further}, proofs.Ids.slots_same}
-use Rattle.objects.proofs.Ways.{way_shortens}
-use Rattle.derivation.proofs.Climbs.{descends_by, slots_differ}
+use Rattle.{objects.proofs.Ways.way_shortens, derivation.proofs.Climbs.{descends_by, slots_differ}}
 use Rattle.derivation.proofs.tree.descends.Goals as goal
 
 pub returns-then-eq : goal.returns-then-eq

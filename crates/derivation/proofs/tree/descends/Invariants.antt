@@ -1,7 +1,6 @@
 -- The slot descends from the other exactly if the present slot does.
 use Rattle.std.specs.Prelude.{◌↔◌}
-use Rattle.machine.specs.WellFormed.{Descends}
-use Rattle.objects.proofs.Ways.{steps_up}
+use Rattle.{machine.specs.WellFormed.Descends, objects.proofs.Ways.steps_up}
 use Rattle.derivation.proofs.tree.descends.Given as goal
 
 abbrev pub invariant-loop-parent : goal.invariant-loop-parent

@@ -1,7 +1,6 @@
 -- The tree, once all children are handed over, is the one that it would be if all had been at first. Each turn leaves one less.
 use Rattle.std.{specs.{FinMap.keys, Prelude.IsTrue}, proofs.Common.◌≡◌}
-use Rattle.machine.specs.Machine.{has_slot}
-use Rattle.objects.specs.Pairs.{IsFilledOrGoing}
+use Rattle.{machine.specs.Machine.has_slot, objects.specs.Pairs.IsFilledOrGoing}
 use Rattle.derivation.{specs.Moving.{StandsNoLower, handed_over}, proofs.Children.children_among}
 use Rattle.derivation.proofs.tree.hand_over.Given as goal
 

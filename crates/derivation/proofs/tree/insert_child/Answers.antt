@@ -1,5 +1,4 @@
-use Rattle.std.proofs.Common.{inl}
-use Rattle.derivation.proofs.{Moves.slot_filled, Ranks.ranked_insert}
+use Rattle.{std.proofs.Common.inl, derivation.proofs.{Moves.slot_filled, Ranks.ranked_insert}}
 use Rattle.derivation.proofs.tree.insert_child.Goals as goal
 
 pub attach-requires-clause-below : goal.attach-requires-clause-below

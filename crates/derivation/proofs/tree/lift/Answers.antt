@@ -1,7 +1,6 @@
 -- The parent of one slot becomes that of another, which gets the rank of the first.
 use Rattle.std.proofs.Common.{◌∙◌, ap, subst, sym}
-use Rattle.machine.specs.{Machine.with_parent, Tree.IsRanked}
-use Rattle.objects.proofs.PairLemmas.{place-without_parent}
+use Rattle.{machine.specs.{Machine.with_parent, Tree.IsRanked}, objects.proofs.PairLemmas.place-without_parent}
 use Rattle.derivation.{specs.Moving.StandsNoLower, proofs.Moves.{lifted-none, lifted-some, slot_without_parent}}
 use Rattle.derivation.proofs.{Pairs.root_without_parent, Ranks.{lifted_root, lifted_under}}
 use Rattle.derivation.proofs.tree.lift.Goals as goal

@@ -1,6 +1,5 @@
 use Rattle.std.{specs.List.flat_map, proofs.Common.{◌++◌, ◌≡◌, string_bytes, take}}
-use Rattle.policy.specs.Policy.{allows}
-use Rattle.diagram.specs.{Folded.arrow_text, Programs.program_of}
+use Rattle.{policy.specs.Policy.allows, diagram.specs.{Folded.arrow_text, Programs.program_of}}
 use Rattle.diagram.proofs.arrows.write_arrows.Given as goal
 
 -- the arrows from the programs so far are written

@@ -1,6 +1,5 @@
 use Rattle.std.{specs.List.filter, proofs.Common.{◌≡◌, map, take}}
-use Rattle.policy.specs.Policy.{allows}
-use Rattle.diagram.specs.{Programs.program_of, Regions.is_inside}
+use Rattle.{policy.specs.Policy.allows, diagram.specs.{Programs.program_of, Regions.is_inside}}
 use Rattle.diagram.proofs.boxes.inside.Given as goal
 
 -- those so far that the program alone uses are kept

@@ -1,6 +1,5 @@
 use Rattle.std.proofs.Common.{◌∙◌, sym}
-use Rattle.policy.specs.Policy.{allows}
-use Rattle.diagram.proofs.Rows.{apart_is}
+use Rattle.{policy.specs.Policy.allows, diagram.proofs.Rows.apart_is}
 use Rattle.diagram.proofs.boxes.is_inside.Goals as goal
 
 pub returns-then-uses : goal.returns-then-uses

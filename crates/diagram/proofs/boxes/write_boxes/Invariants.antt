@@ -1,6 +1,5 @@
 use Rattle.std.{specs.List.flat_map, proofs.Common.{◌++◌, ◌≡◌, map, string_bytes, take}}
-use Rattle.policy.specs.Policy.{allows}
-use Rattle.diagram.specs.{Folded.box_text, Programs.program_of}
+use Rattle.{policy.specs.Policy.allows, diagram.specs.{Folded.box_text, Programs.program_of}}
 use Rattle.diagram.proofs.boxes.write_boxes.Given as goal
 
 -- the boxes so far are written

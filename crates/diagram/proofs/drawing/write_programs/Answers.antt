@@ -1,6 +1,5 @@
 use Rattle.std.proofs.Common.{◌∙◌, ap}
-use Rattle.reach.specs.Extents.{limits_by}
-use Rattle.diagram.proofs.Rows.{drawing_is}
+use Rattle.{reach.specs.Extents.limits_by, diagram.proofs.Rows.drawing_is}
 use Rattle.diagram.proofs.drawing.write_programs.Goals as goal
 
 pub returns-clause-text : goal.returns-clause-text

@@ -1,6 +1,5 @@
 use Rattle.std.{specs.List.filter, proofs.Common.{◌≡◌, take}}
-use Rattle.policy.specs.Policy.{allows}
-use Rattle.diagram.specs.{Programs.program_of, Regions.is_between}
+use Rattle.{policy.specs.Policy.allows, diagram.specs.{Programs.program_of, Regions.is_between}}
 use Rattle.diagram.proofs.verbs.between.Given as goal
 
 -- those so far to which the one does this and which the other uses are kept

@@ -1,7 +1,6 @@
 -- A system that gains nothing by any change lies within the old one.
 use Rattle.reach.specs.Extents.{limits_of}
-use Rattle.diff.specs.Twins.{twin_by_name}
-use Rattle.diff.proofs.{LesserReaches.{keep, lies, twins_there}, WithinClaims.unbroken}
+use Rattle.diff.{specs.Twins.twin_by_name, proofs.{LesserReaches.{keep, lies, twins_there}, WithinClaims.unbroken}}
 use Rattle.diff.proofs.within.systems_that_gain_nothing_lie_within.Goals as goal
 
 pub returns-clause-within : goal.returns-clause-within

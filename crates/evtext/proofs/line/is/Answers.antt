@@ -1,5 +1,4 @@
-use Rattle.std.proofs.Common.{arith}
-use Rattle.evtext.proofs.SameBytes.{same_by_bytes}
+use Rattle.{std.proofs.Common.arith, evtext.proofs.SameBytes.same_by_bytes}
 use Rattle.evtext.proofs.line.is.Goals as goal
 
 pub returns : goal.returns

@@ -1,7 +1,6 @@
-use Rattle.std.{specs.{Iterator.Adapters.{zip_first, zip_second}, List.zip, Slice.Iter.iter_rest}, proofs.Common.{◌∙◌, ◌∷◌, ap, length}}
-use Rattle.std.proofs.{Common.{map, sym, take}, lemmas.{List.length_push, Slice.Zip.{zip_end, zip_turn}}}
-use Rattle.words.specs.Text.{text_of}
-use Rattle.evtext.{specs.Log.{entry_words, log_header}, proofs.Logs.{lines_all, lines_more}}
+use Rattle.std.specs.{Iterator.Adapters.{zip_first, zip_second}, List.zip, Slice.Iter.iter_rest}
+use Rattle.std.proofs.{Common.{◌∙◌, ◌∷◌, ap, length, map, sym, take}, lemmas.{List.length_push, Slice.Zip.{zip_end, zip_turn}}}
+use Rattle.{words.specs.Text.text_of, evtext.{specs.Log.{entry_words, log_header}, proofs.Logs.{lines_all, lines_more}}}
 use Rattle.evtext.proofs.log.run_bytes.Goals as goal
 
 pub loop-event-preserved : goal.loop-event-preserved

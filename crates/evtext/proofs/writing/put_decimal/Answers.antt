@@ -1,5 +1,4 @@
-use Rattle.std.proofs.{Common.{arith, refl}, lemmas.Fmt.decimal_digit}
-use Rattle.evtext.proofs.PairsOfDigits.{one_length}
+use Rattle.{std.proofs.{Common.{arith, refl}, lemmas.Fmt.decimal_digit}, evtext.proofs.PairsOfDigits.one_length}
 use Rattle.evtext.proofs.writing.put_decimal.Goals as goal
 
 pub push_reserved-requires : goal.push_reserved-requires

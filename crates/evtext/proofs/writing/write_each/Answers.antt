@@ -1,5 +1,4 @@
-use Rattle.std.{specs.Fmt.decimal, proofs.Common.arith}
-use Rattle.evtext.proofs.Lines.{words_more}
+use Rattle.{std.{specs.Fmt.decimal, proofs.Common.arith}, evtext.proofs.Lines.words_more}
 use Rattle.evtext.proofs.writing.write_each.Goals as goal
 
 pub loop-number-preserved : goal.loop-number-preserved

@@ -1,10 +1,8 @@
 -- Each turn adds one row more, that of the label with the next number.
 use Rattle.std.proofs.{Common.{[], ℕ, ◌++◌, ◌+◌, ◌<◌, ◌∷◌, ◌≡◌, arith, subst, sym, true}, lemmas.{Bool.false≢true, Grind.common_steps}}
-use Rattle.base.specs.{declared.labels.Labels.Labels, Labels.is_in}
-use Rattle.reach.specs.Extents.{limits_of}
+use Rattle.{base.specs.{declared.labels.Labels.Labels, Labels.is_in}, reach.specs.Extents.limits_of}
 use Rattle.flows.proofs.RowByRow.{AreRowsBelow, IsRowOf, all_rows, row_more}
-use Rattle.filters.specs.Ways.{FlowsDirectly}
-use Rattle.filters.proofs.graph.arrow_rows.Goals.{in-Some+in_ok-push, in_default}
+use Rattle.filters.{specs.Ways.FlowsDirectly, proofs.graph.arrow_rows.Goals.{in-Some+in_ok-push, in_default}}
 use Rattle.filters.proofs.graph.arrow_rows.Goals as goal
 
 pub loop-number-preserved : goal.loop-number-preserved

@@ -1,7 +1,5 @@
 -- The rows of the labels so far are there.
-use Rattle.reach.specs.Extents.{limits_of}
-use Rattle.flows.proofs.RowByRow.{AreRowsBelow}
-use Rattle.filters.specs.Ways.{FlowsDirectly}
+use Rattle.{reach.specs.Extents.limits_of, flows.proofs.RowByRow.AreRowsBelow, filters.specs.Ways.FlowsDirectly}
 use Rattle.filters.proofs.graph.arrow_rows.Given as goal
 
 abbrev pub invariant-loop-number : goal.invariant-loop-number

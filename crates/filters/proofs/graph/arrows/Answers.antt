@@ -1,9 +1,7 @@
 -- The arrows are the flows by objects of the label itself, or of none that acts, and those by objects of the other label.
-use Rattle.std.proofs.Common.{ap, not, ◌&&◌, ◌∙◌, ◌==◌, ◌↔◌, ◌≡◌, subst, true}
-use Rattle.base.specs.{declared.labels.Labels.Labels, Labels.is_in}
-use Rattle.reach.specs.{Extents.limits_of, Reach.TableReach}
-use Rattle.flows.specs.Flowing.{FlowsBeside}
-use Rattle.filters.proofs.Arrows.{arrows_told}
+use Rattle.std.proofs.Common.{◌&&◌, ◌↔◌, ◌∙◌, ◌≡◌, ap, not, subst, true}
+use Rattle.{base.specs.{declared.labels.Labels.Labels, Labels.is_in}, reach.specs.{Extents.limits_of, Reach.TableReach}}
+use Rattle.{flows.specs.Flowing.FlowsBeside, filters.proofs.Arrows.arrows_told}
 use Rattle.filters.proofs.graph.arrows.Goals as goal
 
 pub returns : goal.returns

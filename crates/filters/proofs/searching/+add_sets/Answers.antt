@@ -1,10 +1,8 @@
 -- The sets that complete a stage: none, what is chosen, or those with the first label and then those without it.
-use Rattle.std.proofs.Common.{ℕ, ◌&&◌, ◌+◌, ◌-◌, ◌==◌, ◌||◌, ◌∙◌, ◌≡◌, None, Option, Some, ap, arith, not, subst, sym}
-use Rattle.std.{specs.Option.MatchOption, proofs.lemmas.Result.IfOk-weaker}
-use Rattle.base.specs.{declared.labels.Labels.Labels, Labels.is_in}
-use Rattle.filters.specs.Stages.{AreAdded, AreUseful, Completes}
-use Rattle.filters.proofs.{Adding.{none_added, one_tried}, Staging.{added_all, added_some, chosen_alone, chosen_completes, fewer_allowed, is_with, is_without}}
-use Rattle.filters.proofs.Staging.{none_useful}
+use Rattle.std.{specs.Option.MatchOption, proofs.Common.{ℕ, ◌&&◌, ◌+◌, ◌-◌, ◌==◌, ◌||◌, ◌∙◌, ◌≡◌, ap, arith, not, subst}}
+use Rattle.{std.proofs.lemmas.Result.IfOk-weaker, base.specs.{declared.labels.Labels.Labels, Labels.is_in}}
+use Rattle.filters.{specs.Stages.{AreAdded, AreUseful, Completes}, proofs.Adding.{none_added, one_tried}}
+use Rattle.filters.proofs.Staging.{added_all, added_some, chosen_alone, chosen_completes, fewer_allowed, is_with, is_without, none_useful}
 use Rattle.filters.proofs.searching.+add_sets.Goals as goal
 
 pub returns-in_default : goal.returns-in_default

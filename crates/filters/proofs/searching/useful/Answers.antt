@@ -1,9 +1,7 @@
 -- Each turn finds one way more, without the labels of those before.
-use Rattle.std.proofs.Common.{ℕ, ◌≡◌, None, Option, Some, arith, subst, sym}
-use Rattle.std.specs.Option.{MatchOption}
-use Rattle.base.specs.{declared.labels.Labels.Labels, Labels.is_in}
-use Rattle.filters.specs.{Stages.{AreBetween}, Ways.Way}
-use Rattle.filters.proofs.Staging.{ArePacked, all_packed, more_packed, too_many}
+use Rattle.std.{specs.Option.MatchOption, proofs.Common.{◌≡◌, arith, subst}}
+use Rattle.base.specs.Labels.{is_in}
+use Rattle.filters.{specs.{Stages.AreBetween, Ways.Way}, proofs.Staging.{ArePacked, all_packed, more_packed, too_many}}
 use Rattle.filters.proofs.searching.useful.Goals as goal
 
 pub loop-count-preserved : goal.loop-count-preserved

@@ -1,8 +1,6 @@
 -- Each turn looks for sets of one label more, while no set has fewer.
-use Rattle.std.proofs.{Common.{◌<◌, ◌∙◌, ◌≡◌, arith, length, sym}, lemmas.{Bool.eqb-true, Grind.common_steps}}
-use Rattle.base.specs.{declared.labels.Labels.Labels, Labels.is_in}
-use Rattle.filters.specs.{Smallest.HasSize, Stages.Completes, Ways.Separates}
-use Rattle.filters.proofs.Fewest.{begun, completes_all, first_alike, more}
+use Rattle.std.proofs.{Common.{◌<◌, ◌≡◌, arith, length}, lemmas.Grind.common_steps}
+use Rattle.filters.{specs.{Smallest.HasSize, Stages.Completes, Ways.Separates}, proofs.Fewest.{begun, completes_all, first_alike, more}}
 use Rattle.filters.proofs.smallest.fewest.Goals as goal
 
 pub returns-then-not-is_empty : goal.returns-then-not-is_empty

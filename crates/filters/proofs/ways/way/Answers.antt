@@ -1,11 +1,9 @@
 -- Each turn takes a step, until one leads to the end, or all are done.
-use Rattle.std.proofs.Common.{[], ℕ, ◌&&◌, ◌*◌, ◌++◌, ◌+◌, ◌-◌, ◌<◌, ◌==◌, ◌||◌, ◌∙◌, ◌∷◌, ◌≡◌, ◌≤◌, List, ap, arith, get_or, length, not, refl, subst, sym}
-use Rattle.std.proofs.lemmas.{Bool.{and_parts, eq-eqb, or_left, or_right}, Grind.common_steps, List.get_or_default}
+use Rattle.std.proofs.Common.{[], ℕ, ◌*◌, ◌++◌, ◌+◌, ◌-◌, ◌<◌, ◌==◌, ◌||◌, ◌∙◌, ◌∷◌, ◌≡◌, ◌≤◌, List, ap, arith, get_or, length, not, refl}
+use Rattle.std.proofs.{Common.{subst, sym}, lemmas.{Bool.{and_parts, eq-eqb, or_left, or_right}, Grind.common_steps, List.get_or_default}}
 use Rattle.base.specs.{declared.labels.Labels.Labels, Labels.{is_in, no_labels}}
-use Rattle.flows.{specs.Rows.row_at, proofs.Chains.was_not}
-use Rattle.sharp.proofs.Missing.{fewer_missing, missing_below}
-use Rattle.filters.specs.declared.ways.Step.{Step}
-use Rattle.filters.proofs.Walking.{IsStep, arrived, first_steps, more_steps, none_leads}
+use Rattle.{sharp.proofs.Missing.{fewer_missing, missing_below}, flows.{specs.Rows.row_at, proofs.Chains.was_not}}
+use Rattle.filters.{specs.declared.ways.Step.Step, proofs.Walking.{IsStep, arrived, first_steps, more_steps, none_leads}}
 use Rattle.filters.proofs.ways.way.Goals as goal
 
 -- a label's row, as it is read

@@ -1,8 +1,6 @@
 -- Steps are found until one leads to the end, or all are done.
 use Rattle.std.proofs.Common.{◌*◌, ◌+◌, ◌-◌, length}
-use Rattle.base.specs.Labels.{is_in}
-use Rattle.sharp.proofs.Missing.{missing_below}
-use Rattle.filters.proofs.Walking.{AreSteps}
+use Rattle.{base.specs.Labels.is_in, sharp.proofs.Missing.missing_below, filters.proofs.Walking.AreSteps}
 use Rattle.filters.proofs.ways.way.Given as goal
 
 abbrev pub invariant-loop-at : goal.invariant-loop-at

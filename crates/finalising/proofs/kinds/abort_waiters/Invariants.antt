@@ -1,7 +1,6 @@
 -- Links stay agreed, and who still waits is left to be aborted.
 use Rattle.std.specs.Prelude.{◌≡◌, length}
-use Rattle.machine.specs.{Machine.queue_of, WellFormed.LinksAgree}
-use Rattle.finalising.specs.Finalised.{members, with_waiters_aborted}
+use Rattle.{machine.specs.{Machine.queue_of, WellFormed.LinksAgree}, finalising.specs.Finalised.{members, with_waiters_aborted}}
 use Rattle.finalising.proofs.kinds.abort_waiters.Given as goal
 
 abbrev pub invariant-loop-thread : goal.invariant-loop-thread

@@ -1,8 +1,6 @@
 -- Each turn takes one more of those that go.
 use Rattle.std.{specs.Prelude.{List, None, Some, slice_get}, proofs.Common.{◌∙◌, ◌≡◌, ◌≤◌, ap, arith, length, subst, sym}}
-use Rattle.std.proofs.lemmas.List.{take_all}
-use Rattle.base.specs.declared.ids.ObjId.{ObjId}
-use Rattle.machine.specs.Releasing.{with_holder_halted}
+use Rattle.{std.proofs.lemmas.List.take_all, base.specs.declared.ids.ObjId.ObjId, machine.specs.Releasing.with_holder_halted}
 use Rattle.finalising.{specs.Finalised.with_links_cut, proofs.Passes.{LinksCut, agreed_in, all_cut, is_taken, next_cut, next_halted}}
 use Rattle.finalising.proofs.{Passes.none_halted, pass.finalise.Goals.{in-Some, in-Some-going, in_default, in_default-going}}
 use Rattle.finalising.proofs.pass.finalise.Goals as goal

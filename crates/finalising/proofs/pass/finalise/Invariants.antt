@@ -1,6 +1,5 @@
 -- First the replies so far have let go of their threads, and then all so far has lost its links.
-use Rattle.std.proofs.Common.{take}
-use Rattle.finalising.proofs.Passes.{HoldersHalted, LinksCut}
+use Rattle.{std.proofs.Common.take, finalising.proofs.Passes.{HoldersHalted, LinksCut}}
 use Rattle.finalising.proofs.pass.finalise.Given as goal
 
 abbrev pub invariant-loop-place : goal.invariant-loop-place

@@ -1,12 +1,9 @@
 -- A system is fixed if no filled slot is loose, slot by slot.
-use Rattle.std.proofs.Common.{◌∙◌, ap, arith, below_more, length, refl, sym}
-use Rattle.std.proofs.lemmas.Option.{same_Some}
-use Rattle.machine.specs.declared.layout.Filled.{Filled}
-use Rattle.table.proofs.Lookups.{read_at}
-use Rattle.fixed.specs.Loose.{is_loose}
-use Rattle.fixed.proofs.LooseSlots.{loose_breaks, none_loose}
-use Rattle.fixed.proofs.deciding.is_fixed.Goals as goal
 use mathlib.Core.Bool.{false≢true}
+use Rattle.std.proofs.{Common.{◌∙◌, ap, arith, below_more, length, refl, sym}, lemmas.Option.same_Some}
+use Rattle.{machine.specs.declared.layout.Filled.Filled, table.proofs.Lookups.read_at}
+use Rattle.fixed.{specs.Loose.is_loose, proofs.LooseSlots.{loose_breaks, none_loose}}
+use Rattle.fixed.proofs.deciding.is_fixed.Goals as goal
 
 pub returns-then-is_loose : goal.returns-then-is_loose
 returns-then-is_loose c =

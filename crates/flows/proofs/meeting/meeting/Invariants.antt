@@ -1,8 +1,6 @@
 -- The labels that are found are those whose row, of the rows so far, has a label of the set.
 use Rattle.std.proofs.Common.{ℕ, ◌↔◌, ◌≡◌, true}
-use Rattle.base.specs.Labels.{is_in}
-use Rattle.policy.proofs.Stepping.{IsBelow}
-use Rattle.flows.specs.Rows.{Meets}
+use Rattle.{base.specs.Labels.is_in, policy.proofs.Stepping.IsBelow, flows.specs.Rows.Meets}
 use Rattle.flows.proofs.meeting.meeting.Given as goal
 
 abbrev pub invariant-loop-number : goal.invariant-loop-number

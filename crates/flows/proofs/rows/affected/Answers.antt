@@ -1,5 +1,4 @@
-use Rattle.base.specs.Labels.{is_in}
-use Rattle.policy.proofs.Gathering.{either}
+use Rattle.{base.specs.Labels.is_in, policy.proofs.Gathering.either}
 use Rattle.flows.proofs.rows.affected.Goals as goal
 
 pub returns : goal.returns

@@ -1,5 +1,4 @@
-use Rattle.std.proofs.Common.{arith}
-use Rattle.flows.proofs.SeeSets.{below_count}
+use Rattle.{std.proofs.Common.arith, flows.proofs.SeeSets.below_count}
 use Rattle.flows.proofs.rows.labels_are_few.Goals as goal
 
 pub returns : goal.returns

@@ -1,5 +1,4 @@
-use Rattle.base.specs.Labels.{is_in}
-use Rattle.policy.proofs.Gathering.{either, only_tells}
+use Rattle.{base.specs.Labels.is_in, policy.proofs.Gathering.{either, only_tells}}
 use Rattle.flows.proofs.rows.needed.Goals as goal
 
 pub returns : goal.returns

@@ -1,6 +1,5 @@
 -- The rows of the labels so far are there.
-use Rattle.reach.specs.Extents.{limits_of}
-use Rattle.flows.{specs.Flowing.DependsOn, proofs.RowByRow.AreRowsBelow}
+use Rattle.{reach.specs.Extents.limits_of, flows.{specs.Flowing.DependsOn, proofs.RowByRow.AreRowsBelow}}
 use Rattle.flows.proofs.rows.needed_rows.Given as goal
 
 abbrev pub invariant-loop-number : goal.invariant-loop-number

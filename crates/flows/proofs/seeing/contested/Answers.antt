@@ -1,7 +1,5 @@
-use Rattle.std.proofs.Common.{arith}
-use Rattle.base.specs.{declared.kind.Kind.TheVariants.Await, Labels.is_in}
-use Rattle.policy.specs.Policy.{allows}
-use Rattle.flows.proofs.Contested.{twice_contested}
+use Rattle.{std.proofs.Common.arith, base.specs.{declared.kind.Kind.TheVariants.Await, Labels.is_in}}
+use Rattle.{policy.specs.Policy.allows, flows.proofs.Contested.twice_contested}
 use Rattle.flows.proofs.seeing.contested.Goals as goal
 
 pub returns : goal.returns

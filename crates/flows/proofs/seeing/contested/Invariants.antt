@@ -1,8 +1,6 @@
 -- The labels are known for whose notifications one of the labels so far waits, and those for which two do.
 use Rattle.std.proofs.Common.{ℕ, ◌↔◌, ◌≡◌, true}
-use Rattle.base.specs.Labels.{is_in}
-use Rattle.policy.specs.Policy.{allows}
-use Rattle.flows.proofs.Contested.{IsOnce, IsTwice}
+use Rattle.{base.specs.Labels.is_in, policy.specs.Policy.allows, flows.proofs.Contested.{IsOnce, IsTwice}}
 use Rattle.flows.proofs.seeing.contested.Given as goal
 
 abbrev pub invariant-loop-number : goal.invariant-loop-number

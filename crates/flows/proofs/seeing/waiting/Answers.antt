@@ -1,5 +1,4 @@
-use Rattle.base.specs.Labels.{is_in}
-use Rattle.policy.proofs.Gathering.{both, itself_tells}
+use Rattle.{base.specs.Labels.is_in, policy.proofs.Gathering.{both, itself_tells}}
 use Rattle.flows.proofs.seeing.waiting.Goals as goal
 
 pub returns : goal.returns

@@ -1,12 +1,9 @@
 -- The text says that nothing flows, or tells the smallest sets and a chain.
 use Rattle.std.{specs.Option.MatchOption, proofs.Common.{◌≡◌, codes, rules, subst}}
-use Rattle.base.specs.{Labels.is_in}
-use Rattle.reach.specs.{Extents.limits_of, Reach.TableReach}
-use Rattle.flows.specs.{Chains.IsChain, Flowing.GoesThrough}
-use Rattle.filters.specs.Smallest.{IsFilterSet, IsSmallest}
-use Rattle.flowtext.specs.FlowText.{IsFlowText.{none, some}, reached_text}
+use Rattle.{base.specs.Labels.is_in, reach.specs.{Extents.limits_of, Reach.TableReach}}
+use Rattle.{flows.specs.{Chains.IsChain, Flowing.GoesThrough}, filters.specs.Smallest.{IsFilterSet, IsSmallest}}
 use Rattle.flowtext.specs.declared.flow.TheConstants.{MOST_SETS}
-use Rattle.flowtext.proofs.Avoiding.{none_avoided}
+use Rattle.flowtext.{specs.FlowText.{IsFlowText.{none, some}, reached_text}, proofs.Avoiding.none_avoided}
 use Rattle.flowtext.proofs.flow.flow_text.Goals as goal
 
 pub returns-in-Some-clause-text : goal.returns-in-Some-clause-text

@@ -1,6 +1,5 @@
 use Rattle.std.{specs.{List.range_with_len, Prelude.All}, proofs.Common.{◌≡◌, map, take}}
-use Rattle.reach.specs.Extents.{limits_of}
-use Rattle.flowtext.specs.FlowMatrix.{IsFlowRow}
+use Rattle.{reach.specs.Extents.limits_of, flowtext.specs.FlowMatrix.IsFlowRow}
 use Rattle.flowtext.proofs.rows.rows_of.Given as goal
 
 -- the rows of the labels so far are there

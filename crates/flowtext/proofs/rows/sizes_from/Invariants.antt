@@ -1,6 +1,5 @@
 use Rattle.std.proofs.Common.{ℕ, ◌<◌, ◌≡◌, get_or, length}
-use Rattle.reach.specs.Extents.{limits_of}
-use Rattle.flowtext.specs.{FlowMatrix.IsSize, declared.rows.Size.Size as size}
+use Rattle.{reach.specs.Extents.limits_of, flowtext.specs.{declared.rows.Size.Size as size, FlowMatrix.IsSize}}
 use Rattle.flowtext.proofs.rows.sizes_from.Given as goal
 
 -- the sizes for the labels so far are there

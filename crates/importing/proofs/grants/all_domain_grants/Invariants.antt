@@ -1,7 +1,6 @@
 -- The capabilities so far are those of the first domains.
 use Rattle.std.{specs.List.{flat_map, range_with_len}, proofs.Common.◌≡◌}
-use Rattle.microkit.specs.View.{description_of}
-use Rattle.importing.specs.Grants.{domain_grants}
+use Rattle.{microkit.specs.View.description_of, importing.specs.Grants.domain_grants}
 use Rattle.importing.proofs.grants.all_domain_grants.Given as goal
 
 abbrev pub invariant-loop-n : goal.invariant-loop-n

@@ -1,6 +1,5 @@
 use Rattle.std.proofs.Common.{◌∙◌, sym}
-use Rattle.microkit.specs.View.{domain_of}
-use Rattle.importing.{specs.Slots.is_child, proofs.Items.position_seen}
+use Rattle.{microkit.specs.View.domain_of, importing.{specs.Slots.is_child, proofs.Items.position_seen}}
 use Rattle.importing.proofs.slots.child_number.Goals as goal
 
 pub returns : goal.returns

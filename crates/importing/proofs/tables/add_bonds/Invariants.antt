@@ -1,7 +1,6 @@
 -- The bindings that are left, added to the table so far, give what all of them give.
 use Rattle.std.proofs.Common.{◌≡◌, drop}
-use Rattle.microkit.specs.View.{description_of}
-use Rattle.importing.specs.Tables.{bonds_added}
+use Rattle.{microkit.specs.View.description_of, importing.specs.Tables.bonds_added}
 use Rattle.importing.proofs.tables.add_bonds.Given as goal
 
 abbrev pub invariant-loop-bond : goal.invariant-loop-bond

@@ -1,6 +1,5 @@
 use Rattle.std.proofs.Common.{◌∙◌}
-use Rattle.microkit.specs.View.{description_of}
-use Rattle.importing.{specs.PlanView.maps_of, proofs.Places.{labels_distinct, labels_spelled}}
+use Rattle.{microkit.specs.View.description_of, importing.{specs.PlanView.maps_of, proofs.Places.{labels_distinct, labels_spelled}}}
 use Rattle.importing.proofs.tables.planned.Goals as goal
 
 pub returns-clause-names : goal.returns-clause-names

@@ -1,8 +1,7 @@
 -- Each loss, by itself, is a shrinking.
-use Rattle.std.proofs.Common.{inl, inr, refl}
-use Rattle.machine.specs.declared.object.Object.{Object as o}
-use Rattle.integrity.{specs.Shrinks.{Lessens.{freed, released, unbound}, Stops.{aborted, goes_on, halted}}, proofs.Losses.blocked}
-use Rattle.integrity.proofs.Losses.{capability_left, lessened, member_left}
+use Rattle.{std.proofs.Common.{inl, inr, refl}, machine.specs.declared.object.Object.Object as o}
+use Rattle.integrity.specs.Shrinks.{Lessens.{freed, released, unbound}, Stops.{aborted, goes_on, halted}}
+use Rattle.integrity.proofs.Losses.{blocked, capability_left, lessened, member_left}
 use Rattle.integrity.proofs.laws.losses_are_shrinking.Goals as goal
 
 pub returns-clause-vanished : goal.returns-clause-vanished

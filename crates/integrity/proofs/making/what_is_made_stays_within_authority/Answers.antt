@@ -2,12 +2,9 @@
 use Rattle.std.proofs.Common.{ℕ, ◌≡◌, Ok, Some}
 use Rattle.base.specs.declared.ids.ObjId.{ObjId}
 use Rattle.machine.specs.{declared.{call.Made.Made, object.MemoryKind.MemoryKind}, Authority.label_of, Layout.Layout, Machine.Machine}
-use Rattle.machine.specs.Step.Retype.{retype_of}
-use Rattle.steps.proofs.RetypeRow.{retype_done}
-use Rattle.policy.specs.{Domain.EdgeTest}
-use Rattle.integrity.{specs.Invariant.IsSound, proofs.{Keeps.{Keeps, some_event}, RetypeKeeps.retype_keeps}}
+use Rattle.{machine.specs.Step.Retype.retype_of, steps.proofs.RetypeRow.retype_done, policy.specs.Domain.EdgeTest}
+use Rattle.integrity.{specs.{Invariant.IsSound, Keeping.IsSharp}, proofs.{Keeps.{Keeps, some_event}, RetypeKeeps.retype_keeps}}
 use Rattle.integrity.proofs.making.what_is_made_stays_within_authority.Goals as goal
-use Rattle.integrity.specs.Keeping.{IsSharp}
 
 keeps :
     (t : Layout) (allowed : EdgeTest) (a : ℕ) (m next : Machine) (caller : ObjId) (untyped : ℕ) (of : MemoryKind)

@@ -1,5 +1,4 @@
-use Rattle.std.proofs.Common.{inl, inr}
-use Rattle.integrity.proofs.RemovalCuts.{removed_alters}
+use Rattle.{std.proofs.Common.{inl, inr}, integrity.proofs.RemovalCuts.removed_alters}
 use Rattle.integrity.proofs.removing.a_removal_changes_what_may_be_altered.Goals as goal
 
 pub returns : goal.returns

@@ -1,6 +1,4 @@
-use Rattle.policy.proofs.Sharpness.{closed_sharply}
-use Rattle.integrity.specs.Keeping.{MayKeep}
-use Rattle.integrity.proofs.{Runs.safe_from, Starting.starts_kept}
+use Rattle.{policy.proofs.Sharpness.closed_sharply, integrity.{specs.Keeping.MayKeep, proofs.{Runs.safe_from, Starting.starts_kept}}}
 use Rattle.integrity.proofs.safe.confined_systems_are_safe.Goals as goal
 
 pub returns : goal.returns

@@ -1,7 +1,5 @@
 -- Keepers alone hold capabilities for CNodes, in every state of a run.
-use Rattle.std.proofs.Common.{ℕ}
-use Rattle.machine.specs.Layout.{Layout}
-use Rattle.policy.specs.Domain.{EdgeTest}
+use Rattle.{std.proofs.Common.ℕ, machine.specs.Layout.Layout, policy.specs.Domain.EdgeTest}
 use Rattle.integrity.specs.Keeping.{HoldsNode, MayKeep, MayKeep.{finds, handed, holds}}
 use Rattle.integrity.proofs.{Held.held_of, Reach.found_keeps, Runs.sound_at, Starting.starts_kept}
 use Rattle.integrity.proofs.safe.keepers_hold_cnode_capabilities.Goals as goal

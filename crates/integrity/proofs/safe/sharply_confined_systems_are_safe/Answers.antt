@@ -1,6 +1,5 @@
 use Rattle.policy.{specs.Sharp.Told, proofs.Sharpness.fewer_keepers}
-use Rattle.integrity.specs.Keeping.{MayKeep}
-use Rattle.integrity.proofs.{Runs.safe_from, Starting.starts_kept}
+use Rattle.integrity.{specs.Keeping.MayKeep, proofs.{Runs.safe_from, Starting.starts_kept}}
 use Rattle.integrity.proofs.safe.sharply_confined_systems_are_safe.Goals as goal
 
 pub returns-clause-keepers : goal.returns-clause-keepers

@@ -1,6 +1,5 @@
 -- A slot that the table fills is there and empty, its capability's object is there, and one more is filled.
-use Rattle.std.proofs.Common.{[], take}
-use Rattle.kernel.proofs.BootLemmas.{boot-filled, boot-has_slot, boot-object_there, boot-vacant}
+use Rattle.{std.proofs.Common.{[], take}, kernel.proofs.BootLemmas.{boot-filled, boot-has_slot, boot-object_there, boot-vacant}}
 use Rattle.kernel.proofs.boot_state.fill.Goals as goal
 
 pub put_cap-requires-clause-there : goal.put_cap-requires-clause-there

@@ -1,5 +1,4 @@
-use Rattle.std.proofs.Common.{[], take}
-use Rattle.machine.specs.Boot.{IsBoot}
+use Rattle.{std.proofs.Common.{[], take}, machine.specs.Boot.IsBoot}
 use Rattle.kernel.proofs.boot_state.with_objects.Given as goal
 
 abbrev pub invariant-loop-initial : goal.invariant-loop-initial

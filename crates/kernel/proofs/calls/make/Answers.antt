@@ -1,6 +1,5 @@
 -- A thread that is admitted is ready, and waits nowhere.
-use Rattle.std.proofs.Common.{sym}
-use Rattle.steps.proofs.{Admission.admits, Threads.caller_waits_nowhere}
+use Rattle.{std.proofs.Common.sym, steps.proofs.{Admission.admits, Threads.caller_waits_nowhere}}
 use Rattle.kernel.proofs.calls.make.Goals as goal
 
 pub wait-requires : goal.wait-requires

@@ -1,9 +1,7 @@
 -- A call that was made is a step, and so is one that was refused.
-use Rattle.std.proofs.Common.{subst, sym}
-use Rattle.base.specs.declared.refusal.Refusal.{Refusal}
+use Rattle.{std.proofs.Common.{subst, sym}, base.specs.declared.refusal.Refusal.Refusal}
 use Rattle.machine.specs.{declared.call.{Made.TheVariants.{Blocked, Done}, Outcome.TheVariants.Refused}, Step.Step}
-use Rattle.steps.proofs.Steps.{made_steps}
-use Rattle.kernel.proofs.Makings.{refused_by_row}
+use Rattle.{steps.proofs.Steps.made_steps, kernel.proofs.Makings.refused_by_row}
 use Rattle.kernel.proofs.calls.settle_call.Goals as goal
 
 pub returns-in-Ok-Blocked-clause-stepped : goal.returns-in-Ok-Blocked-clause-stepped

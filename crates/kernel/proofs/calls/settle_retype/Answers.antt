@@ -1,9 +1,7 @@
 -- A retype that was made is a step, and so is one that was refused.
-use Rattle.std.proofs.Common.{subst, sym}
-use Rattle.base.specs.declared.refusal.Refusal.{Refusal}
+use Rattle.{std.proofs.Common.{subst, sym}, base.specs.declared.refusal.Refusal.Refusal}
 use Rattle.machine.specs.{declared.call.Outcome.{Outcome, TheVariants.Refused}, Step.Step}
-use Rattle.steps.proofs.Steps.{made_steps}
-use Rattle.kernel.proofs.Makings.{unmade_is}
+use Rattle.{steps.proofs.Steps.made_steps, kernel.proofs.Makings.unmade_is}
 use Rattle.kernel.proofs.calls.settle_retype.Goals as goal
 
 pub returns-in-Ok-clause-stepped : goal.returns-in-Ok-clause-stepped

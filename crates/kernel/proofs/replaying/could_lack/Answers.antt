@@ -1,5 +1,4 @@
-use Rattle.std.proofs.Common.{sym}
-use Rattle.kernel.proofs.LegalLemmas.{follows_lack}
+use Rattle.{std.proofs.Common.sym, kernel.proofs.LegalLemmas.follows_lack}
 use Rattle.kernel.proofs.replaying.could_lack.Goals as goal
 
 pub returns : goal.returns

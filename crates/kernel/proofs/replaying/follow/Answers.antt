@@ -1,6 +1,4 @@
-use Rattle.std.proofs.Common.{refl, subst, sym}
-use Rattle.machine.specs.declared.call.Outcome.{Outcome}
-use Rattle.kernel.specs.Legal.{Follows}
+use Rattle.{std.proofs.Common.{refl, subst, sym}, machine.specs.declared.call.Outcome.Outcome, kernel.specs.Legal.Follows}
 use Rattle.kernel.proofs.replaying.follow.Goals as goal
 
 -- the log claims that memory was lacking

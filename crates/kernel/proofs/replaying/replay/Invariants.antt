@@ -1,6 +1,4 @@
-use Rattle.std.proofs.Common.{take}
-use Rattle.machine.specs.WellFormed.{IsWellFormed}
-use Rattle.kernel.specs.Legal.{Leads}
+use Rattle.{std.proofs.Common.take, machine.specs.WellFormed.IsWellFormed, kernel.specs.Legal.Leads}
 use Rattle.kernel.proofs.replaying.replay.Given as goal
 
 -- the entries so far are steps

@@ -1,8 +1,7 @@
-use Rattle.std.{specs.List.{All, zip}, proofs.Common.{[], ◌++◌, ◌+◌, ◌∙◌, ◌∷◌, ◌≡◌, List, ap, append_assoc, arith, drop, length, subst}}
-use Rattle.std.proofs.{Common.{sym, take}, Math.Seq.{drop-append_seam, take-length}, lemmas.List.{length_push, take_more}}
+use Rattle.std.{specs.List.{All, zip}, proofs.Common.{[], ◌++◌, ◌+◌, ◌∙◌, ◌∷◌, ◌≡◌, List, ap, append_assoc, arith, drop, length}}
+use Rattle.std.proofs.{Common.{subst, sym, take}, Math.Seq.{drop-append_seam, take-length}, lemmas.List.{length_push, take_more}}
 use Rattle.machine.specs.{declared.call.{Event.Event, Outcome.Outcome}, Run.Run}
-use Rattle.steps.proofs.Steps.{Ended}
-use Rattle.kernel.proofs.RunLemmas.{run_further}
+use Rattle.{steps.proofs.Steps.Ended, kernel.proofs.RunLemmas.run_further}
 use Rattle.kernel.proofs.runs.run.Goals as goal
 
 pub loop-event-preserved : goal.loop-event-preserved

@@ -1,6 +1,5 @@
 use Rattle.std.proofs.{Common.{◌||◌, ◌∙◌, ◌≡◌, ap, arith, get_or, refl, rules}, lemmas.List.take_all}
-use Rattle.policy.specs.Policy.{allows}
-use Rattle.labels.proofs.EdgeLists.{none_added, one_more}
+use Rattle.{policy.specs.Policy.allows, labels.proofs.EdgeLists.{none_added, one_more}}
 use Rattle.labels.proofs.boot_authority.add_slot.Goals as goal
 
 pub loop-edge-init : goal.loop-edge-init

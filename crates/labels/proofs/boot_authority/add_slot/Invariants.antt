@@ -1,6 +1,5 @@
 use Rattle.std.proofs.Common.{ℕ, ◌||◌, ◌≡◌, take}
-use Rattle.base.specs.declared.kind.Kind.{Kind}
-use Rattle.policy.specs.Policy.{allows}
+use Rattle.{base.specs.declared.kind.Kind.Kind, policy.specs.Policy.allows}
 use Rattle.labels.proofs.boot_authority.add_slot.Given as goal
 
 abbrev pub invariant-loop-edge : goal.invariant-loop-edge

@@ -1,7 +1,5 @@
 use Rattle.std.proofs.Common.{ℕ, ◌++◌, ◌≡◌, flat_map, take}
-use Rattle.base.specs.declared.kind.Kind.{Kind}
-use Rattle.policy.specs.Policy.{allows}
-use Rattle.labels.specs.TableEdges.{edges_of_binding, edges_of_filled}
+use Rattle.{base.specs.declared.kind.Kind.Kind, policy.specs.Policy.allows, labels.specs.TableEdges.{edges_of_binding, edges_of_filled}}
 use Rattle.labels.proofs.boot_authority.collected.Given as goal
 
 -- the edges so far are found

@@ -1,6 +1,5 @@
 use Rattle.std.proofs.{Common.{◌++◌, ◌∙◌, ap, filter, flat_map, sym}, lemmas.List.{append-nil, take_all}}
-use Rattle.machine.specs.{Capabilities.gives, Layout.declared_label}
-use Rattle.labels.{specs.SlotEdges.edge_between, proofs.EdgeLists.edges_more}
+use Rattle.{machine.specs.{Capabilities.gives, Layout.declared_label}, labels.{specs.SlotEdges.edge_between, proofs.EdgeLists.edges_more}}
 use Rattle.labels.proofs.edges.push_kinds.Goals as goal
 
 pub loop-kind-init : goal.loop-kind-init

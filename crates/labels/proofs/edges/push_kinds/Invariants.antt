@@ -1,6 +1,5 @@
 use Rattle.std.proofs.Common.{◌++◌, ◌≡◌, filter, flat_map, take}
-use Rattle.machine.specs.{Capabilities.gives, Layout.declared_label}
-use Rattle.labels.specs.SlotEdges.{edge_between}
+use Rattle.{machine.specs.{Capabilities.gives, Layout.declared_label}, labels.specs.SlotEdges.edge_between}
 use Rattle.labels.proofs.edges.push_kinds.Given as goal
 
 -- the edges of the kinds so far are there

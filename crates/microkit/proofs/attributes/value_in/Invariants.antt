@@ -1,7 +1,6 @@
 -- The attributes that are left have the value that all of them have.
 use Rattle.std.proofs.Common.{◌≡◌, drop}
-use Rattle.microkit.specs.Attributes.{value_among}
-use Rattle.xml.specs.View.{pairs_of}
+use Rattle.{xml.specs.View.pairs_of, microkit.specs.Attributes.value_among}
 use Rattle.microkit.proofs.attributes.value_in.Given as goal
 
 abbrev pub invariant-loop-attribute : goal.invariant-loop-attribute

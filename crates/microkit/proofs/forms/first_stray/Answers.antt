@@ -1,6 +1,5 @@
 use Rattle.std.proofs.Common.{◌∙◌}
-use Rattle.xml.specs.View.{pair_of}
-use Rattle.microkit.{specs.{FormView.rule_of, Forms.follows}, proofs.Items.none_seen}
+use Rattle.{xml.specs.View.pair_of, microkit.{specs.{FormView.rule_of, Forms.follows}, proofs.Items.none_seen}}
 use Rattle.microkit.proofs.forms.first_stray.Goals as goal
 
 pub returns : goal.returns

@@ -1,6 +1,5 @@
 use Rattle.std.proofs.Common.{◌∙◌, not, sym}
-use Rattle.xml.specs.View.{pairs_of}
-use Rattle.microkit.{specs.{FormView.rule_of, Forms.{Rule, is_met}}, proofs.Items.position_seen}
+use Rattle.{xml.specs.View.pairs_of, microkit.{specs.{FormView.rule_of, Forms.{Rule, is_met}}, proofs.Items.position_seen}}
 use Rattle.microkit.proofs.forms.first_unmet.Goals as goal
 
 pub returns : goal.returns

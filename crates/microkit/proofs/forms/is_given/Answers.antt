@@ -1,6 +1,5 @@
 use Rattle.std.proofs.Common.{◌∙◌, sym}
-use Rattle.xml.specs.Tag.{is_given}
-use Rattle.microkit.proofs.Items.{any_pair}
+use Rattle.{xml.specs.Tag.is_given, microkit.proofs.Items.any_pair}
 use Rattle.microkit.proofs.forms.is_given.Goals as goal
 
 pub returns : goal.returns

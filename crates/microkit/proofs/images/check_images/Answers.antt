@@ -1,7 +1,5 @@
 use Rattle.std.proofs.{Common.{◌+◌, ◌∙◌, ap, sym}, lemmas.List.take_rest}
-use Rattle.xml.specs.View.{node_of, nodes_of}
-use Rattle.microkit.specs.Images.{lacks_image}
-use Rattle.microkit.proofs.ImageSteps.{one_has, one_lacks}
+use Rattle.{xml.specs.View.{node_of, nodes_of}, microkit.{specs.Images.lacks_image, proofs.ImageSteps.{one_has, one_lacks}}}
 use Rattle.microkit.proofs.images.check_images.Goals as goal
 
 pub returns-then-lacks_image : goal.returns-then-lacks_image

@@ -1,7 +1,6 @@
 -- The elements that are left decide the result.
 use Rattle.std.proofs.Common.{◌≡◌, drop}
-use Rattle.microkit.specs.Images.{images_at}
-use Rattle.xml.specs.View.{nodes_of}
+use Rattle.{xml.specs.View.nodes_of, microkit.specs.Images.images_at}
 use Rattle.microkit.proofs.images.check_images.Given as goal
 
 abbrev pub invariant-loop-number : goal.invariant-loop-number

@@ -1,7 +1,6 @@
 -- The elements that are left decide the result.
 use Rattle.std.proofs.Common.{◌≡◌, drop}
-use Rattle.microkit.specs.Images.{has_image}
-use Rattle.xml.specs.View.{nodes_of}
+use Rattle.{xml.specs.View.nodes_of, microkit.specs.Images.has_image}
 use Rattle.microkit.proofs.images.has_image.Given as goal
 
 abbrev pub invariant-loop-element : goal.invariant-loop-element

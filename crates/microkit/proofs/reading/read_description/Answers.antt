@@ -1,5 +1,4 @@
-use Rattle.std.proofs.Common.{ℕ, Err, IfOk, List, Ok, Result}
-use Rattle.words.specs.{declared.faults.Fault.Fault, Reading.Reads}
+use Rattle.{std.proofs.Common.{ℕ, Err, IfOk, List, Ok, Result}, words.specs.{declared.faults.Fault.Fault, Reading.Reads}}
 use Rattle.microkit.{specs.{Reading.description_of_text, Sound.IsSound, View.description_of}, proofs.Sound.texts_are_sound}
 use Rattle.microkit.proofs.reading.read_description.Goals as goal
 use Rattle.microkit.specs.declared.description.Description as read

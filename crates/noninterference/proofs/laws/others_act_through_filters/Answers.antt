@@ -1,7 +1,5 @@
 -- Runs that differ beside filters, event by event; and a set that is closed off by filters is closed beside them.
-use Rattle.base.specs.Labels.{is_in}
-use Rattle.policy.specs.Policy.{allows}
-use Rattle.reach.proofs.LeastReach.{actors_told}
+use Rattle.{base.specs.Labels.is_in, policy.specs.Policy.allows, reach.proofs.LeastReach.actors_told}
 use Rattle.noninterference.proofs.Purging.{closed_off_beside, filtered_runs_alike}
 use Rattle.noninterference.proofs.laws.others_act_through_filters.Goals as goal
 

@@ -1,7 +1,5 @@
 -- Runs without filters, for which filters show nothing; and the closed set between two labels.
-use Rattle.base.specs.Labels.{is_in}
-use Rattle.policy.specs.Policy.{allows}
-use Rattle.reach.proofs.LeastReach.{actors_told}
+use Rattle.{base.specs.Labels.is_in, policy.specs.Policy.allows, reach.proofs.LeastReach.actors_told}
 use Rattle.noninterference.proofs.Purging.{closed_off_set, no_difference}
 use Rattle.noninterference.proofs.laws.others_make_no_difference.Goals as goal
 

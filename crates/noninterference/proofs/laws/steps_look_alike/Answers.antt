@@ -1,5 +1,4 @@
-use Rattle.std.proofs.Common.{inl, refl}
-use Rattle.noninterference.proofs.Looking.{looks_alike}
+use Rattle.{std.proofs.Common.{inl, refl}, noninterference.proofs.Looking.looks_alike}
 use Rattle.noninterference.proofs.laws.steps_look_alike.Goals as goal
 
 pub returns : goal.returns

@@ -1,5 +1,4 @@
-use Rattle.std.{specs.Prelude.Some, proofs.Common.sym}
-use Rattle.objects.proofs.NumberLemmas.{other_early, set_early}
+use Rattle.{std.{specs.Prelude.Some, proofs.Common.sym}, objects.proofs.NumberLemmas.{other_early, set_early}}
 use Rattle.objects.proofs.numbers.set_place.Goals as goal
 
 pub returns-in-Some-clause-placed : goal.returns-in-Some-clause-placed

@@ -1,5 +1,4 @@
-use Rattle.std.proofs.Common.{subst}
-use Rattle.policy.{specs.Settling.Grows, proofs.ClosingGrowth.absent_falls}
+use Rattle.{std.proofs.Common.subst, policy.{specs.Settling.Grows, proofs.ClosingGrowth.absent_falls}}
 use Rattle.policy.proofs.closing.settle.Goals as goal
 
 pub loop-policy-smaller : goal.loop-policy-smaller

@@ -1,6 +1,5 @@
 use Rattle.std.proofs.Common.{ℕ, ◌<◌, ◌≡◌, false}
-use Rattle.base.specs.declared.kind.Kind.{Kind}
-use Rattle.policy.specs.{Policy.allows, Settling.{Grows, IsSettled}}
+use Rattle.{base.specs.declared.kind.Kind.Kind, policy.specs.{Policy.allows, Settling.{Grows, IsSettled}}}
 use Rattle.policy.proofs.closing.settle_labels.Given as goal
 
 -- if nothing changed, no edge is missing at the labels so far

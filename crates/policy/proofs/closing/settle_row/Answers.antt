@@ -1,5 +1,4 @@
-use Rattle.std.proofs.Common.{arith}
-use Rattle.policy.{specs.Policy.allows, proofs.{ClosingGrowth.grows_by_join, ClosingSets.settled_if_none}}
+use Rattle.{std.proofs.Common.arith, policy.{specs.Policy.allows, proofs.{ClosingGrowth.grows_by_join, ClosingSets.settled_if_none}}}
 use Rattle.policy.proofs.closing.settle_row.Goals as goal
 
 pub returns-in-None-clause-settled : goal.returns-in-None-clause-settled

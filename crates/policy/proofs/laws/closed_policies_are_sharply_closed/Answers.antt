@@ -1,5 +1,4 @@
-use Rattle.policy.specs.Sharp.{Told}
-use Rattle.policy.proofs.Sharpness.{closed_sharply, fewer_keepers}
+use Rattle.policy.{specs.Sharp.Told, proofs.Sharpness.{closed_sharply, fewer_keepers}}
 use Rattle.policy.proofs.laws.closed_policies_are_sharply_closed.Goals as goal
 
 pub returns-clause-closed : goal.returns-clause-closed

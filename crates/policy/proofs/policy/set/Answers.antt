@@ -1,6 +1,5 @@
 use Rattle.std.proofs.Common.{ℕ, ◌++◌, ◌-◌, ◌==◌, ◌||◌, ◌∙◌, ◌≡◌, ap, arith, get_or, length, replicate, set, vec_len}
-use Rattle.std.proofs.lemmas.List.{get_or_read, take_all}
-use Rattle.base.specs.Labels.{is_in, no_labels}
+use Rattle.{std.proofs.lemmas.List.{get_or_read, take_all}, base.specs.Labels.{is_in, no_labels}}
 use Rattle.policy.{specs.Rows.{row_count, row_number, row_of}, proofs.RowEdges.{filled, row_set}}
 use Rattle.policy.proofs.policy.set.Goals as goal
 

@@ -1,5 +1,4 @@
-use Rattle.policy.specs.Policy.{allows}
-use Rattle.reach.proofs.WhoActs.{both_actors}
+use Rattle.{policy.specs.Policy.allows, reach.proofs.WhoActs.both_actors}
 use Rattle.reach.proofs.acting.actors.Goals as goal
 
 pub returns : goal.returns

@@ -1,5 +1,4 @@
-use Rattle.policy.specs.Policy.{allows}
-use Rattle.reach.proofs.WhoActs.{found_actors}
+use Rattle.{policy.specs.Policy.allows, reach.proofs.WhoActs.found_actors}
 use Rattle.reach.proofs.acting.labels_that_act.Goals as goal
 
 pub returns : goal.returns

@@ -1,10 +1,7 @@
 -- The labels of ready threads, binding by binding.
-use Rattle.std.proofs.Common.{◌+◌, ◌↔◌, ◌∙◌, ◌||◌, ◌≡◌, ap, arith, length, subst, sym, true}
-use Rattle.base.specs.Labels.{is_in}
-use Rattle.policy.proofs.Stepping.{IsBelow}
-use Rattle.table.proofs.Lookups.{read_at}
-use Rattle.reach.proofs.WhoActs.{HasReady, none_ready, one_ready, starts_below, starts_from}
-use Rattle.reach.proofs.acting.starting.Goals.{in-Some, in_default}
+use Rattle.std.proofs.Common.{◌+◌, ◌||◌, ◌↔◌, ◌∙◌, ◌≡◌, ap, arith, length, subst, sym, true}
+use Rattle.{base.specs.Labels.is_in, table.proofs.Lookups.read_at, policy.proofs.Stepping.IsBelow}
+use Rattle.reach.proofs.{WhoActs.{HasReady, none_ready, one_ready, starts_below, starts_from}, acting.starting.Goals.{in-Some, in_default}}
 use Rattle.reach.proofs.acting.starting.Goals as goal
 
 pub loop-binding-preserved : goal.loop-binding-preserved

@@ -1,7 +1,5 @@
 use Rattle.std.proofs.Common.{ℕ, ◌↔◌, ◌≡◌, true}
-use Rattle.base.specs.Labels.{is_in}
-use Rattle.policy.proofs.Stepping.{IsBelow}
-use Rattle.reach.proofs.WhoActs.{HasReady}
+use Rattle.{base.specs.Labels.is_in, policy.proofs.Stepping.IsBelow, reach.proofs.WhoActs.HasReady}
 use Rattle.reach.proofs.acting.starting.Given as goal
 
 abbrev pub invariant-loop-binding : goal.invariant-loop-binding

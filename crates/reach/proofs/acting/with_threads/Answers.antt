@@ -1,8 +1,6 @@
 -- The labels of threads and of untyped memory, object by object.
-use Rattle.std.proofs.Common.{◌+◌, ◌↔◌, ◌∙◌, ◌||◌, ◌≡◌, Some, ap, arith, length, subst, sym, true}
-use Rattle.base.specs.Labels.{is_in}
-use Rattle.policy.proofs.Stepping.{IsBelow}
-use Rattle.table.proofs.Lookups.{read_at}
+use Rattle.std.proofs.Common.{◌+◌, ◌||◌, ◌↔◌, ◌∙◌, ◌≡◌, Some, ap, arith, length, subst, sym, true}
+use Rattle.{base.specs.Labels.is_in, table.proofs.Lookups.read_at, policy.proofs.Stepping.IsBelow}
 use Rattle.reach.proofs.WhoActs.{HasSource, no_source, one_source, threads_below, threads_from}
 use Rattle.reach.proofs.acting.with_threads.Goals.{else-has_threads, then-has_threads}
 use Rattle.reach.proofs.acting.with_threads.Goals as goal

@@ -1,10 +1,7 @@
 -- The labels of CNodes that hold a CNode's capability, slot by slot.
-use Rattle.std.proofs.Common.{◌+◌, ◌↔◌, ◌∙◌, ◌||◌, ◌≡◌, ap, arith, length, subst, sym, true}
-use Rattle.base.specs.Labels.{is_in}
-use Rattle.policy.proofs.Stepping.{IsBelow}
-use Rattle.table.proofs.Lookups.{read_at}
-use Rattle.reach.proofs.Holding.{HoldsAt, holds_below, holds_from, none_holds, one_holds}
-use Rattle.reach.proofs.boot.node_holders.Goals.{in-Some, in_default}
+use Rattle.std.proofs.Common.{◌+◌, ◌||◌, ◌↔◌, ◌∙◌, ◌≡◌, ap, arith, length, subst, sym, true}
+use Rattle.{base.specs.Labels.is_in, table.proofs.Lookups.read_at, policy.proofs.Stepping.IsBelow}
+use Rattle.reach.proofs.{Holding.{HoldsAt, holds_below, holds_from, none_holds, one_holds}, boot.node_holders.Goals.{in-Some, in_default}}
 use Rattle.reach.proofs.boot.node_holders.Goals as goal
 
 pub loop-filled-preserved : goal.loop-filled-preserved

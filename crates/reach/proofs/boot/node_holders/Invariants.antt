@@ -1,7 +1,5 @@
 use Rattle.std.proofs.Common.{ℕ, ◌↔◌, ◌≡◌, true}
-use Rattle.base.specs.Labels.{is_in}
-use Rattle.policy.proofs.Stepping.{IsBelow}
-use Rattle.reach.proofs.Holding.{HoldsAt}
+use Rattle.{base.specs.Labels.is_in, policy.proofs.Stepping.IsBelow, reach.proofs.Holding.HoldsAt}
 use Rattle.reach.proofs.boot.node_holders.Given as goal
 
 abbrev pub invariant-loop-filled : goal.invariant-loop-filled

@@ -1,5 +1,4 @@
-use Rattle.policy.specs.Policy.{allows}
-use Rattle.reach.proofs.LeastReach.{closed_within, one_reach}
+use Rattle.{policy.specs.Policy.allows, reach.proofs.LeastReach.{closed_within, one_reach}}
 use Rattle.reach.proofs.laws.runs_stay_in_reach.Goals as goal
 
 pub returns-clause-safe : goal.returns-clause-safe

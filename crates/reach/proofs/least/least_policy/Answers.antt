@@ -1,9 +1,5 @@
-use Rattle.std.proofs.Common.{List}
-use Rattle.std.proofs.lemmas.Result.{IfOk-weaker}
-use Rattle.base.specs.declared.edge.Edge.{Edge}
-use Rattle.base.specs.Labels.{is_in}
-use Rattle.sharp.specs.Least.{IsLeastSharp}
-use Rattle.reach.{specs.Reach.IsReach, proofs.LeastReach.least_reach}
+use Rattle.{std.proofs.{Common.List, lemmas.Result.IfOk-weaker}, base.specs.{declared.edge.Edge.Edge, Labels.is_in}}
+use Rattle.{sharp.specs.Least.IsLeastSharp, reach.{specs.Reach.IsReach, proofs.LeastReach.least_reach}}
 use Rattle.reach.proofs.least.least_policy.Goals as goal
 
 pub returns-clause-least : goal.returns-clause-least

@@ -1,7 +1,6 @@
 -- An object that has lost its last capability is going too, and there is room for it.
 use Rattle.std.proofs.Common.{◌∙◌, sym}
-use Rattle.machine.specs.Machine.{object_of, without_cap}
-use Rattle.removal.proofs.Going.{one_more_going, room_in, same_going}
+use Rattle.{machine.specs.Machine.{object_of, without_cap}, removal.proofs.Going.{one_more_going, room_in, same_going}}
 use Rattle.removal.proofs.caps.empty_slot.Goals as goal
 
 pub take_cap-requires : goal.take_cap-requires

@@ -1,7 +1,6 @@
 -- Each slot that there is has been emptied.
 use Rattle.std.{specs.Prelude.{Contains, IsTrue, None, Some}, proofs.Common.{◌∙◌, ◌≡◌, ap, arith, inr, refl, subst, sym}}
-use Rattle.base.specs.declared.ids.SlotRef.{SlotRef}
-use Rattle.machine.specs.{declared.cap.Cap.Cap, Machine.{Machine, cap_of, has_slot}}
+use Rattle.{base.specs.declared.ids.SlotRef.SlotRef, machine.specs.{declared.cap.Cap.Cap, Machine.{Machine, cap_of, has_slot}}}
 use Rattle.removal.{specs.UnderWay.{emptied, emptied_below, slots_at}, proofs.{Cascading.below_more, Turns.{all_hollow, listed_on}}}
 use Rattle.removal.proofs.caps.empty_slots_of.Goals as goal
 

@@ -1,7 +1,5 @@
 -- Slots that descended are out of the tree and empty, or still descend. Each turn leaves one pair less.
-use Rattle.std.specs.{FinMap.keys, List.count_by, Prelude.is_some}
-use Rattle.machine.specs.Machine.{parent_of}
-use Rattle.removal.proofs.Clearing.{Clears}
+use Rattle.{std.specs.{FinMap.keys, List.count_by, Prelude.is_some}, machine.specs.Machine.parent_of, removal.proofs.Clearing.Clears}
 use Rattle.removal.proofs.choosing.empty_all_below.Given as goal
 
 abbrev pub invariant-loop-child : goal.invariant-loop-child

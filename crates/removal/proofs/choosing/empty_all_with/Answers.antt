@@ -1,7 +1,6 @@
 -- The chosen slot has been emptied and has left the tree, and the cascade does the rest.
 use Rattle.std.proofs.Common.{◌∙◌, ap}
-use Rattle.machine.specs.Machine.{Machine, same_slot}
-use Rattle.derivation.specs.Removing.{parent_without}
+use Rattle.{machine.specs.Machine.{Machine, same_slot}, derivation.specs.Removing.parent_without}
 use Rattle.removal.proofs.{Beside.{none_going, without-with_none_going}, Chosen.{chosen_empty, chosen_way, same_parents}}
 use Rattle.removal.proofs.choosing.empty_all_with.Goals as goal
 

@@ -1,6 +1,5 @@
 use Rattle.std.proofs.Common.{◌∙◌, ap}
-use Rattle.machine.specs.Changes.{with_none_going}
-use Rattle.removal.proofs.Dropped.{filled_beside_cut_off, filled_without}
+use Rattle.{machine.specs.Changes.with_none_going, removal.proofs.Dropped.{filled_beside_cut_off, filled_without}}
 use Rattle.removal.proofs.dropping.drop_going.Goals as goal
 
 pub clear_going-requires : goal.clear_going-requires

@@ -1,7 +1,6 @@
 -- The objects before have gone, and nothing holds to those that are left.
 use Rattle.std.proofs.Common.{◌≡◌, Contains, take}
-use Rattle.base.specs.declared.ids.ObjId.{ObjId}
-use Rattle.removal.specs.Dropping.{IsCutOff, without_objects}
+use Rattle.{base.specs.declared.ids.ObjId.ObjId, removal.specs.Dropping.{IsCutOff, without_objects}}
 use Rattle.removal.proofs.dropping.remove_going.Given as goal
 
 abbrev pub invariant-loop-next : goal.invariant-loop-next

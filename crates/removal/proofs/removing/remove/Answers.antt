@@ -1,5 +1,4 @@
-use Rattle.std.proofs.Common.{subst, sym}
-use Rattle.machine.specs.{Machine.{Machine, same_slot}, WellFormed.IsWellFormed}
+use Rattle.{std.proofs.Common.{subst, sym}, machine.specs.{Machine.{Machine, same_slot}, WellFormed.IsWellFormed}}
 use Rattle.removal.proofs.Finds.{formed_filled, one_found}
 use Rattle.removal.proofs.removing.remove.Goals as goal
 

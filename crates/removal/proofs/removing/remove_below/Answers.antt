@@ -1,5 +1,4 @@
-use Rattle.machine.specs.Below.{is_below}
-use Rattle.removal.proofs.Finds.{below_found, formed_filled}
+use Rattle.{machine.specs.Below.is_below, removal.proofs.Finds.{below_found, formed_filled}}
 use Rattle.removal.proofs.removing.remove_below.Goals as goal
 
 pub empty_all_below-requires : goal.empty_all_below-requires

@@ -1,6 +1,5 @@
 -- A thread that was ready or inactive, and a reply that was free, come to agree.
-use Rattle.std.proofs.Common.{subst, sym}
-use Rattle.machine.specs.{Machine.Machine, WellFormed.IsWellFormed}
+use Rattle.{std.proofs.Common.{subst, sym}, machine.specs.{Machine.Machine, WellFormed.IsWellFormed}}
 use Rattle.replies.proofs.holding.await_message.Goals as goal
 
 pub returns-clause-well_formed : goal.returns-clause-well_formed

@@ -1,6 +1,5 @@
 -- A thread and a reply that were free come to agree.
-use Rattle.std.proofs.Common.{subst, sym}
-use Rattle.machine.specs.{Machine.Machine, WellFormed.IsWellFormed}
+use Rattle.{std.proofs.Common.{subst, sym}, machine.specs.{Machine.Machine, WellFormed.IsWellFormed}}
 use Rattle.replies.proofs.holding.link.Goals as goal
 
 pub returns-clause-well_formed : goal.returns-clause-well_formed

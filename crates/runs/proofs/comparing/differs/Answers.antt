@@ -1,6 +1,5 @@
-use Rattle.std.proofs.Common.{Bool, IsTrue, false, not, refl, true}
 use mathlib.Core.Bool.{false≢true}
-use Rattle.runs.proofs.Seen.{same_by_sights, sights_by_same}
+use Rattle.{std.proofs.Common.{Bool, IsTrue, false, not, refl, true}, runs.proofs.Seen.{same_by_sights, sights_by_same}}
 use Rattle.runs.proofs.comparing.differs.Goals as goal
 
 other_truth : (b : Bool) → IsTrue (not b) → ¬ (IsTrue b)

@@ -1,9 +1,7 @@
-use Rattle.std.proofs.Common.{◌∙◌, List, Option, subst, sym}
 use mathlib.Core.Bool.{false≢true}
-use Rattle.base.specs.declared.ids.ObjId.{ObjId}
-use Rattle.integrity.specs.Shrinks.{IsPart}
-use Rattle.machine.specs.declared.cap.Cap.{Cap}
-use Rattle.runs.specs.Comparing.{LoseCaps}
+use Rattle.std.proofs.Common.{◌∙◌, List, Option, subst, sym}
+use Rattle.{base.specs.declared.ids.ObjId.ObjId, machine.specs.declared.cap.Cap.Cap}
+use Rattle.{integrity.specs.Shrinks.IsPart, runs.specs.Comparing.LoseCaps}
 use Rattle.runs.proofs.comparing.is_less.Goals as goal
 
 pub returns-then-not-lessens : goal.returns-then-not-lessens

@@ -1,5 +1,4 @@
-use Rattle.std.proofs.lemmas.List.{drop_all, drop_more}
-use Rattle.runs.proofs.Parts.{ended_by, step_on}
+use Rattle.{std.proofs.lemmas.List.{drop_all, drop_more}, runs.proofs.Parts.{ended_by, step_on}}
 use Rattle.runs.proofs.comparing.is_part.Goals as goal
 
 pub loop-thread-preserved : goal.loop-thread-preserved

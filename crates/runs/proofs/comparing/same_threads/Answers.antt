@@ -1,6 +1,5 @@
-use Rattle.std.proofs.Common.{IsTrue, rules, subst, sym}
+use Rattle.{std.proofs.Common.{IsTrue, rules, subst, sym}, runs.proofs.Equalities.{Tells, members_same, same_by_members}}
 use Rattle.base.specs.contracts.ids.ObjIdPartialEq.TheImpl as id_equal
-use Rattle.runs.proofs.Equalities.{Tells, members_same, same_by_members}
 use Rattle.runs.proofs.comparing.same_threads.Goals as goal
 
 id_tells : Tells id_equal.eq-value.it

@@ -1,6 +1,4 @@
-use Rattle.std.proofs.Common.{arith}
-use Rattle.policy.specs.Policy.{allows}
-use Rattle.runs.proofs.Outside.{leaves_at}
+use Rattle.{std.proofs.Common.arith, policy.specs.Policy.allows, runs.proofs.Outside.leaves_at}
 use Rattle.runs.proofs.leaving.place_outside.Goals as goal
 
 pub returns-in-Some-clause-left : goal.returns-in-Some-clause-left

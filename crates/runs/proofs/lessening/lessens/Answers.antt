@@ -1,7 +1,6 @@
-use Rattle.std.proofs.Common.{◌∙◌, sym}
 use mathlib.Core.Bool.{false≢true}
-use Rattle.integrity.specs.Shrinks.{Lessens}
-use Rattle.runs.proofs.ByKind.{is_freed_by, is_released_by, is_unbound_by}
+use Rattle.std.proofs.Common.{◌∙◌, sym}
+use Rattle.{integrity.specs.Shrinks.Lessens, runs.proofs.ByKind.{is_freed_by, is_released_by, is_unbound_by}}
 use Rattle.runs.proofs.lessening.lessens.Goals as goal
 
 pub returns-in-Tcb-Tcb : goal.returns-in-Tcb-Tcb

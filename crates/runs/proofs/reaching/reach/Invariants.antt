@@ -1,6 +1,4 @@
-use Rattle.std.proofs.Common.{take}
-use Rattle.machine.specs.WellFormed.{IsWellFormed}
-use Rattle.runs.specs.Shown.{IsReachedBy}
+use Rattle.{std.proofs.Common.take, machine.specs.WellFormed.IsWellFormed, runs.specs.Shown.IsReachedBy}
 use Rattle.runs.proofs.reaching.reach.Given as goal
 
 abbrev pub invariant-loop-event : goal.invariant-loop-event

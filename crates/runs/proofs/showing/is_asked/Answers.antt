@@ -1,6 +1,4 @@
-use Rattle.std.proofs.Common.{subst}
-use Rattle.machine.specs.{Machine.Machine, Step.Step}
-use Rattle.runs.proofs.AsShown.{asked}
+use Rattle.{std.proofs.Common.subst, machine.specs.{Machine.Machine, Step.Step}, runs.proofs.AsShown.asked}
 use Rattle.runs.proofs.showing.is_asked.Goals as goal
 
 pub returns-clause-asked : goal.returns-clause-asked

@@ -1,6 +1,5 @@
 use Rattle.std.proofs.Common.{[], ◌++◌, ◌∙◌, ◌≡◌, List, ap, append-nil, sym}
-use Rattle.base.specs.declared.ids.ObjId.{ObjId}
-use Rattle.machine.specs.Machine.{Machine, queue_of}
+use Rattle.{base.specs.declared.ids.ObjId.ObjId, machine.specs.Machine.{Machine, queue_of}}
 use Rattle.runs.proofs.Popping.{fewer, left_over, nobody_waits, popped}
 use Rattle.runs.proofs.sight.queue.Goals as goal
 

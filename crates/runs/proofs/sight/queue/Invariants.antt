@@ -1,7 +1,5 @@
 use Rattle.std.proofs.Common.{◌++◌, ◌≡◌, List, Some}
-use Rattle.base.specs.declared.ids.ObjId.{ObjId}
-use Rattle.machine.specs.Machine.{queue_of}
-use Rattle.runs.proofs.Popping.{count}
+use Rattle.{base.specs.declared.ids.ObjId.ObjId, machine.specs.Machine.queue_of, runs.proofs.Popping.count}
 use Rattle.runs.proofs.sight.queue.Given as goal
 
 abbrev pub invariant-loop-thread : goal.invariant-loop-thread

@@ -1,5 +1,4 @@
-use Rattle.std.proofs.Common.{subst, sym}
-use Rattle.machine.specs.{Machine.Machine, WellFormed.IsWellFormed}
+use Rattle.{std.proofs.Common.{subst, sym}, machine.specs.{Machine.Machine, WellFormed.IsWellFormed}}
 use Rattle.steps.proofs.ContextsFormed.{with_unbound_formed}
 use Rattle.schedctl.proofs.links.part.Goals as goal
 

@@ -1,6 +1,5 @@
 use Rattle.std.proofs.Common.{◌++◌, ◌≡◌, take}
-use Rattle.microkit.specs.LabelView.{bytes_of}
-use Rattle.separation.specs.Claims.{lines_of}
+use Rattle.{microkit.specs.LabelView.bytes_of, separation.specs.Claims.lines_of}
 use Rattle.separation.proofs.claims.add_lines.Given as goal
 
 abbrev pub invariant-loop-pair : goal.invariant-loop-pair

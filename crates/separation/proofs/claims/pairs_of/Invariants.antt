@@ -1,6 +1,5 @@
 use Rattle.std.{specs.List.{flat_map, range_with_len}, proofs.Common.◌≡◌}
-use Rattle.microkit.specs.{LabelView.bytes_of, View.description_of}
-use Rattle.separation.specs.Claims.{pairs_at}
+use Rattle.{microkit.specs.{LabelView.bytes_of, View.description_of}, separation.specs.Claims.pairs_at}
 use Rattle.separation.proofs.claims.pairs_of.Given as goal
 
 abbrev pub invariant-loop-actor : goal.invariant-loop-actor

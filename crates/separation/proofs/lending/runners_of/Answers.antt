@@ -1,6 +1,5 @@
 use Rattle.std.proofs.Common.{◌∙◌, ap}
-use Rattle.microkit.specs.View.{description_of}
-use Rattle.separation.{specs.Lending.with_called, proofs.Levels.{called_more, called_none}}
+use Rattle.{microkit.specs.View.description_of, separation.{specs.Lending.with_called, proofs.Levels.{called_more, called_none}}}
 use Rattle.separation.proofs.lending.runners_of.Goals as goal
 
 pub loop-calls-init : goal.loop-calls-init

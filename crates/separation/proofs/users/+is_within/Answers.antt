@@ -1,7 +1,6 @@
 -- That a domain is within itself, and any other is within a domain if its parent is.
 use Rattle.std.proofs.Common.{◌-◌, ◌∙◌, ◌≡◌, ◌≤◌, ap, arith, eq-eqb, sym}
-use Rattle.microkit.specs.View.{description_of}
-use Rattle.separation.{specs.Users.is_within, proofs.Levels.{within_else, within_here}}
+use Rattle.{microkit.specs.View.description_of, separation.{specs.Users.is_within, proofs.Levels.{within_else, within_here}}}
 use Rattle.separation.proofs.users.+is_within.Goals as goal
 
 pub returns-then-domain-outer : goal.returns-then-domain-outer

@@ -1,6 +1,5 @@
 use Rattle.std.proofs.Common.{◌∙◌, sym}
-use Rattle.policy.specs.Policy.{allows}
-use Rattle.sharp.proofs.AskedSets.{given_told}
+use Rattle.{policy.specs.Policy.allows, sharp.proofs.AskedSets.given_told}
 use Rattle.sharp.proofs.asked.given.Goals as goal
 
 pub returns : goal.returns

@@ -1,5 +1,4 @@
-use Rattle.policy.specs.Policy.{allows}
-use Rattle.sharp.proofs.AskedSets.{held_told}
+use Rattle.{policy.specs.Policy.allows, sharp.proofs.AskedSets.held_told}
 use Rattle.sharp.proofs.asked.held.Goals as goal
 
 pub returns : goal.returns

@@ -1,6 +1,5 @@
 use Rattle.std.proofs.Common.{◌∙◌, ap, not, sym}
-use Rattle.policy.{specs.Policy.allows, proofs.Stepping.some_common}
-use Rattle.sharp.proofs.AskedSets.{lent_told}
+use Rattle.{policy.{specs.Policy.allows, proofs.Stepping.some_common}, sharp.proofs.AskedSets.lent_told}
 use Rattle.sharp.proofs.asked.lent.Goals as goal
 
 pub returns : goal.returns

@@ -1,6 +1,4 @@
-use Rattle.base.specs.Labels.{is_in}
-use Rattle.policy.specs.{Policy.allows, Sharp.Told}
-use Rattle.sharp.proofs.AskedSets.{given_asked, missing_told}
+use Rattle.{base.specs.Labels.is_in, policy.specs.{Policy.allows, Sharp.Told}, sharp.proofs.AskedSets.{given_asked, missing_told}}
 use Rattle.sharp.proofs.asked.missing.Goals as goal
 
 pub returns-in-Derive : goal.returns-in-Derive

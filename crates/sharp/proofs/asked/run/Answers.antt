@@ -1,5 +1,4 @@
-use Rattle.policy.specs.Policy.{allows}
-use Rattle.sharp.proofs.AskedSets.{run_told}
+use Rattle.{policy.specs.Policy.allows, sharp.proofs.AskedSets.run_told}
 use Rattle.sharp.proofs.asked.run.Goals as goal
 
 pub returns : goal.returns

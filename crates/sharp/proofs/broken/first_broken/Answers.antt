@@ -1,5 +1,4 @@
-use Rattle.std.proofs.{Common.{None, Some, arith}, lemmas.Option.slice_get-get_or}
-use Rattle.base.specs.Labels.{is_in}
+use Rattle.{std.proofs.{Common.{None, Some, arith}, lemmas.Option.slice_get-get_or}, base.specs.Labels.is_in}
 use Rattle.policy.{specs.{Policy.allows, Sharp.Told}, proofs.Places.{least_here, none_at_all, none_more}}
 use Rattle.sharp.proofs.RulePlaces.{all_rules, of_all, of_rules}
 use Rattle.sharp.proofs.broken.first_broken.Goals as goal

@@ -1,6 +1,4 @@
-use Rattle.std.proofs.Common.{[]}
-use Rattle.base.specs.Labels.{is_in}
-use Rattle.policy.{specs.{Policy.allows, Sharp.Told}, proofs.Places.NoneSoFar}
+use Rattle.{std.proofs.Common.[], base.specs.Labels.is_in, policy.{specs.{Policy.allows, Sharp.Told}, proofs.Places.NoneSoFar}}
 use Rattle.sharp.{specs.Broken.{IsSharplyBrokenAt, sharp_place}, proofs.RulePlaces.{all_rules, of_rule}}
 use Rattle.sharp.proofs.broken.first_broken.Given as goal
 

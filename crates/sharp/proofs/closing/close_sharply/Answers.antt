@@ -1,7 +1,5 @@
 use Rattle.std.proofs.Common.{◌++◌, ◌∙◌}
-use Rattle.base.specs.Labels.{is_in}
-use Rattle.policy.proofs.ClosingGrowth.{both_added}
-use Rattle.sharp.proofs.SharpGrowth.{least_of_same}
+use Rattle.{base.specs.Labels.is_in, policy.proofs.ClosingGrowth.both_added, sharp.proofs.SharpGrowth.least_of_same}
 use Rattle.sharp.proofs.closing.close_sharply.Goals as goal
 
 pub returns-clause-least : goal.returns-clause-least

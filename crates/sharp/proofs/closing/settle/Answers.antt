@@ -1,6 +1,4 @@
-use Rattle.std.proofs.Common.{subst}
-use Rattle.base.specs.Labels.{is_in}
-use Rattle.policy.{specs.Settling.Grows, proofs.ClosingGrowth.absent_falls}
+use Rattle.{std.proofs.Common.subst, base.specs.Labels.is_in, policy.{specs.Settling.Grows, proofs.ClosingGrowth.absent_falls}}
 use Rattle.sharp.proofs.SharpGrowth.{closed_for_keepers, forced_by_keepers}
 use Rattle.sharp.proofs.closing.settle.Goals as goal
 

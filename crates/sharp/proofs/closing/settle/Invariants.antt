@@ -1,7 +1,6 @@
 use Rattle.std.proofs.Common.{ℕ, ◌↔◌, ◌≡◌, true}
 use Rattle.base.specs.Labels.{is_in}
-use Rattle.policy.specs.{Closing.IsWithin, Domain.EdgeTest, Policy.allows, Sharp.IsSharplyClosed}
-use Rattle.policy.proofs.ClosingGrowth.{absent_count}
+use Rattle.policy.{specs.{Closing.IsWithin, Domain.EdgeTest, Policy.allows, Sharp.IsSharplyClosed}, proofs.ClosingGrowth.absent_count}
 use Rattle.sharp.specs.Keeping.{KeepsFrom}
 use Rattle.sharp.proofs.closing.settle.Given as goal
 

@@ -1,12 +1,10 @@
+use mathlib.Core.Bool.{false≢true}
 use Rattle.std.proofs.{Common.{ℕ, ◌∙◌, ◌≡◌, arith, subst, sym, true}, lemmas.Option.slice_get-get_or}
 use Rattle.base.specs.Labels.{is_in}
-use Rattle.policy.specs.{Policy.allows, Sharp.Told}
-use Rattle.policy.proofs.{ClosingSets.one_more_kind, KindNumbers.{all_kinds, kind_number_below}}
-use Rattle.sharp.specs.{Asked.{IsSettledAmong, SharesSharply}, Least.GrowsSharply}
-use Rattle.sharp.proofs.{AskedRules.{asked_among, shares_grow}, SharpGrowth.{grows_by_none, grows_more, grows_no_more}}
-use Rattle.sharp.proofs.closing.settle_label.Goals.{else-branch, then-branch}
+use Rattle.policy.{specs.{Policy.allows, Sharp.Told}, proofs.{ClosingSets.one_more_kind, KindNumbers.{all_kinds, kind_number_below}}}
+use Rattle.sharp.{specs.{Asked.{IsSettledAmong, SharesSharply}, Least.GrowsSharply}, proofs.AskedRules.{asked_among, shares_grow}}
+use Rattle.sharp.proofs.{SharpGrowth.{grows_by_none, grows_more, grows_no_more}, closing.settle_label.Goals.{else-branch, then-branch}}
 use Rattle.sharp.proofs.closing.settle_label.Goals as goal
-use mathlib.Core.Bool.{false≢true}
 
 pub loop-kind-init : goal.loop-kind-init
 loop-kind-init c = record {

@@ -1,6 +1,5 @@
 use Rattle.std.proofs.Common.{ℕ, ◌<◌, ◌≡◌, false, true}
-use Rattle.base.specs.{declared.kind.Kind.Kind, Kinds.kind_number, Labels.is_in}
-use Rattle.policy.specs.{Policy.allows, Sharp.Told}
+use Rattle.{base.specs.{declared.kind.Kind.Kind, Kinds.kind_number, Labels.is_in}, policy.specs.{Policy.allows, Sharp.Told}}
 use Rattle.sharp.specs.{Asked.{IsSettledAmong, SharesSharply}, Least.GrowsSharply}
 use Rattle.sharp.proofs.closing.settle_label.Given as goal
 

@@ -1,12 +1,11 @@
-use Rattle.std.proofs.Common.{ℕ, ◌∙◌, arith, below_more, subst, sym}
-use Rattle.base.specs.{declared.kind.Kind.Kind, Labels.is_in}
-use Rattle.policy.specs.{Policy.{JoinsBelow, allows}, Sharp.Told}
-use Rattle.sharp.specs.{Asked.IsSharplySettled, Least.GrowsSharply}
-use Rattle.sharp.proofs.{AskedRules.{closed_if_sharply_settled, sharply_asked_starts}, SharpGrowth.{grows_by_none, grows_more, grows_no_more}}
-use Rattle.sharp.proofs.closing.settle_labels.Goals.{in-Some+in_ok-settle_label+else-branch, in-Some+in_ok-settle_label+then-branch}
-use Rattle.sharp.proofs.closing.settle_labels.Goals.{in_default}
-use Rattle.sharp.proofs.closing.settle_labels.Goals as goal
 use mathlib.Core.Bool.{false≢true}
+use Rattle.std.proofs.Common.{ℕ, ◌∙◌, arith, below_more, subst, sym}
+use Rattle.{base.specs.{declared.kind.Kind.Kind, Labels.is_in}, policy.specs.{Policy.{JoinsBelow, allows}, Sharp.Told}}
+use Rattle.sharp.{specs.{Asked.IsSharplySettled, Least.GrowsSharply}, proofs.AskedRules.{closed_if_sharply_settled, sharply_asked_starts}}
+use Rattle.sharp.proofs.SharpGrowth.{grows_by_none, grows_more, grows_no_more}
+use Rattle.sharp.proofs.closing.settle_labels.Goals.{in-Some+in_ok-settle_label+else-branch}
+use Rattle.sharp.proofs.closing.settle_labels.Goals.{in-Some+in_ok-settle_label+then-branch, in_default}
+use Rattle.sharp.proofs.closing.settle_labels.Goals as goal
 
 pub loop-number-init : goal.loop-number-init
 loop-number-init c = record {

@@ -1,6 +1,5 @@
 use Rattle.std.proofs.Common.{ℕ, ◌<◌, ◌≡◌, false}
-use Rattle.base.specs.{declared.kind.Kind.Kind, Labels.is_in}
-use Rattle.policy.specs.{Policy.allows, Sharp.Told}
+use Rattle.{base.specs.{declared.kind.Kind.Kind, Labels.is_in}, policy.specs.{Policy.allows, Sharp.Told}}
 use Rattle.sharp.specs.{Asked.IsSharplySettled, Least.GrowsSharply}
 use Rattle.sharp.proofs.closing.settle_labels.Given as goal
 

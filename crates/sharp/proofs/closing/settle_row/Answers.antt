@@ -1,6 +1,4 @@
-use Rattle.std.proofs.Common.{arith}
-use Rattle.base.specs.Labels.{is_in}
-use Rattle.policy.specs.{Policy.allows, Sharp.Told}
+use Rattle.{std.proofs.Common.arith, base.specs.Labels.is_in, policy.specs.{Policy.allows, Sharp.Told}}
 use Rattle.sharp.proofs.{AskedSets.settled_if_none, SharpGrowth.{grows_by_join, grows_by_none}}
 use Rattle.sharp.proofs.closing.settle_row.Goals as goal
 

@@ -1,5 +1,4 @@
-use Rattle.policy.specs.Policy.{allows}
-use Rattle.sharp.proofs.KeeperSearch.{beside_told}
+use Rattle.{policy.specs.Policy.allows, sharp.proofs.KeeperSearch.beside_told}
 use Rattle.sharp.proofs.keeping.beside.Goals as goal
 
 pub returns : goal.returns

@@ -1,10 +1,7 @@
 -- That the search ends with all keepers: when no label keeps by one step from those found.
-use Rattle.std.proofs.{Common.{◌<◌, ◌∙◌, subst, sym}, lemmas.Bool.{false≢true, or_cases, or_left, or_right}}
-use Rattle.std.proofs.Common.{inl, inr}
-use Rattle.base.specs.Labels.{is_in}
-use Rattle.policy.specs.Policy.{allows}
-use Rattle.sharp.specs.Keeping.KeepsFrom.{held}
-use Rattle.sharp.proofs.{KeeperSearch.{all_keep, beside_keeps}, Missing.fewer_missing}
+use Rattle.std.proofs.{Common.{◌<◌, ◌∙◌, inl, inr, subst, sym}, lemmas.Bool.{false≢true, or_cases, or_left, or_right}}
+use Rattle.{base.specs.Labels.is_in, policy.specs.Policy.allows}
+use Rattle.sharp.{specs.Keeping.KeepsFrom.held, proofs.{KeeperSearch.{all_keep, beside_keeps}, Missing.fewer_missing}}
 use Rattle.sharp.proofs.keeping.keepers.Goals as goal
 
 pub loop-label-init : goal.loop-label-init

@@ -1,8 +1,6 @@
 -- The labels found so far keep, and the labels that keep by one step from them are known.
 use Rattle.std.proofs.Common.{ℕ, ◌↔◌, ◌≡◌, true}
-use Rattle.base.specs.Labels.{is_in}
-use Rattle.policy.specs.Policy.{allows}
-use Rattle.sharp.{specs.Keeping.{IsBeside, KeepsFrom}, proofs.Missing.missing_below}
+use Rattle.{base.specs.Labels.is_in, policy.specs.Policy.allows, sharp.{specs.Keeping.{IsBeside, KeepsFrom}, proofs.Missing.missing_below}}
 use Rattle.sharp.proofs.keeping.keepers.Given as goal
 
 abbrev pub invariant-loop-label : goal.invariant-loop-label

@@ -1,6 +1,5 @@
 use Rattle.std.proofs.{Common.{ℕ, ◌∙◌, ◌≡◌, refl, subst, sym, true}, lemmas.Bool.{eq-eqb, eqb-true}}
-use Rattle.base.specs.Labels.{is_in}
-use Rattle.policy.{specs.Policy.allows, proofs.Stepping.{only_kind, target_by}}
+use Rattle.{base.specs.Labels.is_in, policy.{specs.Policy.allows, proofs.Stepping.{only_kind, target_by}}}
 use Rattle.summary.proofs.Waiting.{same_truth}
 use Rattle.summary.proofs.edges.row.Goals as goal
 

@@ -1,6 +1,5 @@
 use Rattle.std.proofs.Common.{ℕ, ◌≡◌, refl, subst, true}
-use Rattle.base.specs.Labels.{is_in}
-use Rattle.policy.{specs.Policy.allows, proofs.Gathering.{both, itself_tells, only_tells, target_tells, told_as}}
+use Rattle.{base.specs.Labels.is_in, policy.{specs.Policy.allows, proofs.Gathering.{both, itself_tells, only_tells, target_tells, told_as}}}
 use Rattle.summary.proofs.edges.row_among.Goals as goal
 
 pub returns : goal.returns

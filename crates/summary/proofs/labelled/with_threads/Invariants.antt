@@ -1,6 +1,5 @@
 use Rattle.std.{specs.List.list_any, proofs.Common.{ℕ, ◌&&◌, ◌==◌, ◌≡◌, take}}
-use Rattle.base.specs.Labels.{is_in}
-use Rattle.summary.specs.Labelled.{is_thread}
+use Rattle.{base.specs.Labels.is_in, summary.specs.Labelled.is_thread}
 use Rattle.summary.proofs.labelled.with_threads.Given as goal
 
 -- the labels of the threads so far are found

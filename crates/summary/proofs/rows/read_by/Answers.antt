@@ -1,6 +1,5 @@
 use Rattle.std.proofs.Common.{◌||◌, ◌∙◌, ap}
-use Rattle.base.specs.{declared.kind.Kind.TheVariants.{Read, Receive}, Labels.is_in}
-use Rattle.policy.specs.Policy.{allows}
+use Rattle.{base.specs.{declared.kind.Kind.TheVariants.{Read, Receive}, Labels.is_in}, policy.specs.Policy.allows}
 use Rattle.summary.proofs.rows.read_by.Goals as goal
 
 pub returns : goal.returns

@@ -1,7 +1,6 @@
 -- That a row says what its label may do, by the policy and the labels from which the ways were made.
 use Rattle.std.proofs.Common.{ℕ, ◌↔◌, ◌≡◌, subst, true}
-use Rattle.base.specs.Labels.{is_in}
-use Rattle.reach.specs.Extents.{limits_by}
+use Rattle.{base.specs.Labels.is_in, reach.specs.Extents.limits_by}
 use Rattle.summary.specs.{Letters.{HasLetter, by_answer, by_call, by_other, by_signal}, Ways.WaysOf}
 use Rattle.summary.proofs.rows.row_of.Goals as goal
 

@@ -1,6 +1,5 @@
 use Rattle.std.{specs.{List.range_with_len, Prelude.All}, proofs.Common.{◌≡◌, map, take}}
-use Rattle.reach.specs.Extents.{limits_by}
-use Rattle.summary.specs.Rows.{IsRowOf}
+use Rattle.{reach.specs.Extents.limits_by, summary.specs.Rows.IsRowOf}
 use Rattle.summary.proofs.rows.rows_of.Given as goal
 
 -- the rows of the labels so far are there

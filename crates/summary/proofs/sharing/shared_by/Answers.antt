@@ -1,6 +1,5 @@
 use Rattle.std.proofs.Common.{◌∙◌, arith, sym}
-use Rattle.base.specs.{declared.kind.Kind.TheVariants.Write, Labels.is_in}
-use Rattle.policy.proofs.Gathering.{told_as}
+use Rattle.{base.specs.{declared.kind.Kind.TheVariants.Write, Labels.is_in}, policy.proofs.Gathering.told_as}
 use Rattle.summary.proofs.sharing.shared_by.Goals as goal
 
 pub returns : goal.returns

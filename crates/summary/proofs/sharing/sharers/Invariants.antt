@@ -1,7 +1,5 @@
 use Rattle.std.proofs.Common.{ℕ, ◌<◌, ◌↔◌, ◌≡◌, length, true}
-use Rattle.base.specs.Labels.{is_in}
-use Rattle.policy.specs.Policy.{allows}
-use Rattle.summary.specs.{Sharing.HasMemoryOf, Sources.row_at}
+use Rattle.{base.specs.Labels.is_in, policy.specs.Policy.allows, summary.specs.{Sharing.HasMemoryOf, Sources.row_at}}
 use Rattle.summary.proofs.sharing.sharers.Given as goal
 
 -- the rows of the labels so far are there

@@ -1,9 +1,7 @@
-use Rattle.std.proofs.Common.{◌∙◌, not, sym}
-use Rattle.base.specs.Labels.{is_in}
-use Rattle.policy.proofs.Gathering.{both, either, only_tells, told_as}
-use Rattle.summary.proofs.Waiting.{not_tells}
-use Rattle.summary.proofs.sharing.sharers_of.Goals as goal
 use mathlib.Core.Bool.{false≢true}
+use Rattle.std.proofs.Common.{◌∙◌, not, sym}
+use Rattle.{base.specs.Labels.is_in, policy.proofs.Gathering.{both, either, only_tells, told_as}, summary.proofs.Waiting.not_tells}
+use Rattle.summary.proofs.sharing.sharers_of.Goals as goal
 
 pub returns-then-not-has : goal.returns-then-not-has
 returns-then-not-has c l = (

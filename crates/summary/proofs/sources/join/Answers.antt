@@ -1,10 +1,9 @@
 -- That the loop finds exactly the labels in the rows of the set.
+use mathlib.Core.Bool.{false≢true}
 use Rattle.std.proofs.Common.{[], ℕ, ◌+◌, ◌↔◌, ◌∙◌, ◌≡◌, ap, arith, get_or, refl, subst, sym, true}
-use Rattle.base.specs.{declared.labels.Labels.Labels, Labels.is_in}
-use Rattle.policy.proofs.Stepping.{IsBelow, more_below, none_more}
+use Rattle.{base.specs.{declared.labels.Labels.Labels, Labels.is_in}, policy.proofs.Stepping.{IsBelow, more_below, none_more}}
 use Rattle.summary.{specs.Sources.row_at, proofs.{Waiting.row_is, sources.join.Goals.{in-Some+else-has, in-Some+then-has, in_default}}}
 use Rattle.summary.proofs.sources.join.Goals as goal
-use mathlib.Core.Bool.{false≢true}
 
 pub loop-number-preserved : goal.loop-number-preserved
 loop-number-preserved c label =

@@ -1,7 +1,5 @@
 use Rattle.std.proofs.Common.{ℕ, ◌↔◌, ◌≡◌, true}
-use Rattle.base.specs.Labels.{is_in}
-use Rattle.policy.proofs.Stepping.{IsBelow}
-use Rattle.summary.specs.Sources.{row_at}
+use Rattle.{base.specs.Labels.is_in, policy.proofs.Stepping.IsBelow, summary.specs.Sources.row_at}
 use Rattle.summary.proofs.sources.join.Given as goal
 
 -- what is in the rows so far is found

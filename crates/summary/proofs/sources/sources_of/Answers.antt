@@ -1,10 +1,9 @@
 -- That the loop finds exactly the labels with the edge.
+use mathlib.Core.Bool.{false≢true}
 use Rattle.std.proofs.{Common.{ℕ, ◌+◌, ◌==◌, ◌||◌, ◌↔◌, ◌∙◌, ◌≡◌, ap, arith, refl, subst, sym, true}, lemmas.Bool.{eq-eqb, eqb-true}}
-use Rattle.base.specs.Labels.{is_in}
-use Rattle.policy.{specs.Policy.allows, proofs.Stepping.{IsBelow, more_below, none_more}}
+use Rattle.{base.specs.Labels.is_in, policy.{specs.Policy.allows, proofs.Stepping.{IsBelow, more_below, none_more}}}
 use Rattle.summary.proofs.sources.sources_of.Goals.{in-Some+else-has, in-Some+then-has, in_default}
 use Rattle.summary.proofs.sources.sources_of.Goals as goal
-use mathlib.Core.Bool.{false≢true}
 
 pub loop-number-preserved : goal.loop-number-preserved
 loop-number-preserved c label =

@@ -1,6 +1,5 @@
 use Rattle.std.proofs.Common.{ℕ, ◌↔◌, ◌≡◌, true}
-use Rattle.base.specs.Labels.{is_in}
-use Rattle.policy.{specs.Policy.allows, proofs.Stepping.IsBelow}
+use Rattle.{base.specs.Labels.is_in, policy.{specs.Policy.allows, proofs.Stepping.IsBelow}}
 use Rattle.summary.proofs.sources.sources_of.Given as goal
 
 -- of the labels so far, those with the edge are found

@@ -1,7 +1,5 @@
 use Rattle.std.proofs.Common.{ℕ, ◌<◌, ◌↔◌, ◌≡◌, length, true}
-use Rattle.base.specs.Labels.{is_in}
-use Rattle.policy.specs.{Change.MayHoldCaller, Policy.allows}
-use Rattle.summary.specs.Sources.{row_at}
+use Rattle.{base.specs.Labels.is_in, policy.specs.{Change.MayHoldCaller, Policy.allows}, summary.specs.Sources.row_at}
 use Rattle.summary.proofs.ways.callers_of_replies.Given as goal
 
 -- the rows of the labels so far are there

@@ -1,7 +1,6 @@
 -- Starts rise, so a partition point counts those below an address.
-use Rattle.std.proofs.{Common.{nat_lt, rules}, lemmas.{Bool.{ltb-false, ltb-true}, List.Sorted.IsPartitionPoint-from_clause}}
-use Rattle.std.proofs.lemmas.List.Sorted.{IsPartitionedBy-ltb}
-use Rattle.table.proofs.ApartLemmas.{starts_rise}
+use Rattle.std.proofs.{Common.{nat_lt, rules}, lemmas.Bool.{ltb-false, ltb-true}}
+use Rattle.{std.proofs.lemmas.List.Sorted.{IsPartitionPoint-from_clause, IsPartitionedBy-ltb}, table.proofs.ApartLemmas.starts_rise}
 use Rattle.table.proofs.extent.count_below.Goals as goal
 
 pub returns-clause-parted : goal.returns-clause-parted

@@ -1,7 +1,6 @@
 -- Starts rise, so a partition point counts those up to an address.
-use Rattle.std.proofs.{Common.{nat_le, rules}, lemmas.{Bool.{leb-false, leb-true}, List.Sorted.IsPartitionPoint-from_clause}}
-use Rattle.std.proofs.lemmas.List.Sorted.{IsPartitionedBy-leb}
-use Rattle.table.proofs.ApartLemmas.{starts_rise}
+use Rattle.std.proofs.{Common.{nat_le, rules}, lemmas.Bool.{leb-false, leb-true}}
+use Rattle.{std.proofs.lemmas.List.Sorted.{IsPartitionPoint-from_clause, IsPartitionedBy-leb}, table.proofs.ApartLemmas.starts_rise}
 use Rattle.table.proofs.extent.count_up_to.Goals as goal
 
 pub returns-clause-parted : goal.returns-clause-parted

@@ -1,6 +1,5 @@
 -- Neither definition reads the version.
-use Rattle.std.proofs.Common.{refl}
-use Rattle.machine.specs.{Authority.{label_at, label_of}, Layout.{declared_label, initial_of}}
+use Rattle.{std.proofs.Common.refl, machine.specs.{Authority.{label_at, label_of}, Layout.{declared_label, initial_of}}}
 use Rattle.table.proofs.Upgraded.{boots, boots_upgraded}
 use Rattle.table.proofs.laws.upgraded_tables_boot_alike.Goals as goal
 

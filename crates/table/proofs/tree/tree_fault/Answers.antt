@@ -1,7 +1,6 @@
 -- That the loop finds the first pair that breaks a rule, if there is one.
 use Rattle.std.proofs.{Common.{[], ◌<◌, ◌∙◌, ◌≡◌, ◌≤◌, ◌⊎◌, ap, arith, get_or, inl, inr, sym, true}, lemmas.Bool.cases_lt}
-use Rattle.std.proofs.lemmas.List.{get_or_default}
-use Rattle.table.{specs.Tree.{is_kin, tree_of}, proofs.TreeLemmas.{fault_here, fault_nowhere}}
+use Rattle.{std.proofs.lemmas.List.get_or_default, table.{specs.Tree.{is_kin, tree_of}, proofs.TreeLemmas.{fault_here, fault_nowhere}}}
 use Rattle.table.proofs.tree.tree_fault.Goals as goal
 
 pub returns-then-not-is_kin : goal.returns-then-not-is_kin

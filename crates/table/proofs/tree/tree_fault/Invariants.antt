@@ -1,6 +1,5 @@
 use Rattle.std.proofs.Common.{[], ℕ, ◌<◌, ◌≡◌, get_or, true}
-use Rattle.machine.specs.declared.layout.Pair.{Pair}
-use Rattle.table.specs.Tree.{is_kin, tree_of}
+use Rattle.{machine.specs.declared.layout.Pair.Pair, table.specs.Tree.{is_kin, tree_of}}
 use Rattle.table.proofs.tree.tree_fault.Given as goal
 
 -- the pairs so far keep the rules

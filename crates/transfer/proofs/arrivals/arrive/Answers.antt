@@ -1,6 +1,5 @@
 -- That the capability that arrives is copied to an existing empty slot.
-use Rattle.std.proofs.Common.{sym}
-use Rattle.transfer.proofs.ArrivingEnds.{can_derive}
+use Rattle.{std.proofs.Common.sym, transfer.proofs.ArrivingEnds.can_derive}
 use Rattle.transfer.proofs.arrivals.arrive.Goals as goal
 
 pub derive-requires-clause-there : goal.derive-requires-clause-there

@@ -1,6 +1,5 @@
 -- That the caller waits for its answer, and that the context that it lends may be handed over.
-use Rattle.std.proofs.Common.{sym}
-use Rattle.transfer.proofs.Delivered.{borrower_free, borrower_there, lender_runs}
+use Rattle.{std.proofs.Common.sym, transfer.proofs.Delivered.{borrower_free, borrower_there, lender_runs}}
 use Rattle.transfer.proofs.lending.wait_and_lend.Goals as goal
 
 pub hand_over-requires-clause-runs : goal.hand_over-requires-clause-runs

@@ -1,8 +1,6 @@
 -- A thread that waits nowhere still waits nowhere after the holder is halted.
-use Rattle.std.proofs.Common.{subst, sym}
-use Rattle.machine.specs.Machine.{Machine}
-use Rattle.objects.specs.Waiting.{WaitsNowhere}
-use Rattle.transfer.proofs.Elsewhere.{free_halted_holder}
+use Rattle.{std.proofs.Common.{subst, sym}, machine.specs.Machine.Machine}
+use Rattle.{objects.specs.Waiting.WaitsNowhere, transfer.proofs.Elsewhere.free_halted_holder}
 use Rattle.transfer.proofs.receiving.end_reply.Goals as goal
 
 pub returns-in-Some-clause-free : goal.returns-in-Some-clause-free

@@ -1,5 +1,4 @@
-use Rattle.machine.specs.declared.call.Call.{Call as call}
-use Rattle.steps.proofs.Threads.{ready_caller_waits_nowhere}
+use Rattle.{machine.specs.declared.call.Call.Call as call, steps.proofs.Threads.ready_caller_waits_nowhere}
 use Rattle.transfer.proofs.receiving.receive.Goals as goal
 
 pub make_receive-requires-clause-free : goal.make_receive-requires-clause-free

@@ -1,7 +1,6 @@
 -- That the caller and the receiver differ after the message is delivered, and the reply is free; else the caller waits nowhere.
 use Rattle.std.proofs.Common.{◌∙◌, sym}
-use Rattle.steps.proofs.Threads.{ready_caller_waits_nowhere}
-use Rattle.transfer.proofs.Delivered.{apart, caller_there, receiver_there, reply_free}
+use Rattle.{steps.proofs.Threads.ready_caller_waits_nowhere, transfer.proofs.Delivered.{apart, caller_there, receiver_there, reply_free}}
 use Rattle.transfer.proofs.sending.call_or_wait.Goals as goal
 
 pub call_through-requires-clause-caller : goal.call_through-requires-clause-caller

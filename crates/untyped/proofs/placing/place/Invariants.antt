@@ -1,6 +1,5 @@
 use Rattle.std.proofs.Common.{ℕ, ◌*◌, ◌++◌, ◌+◌, ◌^◌, ◌≡◌, ◌≤◌, length, take}
-use Rattle.machine.specs.Memory.{all_taken, new_size}
-use Rattle.untyped.specs.Batch.{new_objects}
+use Rattle.{machine.specs.Memory.{all_taken, new_size}, untyped.specs.Batch.new_objects}
 use Rattle.untyped.proofs.placing.place.Given as goal
 
 -- with those that are left these are all, at the end of all, and each takes less than twice its size

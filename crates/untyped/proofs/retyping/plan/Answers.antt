@@ -1,8 +1,7 @@
 -- That a call that met each condition in a well-formed machine can be made.
 use Rattle.std.proofs.Common.{◌∙◌, ap, refl, subst, sym}
 use Rattle.machine.specs.{declared.object.Object.Object, Memory.Source, Step.Retype.within_limits}
-use Rattle.cspace.specs.Strings.{level_shown}
-use Rattle.untyped.{specs.Shown.source_shown, proofs.Planned.{IsBegun, begins, can_be_made}}
+use Rattle.{cspace.specs.Strings.level_shown, untyped.{specs.Shown.source_shown, proofs.Planned.{IsBegun, begins, can_be_made}}}
 use Rattle.untyped.proofs.retyping.plan.Goals as goal
 
 pub roomy-requires-clause-bits : goal.roomy-requires-clause-bits

@@ -1,7 +1,6 @@
 -- Untyped memory has at most 47 bits.
 use Rattle.std.proofs.{Common.{◌%◌, ◌*◌, ◌^◌, ◌≤◌, arith}, Math.{Nat.mod-le, Pow.pow_mono}}
-use Rattle.machine.specs.declared.object.MemoryKind.{MemoryKind as kind}
-use Rattle.steps.proofs.RetypeRow.{is_sized}
+use Rattle.{machine.specs.declared.object.MemoryKind.MemoryKind as kind, steps.proofs.RetypeRow.is_sized}
 use Rattle.untyped.proofs.room.new_size.Goals as goal
 
 pub returns-in-Untyped-clause-most : goal.returns-in-Untyped-clause-most

@@ -1,7 +1,6 @@
 -- That the watermark after all objects is below 17 * 2^48, and decides.
 use Rattle.std.proofs.{Common.{ℕ, ◌%◌, ◌*◌, ◌+◌, ◌<◌, ◌^◌, ◌≡◌, ◌≤◌, Err, Ok, arith, suc, zero}, Math.{Nat.mod-eq_of_lt, Pow.pow_mono}}
-use Rattle.std.proofs.lemmas.Bool.Decides.{nat_tests}
-use Rattle.base.specs.declared.refusal.Cause.TheVariants.{NotEnoughMemory}
+use Rattle.{std.proofs.lemmas.Bool.Decides.nat_tests, base.specs.declared.refusal.Cause.TheVariants.NotEnoughMemory}
 use Rattle.machine.specs.{declared.object.Untyped.Untyped, Memory.all_taken, Step.Retype.roomy}
 use Rattle.untyped.proofs.room.roomy.Goals as goal
 

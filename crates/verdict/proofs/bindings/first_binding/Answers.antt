@@ -1,8 +1,6 @@
 -- That the loop finds the first binding that breaks A4.
-use Rattle.std.proofs.Common.{ap, arith, length}
-use Rattle.policy.{specs.Policy.allows, proofs.Places.{least_here, none_at_all, none_more}}
-use Rattle.table.proofs.Lookups.{bound_from, read_at}
-use Rattle.verdict.proofs.BindingPlaces.{bindings}
+use Rattle.{std.proofs.Common.{ap, arith, length}, table.proofs.Lookups.{bound_from, read_at}}
+use Rattle.{policy.{specs.Policy.allows, proofs.Places.{least_here, none_at_all, none_more}}, verdict.proofs.BindingPlaces.bindings}
 use Rattle.verdict.proofs.bindings.first_binding.Goals as goal
 
 pub binding_excess-requires : goal.binding_excess-requires

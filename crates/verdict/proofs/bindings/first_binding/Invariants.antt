@@ -1,5 +1,4 @@
-use Rattle.policy.specs.Policy.{allows}
-use Rattle.verdict.proofs.BindingPlaces.{NothingBroken}
+use Rattle.{policy.specs.Policy.allows, verdict.proofs.BindingPlaces.NothingBroken}
 use Rattle.verdict.proofs.bindings.first_binding.Given as goal
 
 abbrev pub invariant-loop-binding : goal.invariant-loop-binding

@@ -1,6 +1,5 @@
 -- A system accepted by either set of rules is accepted by the sharp ones.
-use Rattle.policy.specs.Policy.{allows}
-use Rattle.verdict.proofs.RuleSets.{accepted_by}
+use Rattle.{policy.specs.Policy.allows, verdict.proofs.RuleSets.accepted_by}
 use Rattle.verdict.proofs.check.are_safe_by.Goals as goal
 
 pub returns : goal.returns

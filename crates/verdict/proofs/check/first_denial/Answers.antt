@@ -1,8 +1,6 @@
 -- That the first denial is by the policy's own rules, or else at a slot, or else of a binding.
-use Rattle.std.proofs.Common.{subst}
-use Rattle.policy.specs.{Places.FindsLeast, Policy.allows}
-use Rattle.verdict.specs.{Slots.BreaksSlots, Verdict.place_of}
-use Rattle.verdict.proofs.FirstOfSet.{at_bindings, at_slots}
+use Rattle.{std.proofs.Common.subst, policy.specs.{Places.FindsLeast, Policy.allows}}
+use Rattle.verdict.{specs.{Slots.BreaksSlots, Verdict.place_of}, proofs.FirstOfSet.{at_bindings, at_slots}}
 use Rattle.verdict.proofs.check.first_denial.Goals as goal
 
 pub returns-in-Some-2-clause-least : goal.returns-in-Some-2-clause-least

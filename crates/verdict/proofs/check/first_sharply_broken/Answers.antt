@@ -1,10 +1,6 @@
 -- The keepers of the boot state are the labels that may keep.
-use Rattle.policy.specs.Policy.{allows}
-use Rattle.base.specs.Labels.{is_in}
-use Rattle.policy.specs.Sharp.{Told}
-use Rattle.integrity.specs.Keeping.{MayKeep}
-use Rattle.reach.proofs.LeastReach.{from_may, may_from}
-use Rattle.verdict.proofs.MoreKeepers.{least_of_same}
+use Rattle.{base.specs.Labels.is_in, policy.specs.{Policy.allows, Sharp.Told}, integrity.specs.Keeping.MayKeep}
+use Rattle.{reach.proofs.LeastReach.{from_may, may_from}, verdict.proofs.MoreKeepers.least_of_same}
 use Rattle.verdict.proofs.check.first_sharply_broken.Goals as goal
 
 pub returns : goal.returns

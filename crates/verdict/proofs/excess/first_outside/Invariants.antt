@@ -1,5 +1,4 @@
-use Rattle.policy.specs.{Places.FindsLeast, Policy.allows}
-use Rattle.verdict.{specs.Verdict.place_of, proofs.OutsideObjects.LiesBelow}
+use Rattle.{policy.specs.{Places.FindsLeast, Policy.allows}, verdict.{specs.Verdict.place_of, proofs.OutsideObjects.LiesBelow}}
 use Rattle.verdict.proofs.excess.first_outside.Given as goal
 
 abbrev pub invariant-loop-number : goal.invariant-loop-number

@@ -1,8 +1,7 @@
 -- That nothing lies outside, or the first denial names the first place.
 use Rattle.std.proofs.Common.{◌≡◌, IfNone, IfSome, None, Option, Some}
 use Rattle.machine.specs.{Layout.Layout, Machine.Machine}
-use Rattle.policy.specs.{Domain.EdgeTest, Places.FindsLeast, Policy.allows}
-use Rattle.integrity.specs.Confined.{IsConfined}
+use Rattle.{policy.specs.{Domain.EdgeTest, Places.FindsLeast, Policy.allows}, integrity.specs.Confined.IsConfined}
 use Rattle.verdict.specs.{declared.denial.Denial.Denial, Outside.LiesOutside, Rules.Excess, Verdict.{IsOutside, excess_of, place_of}}
 use Rattle.verdict.proofs.{OutsideObjects.{first_place, nothing_outside}, Outsides.confined_within}
 use Rattle.verdict.proofs.excess.outside.Goals as goal

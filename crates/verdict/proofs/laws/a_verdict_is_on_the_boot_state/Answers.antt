@@ -1,10 +1,9 @@
 -- That the table's verdict is one on its boot state, which exists and has the authority that the table declares.
-use Rattle.policy.specs.Policy.{allows}
-use Rattle.table.proofs.BootState.{boot_state, boot_state_is}
+use Rattle.{table.proofs.BootState.{boot_state, boot_state_is}, policy.specs.Policy.allows}
+use Rattle.verdict.proofs.BootPlaces.{boot_confined, broken_outside, confined_accepted, confined_unexceeded}
+use Rattle.verdict.proofs.BootPlaces.{first_closed, first_outside, least_broken, outside_declared}
+use Rattle.verdict.proofs.RuleSets.{accepted_closed, accepted_sharp, none_exceeded, sharply_accepted}
 use Rattle.verdict.specs.declared.rules.Rules.TheVariants as rules
-use Rattle.verdict.proofs.BootPlaces.{boot_confined, broken_outside, confined_accepted, confined_unexceeded, first_closed, first_outside}
-use Rattle.verdict.proofs.{BootPlaces.{least_broken, outside_declared}, RuleSets.{accepted_closed, accepted_sharp, none_exceeded}}
-use Rattle.verdict.proofs.RuleSets.{sharply_accepted}
 use Rattle.verdict.proofs.laws.a_verdict_is_on_the_boot_state.Goals as goal
 
 pub returns-clause-place : goal.returns-clause-place

@@ -1,7 +1,6 @@
 -- An accepted policy is closed, and has all authority of the boot state.
-use Rattle.policy.specs.Policy.{allows}
+use Rattle.{policy.specs.Policy.allows, verdict.proofs.{BootPlaces.boot_confined, RuleSets.{accepted_closed, none_exceeded}}}
 use Rattle.verdict.specs.declared.rules.Rules.TheVariants as rules
-use Rattle.verdict.proofs.{BootPlaces.boot_confined, RuleSets.{accepted_closed, none_exceeded}}
 use Rattle.verdict.proofs.safe.accepted_systems_are_safe.Goals as goal
 
 pub returns : goal.returns

@@ -1,6 +1,5 @@
-use Rattle.std.proofs.{Common.{◌∙◌, rules, tests}, lemmas.Iterator.{YieldsList-from_slice, Search.find_from_yields_List}}
-use Rattle.policy.specs.Policy.{allows}
-use Rattle.verdict.specs.Slots.{is_missing}
+use Rattle.std.proofs.{Common.{◌∙◌, rules, tests}, lemmas.Iterator.{Search.find_from_yields_List, YieldsList-from_slice}}
+use Rattle.{policy.specs.Policy.allows, verdict.specs.Slots.is_missing}
 use Rattle.verdict.proofs.slots.first_missing.Goals as goal
 
 pub returns : goal.returns

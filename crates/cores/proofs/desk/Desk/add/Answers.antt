@@ -1,11 +1,10 @@
 -- The seat visits the keeper, its call is recorded, and it leaves: what each knows on the way.
-use Rattle.std.{specs.Prelude.{slice_get, vec_capacity}, proofs.Common.{[], ℕ, ◌++◌, ◌+◌, ◌∙◌, ◌∷◌, ◌≡◌, Some, ap, arith, length, refl}}
-use Rattle.std.proofs.{Common.{subst, sym}, lemmas.List.{length-map, length_push}}
-use Rattle.machine.specs.declared.call.Event.{Event}
+use Rattle.std.{specs.Prelude.{slice_get, vec_capacity}, proofs.Common.{[], ℕ, ◌++◌, ◌+◌, ◌∙◌, ◌∷◌, ◌≡◌, Some, ap, arith, length}}
+use Rattle.{std.proofs.{Common.{refl, subst, sym}, lemmas.List.{length-map, length_push}}, machine.specs.declared.call.Event.Event}
 use Rattle.cores.specs.{declared.view.{About.About, Hand.Hand, Keeping.Keeping, Noted.Noted, View.View}, History.{IsExactFor, IsLegal}}
 use Rattle.cores.specs.{Moves.recorded, Rule.about, Seats.{Calls, Known, about_in, hand_in, history_of, keeping_in, known, seat_view}}
-use Rattle.cores.proofs.Adding.{calls_more, can_record, exact_more, host_view, hosts_view, in_order_more, keeps_view, legal_more}
-use Rattle.cores.proofs.{Adding.records_view, Visiting.{Knowing, left_view, seated_at}}
+use Rattle.cores.proofs.Adding.{calls_more, can_record, exact_more, host_view, hosts_view, in_order_more}
+use Rattle.cores.proofs.{Adding.{keeps_view, legal_more, records_view}, Visiting.{Knowing, left_view, seated_at}}
 use Rattle.cores.proofs.desk.Desk.add.Goals as goal
 
 pub record-requires-clause-may : goal.record-requires-clause-may

@@ -1,9 +1,8 @@
 -- A hop ends where the guard and the radix leave it.
 use Rattle.std.proofs.Common.{ℕ, ◌-◌, ◌/◌, ◌<◌, ◌^◌, ◌∙◌, ◌≡◌, Bool, List, Ok, Result, ap, arith, sym}
-use Rattle.base.specs.declared.{ids.SlotRef.SlotRef, refusal.LookupFailure.LookupFailure}
-use Rattle.machine.specs.Bits.{bits}
-use Rattle.cspace.{specs.Strings.level_shown, proofs.{BitLemmas.{number-bits, split-short, split-within}, HopLemmas.{hop-apart, hop-deep}}}
-use Rattle.cspace.proofs.HopLemmas.{hop-slot}
+use Rattle.{base.specs.declared.{ids.SlotRef.SlotRef, refusal.LookupFailure.LookupFailure}, machine.specs.Bits.bits}
+use Rattle.cspace.{specs.Strings.level_shown, proofs.BitLemmas.{number-bits, split-short, split-within}}
+use Rattle.cspace.proofs.HopLemmas.{hop-apart, hop-deep, hop-slot}
 use Rattle.cspace.proofs.level.Level.select.Goals as goal
 
 pub returns-in_default-clause-value : goal.returns-in_default-clause-value

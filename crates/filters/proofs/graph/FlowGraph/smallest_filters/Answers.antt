@@ -1,11 +1,8 @@
 -- The sets that leave no way in the graph are those through which all flows go.
-use Rattle.std.{specs.Result.IfOk, proofs.{Common.{ℕ, ◌&&◌, ◌==◌, ◌||◌, ◌∙◌, ◌≡◌, List, ap, arith, not, subst, sym}, lemmas.Result.IfOk-weaker}}
+use Rattle.std.{specs.Result.IfOk, proofs.{Common.{◌&&◌, ◌==◌, ◌||◌, ◌∙◌, ◌≡◌, List, ap, arith, not, subst}, lemmas.Result.IfOk-weaker}}
 use Rattle.base.specs.{declared.labels.Labels.Labels, Labels.is_in}
-use Rattle.reach.specs.{Extents.limits_of, Reach.TableReach}
-use Rattle.flows.specs.Flowing.Leads.{starts}
-use Rattle.filters.specs.{Smallest.{IsFilterSet, IsSmallest}, Ways.Separates}
-use Rattle.filters.proofs.Fewest.{separates_flows, smallest_alike}
-use Rattle.flows.specs.Flowing.{Leads}
+use Rattle.{reach.specs.{Extents.limits_of, Reach.TableReach}, flows.specs.Flowing.{Leads, Leads.starts}}
+use Rattle.filters.{specs.{Smallest.{IsFilterSet, IsSmallest}, Ways.Separates}, proofs.Fewest.{separates_flows, smallest_alike}}
 use Rattle.filters.proofs.graph.FlowGraph.smallest_filters.Goals as goal
 
 pub returns-then-number : goal.returns-then-number

@@ -1,8 +1,6 @@
 -- The links by which the search found the label lead from there to the end.
 use Rattle.std.proofs.Common.{◌∙◌, ◌≡◌, List, length, subst, sym, true}
-use Rattle.base.specs.Labels.{is_in}
-use Rattle.reach.specs.Extents.{limits_of}
-use Rattle.flows.specs.{declared.links.Link.Link, Chains.{AreFoundLinks, IsFound}}
+use Rattle.{base.specs.Labels.is_in, reach.specs.Extents.limits_of, flows.specs.{declared.links.Link.Link, Chains.{AreFoundLinks, IsFound}}}
 use Rattle.flows.proofs.flowing.Flows.chain.Goals as goal
 
 pub returns : goal.returns

@@ -1,7 +1,6 @@
 -- The labels from which no chain leads are outside of a set that is closed off from them, and shielded in every run.
 use Rattle.std.proofs.Common.{◌∙◌, inl, inr, subst, sym}
-use Rattle.base.specs.Labels.{is_in}
-use Rattle.reach.{specs.{Extents.limits_of, Reach.{IsTableReach, TableReach}}, proofs.LeastReach.actors_told}
+use Rattle.{base.specs.Labels.is_in, reach.{specs.{Extents.limits_of, Reach.{IsTableReach, TableReach}}, proofs.LeastReach.actors_told}}
 use Rattle.flows.proofs.{Chains.{was, was_not}, Leading.{closed_off, shielded}}
 use Rattle.flows.proofs.flowing.Flows.goes_through.Goals as goal
 

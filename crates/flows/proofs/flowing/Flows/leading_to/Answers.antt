@@ -1,5 +1,4 @@
-use Rattle.std.proofs.Common.{inl, inr, subst}
-use Rattle.base.specs.Labels.{is_in}
+use Rattle.{std.proofs.Common.{inl, inr, subst}, base.specs.Labels.is_in}
 use Rattle.reach.{specs.{Extents.limits_of, Reach.{IsTableReach, TableReach}}, proofs.LeastReach.actors_told}
 use Rattle.flows.proofs.Leading.{undisturbed}
 use Rattle.flows.proofs.flowing.Flows.leading_to.Goals as goal

@@ -1,7 +1,6 @@
 -- The object of the link is one of those between the two labels; there are some, since the one flows to the other.
 use Rattle.std.proofs.{Common.{◌∙◌, not, refl, sym}, lemmas.Bool.{and_parts, false≢true}}
-use Rattle.base.specs.Labels.{is_in}
-use Rattle.flows.proofs.Chains.{was_not}
+use Rattle.{base.specs.Labels.is_in, flows.proofs.Chains.was_not}
 use Rattle.flows.proofs.flowing.Flows.link_to.Goals as goal
 
 pub returns-in_err-object : goal.returns-in_err-object

@@ -1,6 +1,4 @@
-use Rattle.base.specs.Labels.{is_in}
-use Rattle.reach.specs.Extents.{limits_of}
-use Rattle.flows.proofs.FlowSets.{flows_beside_none}
+use Rattle.{base.specs.Labels.is_in, reach.specs.Extents.limits_of, flows.proofs.FlowSets.flows_beside_none}
 use Rattle.flows.proofs.flowing.Flows.next.Goals as goal
 
 pub returns : goal.returns

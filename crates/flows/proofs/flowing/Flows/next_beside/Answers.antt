@@ -1,9 +1,7 @@
 -- The next labels are found by the rows of what the label affects, and of what the others depend on.
-use Rattle.std.proofs.Common.{ℕ, ◌&&◌, ◌<◌, ◌∙◌, ◌≡◌, List, ap, arith, get_or, length, not, subst, true}
-use Rattle.std.proofs.lemmas.List.{get_or_default}
+use Rattle.std.proofs.{Common.{ℕ, ◌&&◌, ◌<◌, ◌∙◌, ◌≡◌, List, ap, arith, get_or, length, not, subst, true}, lemmas.List.get_or_default}
 use Rattle.base.specs.{declared.labels.Labels.Labels, Labels.{is_in, no_labels}}
-use Rattle.policy.proofs.Gathering.{Tells}
-use Rattle.reach.specs.{Extents.limits_of, Reach.TableReach}
+use Rattle.{policy.proofs.Gathering.Tells, reach.specs.{Extents.limits_of, Reach.TableReach}}
 use Rattle.flows.{specs.{Flowing.FlowsBeside, Rows.{Meets, row_at}}, proofs.FlowSets.flows_told}
 use Rattle.flows.proofs.flowing.Flows.next_beside.Goals as goal
 

@@ -1,9 +1,6 @@
 -- The objects between two labels are found by the rows of what the one affects, and of what the other depends on.
-use Rattle.std.proofs.Common.{◌&&◌, ◌<◌, ◌∙◌, ◌≡◌, ap, arith, false, get_or, length, not, subst}
-use Rattle.std.proofs.lemmas.List.{get_or_default}
-use Rattle.base.specs.Labels.{is_in, no_labels}
-use Rattle.policy.proofs.Gathering.{Tells}
-use Rattle.reach.specs.{Extents.limits_of, Reach.TableReach}
+use Rattle.std.proofs.{Common.{◌&&◌, ◌<◌, ◌∙◌, ◌≡◌, ap, arith, false, get_or, length, not, subst}, lemmas.List.get_or_default}
+use Rattle.{base.specs.Labels.{is_in, no_labels}, policy.proofs.Gathering.Tells, reach.specs.{Extents.limits_of, Reach.TableReach}}
 use Rattle.flows.{specs.{Flowing.FlowsBy, Rows.row_at}, proofs.FlowSets.between_told}
 use Rattle.flows.proofs.flowing.Flows.objects_between.Goals as goal
 

@@ -1,9 +1,7 @@
 -- The previous labels are found by the rows of what the label depends on, and of what the others affect.
-use Rattle.std.proofs.Common.{ℕ, ◌&&◌, ◌<◌, ◌∙◌, ◌≡◌, List, ap, arith, get_or, length, not, subst, true}
-use Rattle.std.proofs.lemmas.List.{get_or_default}
+use Rattle.std.proofs.{Common.{ℕ, ◌&&◌, ◌<◌, ◌∙◌, ◌≡◌, List, ap, arith, get_or, length, not, subst, true}, lemmas.List.get_or_default}
 use Rattle.base.specs.{declared.labels.Labels.Labels, Labels.{is_in, no_labels}}
-use Rattle.policy.proofs.Gathering.{Tells}
-use Rattle.reach.specs.{Extents.limits_of, Reach.TableReach}
+use Rattle.{policy.proofs.Gathering.Tells, reach.specs.{Extents.limits_of, Reach.TableReach}}
 use Rattle.flows.{specs.{Flowing.FlowsBeside, Rows.{Meets, row_at}}, proofs.FlowSets.sources_told}
 use Rattle.flows.proofs.flowing.Flows.previous_beside.Goals as goal
 

@@ -1,9 +1,7 @@
 -- Each turn is done with one label more, until all that were reached are done.
-use Rattle.std.proofs.{Common.{◌&&◌, ◌<◌, ◌||◌, ◌∙◌, ◌≡◌, Bool, ap, false, not, refl, subst, sym, true}, lemmas.Bool.{and_parts, eq-eqb, or_left, or_right}}
-use Rattle.base.specs.Labels.{is_in}
-use Rattle.reach.specs.Extents.{limits_of}
-use Rattle.sharp.proofs.Missing.{fewer_missing}
-use Rattle.flows.proofs.Chains.{all_reached, first_reached, more_reached}
+use Rattle.std.proofs.Common.{◌&&◌, ◌<◌, ◌||◌, ◌∙◌, ◌≡◌, Bool, ap, false, not, refl, subst, sym, true}
+use Rattle.{std.proofs.lemmas.Bool.{and_parts, eq-eqb, or_left, or_right}, base.specs.Labels.is_in, sharp.proofs.Missing.fewer_missing}
+use Rattle.{reach.specs.Extents.limits_of, flows.proofs.Chains.{all_reached, first_reached, more_reached}}
 use Rattle.flows.proofs.flowing.Flows.reached_beside.Goals as goal
 
 pub loop-label-init : goal.loop-label-init

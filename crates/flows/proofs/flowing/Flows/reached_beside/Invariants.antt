@@ -1,8 +1,5 @@
 -- A chain leads to each label that was reached, and from the labels that are done only to such.
-use Rattle.base.specs.Labels.{is_in}
-use Rattle.reach.specs.Extents.{limits_of}
-use Rattle.sharp.proofs.Missing.{missing_below}
-use Rattle.flows.proofs.Chains.{AreReached}
+use Rattle.{base.specs.Labels.is_in, sharp.proofs.Missing.missing_below, reach.specs.Extents.limits_of, flows.proofs.Chains.AreReached}
 use Rattle.flows.proofs.flowing.Flows.reached_beside.Given as goal
 
 abbrev pub invariant-loop-label : goal.invariant-loop-label

@@ -1,12 +1,9 @@
 -- Each turn finds one link more, or is done with a label to which no other flows, until all that were found are done.
 use Rattle.std.proofs.Common.{[], ℕ, ◌&&◌, ◌++◌, ◌+◌, ◌<◌, ◌||◌, ◌∙◌, ◌∷◌, ◌≡◌, ap, arith, inl, length, not, refl, subst, sym}
 use Rattle.std.proofs.lemmas.{Bool.{and_parts, eq-eqb, eqb-true, or_left, or_right}, Grind.common_steps}
-use Rattle.base.specs.Labels.{is_in}
-use Rattle.reach.specs.Extents.{limits_of}
-use Rattle.sharp.proofs.Missing.{fewer_missing, missing_below}
-use Rattle.flows.specs.{Chains.{AreFoundLinks, IsFound}, Flowing.{FlowsBeside, FlowsBy}}
-use Rattle.flows.proofs.{Chains.was_not, Leading.{all_leading, first_leading}}
-use Rattle.flows.proofs.Searching.{found_more, links_more, new_link, none_found, one_done, one_leading}
+use Rattle.{base.specs.Labels.is_in, sharp.proofs.Missing.{fewer_missing, missing_below}, reach.specs.Extents.limits_of}
+use Rattle.flows.{specs.{Chains.{AreFoundLinks, IsFound}, Flowing.{FlowsBeside, FlowsBy}}, proofs.{Chains.was_not, Leading.all_leading}}
+use Rattle.flows.proofs.{Leading.first_leading, Searching.{found_more, links_more, new_link, none_found, one_done, one_leading}}
 use Rattle.flows.proofs.flowing.Flows.search.Goals as goal
 
 pub loop-label-init : goal.loop-label-init

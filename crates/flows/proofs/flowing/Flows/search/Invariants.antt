@@ -1,8 +1,6 @@
 -- A chain leads, by a link, from each label that was found, and only such labels flow to those that are done.
 use Rattle.std.proofs.Common.{ℕ, ◌+◌, ◌≡◌, length, true}
-use Rattle.base.specs.Labels.{is_in}
-use Rattle.reach.specs.Extents.{limits_of}
-use Rattle.sharp.proofs.Missing.{missing_below}
+use Rattle.{base.specs.Labels.is_in, sharp.proofs.Missing.missing_below, reach.specs.Extents.limits_of}
 use Rattle.flows.{specs.Chains.{AreFoundLinks, IsFound}, proofs.Leading.AreLeading}
 use Rattle.flows.proofs.flowing.Flows.search.Given as goal
 

@@ -1,8 +1,5 @@
 -- A chain leads from each label that was found, and only such flow to the labels that are done.
-use Rattle.base.specs.Labels.{is_in}
-use Rattle.reach.specs.Extents.{limits_of}
-use Rattle.sharp.proofs.Missing.{missing_below}
-use Rattle.flows.proofs.Leading.{AreLeading}
+use Rattle.{base.specs.Labels.is_in, sharp.proofs.Missing.missing_below, reach.specs.Extents.limits_of, flows.proofs.Leading.AreLeading}
 use Rattle.flows.proofs.flowing.Flows.sources_of.Given as goal
 
 abbrev pub invariant-loop-label : goal.invariant-loop-label

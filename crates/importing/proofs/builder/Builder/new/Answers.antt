@@ -1,6 +1,5 @@
 use Rattle.std.proofs.Common.{ℕ, ◌<◌, ◌∙◌, List, ap, get_or, length, subst}
-use Rattle.microkit.specs.LabelView.{bytes_of}
-use Rattle.importing.proofs.Labels.{admits_at, more_at}
+use Rattle.{microkit.specs.LabelView.bytes_of, importing.proofs.Labels.{admits_at, more_at}}
 use Rattle.importing.proofs.builder.Builder.new.Goals as goal
 
 pub add_name-requires : goal.add_name-requires

@@ -1,7 +1,6 @@
 -- The labels so far are the first ones.
 use Rattle.std.proofs.Common.{◌≡◌}
-use Rattle.microkit.specs.LabelView.{bytes_of}
-use Rattle.importing.{specs.Groups.labels_at, proofs.Labels.first_labels}
+use Rattle.{microkit.specs.LabelView.bytes_of, importing.{specs.Groups.labels_at, proofs.Labels.first_labels}}
 use Rattle.importing.proofs.builder.Builder.new.Given as goal
 
 abbrev pub invariant-loop-place : goal.invariant-loop-place

@@ -1,5 +1,4 @@
-use Rattle.std.proofs.Common.{sym}
-use Rattle.importing.proofs.Ends.{admits_built}
+use Rattle.{std.proofs.Common.sym, importing.proofs.Ends.admits_built}
 use Rattle.importing.proofs.builder.Builder.put.Goals as goal
 
 pub add_object-requires : goal.add_object-requires

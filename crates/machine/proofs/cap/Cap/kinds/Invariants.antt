@@ -1,6 +1,5 @@
 use Rattle.std.proofs.Common.{◌&&◌, ◌<◌, ◌^◌, ◌≡◌, nat_lt}
-use Rattle.base.specs.{declared.kind.Kind.Kind, Kinds.{is_among, kind_number}}
-use Rattle.machine.specs.Capabilities.{gives}
+use Rattle.{base.specs.{declared.kind.Kind.Kind, Kinds.{is_among, kind_number}}, machine.specs.Capabilities.gives}
 use Rattle.machine.proofs.cap.Cap.kinds.Given as goal
 
 -- the kinds so far are those that the capability gives, and no bit is another

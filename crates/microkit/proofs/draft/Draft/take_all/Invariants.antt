@@ -1,7 +1,6 @@
 -- The elements that are left make of the draft what all of them make.
 use Rattle.std.proofs.Common.{◌≡◌, drop}
-use Rattle.microkit.specs.Reading.{elements_at}
-use Rattle.xml.specs.View.{nodes_of}
+use Rattle.{xml.specs.View.nodes_of, microkit.specs.Reading.elements_at}
 use Rattle.microkit.proofs.draft.Draft.take_all.Given as goal
 
 abbrev pub invariant-loop-number : goal.invariant-loop-number

@@ -1,9 +1,8 @@
 -- Room is made for the objects that may be going, then the objects are added at once.
 use Rattle.std.{specs.{List.fold, Prelude.vec_capacity}, proofs.Common.{◌+◌, ◌^◌, ◌∙◌, ◌≤◌, ap, arith, length}}
-use Rattle.std.proofs.lemmas.Result.{err_from_is_err_and}
-use Rattle.machine.specs.Machine.{with_new}
-use Rattle.objects.proofs.{ConsistentLemmas.all_added_gives, CountedStates.{room_gives, sound_all_added, sound_room}}
-use Rattle.objects.proofs.StateLemmas.{next-machine_of}
+use Rattle.{std.proofs.lemmas.Result.err_from_is_err_and, machine.specs.Machine.with_new}
+use Rattle.objects.proofs.ConsistentLemmas.{all_added_gives}
+use Rattle.objects.proofs.{CountedStates.{room_gives, sound_all_added, sound_room}, StateLemmas.next-machine_of}
 use Rattle.objects.proofs.state.State.add_objects.Goals as goal
 
 pub invariant_of-self : goal.invariant_of-self

@@ -1,7 +1,6 @@
-use Rattle.std.proofs.Common.{refl}
-use Rattle.machine.proofs.CapCounts.{caps_to-with_parent}
-use Rattle.objects.proofs.{CapsKept.caps-attached, CountLemmas.counts-with_parent, CountedStates.sound_after, PairLemmas.paired-with_parent}
-use Rattle.objects.proofs.TreeState.{IsConsistent-attached, attach_gives}
+use Rattle.{std.proofs.Common.refl, machine.proofs.CapCounts.caps_to-with_parent}
+use Rattle.objects.proofs.{CapsKept.caps-attached, CountLemmas.counts-with_parent, CountedStates.sound_after}
+use Rattle.objects.proofs.{PairLemmas.paired-with_parent, TreeState.{IsConsistent-attached, attach_gives}}
 use Rattle.objects.proofs.state.State.attach.Goals as goal
 
 pub invariant_of-self : goal.invariant_of-self

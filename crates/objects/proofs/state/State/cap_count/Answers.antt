@@ -1,5 +1,4 @@
-use Rattle.std.proofs.Common.{arith}
-use Rattle.objects.proofs.CapBounds.{caps_bounded}
+use Rattle.{std.proofs.Common.arith, objects.proofs.CapBounds.caps_bounded}
 use Rattle.objects.proofs.state.State.cap_count.Goals as goal
 
 pub returns-clause-value : goal.returns-clause-value

@@ -1,5 +1,4 @@
-use Rattle.std.proofs.Common.{arith}
-use Rattle.machine.specs.Changes.{with_none_going}
+use Rattle.{std.proofs.Common.arith, machine.specs.Changes.with_none_going}
 use Rattle.objects.{specs.State.machine_of, proofs.{CountedStates.{going_gives, sound_going}, PairLemmas.paired-with_none_going}}
 use Rattle.objects.proofs.state.State.clear_going.Goals as goal
 

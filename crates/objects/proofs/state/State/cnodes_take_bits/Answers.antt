@@ -1,5 +1,4 @@
-use Rattle.machine.specs.declared.object.Object.{Object as o}
-use Rattle.objects.proofs.ConsistentLemmas.{HasRadix-machine_of}
+use Rattle.{machine.specs.declared.object.Object.Object as o, objects.proofs.ConsistentLemmas.HasRadix-machine_of}
 use Rattle.objects.proofs.state.State.cnodes_take_bits.Goals as goal
 
 pub returns : goal.returns

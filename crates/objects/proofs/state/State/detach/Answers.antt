@@ -1,5 +1,4 @@
-use Rattle.std.proofs.Common.{refl}
-use Rattle.machine.proofs.CapCounts.{caps_to-without_parent}
+use Rattle.{std.proofs.Common.refl, machine.proofs.CapCounts.caps_to-without_parent}
 use Rattle.objects.proofs.{CapsKept.caps-detached, CountLemmas.counts-without_parent, CountedStates.sound_after}
 use Rattle.objects.proofs.{PairLemmas.paired-without_parent, TreeState.{IsConsistent-detached, detach_gives}}
 use Rattle.objects.proofs.state.State.detach.Goals as goal

@@ -1,5 +1,4 @@
-use Rattle.std.proofs.Common.{sym}
-use Rattle.objects.proofs.ConsistentLemmas.{first_waiting-machine_of}
+use Rattle.{std.proofs.Common.sym, objects.proofs.ConsistentLemmas.first_waiting-machine_of}
 use Rattle.objects.proofs.state.State.first_waiting.Goals as goal
 
 pub returns : goal.returns

@@ -1,5 +1,4 @@
-use Rattle.std.proofs.Common.{refl}
-use Rattle.objects.proofs.StateLemmas.{going-machine_of}
+use Rattle.{std.proofs.Common.refl, objects.proofs.StateLemmas.going-machine_of}
 use Rattle.objects.proofs.state.State.going.Goals as goal
 
 pub returns : goal.returns

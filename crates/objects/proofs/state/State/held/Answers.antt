@@ -1,5 +1,4 @@
-use Rattle.std.proofs.Common.{sym}
-use Rattle.objects.proofs.StateLemmas.{tells-machine_of}
+use Rattle.{std.proofs.Common.sym, objects.proofs.StateLemmas.tells-machine_of}
 use Rattle.objects.proofs.state.State.held.Goals as goal
 
 pub returns : goal.returns

@@ -1,5 +1,4 @@
-use Rattle.std.proofs.Common.{refl}
-use Rattle.objects.proofs.{ConsistentLemmas.empty_gives, CountedStates.sound_empty}
+use Rattle.{std.proofs.Common.refl, objects.proofs.{ConsistentLemmas.empty_gives, CountedStates.sound_empty}}
 use Rattle.objects.proofs.state.State.new.Goals as goal
 
 pub invariant_of-result : goal.invariant_of-result

@@ -1,5 +1,4 @@
-use Rattle.std.proofs.Common.{sym}
-use Rattle.objects.proofs.StateLemmas.{next-machine_of}
+use Rattle.{std.proofs.Common.sym, objects.proofs.StateLemmas.next-machine_of}
 use Rattle.objects.proofs.state.State.next_id.Goals as goal
 
 pub returns-clause-value : goal.returns-clause-value

@@ -1,6 +1,5 @@
 use Rattle.std.proofs.Common.{◌<◌, IsSome, None, Option, Some, refl, subst, sym}
-use Rattle.base.specs.declared.ids.ObjId.{ObjId}
-use Rattle.machine.specs.Machine.{object_of}
+use Rattle.{base.specs.declared.ids.ObjId.ObjId, machine.specs.Machine.object_of}
 use Rattle.objects.specs.{declared.{entry.Entry.Entry, state.State.TheInside.Inside}, Entries.entry_of, State.{IsConsistent, machine_of}}
 use Rattle.objects.proofs.StateLemmas.{next-machine_of, object_at, tells-machine_of}
 use Rattle.objects.proofs.state.State.objects_are_numbered.Goals as goal

@@ -1,8 +1,7 @@
 -- The thread that waits first waits once, so it leaves as any other does.
 use Rattle.std.proofs.Common.{◌∙◌, ◌∷◌, ◌≡◌, ap, sym}
 use Rattle.machine.{specs.{Changes.first_waiting, Machine.{Machine, queue_of}}, proofs.{Leaving.first_leaves, Queues.first_in}}
-use Rattle.machine.proofs.Queues.{nobody_leaves, queue_by_first}
-use Rattle.objects.proofs.ConsistentLemmas.{first_once, first_waiting-machine_of}
+use Rattle.{machine.proofs.Queues.{nobody_leaves, queue_by_first}, objects.proofs.ConsistentLemmas.{first_once, first_waiting-machine_of}}
 use Rattle.objects.proofs.state.State.pop_waiting.Goals as goal
 
 pub returns-in_err-first-clause-value : goal.returns-in_err-first-clause-value

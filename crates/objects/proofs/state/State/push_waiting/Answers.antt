@@ -1,7 +1,6 @@
-use Rattle.std.proofs.Common.{refl}
-use Rattle.machine.proofs.CapCounts.{caps_to-with_waiting}
-use Rattle.objects.proofs.{CapsKept.caps-pushed, ConsistentLemmas.{IsConsistent-pushed, push_gives}, CountLemmas.counts-with_waiting}
-use Rattle.objects.proofs.{CountedStates.sound_after, PairLemmas.paired-with_waiting}
+use Rattle.{std.proofs.Common.refl, machine.proofs.CapCounts.caps_to-with_waiting}
+use Rattle.objects.proofs.{CapsKept.caps-pushed, ConsistentLemmas.{IsConsistent-pushed, push_gives}}
+use Rattle.objects.proofs.{CountLemmas.counts-with_waiting, CountedStates.sound_after, PairLemmas.paired-with_waiting}
 use Rattle.objects.proofs.state.State.push_waiting.Goals as goal
 
 pub invariant_of-self : goal.invariant_of-self

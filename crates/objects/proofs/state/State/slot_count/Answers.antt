@@ -1,5 +1,4 @@
-use Rattle.std.proofs.Common.{ap, arith}
-use Rattle.objects.specs.declared.counts.Counts.{Counts}
+use Rattle.{std.proofs.Common.{ap, arith}, objects.specs.declared.counts.Counts.Counts}
 use Rattle.objects.proofs.state.State.slot_count.Goals as goal
 
 pub returns-clause-value : goal.returns-clause-value

@@ -1,7 +1,6 @@
-use Rattle.std.proofs.Common.{refl}
-use Rattle.machine.proofs.CapCounts.{caps_to-without_waiting}
-use Rattle.objects.proofs.{CapsKept.caps-quitted, ConsistentLemmas.{IsConsistent-quitted, quit_gives}, CountLemmas.counts-without_waiting}
-use Rattle.objects.proofs.{CountedStates.sound_after, PairLemmas.paired-without_waiting}
+use Rattle.{std.proofs.Common.refl, machine.proofs.CapCounts.caps_to-without_waiting}
+use Rattle.objects.proofs.{CapsKept.caps-quitted, ConsistentLemmas.{IsConsistent-quitted, quit_gives}}
+use Rattle.objects.proofs.{CountLemmas.counts-without_waiting, CountedStates.sound_after, PairLemmas.paired-without_waiting}
 use Rattle.objects.proofs.state.State.take_waiting.Goals as goal
 
 pub invariant_of-self : goal.invariant_of-self

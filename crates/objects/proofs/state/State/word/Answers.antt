@@ -1,5 +1,4 @@
-use Rattle.std.proofs.Common.{sym}
-use Rattle.objects.proofs.ConsistentLemmas.{word-machine_of}
+use Rattle.{std.proofs.Common.sym, objects.proofs.ConsistentLemmas.word-machine_of}
 use Rattle.objects.proofs.state.State.word.Goals as goal
 
 pub returns : goal.returns

@@ -1,5 +1,4 @@
-use Rattle.std.proofs.Common.{sym}
-use Rattle.objects.proofs.PlaceLemmas.{by_number}
+use Rattle.{std.proofs.Common.sym, objects.proofs.PlaceLemmas.by_number}
 use Rattle.objects.proofs.store.Store.entry.Goals as goal
 
 pub returns : goal.returns

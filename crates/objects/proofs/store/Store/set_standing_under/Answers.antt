@@ -1,5 +1,4 @@
-use Rattle.std.proofs.Common.{None}
-use Rattle.objects.{specs.Entries.change_slot_in, proofs.PlaceLemmas.{IsPlaced-changed, changed_by_number}}
+use Rattle.{std.proofs.Common.None, objects.{specs.Entries.change_slot_in, proofs.PlaceLemmas.{IsPlaced-changed, changed_by_number}}}
 use Rattle.objects.proofs.store.Store.set_standing_under.Goals as goal
 
 pub invariant_of-self : goal.invariant_of-self

@@ -1,9 +1,8 @@
-use Rattle.std.{specs.{List.{AllZip, range_with_len}, Prelude.filter_map}, proofs.Common.{ℕ, ◌-◌, ◌<◌, ◌∙◌, ◌∷◌, ◌≡◌, ◌≤◌, List, Option}}
-use Rattle.std.proofs.Common.{ap, arith, slice_get, subst, sym}
-use Rattle.rayon.proofs.ToStd.{nat_range-All}
-use Rattle.base.specs.declared.label.TheConstants.Label as Label
+use Rattle.std.{specs.{List.{AllZip, range_with_len}, Prelude.filter_map}, proofs.Common.{ℕ, ◌-◌, ◌<◌, ◌∙◌, ◌∷◌, ◌≡◌, ◌≤◌}}
+use Rattle.{std.proofs.Common.{List, Option, ap, arith, slice_get, subst, sym}, rayon.proofs.ToStd.nat_range-All}
 use Rattle.policy.specs.{declared.broken.Broken.Broken, Policy.{JoinsBelow, allows}, Search.FindsBroken, Sweep.{count_of, place_of}}
 use Rattle.policy.{specs.Sweep.rule_number, proofs.{RulePlaces.{of_places, of_rule}, Sweep.{all_pass, found_first, least_found, numbers}}}
+use Rattle.base.specs.declared.label.TheConstants.Label as Label
 use Rattle.policy.proofs.broken.Rule.first_broken.Goals as goal
 
 -- each place is below the rule's count, and every answer passes

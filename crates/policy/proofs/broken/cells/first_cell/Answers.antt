@@ -1,6 +1,5 @@
 use Rattle.std.proofs.Common.{◌<◌, arith, subst}
-use Rattle.base.specs.Kinds.{kind_number}
-use Rattle.policy.proofs.KindNumbers.{kind_number_below, number_at}
+use Rattle.{base.specs.Kinds.kind_number, policy.proofs.KindNumbers.{kind_number_below, number_at}}
 use Rattle.policy.proofs.broken.cells.first_cell.Goals as goal
 
 pub returns-in-Some : goal.returns-in-Some

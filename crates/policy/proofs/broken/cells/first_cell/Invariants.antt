@@ -1,7 +1,6 @@
 -- no kind so far has any labels
 use Rattle.std.proofs.Common.{◌<◌}
-use Rattle.base.specs.{declared.{kind.Kind.Kind, labels.Labels.Labels}, Kinds.kind_number}
-use Rattle.policy.specs.Search.{IsNobody}
+use Rattle.{base.specs.{declared.{kind.Kind.Kind, labels.Labels.Labels}, Kinds.kind_number}, policy.specs.Search.IsNobody}
 use Rattle.policy.proofs.broken.cells.first_cell.Given as goal
 
 abbrev pub invariant-loop-kind : goal.invariant-loop-kind

@@ -1,5 +1,4 @@
-use Rattle.std.proofs.Common.{None, Some}
-use Rattle.policy.{specs.Policy.allows, proofs.Rules.derive_found}
+use Rattle.{std.proofs.Common.{None, Some}, policy.{specs.Policy.allows, proofs.Rules.derive_found}}
 use Rattle.policy.proofs.broken.rules.derive_lacks.Goals as goal
 
 pub returns-in_err-child : goal.returns-in_err-child

@@ -1,5 +1,4 @@
-use Rattle.std.proofs.Common.{None, Some}
-use Rattle.policy.{specs.Policy.allows, proofs.Rules.reply_found}
+use Rattle.{std.proofs.Common.{None, Some}, policy.{specs.Policy.allows, proofs.Rules.reply_found}}
 use Rattle.policy.proofs.broken.rules.reply_lacks.Goals as goal
 
 pub returns-in_err-thread : goal.returns-in_err-thread

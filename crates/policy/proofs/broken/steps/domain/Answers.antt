@@ -1,5 +1,4 @@
-use Rattle.std.proofs.Common.{ℕ}
-use Rattle.policy.{specs.Policy.allows, proofs.Stepping.domain_joined}
+use Rattle.{std.proofs.Common.ℕ, policy.{specs.Policy.allows, proofs.Stepping.domain_joined}}
 use Rattle.policy.proofs.broken.steps.domain.Goals as goal
 
 pub returns : goal.returns

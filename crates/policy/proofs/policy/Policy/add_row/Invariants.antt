@@ -1,6 +1,5 @@
 use Rattle.std.proofs.Common.{ℕ, ◌<◌, ◌≡◌, ◌⊎◌, true}
-use Rattle.base.specs.{declared.kind.Kind.Kind, Labels.is_in}
-use Rattle.policy.specs.{Closing.IsWithin, Policy.allows}
+use Rattle.{base.specs.{declared.kind.Kind.Kind, Labels.is_in}, policy.specs.{Closing.IsWithin, Policy.allows}}
 use Rattle.policy.proofs.policy.Policy.add_row.Given as goal
 
 -- the edges to the labels so far are added, and no other

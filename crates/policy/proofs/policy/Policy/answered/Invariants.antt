@@ -1,6 +1,5 @@
 use Rattle.std.proofs.Common.{ℕ, ◌↔◌, ◌≡◌, true}
-use Rattle.base.specs.Labels.{is_in}
-use Rattle.policy.{specs.{Change.MayHoldCaller, Policy.allows}, proofs.Stepping.IsBelow}
+use Rattle.{base.specs.Labels.is_in, policy.{specs.{Change.MayHoldCaller, Policy.allows}, proofs.Stepping.IsBelow}}
 use Rattle.policy.proofs.policy.Policy.answered.Given as goal
 
 abbrev pub invariant-loop-number : goal.invariant-loop-number

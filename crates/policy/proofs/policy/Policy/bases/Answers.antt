@@ -1,6 +1,5 @@
 use Rattle.std.proofs.Common.{ℕ, ◌==◌, ◌||◌, ◌∙◌, ◌≡◌, sym}
-use Rattle.base.specs.{declared.kind.Kind.TheVariants.Control, Labels.is_in}
-use Rattle.policy.{specs.Policy.allows, proofs.CutSets.base_is}
+use Rattle.{base.specs.{declared.kind.Kind.TheVariants.Control, Labels.is_in}, policy.{specs.Policy.allows, proofs.CutSets.base_is}}
 use Rattle.policy.proofs.policy.Policy.bases.Goals as goal
 
 pub returns : goal.returns

@@ -1,6 +1,5 @@
 use Rattle.std.proofs.Common.{◌↔◌, ◌≡◌, subst, sym, true}
-use Rattle.base.specs.declared.edge.Edge.{Edge}
-use Rattle.policy.{specs.{Policy.allows, Walks.Leads}, proofs.Walking.before_is}
+use Rattle.{base.specs.declared.edge.Edge.Edge, policy.{specs.{Policy.allows, Walks.Leads}, proofs.Walking.before_is}}
 use Rattle.policy.proofs.policy.Policy.before.Goals as goal
 
 pub returns : goal.returns

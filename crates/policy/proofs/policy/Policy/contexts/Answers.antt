@@ -1,6 +1,5 @@
-use Rattle.std.proofs.Common.{inl, inr}
-use Rattle.base.specs.{declared.kind.Kind.TheVariants.{Control, SchedControl}, Labels.is_in}
-use Rattle.policy.{specs.{Change.{MayChangeContext.{binds, configures, lends, returns as returns_it}}, Policy.allows}}
+use Rattle.{std.proofs.Common.{inl, inr}, base.specs.{declared.kind.Kind.TheVariants.{Control, SchedControl}, Labels.is_in}}
+use Rattle.policy.specs.{Change.MayChangeContext.{binds, configures, lends, returns as returns_it}, Policy.allows}
 use Rattle.policy.proofs.Gathering.{either, first_joined, joined_either, second_joined, told_as}
 use Rattle.policy.proofs.policy.Policy.contexts.Goals as goal
 

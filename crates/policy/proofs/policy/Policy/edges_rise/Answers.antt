@@ -1,5 +1,4 @@
-use Rattle.std.proofs.Common.{subst}
-use Rattle.policy.{specs.Policy.{IsRising, JoinsLabels}, proofs.RowEdges.{edges_join, edges_rising}}
+use Rattle.{std.proofs.Common.subst, policy.{specs.Policy.{IsRising, JoinsLabels}, proofs.RowEdges.{edges_join, edges_rising}}}
 use Rattle.policy.proofs.policy.Policy.edges_rise.Goals as goal
 
 pub returns-clause-rising : goal.returns-clause-rising

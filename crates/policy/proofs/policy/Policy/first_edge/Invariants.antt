@@ -1,6 +1,5 @@
 use Rattle.std.proofs.Common.{◌<◌}
-use Rattle.base.specs.declared.edge.Edge.{Edge}
-use Rattle.policy.specs.{Policy.allows, Walks.Leads}
+use Rattle.{base.specs.declared.edge.Edge.Edge, policy.specs.{Policy.allows, Walks.Leads}}
 use Rattle.policy.proofs.policy.Policy.first_edge.Given as goal
 
 -- the step leads there by none of the edges that the labels so far have

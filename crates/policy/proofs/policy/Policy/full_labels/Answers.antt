@@ -1,6 +1,5 @@
 use Rattle.std.proofs.Common.{◌||◌, ◌∙◌, ◌≡◌, ap, sym}
-use Rattle.base.specs.Labels.{is_in}
-use Rattle.policy.{specs.Policy.allows, proofs.FullSets.{FullSets, full_is}}
+use Rattle.{base.specs.Labels.is_in, policy.{specs.Policy.allows, proofs.FullSets.{FullSets, full_is}}}
 use Rattle.policy.proofs.policy.Policy.full_labels.Goals as goal
 
 pub returns : goal.returns

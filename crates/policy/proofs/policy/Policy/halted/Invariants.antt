@@ -1,6 +1,5 @@
 use Rattle.std.proofs.Common.{ℕ, ◌↔◌, ◌≡◌, true}
-use Rattle.base.specs.Labels.{is_in}
-use Rattle.policy.{specs.{NarrowTake.MayHoldReceiver, Policy.allows}, proofs.Stepping.IsBelow}
+use Rattle.{base.specs.Labels.is_in, policy.{specs.{NarrowTake.MayHoldReceiver, Policy.allows}, proofs.Stepping.IsBelow}}
 use Rattle.policy.proofs.policy.Policy.halted.Given as goal
 
 abbrev pub invariant-loop-number : goal.invariant-loop-number

@@ -1,5 +1,4 @@
-use Rattle.std.proofs.Common.{ℕ}
-use Rattle.base.specs.{declared.kind.Kind.TheVariants.{Call, Receive}, Labels.is_in}
+use Rattle.{std.proofs.Common.ℕ, base.specs.{declared.kind.Kind.TheVariants.{Call, Receive}, Labels.is_in}}
 use Rattle.policy.{specs.Policy.allows, proofs.Gathering.{both, itself_tells, source_tells, target_tells, told_as}}
 use Rattle.policy.proofs.policy.Policy.lenders.Goals as goal
 

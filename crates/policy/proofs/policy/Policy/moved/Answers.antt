@@ -1,7 +1,6 @@
 use Rattle.std.proofs.Common.{ℕ, ◌≡◌, ◌⊎◌, refl, subst, true}
 use Rattle.base.specs.{declared.kind.Kind.TheVariants.Runs, Labels.is_in}
-use Rattle.policy.specs.{Change.{MayBorrow, MayLend}, Policy.allows}
-use Rattle.policy.proofs.Gathering.{both, either, only_tells, target_tells, told_as}
+use Rattle.policy.{specs.{Change.{MayBorrow, MayLend}, Policy.allows}, proofs.Gathering.{both, either, only_tells, target_tells, told_as}}
 use Rattle.policy.proofs.policy.Policy.moved.Goals as goal
 
 pub returns : goal.returns

@@ -1,6 +1,5 @@
 use Rattle.std.proofs.Common.{◌||◌, ◌∙◌, ◌≡◌, ap, sym}
-use Rattle.base.specs.Labels.{is_in}
-use Rattle.policy.{specs.Policy.allows, proofs.CutSets.near_is}
+use Rattle.{base.specs.Labels.is_in, policy.{specs.Policy.allows, proofs.CutSets.near_is}}
 use Rattle.policy.proofs.policy.Policy.near.Goals as goal
 
 pub returns : goal.returns

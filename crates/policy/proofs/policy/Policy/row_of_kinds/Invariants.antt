@@ -1,6 +1,5 @@
 use Rattle.std.proofs.Common.{ℕ, ◌≡◌, take}
-use Rattle.base.specs.Labels.{is_in}
-use Rattle.policy.specs.{Policy.allows, Steps.is_joined}
+use Rattle.{base.specs.Labels.is_in, policy.specs.{Policy.allows, Steps.is_joined}}
 use Rattle.policy.proofs.policy.Policy.row_of_kinds.Given as goal
 
 abbrev pub invariant-loop-kind : goal.invariant-loop-kind

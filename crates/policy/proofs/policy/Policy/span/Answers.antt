@@ -1,5 +1,4 @@
-use Rattle.std.proofs.Common.{subst}
-use Rattle.policy.{specs.Policy.JoinsBelow, proofs.RowEdges.edges_join_below}
+use Rattle.{std.proofs.Common.subst, policy.{specs.Policy.JoinsBelow, proofs.RowEdges.edges_join_below}}
 use Rattle.policy.proofs.policy.Policy.span.Goals as goal
 
 pub returns-clause-joins : goal.returns-clause-joins

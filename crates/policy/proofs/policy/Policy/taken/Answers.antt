@@ -1,8 +1,7 @@
-use Rattle.std.proofs.Common.{ℕ, refl}
-use Rattle.base.specs.{declared.kind.Kind.TheVariants.{Control, Holds, Receive, Reply, Reset}, Labels.is_in}
+use Rattle.{std.proofs.Common.{ℕ, refl}, base.specs.{declared.kind.Kind.TheVariants.{Control, Holds, Receive, Reply, Reset}, Labels.is_in}}
 use Rattle.policy.specs.{declared.narrow_take.TheConstants.{REMOVED, WAITING}, NarrowTake.{is_removed, is_waiting}, Policy.allows}
-use Rattle.policy.proofs.ChangeSets.{control_from, control_to, removed_listed, waiting_listed}
-use Rattle.policy.proofs.Gathering.{both, either, itself_tells, kinds_target_tells, kinds_waiting_tells, row_tells, source_tells, target_tells, told_as, waiting_tells}
+use Rattle.policy.proofs.{ChangeSets.{control_from, control_to, removed_listed, waiting_listed}, Gathering.{both, either, itself_tells}}
+use Rattle.policy.proofs.Gathering.{kinds_target_tells, kinds_waiting_tells, row_tells, source_tells, target_tells, told_as, waiting_tells}
 use Rattle.policy.proofs.policy.Policy.taken.Goals as goal
 
 pub returns : goal.returns

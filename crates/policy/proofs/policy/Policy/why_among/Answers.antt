@@ -1,5 +1,4 @@
-use Rattle.std.proofs.Common.{refl, subst}
-use Rattle.base.specs.Labels.{is_in}
+use Rattle.{std.proofs.Common.{refl, subst}, base.specs.Labels.is_in}
 use Rattle.policy.specs.{ActorReasons.{IsChangeBy, IsShrinkBy, change_edges, shrink_edges}, Policy.allows, Walks.FindsWalk}
 use Rattle.policy.proofs.policy.Policy.why_among.Goals as goal
 

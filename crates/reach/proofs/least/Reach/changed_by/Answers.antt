@@ -1,6 +1,5 @@
 use Rattle.std.proofs.{Common.{◌∙◌, sym}, lemmas.Bool.false≢true}
-use Rattle.base.specs.Labels.{is_in}
-use Rattle.reach.proofs.LeastReach.{actors_told}
+use Rattle.{base.specs.Labels.is_in, reach.proofs.LeastReach.actors_told}
 use Rattle.reach.proofs.least.Reach.changed_by.Goals as goal
 
 pub returns-clause-changed : goal.returns-clause-changed

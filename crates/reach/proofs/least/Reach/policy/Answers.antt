@@ -1,5 +1,4 @@
-use Rattle.std.proofs.Common.{subst}
-use Rattle.reach.specs.Reach.{IsTableReach, TableReach}
+use Rattle.{std.proofs.Common.subst, reach.specs.Reach.{IsTableReach, TableReach}}
 use Rattle.reach.proofs.least.Reach.policy.Goals as goal
 
 pub returns-clause-reach : goal.returns-clause-reach

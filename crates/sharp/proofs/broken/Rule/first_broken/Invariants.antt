@@ -1,5 +1,4 @@
-use Rattle.base.specs.Labels.{is_in}
-use Rattle.policy.specs.{Policy.allows, Sharp.Told}
+use Rattle.{base.specs.Labels.is_in, policy.specs.{Policy.allows, Sharp.Told}}
 use Rattle.sharp.{specs.Broken.{IsSharplyBrokenAt, sharp_place}, proofs.{PlaceSearch.NoneBelow, RulePlaces.of_rule}}
 use Rattle.sharp.proofs.broken.Rule.first_broken.Given as goal
 

@@ -1,6 +1,4 @@
-use Rattle.std.proofs.Common.{None, Some}
-use Rattle.policy.specs.{Policy.allows, Sharp.Told}
-use Rattle.sharp.proofs.BrokenPlaces.{context_found}
+use Rattle.{std.proofs.Common.{None, Some}, policy.specs.{Policy.allows, Sharp.Told}, sharp.proofs.BrokenPlaces.context_found}
 use Rattle.sharp.proofs.broken.rules.context_lacks.Goals as goal
 
 pub returns-in_err-context : goal.returns-in_err-context

@@ -1,5 +1,4 @@
-use Rattle.std.proofs.{Common.{arith}, lemmas.Option.slice_get-get_or}
-use Rattle.base.specs.Labels.{is_in}
+use Rattle.{std.proofs.{Common.arith, lemmas.Option.slice_get-get_or}, base.specs.Labels.is_in}
 use Rattle.policy.{specs.{Policy.allows, Sharp.Told}, proofs.{KindNumbers.all_kinds, Places.{least_here, none_at_all, none_more}}}
 use Rattle.sharp.proofs.BrokenPlaces.{control_kinds, control_of_kind, no_control_of_kind}
 use Rattle.sharp.proofs.broken.rules.control_lacks.Goals as goal

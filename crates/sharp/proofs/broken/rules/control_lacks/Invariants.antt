@@ -1,6 +1,5 @@
 use Rattle.std.proofs.Common.{[], ◌∷◌}
-use Rattle.base.specs.Labels.{is_in}
-use Rattle.policy.{specs.{Policy.allows, Sharp.Told}, proofs.{KindNumbers.all_kinds, Places.NoneSoFar}}
+use Rattle.{base.specs.Labels.is_in, policy.{specs.{Policy.allows, Sharp.Told}, proofs.{KindNumbers.all_kinds, Places.NoneSoFar}}}
 use Rattle.sharp.{specs.Broken.{IsSharplyBrokenAt, s2, sharp_place}, proofs.PlaceSearch.of_kind}
 use Rattle.sharp.proofs.broken.rules.control_lacks.Given as goal
 

@@ -1,7 +1,5 @@
-use Rattle.std.proofs.Common.{None, Some}
-use Rattle.base.specs.Labels.{is_in}
-use Rattle.policy.specs.{Policy.allows, Sharp.Told}
-use Rattle.sharp.proofs.BrokenPlaces.{derive_found}
+use Rattle.{std.proofs.Common.{None, Some}, base.specs.Labels.is_in}
+use Rattle.{policy.specs.{Policy.allows, Sharp.Told}, sharp.proofs.BrokenPlaces.derive_found}
 use Rattle.sharp.proofs.broken.rules.derive_lacks.Goals as goal
 
 pub returns-in_err-child : goal.returns-in_err-child

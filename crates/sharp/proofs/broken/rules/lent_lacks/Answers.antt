@@ -1,6 +1,4 @@
-use Rattle.std.proofs.Common.{None, Some}
-use Rattle.policy.specs.{Policy.allows, Sharp.Told}
-use Rattle.sharp.proofs.BrokenPlaces.{lent_found}
+use Rattle.{std.proofs.Common.{None, Some}, policy.specs.{Policy.allows, Sharp.Told}, sharp.proofs.BrokenPlaces.lent_found}
 use Rattle.sharp.proofs.broken.rules.lent_lacks.Goals as goal
 
 pub returns-in_err-context : goal.returns-in_err-context

@@ -1,5 +1,4 @@
-use Rattle.policy.specs.Policy.{allows}
-use Rattle.sharp.proofs.BrokenSets.{held_told}
+use Rattle.{policy.specs.Policy.allows, sharp.proofs.BrokenSets.held_told}
 use Rattle.sharp.proofs.broken.rules.not_held.Goals as goal
 
 pub returns : goal.returns

@@ -1,5 +1,4 @@
-use Rattle.policy.specs.Policy.{allows}
-use Rattle.sharp.proofs.BrokenSets.{lent_told}
+use Rattle.{policy.specs.Policy.allows, sharp.proofs.BrokenSets.lent_told}
 use Rattle.sharp.proofs.broken.rules.not_lent.Goals as goal
 
 pub returns : goal.returns

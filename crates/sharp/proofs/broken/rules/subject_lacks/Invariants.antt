@@ -1,6 +1,5 @@
 use Rattle.std.proofs.Common.{[], ◌∷◌}
-use Rattle.base.specs.Labels.{is_in}
-use Rattle.policy.specs.{Policy.allows, Sharp.Told}
+use Rattle.{base.specs.Labels.is_in, policy.specs.{Policy.allows, Sharp.Told}}
 use Rattle.sharp.{specs.Broken.{IsSharplyBrokenAt, s1, sharp_place}, proofs.PlaceSearch.NoneBelow}
 use Rattle.sharp.proofs.broken.rules.subject_lacks.Given as goal
 

@@ -1,7 +1,6 @@
-use Rattle.std.proofs.{Common.{arith}, lemmas.Option.slice_get-get_or}
-use Rattle.base.specs.Labels.{is_in}
+use Rattle.{std.proofs.{Common.arith, lemmas.Option.slice_get-get_or}, base.specs.Labels.is_in}
 use Rattle.policy.{specs.{Policy.allows, Sharp.Told}, proofs.{KindNumbers.all_kinds, Places.{least_here, none_at_all, none_more}}}
-use Rattle.sharp.proofs.BrokenPlaces.{subject_kinds, subject_of_kind, no_subject_of_kind}
+use Rattle.sharp.proofs.BrokenPlaces.{no_subject_of_kind, subject_kinds, subject_of_kind}
 use Rattle.sharp.proofs.broken.rules.subject_lacks_of.Goals as goal
 
 pub returns-in-Some : goal.returns-in-Some

@@ -1,5 +1,4 @@
-use Rattle.std.{specs.Prelude.List, proofs.Common.subst}
-use Rattle.base.specs.{declared.labels.Labels.Labels, Labels.is_in}
+use Rattle.{std.{specs.Prelude.List, proofs.Common.subst}, base.specs.{declared.labels.Labels.Labels, Labels.is_in}}
 use Rattle.policy.{specs.Policy.allows, proofs.Gathering.Tells}
 use Rattle.summary.{specs.{Sources.IsJoint, Ways.{IsHeldBy, WaysOf}}, proofs.Waiting.joint_callers}
 use Rattle.summary.proofs.ways.Ways.answered.Goals as goal

@@ -1,11 +1,10 @@
+use mathlib.Core.Bool.{false≢true}
 use Rattle.std.proofs.Common.{◌↔◌, ◌∙◌, ◌≡◌, subst, sym, true}
 use Rattle.base.specs.{declared.kind.Kind.TheVariants.{Receive, Reply, Send}, Labels.is_in}
-use Rattle.policy.{specs.Policy.allows, proofs.Gathering.{either, row_tells, told_as, waiting_tells}}
-use Rattle.reach.specs.Extents.{limits_by}
+use Rattle.{policy.{specs.Policy.allows, proofs.Gathering.{either, row_tells, told_as, waiting_tells}}, reach.specs.Extents.limits_by}
 use Rattle.summary.specs.{Letters.{HasLetter, by_answer}, Ways.{IsHeldBy, WaysOf}}
 use Rattle.summary.proofs.{LetterSets.{answer_from, answer_to}, Waiting.{held_answers, of_kind}}
 use Rattle.summary.proofs.ways.Ways.answers.Goals as goal
-use mathlib.Core.Bool.{false≢true}
 
 -- a label whose threads make no calls changes nothing
 pub returns-then-not-has : goal.returns-then-not-has

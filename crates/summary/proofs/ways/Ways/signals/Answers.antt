@@ -1,10 +1,9 @@
+use mathlib.Core.Bool.{false≢true}
 use Rattle.std.proofs.Common.{◌↔◌, ◌∙◌, ◌≡◌, subst, sym, true}
 use Rattle.base.specs.{declared.kind.Kind.TheVariants.{Await, Notify}, Labels.is_in}
-use Rattle.policy.{specs.Policy.allows, proofs.Gathering.{either, row_tells, told_as, waiting_tells}}
-use Rattle.reach.specs.Extents.{limits_by}
+use Rattle.{policy.{specs.Policy.allows, proofs.Gathering.{either, row_tells, told_as, waiting_tells}}, reach.specs.Extents.limits_by}
 use Rattle.summary.{specs.{Letters.{HasLetter, by_signal}, Ways.WaysOf}, proofs.{LetterSets.{signal_from, signal_to}, Waiting.of_kind}}
 use Rattle.summary.proofs.ways.Ways.signals.Goals as goal
-use mathlib.Core.Bool.{false≢true}
 
 -- a label whose threads make no calls changes nothing
 pub returns-then-not-has : goal.returns-then-not-has

@@ -1,5 +1,4 @@
-use Rattle.std.proofs.Common.{subst, sym}
-use Rattle.table.{specs.Building.AdmitsCap, proofs.CapAdded.{aimed_low, draft_filled}}
+use Rattle.{std.proofs.Common.{subst, sym}, table.{specs.Building.AdmitsCap, proofs.CapAdded.{aimed_low, draft_filled}}}
 use Rattle.table.proofs.draft.Draft.add_cap.Goals as goal
 
 pub invariant_of-self-2 : goal.invariant_of-self-2

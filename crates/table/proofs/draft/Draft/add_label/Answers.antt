@@ -1,5 +1,4 @@
-use Rattle.std.proofs.Common.{subst, sym}
-use Rattle.table.{specs.Building.AdmitsLabel, proofs.LabelAdded.draft_label}
+use Rattle.{std.proofs.Common.{subst, sym}, table.{specs.Building.AdmitsLabel, proofs.LabelAdded.draft_label}}
 use Rattle.table.proofs.draft.Draft.add_label.Goals as goal
 
 pub invariant_of-self-2 : goal.invariant_of-self-2

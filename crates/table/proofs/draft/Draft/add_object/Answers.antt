@@ -1,5 +1,4 @@
-use Rattle.std.proofs.Common.{subst, sym}
-use Rattle.table.{specs.Building.AdmitsObject, proofs.ObjectAdded.draft_initial}
+use Rattle.{std.proofs.Common.{subst, sym}, table.{specs.Building.AdmitsObject, proofs.ObjectAdded.draft_initial}}
 use Rattle.table.proofs.draft.Draft.add_object.Goals as goal
 
 pub invariant_of-self-2 : goal.invariant_of-self-2

@@ -1,5 +1,4 @@
-use Rattle.std.proofs.Common.{subst, sym}
-use Rattle.table.{specs.Building.AdmitsPair, proofs.Pairs.draft_pair}
+use Rattle.{std.proofs.Common.{subst, sym}, table.{specs.Building.AdmitsPair, proofs.Pairs.draft_pair}}
 use Rattle.table.proofs.draft.Draft.add_pair.Goals as goal
 
 pub invariant_of-self-2 : goal.invariant_of-self-2

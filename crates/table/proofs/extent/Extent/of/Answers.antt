@@ -1,7 +1,6 @@
 -- An object below the addresses' end has no more bits than an address.
 use Rattle.std.proofs.Common.{◌∙◌, ◌≤◌, arith, sym}
-use Rattle.base.specs.declared.limits.TheConstants.{ADDRESS_BITS}
-use Rattle.table.proofs.ExtentLemmas.{small}
+use Rattle.{base.specs.declared.limits.TheConstants.ADDRESS_BITS, table.proofs.ExtentLemmas.small}
 use Rattle.table.proofs.extent.Extent.of.Goals as goal
 
 pub overflow_shl-end : goal.overflow_shl-end

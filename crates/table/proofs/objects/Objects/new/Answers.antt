@@ -1,5 +1,4 @@
-use Rattle.std.proofs.{Common.arith, lemmas.Grind.common_steps}
-use Rattle.table.proofs.ExtentLemmas.{no_extents, none_apart}
+use Rattle.{std.proofs.{Common.arith, lemmas.Grind.common_steps}, table.proofs.ExtentLemmas.{no_extents, none_apart}}
 use Rattle.table.proofs.objects.Objects.new.Goals as goal
 
 pub invariant_of-result : goal.invariant_of-result

@@ -1,5 +1,4 @@
-use Rattle.std.proofs.Common.{subst}
-use Rattle.verdict.specs.System.{IsAcceptedSystem, System}
+use Rattle.{std.proofs.Common.subst, verdict.specs.System.{IsAcceptedSystem, System}}
 use Rattle.verdict.proofs.accepted.Accepted.policy.Goals as goal
 
 pub returns-clause-accepted : goal.returns-clause-accepted

@@ -1,9 +1,8 @@
 -- That the result is the lesser of a thread's context and the context that it lent, of those whose edge is lacking.
 use Rattle.std.{specs.Prelude.◌↔◌, proofs.Common.{[], ◌∷◌, ◌≡◌, Option, Some, subst, sym}}
-use Rattle.base.specs.declared.ids.ObjId.{ObjId}
-use Rattle.policy.specs.{Places.FindsLeast, Policy.allows}
-use Rattle.verdict.{specs.{declared.denial.Denial.Denial, Outside.LiesUnder, Rules.a4, Verdict.place_of}, proofs.OutsidePlaces.IsLacked}
-use Rattle.verdict.proofs.OutsidePlaces.{least_binding, no_binding}
+use Rattle.{base.specs.declared.ids.ObjId.ObjId, policy.specs.{Places.FindsLeast, Policy.allows}}
+use Rattle.verdict.specs.{declared.denial.Denial.Denial, Outside.LiesUnder, Rules.a4, Verdict.place_of}
+use Rattle.verdict.proofs.OutsidePlaces.{IsLacked, least_binding, no_binding}
 use Rattle.verdict.proofs.excess.links.binding_at.Goals as goal
 
 pub returns : goal.returns

@@ -1,5 +1,4 @@
-use Rattle.policy.specs.Policy.{allows}
-use Rattle.verdict.proofs.OutsidePlaces.{holding_by, least_lacking}
+use Rattle.{policy.specs.Policy.allows, verdict.proofs.OutsidePlaces.{holding_by, least_lacking}}
 use Rattle.verdict.proofs.excess.links.holding_at.Goals as goal
 
 pub returns : goal.returns

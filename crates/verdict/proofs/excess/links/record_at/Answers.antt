@@ -1,5 +1,4 @@
-use Rattle.policy.specs.Policy.{allows}
-use Rattle.verdict.proofs.OutsidePlaces.{least_lacking, record_by}
+use Rattle.{policy.specs.Policy.allows, verdict.proofs.OutsidePlaces.{least_lacking, record_by}}
 use Rattle.verdict.proofs.excess.links.record_at.Goals as goal
 
 pub returns : goal.returns

@@ -1,6 +1,5 @@
 use Rattle.std.proofs.Common.{◌∙◌, sym}
-use Rattle.policy.specs.Policy.{allows}
-use Rattle.verdict.proofs.OutsidePlaces.{capability_by, least_lacking, not_given}
+use Rattle.{policy.specs.Policy.allows, verdict.proofs.OutsidePlaces.{capability_by, least_lacking, not_given}}
 use Rattle.verdict.proofs.excess.slots.capability_at.Goals as goal
 
 pub returns-then-not-gives : goal.returns-then-not-gives

@@ -1,6 +1,5 @@
 use Rattle.std.proofs.Common.{[], ◌∷◌}
-use Rattle.base.specs.Kinds.{kind_number}
-use Rattle.policy.{specs.Policy.allows, proofs.{KindNumbers.all_kinds, Places.NoneSoFar}}
+use Rattle.{base.specs.Kinds.kind_number, policy.{specs.Policy.allows, proofs.{KindNumbers.all_kinds, Places.NoneSoFar}}}
 use Rattle.verdict.specs.{Outside.LiesOutside, Rules.a1, Verdict.place_of}
 use Rattle.verdict.proofs.excess.slots.first_kind.Given as goal
 

@@ -1,7 +1,6 @@
 use Rattle.std.{specs.Option.option_map, proofs.Common.{◌∙◌, ◌≡◌, Some, ap, option_copied, refl, sym}}
 use Rattle.machine.specs.{declared.object.Object.Object as o, Machine.object_of, Objects.kind_of_object}
-use Rattle.policy.specs.Policy.{allows}
-use Rattle.verdict.proofs.OutsidePlaces.{least_lacking, root_by}
+use Rattle.{policy.specs.Policy.allows, verdict.proofs.OutsidePlaces.{least_lacking, root_by}}
 use Rattle.verdict.proofs.excess.slots.root_at.Goals as goal
 
 pub returns : goal.returns

@@ -1,5 +1,4 @@
-use Rattle.policy.specs.{Places.FindsLeast, Policy.allows}
-use Rattle.verdict.{specs.Verdict.place_of, proofs.LeastOfSlots.BrokenAmong}
+use Rattle.{policy.specs.{Places.FindsLeast, Policy.allows}, verdict.{specs.Verdict.place_of, proofs.LeastOfSlots.BrokenAmong}}
 use Rattle.verdict.proofs.slots.SlotCheck.first_denial.Given as goal
 
 abbrev pub invariant-loop-index : goal.invariant-loop-index
