@@ -329,12 +329,7 @@ def edges_for(r, s, a):
         f = r.choice(named["frame"])
         yield [(a, "write", f, 511, 7), (a, "read", f, 511), (a, "read", f, r.choice([0, 512])), (a, "write", f, 512, 7)]
     if places:
-        last = [slot for slot in places if slot[1] + 1 == 1 << s.objects[slot[0]].radix]
-        node, index, depth = places[slot := r.choice(last)]
-        guard = depth - s.objects[slot[0]].radix
-        depths = [(there, index << there >> depth) for there in r.sample([0, 1, guard, depth - 1, depth + 1, 64, 65], 4)]
-        depths += [(depth, index), (depth, index | 1 << depth)]
-        yield look(a, [(node, named % 2**64, there) for there, named in depths])
+        yield at_depths(r, s, a, places)
     nodes = [slot for slot in places if kernel.kind_at(s, slot) == "cnode"]
     badged = [slot for slot in places if kernel.kind_at(s, slot) in ("endpoint", "notification")]
     if len(empty) > 2 and (nodes or badged):
@@ -351,15 +346,29 @@ def edges_for(r, s, a):
             after = [(a, "revoke", *to[0]), *look(a, to), (a, "mint", *to[2], *to[1], "r", "badge", 0)]
             yield [*minted, (a, "copy", *to[2], *to[0], "rw"), *after]
     if named["untyped"] and empty:
-        u = r.choice(named["untyped"])
-        bits, (node, index) = s.objects[u].bits, r.choice(empty)
-        slots, to = 1 << s.objects[node].radix, places[node, index][0]
-        made = [(kind, size, index, 1) for kind, sizes in SIZES.items() for size in sizes]
-        made += [("endpoint", 0, index, count) for count in (0, 16, 17)]
-        windows = [(slots - 1, 1), (slots, 1), (slots - 2, 2), (slots - 2, 3), (2**64 - 1, 1)]
-        made += [("endpoint", 0, offset, count) for offset, count in windows]
-        exact = [("untyped", size, index, count) for size, count in [(bits, 1), (bits + 1, 1), (bits - 1, 2), (bits - 1, 3)]]
-        yield [(a, "retype", u, kind, size, to, *window) for kind, size, *window in [*r.sample(made, 4), *r.sample(exact, 2), exact[0]]]
+        yield retyped_about(r, s, a, r.choice(named["untyped"]), places, r.choice(empty))
+
+
+def at_depths(r, s, a, places):
+    """Lookups of the last slot of a CNode, at its depth, at smaller and larger ones, and with a bit too many."""
+    last = [slot for slot in places if slot[1] + 1 == 1 << s.objects[slot[0]].radix]
+    node, index, depth = places[slot := r.choice(last)]
+    guard = depth - s.objects[slot[0]].radix
+    depths = [(there, index << there >> depth) for there in r.sample([0, 1, guard, depth - 1, depth + 1, 64, 65], 4)]
+    depths += [(depth, index), (depth, index | 1 << depth)]
+    return look(a, [(node, named % 2**64, there) for there, named in depths])
+
+
+def retyped_about(r, s, a, untyped, places, slot):
+    """Retypes of an untyped into a slot, and into slots at the end of its CNode: of sizes and counts that fit, and that don't."""
+    bits, (node, index) = s.objects[untyped].bits, slot
+    slots, to = 1 << s.objects[node].radix, places[slot][0]
+    made = [(kind, size, index, 1) for kind, sizes in SIZES.items() for size in sizes]
+    made += [("endpoint", 0, index, count) for count in (0, 16, 17)]
+    windows = [(slots - 1, 1), (slots, 1), (slots - 2, 2), (slots - 2, 3), (2**64 - 1, 1)]
+    made += [("endpoint", 0, offset, count) for offset, count in windows]
+    exact = [("untyped", size, index, count) for size, count in [(bits, 1), (bits + 1, 1), (bits - 1, 2), (bits - 1, 3)]]
+    return [(a, "retype", untyped, kind, size, to, *window) for kind, size, *window in [*r.sample(made, 4), *r.sample(exact, 2), exact[0]]]
 
 
 def ending(r, s, a, b):

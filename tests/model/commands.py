@@ -387,32 +387,30 @@ def answer(command, given, options=()):
             values.append(read(kind, text, values[0] if values else None, options))
         except Fault as fault:
             return 2, report(fault=fault.number, file=told, line=fault.line), ""
-    table, second = values[0], values[1] if len(values) > 1 else None
-    alone, rules = ALLOWED * ("--policy" in options), rules_of(options)
     labels = {"why": options[-2:], "show": options[:2], "flows": options[:2]}.get(command, [])
     everybody = command == "why" and labels[0] == "*"
     for operand, label in [*zip("AB", labels)][everybody:]:
-        if label not in table.labels:
+        if label not in values[0].labels:
             return 2, "", f"confine: {operand} is no label of the table\n"
-    if everybody:
-        return *users(table, labels[1], "--reads" in options), ""
-    if command == "why":
-        return *why(table, second, *labels), alone
-    if command == "flows":
-        return *flowing(table, *labels), ""
-    if command == "show":
-        told = shown(table, *labels, "--take" in options)
-        return told and (*told, "")
-    if command == "draw":
-        return *drawn(table, second, "--all" in options), alone
-    if command == "import":
-        return 0, table, ""
-    if command == "diff":
-        return *compared(table, second, "json" in options), ""
-    if command == "close":
-        return *close(table, second, rules, "--missing" in options, "--surplus" in options), ""
-    if command == "check":
-        return *check(*values, rules, "--cert" in options), ""
-    if command in ("verify", "run"):
-        return *{"verify": verify, "run": run}[command](*values, rules), ""
-    return *{"replay": replay, "claims": claims, "list": listed, "summary": summary}[command](*values), ""
+    alone = ALLOWED * (command in ("why", "draw") and not everybody and "--policy" in options)
+    answered = users(values[0], labels[1], "--reads" in options) if everybody else answer_of(command, values, labels, options)
+    return answered and (*answered, alone)
+
+
+def answer_of(command, values, labels, options):
+    """Status and standard output of a command, of what its files tell and the labels that it names; None where `show` has to try calls."""
+    table, second = values[0], values[1] if len(values) > 1 else None
+    rules = rules_of(options)
+    return {
+        "why": lambda: why(table, second, *labels),
+        "flows": lambda: flowing(table, *labels),
+        "show": lambda: shown(table, *labels, "--take" in options),
+        "draw": lambda: drawn(table, second, "--all" in options),
+        "import": lambda: (0, table),
+        "diff": lambda: compared(table, second, "json" in options),
+        "close": lambda: close(table, second, rules, "--missing" in options, "--surplus" in options),
+        "check": lambda: check(*values, rules, "--cert" in options),
+        "verify": lambda: verify(*values, rules), "run": lambda: run(*values, rules),
+        "replay": lambda: replay(*values), "claims": lambda: claims(*values),
+        "list": lambda: listed(*values), "summary": lambda: summary(*values),
+    }[command]()

@@ -15,8 +15,15 @@ def asked(policy, count):
     domain = {a: [x for x in labels if (a, SPACE, x) in policy or (a, CONTROL, x) in policy] for a in labels}
     receivers = {e: [b for b, k, at in policy if (k, at) == (RECEIVE, e)] for e in labels}
     granted = {(a, b) for a, k, e in policy if k == GRANT for b in receivers[e]}
-    plain = {a: [(k, x) for _, k, x in edges_from(policy, a) if k in PLAIN] for a in labels}
-    for a in labels:
+    yield from asked_of_plain_edges(policy, domain, granted)
+    yield from asked_of_derivations(policy, domain, granted)
+    yield from asked_of_threads(policy, labels)
+
+
+def asked_of_plain_edges(policy, domain, granted):
+    """P1 to P3, about edges of the kinds that aren't structural, and of `space`."""
+    plain = {a: [(k, x) for _, k, x in edges_from(policy, a) if k in PLAIN] for a in domain}
+    for a in domain:
         for b in domain[a]:
             for k, x in plain[a]:
                 yield "P1", (a, b, k, x), (b, k, x)
@@ -30,7 +37,11 @@ def asked(policy, count):
     for a, b in granted:
         for k, x in plain[a]:
             yield "P3", (a, b, k, x), (b, k, x)
-    for a in labels:
+
+
+def asked_of_derivations(policy, domain, granted):
+    """P4 and P5, about edges of `derive`."""
+    for a in domain:
         for x in domain[a]:
             for y in domain[a]:
                 yield "P4", (x, DERIVE, y), (x, DERIVE, y)
@@ -40,9 +51,13 @@ def asked(policy, count):
                 yield "P5", (x, DERIVE, y), (x, DERIVE, y)
     for x, k, y in policy:
         if k == DERIVE:
-            for z in labels:
+            for z in domain:
                 if (y, DERIVE, z) in policy:
                     yield "P5", (x, DERIVE, z), (x, DERIVE, z)
+
+
+def asked_of_threads(policy, labels):
+    """P6 to P8, about edges of `runs` and `holds`."""
     for a, k, s in policy:
         if k == CONTEXT:
             yield "P6", (a, RUNS, s), (a, RUNS, s)

@@ -180,31 +180,15 @@ def read_object(table, now, words):
         "control": [dec],
     }.get(of, [hexa])
     _, new, label, *values = form(words, str, name, name, *more)
-    item = SimpleNamespace(kind=of, name=new, label=table.label(label), address=None, size=0)
-    cores = [other.core for other in table.objects if other.kind == "control"]
+    item = SimpleNamespace(kind=of, name=new, label=table.label(label), address=None, size=SIZES.get(of, 0))
     ask(52, new not in table.numbers)
     if of == "control":
         item.core = values[0]
-        ask(52, item.core not in cores)
+        ask(52, item.core not in [other.core for other in table.objects if other.kind == "control"])
         ask(54, item.core <= 15)
     else:
-        item.address = values[0]
-    if of == "untyped":
-        item.bits = values[1]
-        ask(54, 4 <= item.bits <= 47)
-        item.size = 1 << item.bits
-    elif of == "cnode":
-        item.radix = values[1]
-        ask(54, 1 <= item.radix <= 12)
-        item.size = 1 << item.radix + 5
-    elif of == "tcb":
-        item.ready = values[1] == "ready"
-    elif of == "context":
-        item.share = None if values[1] == "-" else tuple(values[1:])
-        if item.share:
-            core, budget, period = item.share
-            ask(54, core <= 15 and 1 <= budget <= period <= HOUR)
-    item.size = SIZES.get(of, item.size)
+        item.address, *details = values
+        read_details(item, details)
     ask(54, len(table.objects) < 4096)
     ask(54, table.threads + (of == "tcb") <= 1024)
     ask(54, table.slots + slots_of(item) <= 65536)
@@ -217,6 +201,25 @@ def read_object(table, now, words):
     table.objects.append(item)
     table.threads += of == "tcb"
     table.slots += slots_of(item)
+
+
+def read_details(item, details):
+    """Gives an object what stands behind its address."""
+    if item.kind == "untyped":
+        (item.bits,) = details
+        ask(54, 4 <= item.bits <= 47)
+        item.size = 1 << item.bits
+    elif item.kind == "cnode":
+        (item.radix,) = details
+        ask(54, 1 <= item.radix <= 12)
+        item.size = 1 << item.radix + 5
+    elif item.kind == "tcb":
+        item.ready = details == ["ready"]
+    elif item.kind == "context":
+        item.share = None if details == ["-"] else tuple(details)
+        if item.share:
+            core, budget, period = item.share
+            ask(54, core <= 15 and 1 <= budget <= period <= HOUR)
 
 
 def slots_of(item):
