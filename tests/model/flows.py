@@ -63,9 +63,14 @@ class Flows:
         lines = [" ".join(["through", *(self.names[label] for label in one)]) + "\n" for one in sets[:MOST_SETS]]
         return "".join([*lines, *(["and more\n"] if sets[MOST_SETS:] else [])])
 
+    def avoided(self, a, b):
+        """The programs that the chain told of two labels doesn't pass, and by whose objects it doesn't go: with `direct` all others."""
+        others = self.acts - {a, b}
+        return frozenset() if self.chain(a, b, others) is None else others
+
     def told(self, a, b):
         """What is printed of two labels."""
-        chain = self.chain(a, b, frozenset())
+        chain = self.chain(a, b, self.avoided(a, b))
         if chain is None:
             return "none\n"
         links = [" ".join(["link", *(self.names[label] for label in link)]) + "\n" for link in chain]
@@ -76,14 +81,14 @@ class Flows:
         told = self.told(a, b)
         if told == "none\n":
             return text == told
-        sets = self.lines_on_sets(a, b)
+        sets, avoided = self.lines_on_sets(a, b), self.avoided(a, b)
         links = [tuple(line.split(" ")) for line in text.removeprefix(sets).splitlines()]
         at = self.names[a]
         for word, *link in links:
             if word != "link" or len(link) != 3 or not {*link} <= {*self.names} or link[0] != at:
                 return False
             x, l, y = map(self.names.index, link)
-            if l not in self.objects[x].get(y, []):
+            if l not in self.objects[x].get(y, []) or avoided & {l, y}:
                 return False
             at = link[2]
         is_whole = text == sets + "".join(" ".join(link) + "\n" for link in links)
