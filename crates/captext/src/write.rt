@@ -63,13 +63,8 @@ pub fn write_policy(alloc: Global, policy: &Policy, table: &Table) -> Result<Vec
 
 /// Returns the lines of edges as a policy has them, with the names that their labels have in the
 /// table.
-///
-/// # Errors
-///
-/// 40 where memory is refused.
-pub fn write_edges(alloc: Global, edges: &[Edge], table: &Table) -> Result<Vec<u8>, Refusal>
-    ensures lines { IfOk result (λ text. text.items ≡ edge_lines table.now edges.now) }
-    ensures memory { IfErr result (λ refusal. refusal ≡ out_of_memory) }
+pub fn write_edges(alloc: Global, edges: &[Edge], table: &Table) -> Result<Vec<u8>, AllocError>
+    ensures { IfOk result (λ text. text.items ≡ edge_lines table.now edges.now) }
 {
     let mut text = String::new(alloc);
     write_lines(&mut text, table, edges)?;

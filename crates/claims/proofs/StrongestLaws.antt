@@ -7,10 +7,10 @@ use Rattle.std.proofs.lemmas.List.{Elements.{Contains-append_right, Contains-pus
 use Rattle.{std.proofs.lemmas.Option.{get_or_from_slice_get, slice_get-get_or}, base.specs.Labels.is_in, machine.specs.Layout.Layout}
 use Rattle.reach.specs.{declared.extent.Extent.{Extent, Extent as extent}, Extents.{GoesTo, Limits, MayChangeIn, MayShrinkIn}}
 use Rattle.summary.specs.Labelled.{labels_of, others_of, programs_of}
-use Rattle.claims.specs.declared.{claim.{Claim.Claim, Most.Most as most}, rows.{Row.Row, Rows.Rows}}
-use Rattle.claims.specs.{Holding.{AreBroken, AreBroken.{ended, held}, HasAtMost, Holds}, Rows.{AreRows, IsRow, extents_of, no_row}}
-use Rattle.claims.specs.{Rows.row_extent, Strongest.{AreExtents, AreStrongest, Extents, affects, claim_to, claims_among}}
-use Rattle.claims.specs.Strongest.{claims_for, claims_of, claims_on, is_user, only_these, pair_claims, strongest_by, users_of}
+use Rattle.claims.specs.{declared.{claim.{Claim.Claim, Most.Most as most}, rows.{Row.Row, Rows.Rows}}, Holding.AreBroken}
+use Rattle.claims.specs.{Holding.{AreBroken.{ended, held}, HasAtMost, Holds}, Rows.{AreRows, IsRow, extents_of, no_row, row_extent}}
+use Rattle.claims.specs.Strongest.{AreExtents, AreStrongest, Extents, affects, claim_to, claims_among, claims_for, claims_of}
+use Rattle.claims.{specs.Strongest.{claims_on, is_user, only_these, pair_claims, strongest_by, users_of}}
 
 -- rows
 

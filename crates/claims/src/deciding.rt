@@ -1,8 +1,7 @@
 //! The claims that don't hold of a table, and why.
-ghost use Rattle.std.specs.{List.Contains, Prelude.{[], ℕ, ◌≡◌, IfErr, IfNone, IfOk, IfSome, Some}};
-ghost use Rattle.{base.specs.Refusals.out_of_memory, machine.specs.Layout.Layout};
-ghost use Rattle.{table.specs.Names.AreLabelsOf, policy.specs.Policy.allows, fixed.specs.Fixed.IsFixed};
-ghost use Rattle.{reach.specs.Extents.{Limits, limits_of}, flows.specs.Flowing.{IsClosedOff, Leads}};
+ghost use Rattle.std.specs.{List.Contains, Prelude.{[], ℕ, ◌≡◌, IfNone, IfOk, IfSome, Some}};
+ghost use Rattle.{machine.specs.Layout.Layout, table.specs.Names.AreLabelsOf, policy.specs.Policy.allows};
+ghost use Rattle.{fixed.specs.Fixed.IsFixed, reach.specs.Extents.{Limits, limits_of}, flows.specs.Flowing.{IsClosedOff, Leads}};
 ghost use Rattle.claims.specs.{declared.claim.Claim.Claim as ClaimOf, Claims.is_one_of, Holding.{AreBroken, Fails, FailsOnEdge}};
 ghost use Rattle.claims.specs.{Holding.{FailsOnPair, Holds, HoldsOnEdges, HoldsOnPairs, IsKept}, Learning.IsKeptInCalls, Rows.AreRows};
 ghost use Rattle.claims.specs.declared.lines.TheConstants.ClaimLines as ClaimLines;
@@ -12,12 +11,12 @@ use crate::claim::{Claim, LabelList};
 use crate::edges::first_edge;
 use crate::lines::ClaimLines;
 use crate::rows::Rows;
-use base::{Edge, Label, Labels, Refusal};
+use base::{Edge, Label, Labels};
 use flows::Flows;
 use noninterference::{others_act_through_filters, others_make_no_difference};
 use policy::Policy;
 use reach::Reach;
-use std::alloc::Global;
+use std::alloc::{AllocError, Global};
 
 /// Why a claim doesn't hold.
 #[derive(Clone, Copy, PartialEq, Eq, Debug)]
@@ -42,15 +41,11 @@ pub struct Broken {
 /// Returns which of the claims of a text don't hold of a table with this reach, in the order of their lines.
 ///
 /// What the others claim is kept in every run.
-///
-/// # Errors
-///
-/// 40 where memory is refused.
 pub fn all_broken(
     alloc: Global,
     reach: &Reach<'_>,
     lines: &ClaimLines,
-) -> Result<Vec<Broken>, Refusal>
+) -> Result<Vec<Broken>, AllocError>
     ensures broken { IfOk result (λ broken.
         AreBroken reach.now.table (limits_of reach.now) ClaimLines.FIRST lines.now broken.items) }
 
@@ -73,10 +68,8 @@ pub fn all_broken(
         → IsKeptInCalls reach.now.table (limits_of reach.now) claim }
     ensures all_calls { IfOk result (λ broken. IsFixed reach.now.table → broken.items ≡ []
         → (claim : ClaimOf) → Contains lines.now (Some claim) → IsKeptInCalls reach.now.table (limits_of reach.now) claim) }
-    ensures memory { IfErr result (λ refusal. refusal ≡ out_of_memory) }
 {
-    // That every run keeps to it, a reach tells with its policy.
-    reach.policy();
+    reach.bounds_runs();
     others_make_no_difference();
     others_act_through_filters();
     let broken = broken_by(alloc, reach, lines.as_slice())?;
@@ -88,10 +81,9 @@ fn broken_by(
     alloc: Global,
     reach: &Reach<'_>,
     lines: &[Option<Claim>],
-) -> Result<Vec<Broken>, Refusal>
-    ensures broken { IfOk result (λ broken.
+) -> Result<Vec<Broken>, AllocError>
+    ensures { IfOk result (λ broken.
         AreBroken reach.now.table (limits_of reach.now) ClaimLines.FIRST lines.now broken.items) }
-    ensures memory { IfErr result (λ refusal. refusal ≡ out_of_memory) }
 {
     let rows = Rows::of(alloc, reach)?;
     let flows = Flows::of(alloc, reach)?;

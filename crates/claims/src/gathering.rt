@@ -1,6 +1,6 @@
 //! The strongest claims that hold of a table.
-ghost use Rattle.std.specs.{List.{Contains, flat_map}, Prelude.{[], ◌++◌, ◌≡◌, IfErr, IfOk, OnOk, Some, map}};
-ghost use Rattle.{base.specs.Refusals.out_of_memory, reach.specs.Extents.limits_of, summary.specs.Labelled.labels_of};
+ghost use Rattle.std.specs.{List.{Contains, flat_map}, Prelude.{[], ◌++◌, ◌≡◌, IfOk, OnOk, Some, map}};
+ghost use Rattle.{reach.specs.Extents.limits_of, summary.specs.Labelled.labels_of};
 ghost use Rattle.claims.specs.{declared.claim.Claim.Claim as ClaimOf, Holding.{AreBroken, IsKept}, Rows.{extents_of, row_extent}};
 ghost use Rattle.claims.specs.Strongest.{AreStrongest, affects, claims_among, claims_for, claims_on, is_user, only_these, users_of};
 ghost use Rattle.claims.specs.declared.lines.TheConstants.ClaimLines as ClaimLines;
@@ -8,7 +8,7 @@ ghost use Rattle.claims.specs.declared.lines.TheConstants.ClaimLines as ClaimLin
 use crate::claim::{Claim, LabelList, Most, Who};
 use crate::lines::ClaimLines;
 use crate::rows::{Row, Rows};
-use base::{Label, Refusal};
+use base::Label;
 use reach::{Extent, Reach};
 use std::alloc::{AllocError, Global};
 use summary::{others, programs};
@@ -21,20 +21,14 @@ use table::Table;
 /// or shrink its objects, or `none * B` where no other label may. Claims of other forms aren't among them.
 ///
 /// What they claim is kept in every run.
-///
-/// # Errors
-///
-/// 40 where memory is refused.
-pub fn strongest(alloc: Global, reach: &Reach<'_>) -> Result<ClaimLines, Refusal>
+pub fn strongest(alloc: Global, reach: &Reach<'_>) -> Result<ClaimLines, AllocError>
     ensures strongest { IfOk result (AreStrongest reach.now.table (limits_of reach.now)) }
     ensures hold { IfOk result (λ lines.
         AreBroken reach.now.table (limits_of reach.now) ClaimLines.FIRST lines []) }
     ensures kept { IfOk result (λ lines.
         (claim : ClaimOf) → Contains lines (Some claim) → IsKept reach.now.table (limits_of reach.now) claim) }
-    ensures memory { IfErr result (λ refusal. refusal ≡ out_of_memory) }
 {
-    // That every run keeps to it, a reach tells with its policy.
-    reach.policy();
+    reach.bounds_runs();
     let lines = strongest_by(alloc, reach.table(), reach)?;
     Ok(lines)
 }

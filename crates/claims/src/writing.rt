@@ -1,11 +1,11 @@
 //! The writing of claims.
-ghost use Rattle.std.specs.{List.join_with_byte, Prelude.{[], ℕ, ◌++◌, ◌∷◌, ◌≡◌, IfErr, IfOk, List, OnOk, codes, map, string_bytes}};
-ghost use Rattle.{base.specs.Refusals.out_of_memory, words.specs.Text.line_text, captext.specs.PolicyText.label_name};
+ghost use Rattle.std.specs.{List.join_with_byte, Prelude.{[], ℕ, ◌++◌, ◌∷◌, ◌≡◌, IfOk, List, OnOk, codes, map, string_bytes}};
+ghost use Rattle.{words.specs.Text.line_text, captext.specs.PolicyText.label_name};
 ghost use Rattle.claims.specs.Text.{claim_text, end_word, entry_words, lines_text, through_words};
 
 use crate::claim::{Claim, LabelList, Who};
 use crate::lines::ClaimLines;
-use base::{Label, Refusal};
+use base::Label;
 use captext::label_name;
 use std::alloc::{AllocError, Global};
 use table::Table;
@@ -96,13 +96,8 @@ pub fn claim_text(alloc: Global, claim: &Claim, table: &Table) -> Result<String,
 /// Returns the text of lines, with the names that the labels of their claims have in the table.
 ///
 /// A line that says nothing is empty.
-///
-/// # Errors
-///
-/// 40 where memory is refused.
-pub fn write(alloc: Global, lines: &ClaimLines, table: &Table) -> Result<Vec<u8>, Refusal>
-    ensures text { IfOk result (λ text. text.items ≡ lines_text table.now lines.now) }
-    ensures memory { IfErr result (λ refusal. refusal ≡ out_of_memory) }
+pub fn write(alloc: Global, lines: &ClaimLines, table: &Table) -> Result<Vec<u8>, AllocError>
+    ensures { IfOk result (λ text. text.items ≡ lines_text table.now lines.now) }
 {
     Ok(lines_string(alloc, lines.as_slice(), table)?.into_bytes())
 }

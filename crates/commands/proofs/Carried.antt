@@ -1,11 +1,10 @@
 -- Commands that are carried out: what was loaded, judged and told is what the definition has.
-use Rattle.std.proofs.{Common.{ℕ, ◌∙◌, ◌≡◌, ◌≤◌, Err, IfOk, IfSome, List, None, Ok, Option, Result, Some, ap, arith, refl, sym}, lemmas.Option.{none-some, same_Some}}
-use Rattle.forms.specs.declared.file.File.{File}
-use Rattle.reptext.specs.Reports.{fault_report}
-use Rattle.commands.specs.declared.{answer.Answer.Answer, end.{Asked.Asked, End.{End, End as ends}, Misuse.Misuse}, load.Stop.{Stop, Stop as stop}}
-use Rattle.commands.specs.{Commands.{IsAnswer, IsCarriedOut, IsJudged, IsJudgedSo, IsMisused, IsTold, IsUnlabelled, Output, report_of}}
-use Rattle.commands.specs.Ends.{IfCannotWrite, IfMisused, IfNoLabel, IfStatus, status_of}
-use Rattle.commands.specs.Files.{Contents, Gives, faulty, lacking_of, misused, unknown, unread_of, whole}
+use Rattle.std.proofs.Common.{ℕ, ◌∙◌, ◌≡◌, ◌≤◌, Err, IfOk, IfSome, List, None, Ok, Option, Result, Some, ap, arith, refl, sym}
+use Rattle.{std.proofs.lemmas.Option.{none-some, same_Some}, forms.specs.declared.file.File.File, reptext.specs.Reports.fault_report}
+use Rattle.commands.specs.declared.{answer.Answer.Answer, end.{Asked.Asked, End.{End, End as ends}, Misuse.Misuse}}
+use Rattle.commands.specs.{declared.load.Stop.{Stop, Stop as stop}, Commands.{IsAnswer, IsCarriedOut, IsJudged, IsJudgedSo, IsMisused}}
+use Rattle.commands.specs.{Commands.{IsTold, IsUnlabelled, Output, report_of}, Ends.{IfCannotWrite, IfMisused, IfNoLabel, IfStatus}}
+use Rattle.commands.specs.{Ends.status_of, Files.{Contents, Gives, faulty, lacking_of, misused, unknown, unread_of, whole}}
 
 -- an answer to what was loaded is what is judged of it
 judged_ok : (judges : Answer → Type 0) (lacking : Option Asked) (a : Answer) → IsJudgedSo lacking judges (Ok a)

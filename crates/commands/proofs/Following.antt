@@ -1,10 +1,8 @@
 -- Files that are loaded one after another: what the load gives, and what is heard of it.
 use Rattle.std.proofs.Common.{ℕ, ◌≡◌, Err, IfSome, List, None, Ok, Option, Result, Some, subst, sym}
-use Rattle.machine.specs.Layout.{Layout}
-use Rattle.captext.specs.Tables.{read_table_of}
-use Rattle.forms.specs.declared.file.File.{File, TheVariants.Table}
-use Rattle.commands.specs.declared.{choices.Taken.Taken, given.Given.Given, load.Stop.{Stop, Stop as stop}}
-use Rattle.commands.specs.{Files.{Contents, Gives, and_then, as_taken, faulty, held_by, misused, named_contents, table_contents, unknown, whole}, Hearing.{HearsFault, Hearing}}
+use Rattle.forms.specs.declared.file.File.{File}
+use Rattle.commands.specs.{declared.{choices.Taken.Taken, given.Given.Given, load.Stop.{Stop, Stop as stop}}, Files.{Contents, Gives}}
+use Rattle.commands.specs.{Files.{and_then, as_taken, faulty, misused, named_contents, unknown, whole}, Hearing.{Hearing, HearsFault}}
 
 -- a stop that is neither a fault nor a misuse says nothing of the files
 abbrev IsFree : Stop → Type 0
@@ -99,9 +97,3 @@ module _ (table description : File) (taken : Taken) {L : Type 0} (Hears : L → 
   named_heard None text (Err why) is gives heard = told_as whole Hears old new (as_taken table description taken text) why gives heard
   named_heard (Some bytes) text loaded is gives heard =
       subst (λ (b : List ℕ). HearsFault Hears (as_taken table description taken b) loaded old new) is heard
-
--- a text's fault is that of the file whose bytes are known to be that text
-pub table_gives : (known : Option (List ℕ)) (text : List ℕ) (loaded : Result Layout Stop) → IfSome known (λ bytes. text ≡ bytes)
-    → Gives (held_by Table None text (read_table_of text)) loaded → Gives (table_contents known) loaded
-table_gives None text loaded is gives = tt
-table_gives (Some bytes) text loaded is gives = subst (λ (b : List ℕ). Gives (held_by Table None b (read_table_of b)) loaded) is gives

@@ -1,22 +1,17 @@
 -- Commands: what one does with its files and its output, and how it ends (confine's own).
-use Rattle.std.specs.{Io.KnownBytes.Appends, Prelude.{[], ℕ, ◌≡◌, ◌≤◌, ◌⊎◌, ◌∷◌, Bool, Err, IfSome, IsOk, IsOkAnd, List, None, Ok, Option, Result, Some}}
-use Rattle.std.specs.Prelude.{false, true}
-use Rattle.base.specs.declared.edge.Edge.{Edge}
-use Rattle.machine.specs.{declared.call.Event.Event, Layout.Layout}
-use Rattle.words.specs.declared.faults.Fault.{Fault}
-use Rattle.captext.specs.{Policies.read_policy_of, Tables.read_table_of}
-use Rattle.microkit.specs.Description.{Description}
-use Rattle.importing.specs.declared.pieces.Minting.{Minting}
-use Rattle.devices.specs.Devices.{AppendsBeginning}
-use Rattle.forms.specs.declared.file.File.{File, TheVariants.{New, Policy, Table}}
-use Rattle.forms.specs.declared.file.File.TheVariants as files
-use Rattle.reptext.specs.{Places.place_names, Reports.{denial_report, fault_report}}
-use Rattle.verdict.specs.{declared.denial.Denial.Denial, Verdict.rule_name}
+use Rattle.std.specs.{Io.KnownBytes.Appends, Prelude.{[], ℕ, ◌∷◌, ◌≡◌, ◌≤◌, ◌⊎◌, Bool, Err, IfSome, IsOk, IsOkAnd, List, None, Ok, Option}}
+use Rattle.{std.specs.Prelude.{Result, Some, false, true}, base.specs.declared.edge.Edge.Edge, words.specs.declared.faults.Fault.Fault}
+use Rattle.{devices.specs.Devices.AppendsBeginning, forms.specs.declared.file.File.{File, TheVariants.{New, Policy, Table}}}
+use Rattle.{microkit.specs.Description.Description, machine.specs.Layout.Layout}
+use Rattle.{verdict.specs.{declared.denial.Denial.Denial, Verdict.rule_name}, captext.specs.{Policies.read_policy_of, Tables.read_table_of}}
+use Rattle.{reptext.specs.{Places.place_names, Reports.{denial_report, fault_report}}, importing.specs.declared.pieces.Minting.Minting}
 use Rattle.commands.specs.declared.{answer.Answer.Answer, choices.Taken.Taken, end.{Asked.Asked, End.End, Misuse.Misuse}}
-use Rattle.commands.specs.declared.{given.Given.Given, listener.Finding.{Finding, Finding as finding}, load.{Stop.{Stop, Stop as stop}, Three.Three, Two.Two, With.With}}
-use Rattle.commands.specs.{Ends.{IfCannotWrite, IfMisused, IfNoLabel, IfStatus, IfUnwritten, is_unwritable, status_of, unread_file}, Files.Contents}
-use Rattle.commands.specs.{Files.{described_contents, faulty, first_failed, given_contents, misused, table_contents, three_contents, unknown}, Described.Described}
-use Rattle.commands.specs.{Files.{two_contents, unread_of, whole, with_contents}, Given.layout_of}
+use Rattle.commands.specs.declared.{given.Given.Given, listener.Finding.{Finding, Finding as finding}}
+use Rattle.commands.specs.{declared.load.{Stop.{Stop, Stop as stop}, Three.Three, Two.Two, With.With}, Described.Described}
+use Rattle.commands.specs.Ends.{IfCannotWrite, IfMisused, IfNoLabel, IfStatus, IfUnwritten, is_unwritable, status_of, unread_file}
+use Rattle.commands.specs.Files.{Contents, described_contents, faulty, first_failed, given_contents, misused}
+use Rattle.commands.specs.{Files.{three_contents, two_contents, unknown, unread_of, whole, with_contents}, Given.layout_of}
+use Rattle.forms.specs.declared.file.File.TheVariants as files
 
 -- a source, before and after a command: the bytes that it had left, where they are known, and whether it failed
 pub record Input (S : Type 0) : Type 0 where

@@ -1,8 +1,6 @@
 -- Systems as they are given: a capability table, or a system description with the table that it becomes (confine's own).
 use Rattle.std.specs.{List.position, Prelude.{ℕ, ◌==◌, Bool, List, Option, Some, false, not, option_and_then, slice_get}}
-use Rattle.machine.specs.Layout.{Layout}
-use Rattle.xml.specs.Characters.{is_space}
-use Rattle.commands.specs.declared.given.Given.{Given, Given as given}
+use Rattle.{xml.specs.Characters.is_space, machine.specs.Layout.Layout, commands.specs.declared.given.Given.{Given, Given as given}}
 
 -- the table of a system
 abbrev pub layout_of : Given → Layout

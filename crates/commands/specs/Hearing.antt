@@ -1,16 +1,13 @@
 -- Listeners: what one hears of a command (confine's own).
-use Rattle.std.specs.Prelude.{ℕ, ◌≡◌, Err, List, None, Ok, Option, Result, Some}
-use Rattle.base.specs.declared.edge.Edge.{Edge}
+use Rattle.std.specs.Prelude.{ℕ, ◌≡◌, Err, List, None, Ok, Option, Result}
+use Rattle.{base.specs.declared.edge.Edge.Edge, words.specs.declared.faults.Fault.Fault, forms.specs.declared.file.File.File}
 use Rattle.machine.specs.{declared.call.{Event.Event, Outcome.Outcome}, Layout.Layout}
-use Rattle.words.specs.declared.faults.Fault.{Fault}
-use Rattle.captext.specs.Drafts.{Draft}
-use Rattle.claims.specs.declared.claim.Claim.{Claim}
-use Rattle.forms.specs.declared.file.File.{File}
-use Rattle.commands.specs.{declared.{answer.Answer.Answer, end.{Asked.Asked, End.End}, files.Files.{Files, Files as heard}}, Described.Described}
+use Rattle.{captext.specs.Drafts.Draft, claims.specs.declared.claim.Claim.Claim}
+use Rattle.commands.specs.declared.{answer.Answer.Answer, choices.Taken.Taken, end.{Asked.Asked, End.End}}
+use Rattle.commands.specs.declared.{files.Files.{Files, Files as heard}, given.Given.Given, load.Stop.{Stop, Stop as stop}}
+use Rattle.commands.specs.{declared.load.{Three.Three, With.With}, Commands.{IsJudged, IsTold, Output}, Described.Described}
+use Rattle.commands.specs.{Files.{Contents, Gives, given_contents, three_contents, two_contents, with_contents}, Given.layout_of}
 use Rattle.commands.specs.Files as files
-use Rattle.commands.specs.Files.{Contents}
-use Rattle.commands.specs.{declared.{choices.Taken.Taken, given.Given.Given, load.{Stop.{Stop, Stop as stop}, Three.Three, With.With}}, Commands.{IsJudged, IsTold, Output}}
-use Rattle.commands.specs.{Files.{Gives, given_contents, three_contents, two_contents, with_contents}, Given.layout_of}
 
 -- what the files of a command hold
 pub data Held : Type 0 where

@@ -1,11 +1,10 @@
 //! Systems as they are given: a capability table, or a system description with the table that it becomes.
 ghost use Rattle.std.specs.Prelude.{[], ◌∷◌, ◌≡◌, IfErr, None, false};
-ghost use Rattle.words.specs.Reading.{Reads};
-ghost use Rattle.forms.specs.declared.file.File.TheVariants as file;
-ghost use Rattle.xml.specs.Characters.{is_space};
+ghost use Rattle.{words.specs.Reading.Reads, xml.specs.Characters.is_space};
 ghost use Rattle.commands.specs.Files.{Gives, IsStopOf, IsSystemStop, as_description, as_either, as_system, as_table, described_contents};
 ghost use Rattle.commands.specs.Files.{described_of, first_failed, given_contents, lacking_of, named_contents, new_contents, unread_of};
 ghost use Rattle.commands.specs.{Given.{first_visible, is_description, is_tag, layout_of}, Hearing.HearsFault};
+ghost use Rattle.forms.specs.declared.file.File.TheVariants as file;
 
 use crate::load::{read_file, stopped};
 use crate::{File, Listener, Misuse, Source, Stop, Taken};

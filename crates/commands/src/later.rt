@@ -1,13 +1,9 @@
 //! The files that are read after the first: a policy, claims, a certificate, a script and a log.
 ghost use Rattle.std.specs.Prelude.{ℕ, ◌≡◌, List, Option, Result};
-ghost use Rattle.base.specs.declared.edge.Edge.{Edge};
-ghost use Rattle.machine.specs.Layout.{Layout};
-ghost use Rattle.words.specs.{declared.faults.Fault.Fault, Reading.Reads};
-ghost use Rattle.captext.specs.{Drafts.read_draft_of, Policies.read_policy_of};
-ghost use Rattle.evtext.specs.{Log.read_log_of, Script.read_script_of};
-ghost use Rattle.certificate.specs.Reading.{read_certificate_of};
-ghost use Rattle.claims.specs.Reading.{read_claims_of};
-ghost use Rattle.forms.specs.declared.file.File.{File, File as file};
+ghost use Rattle.{base.specs.declared.edge.Edge.Edge, words.specs.{declared.faults.Fault.Fault, Reading.Reads}};
+ghost use Rattle.{forms.specs.declared.file.File.{File, File as file}, machine.specs.Layout.Layout};
+ghost use Rattle.{captext.specs.{Drafts.read_draft_of, Policies.read_policy_of}, evtext.specs.{Log.read_log_of, Script.read_script_of}};
+ghost use Rattle.{certificate.specs.Reading.read_certificate_of, claims.specs.Reading.read_claims_of};
 ghost use Rattle.commands.specs.{declared.given.Given.Given, Hearing.{Held, certificate, claims, draft, held_of, log, policy, script}};
 
 use crate::{File, Files, Given};

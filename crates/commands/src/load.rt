@@ -1,13 +1,11 @@
 //! The loading of a command's files, one after another, and why a command has no answer.
 ghost use Rattle.std.specs.Prelude.{[], ◌∷◌, ◌≡◌, ◌≢◌, ◌⊎◌, Err, IfErr, IfOk, IfSome, None, Ok, Some, false, option_copied};
-ghost use Rattle.words.specs.Fault.{no_memory};
+ghost use Rattle.{words.specs.Fault.no_memory, machine.specs.Layout.Layout, captext.specs.Tables.read_table_of};
+ghost use Rattle.commands.specs.{declared.load.Stop.Stop, Commands.{HasPolicy, HasSystem, HasTable, input}};
+ghost use Rattle.commands.specs.Files.{Gives, IsDeviceStop, IsStopOf, contents_of, first_failed, held_by, is_unread, lacking_of};
+ghost use Rattle.commands.specs.Files.{pair_contents, table_contents, three_contents, two_contents, unread_of, with_contents};
+ghost use Rattle.commands.specs.{Given.layout_of, Hearing.{HearsFault, HearsStop, Held, compared, description, held_of, system}};
 ghost use Rattle.forms.specs.declared.file.File.TheVariants as file;
-ghost use Rattle.machine.specs.Layout.{Layout};
-ghost use Rattle.captext.specs.Tables.{read_table_of};
-ghost use Rattle.commands.specs.{declared.load.Stop.{Stop}, Commands.{HasPolicy, HasSystem, HasTable, input}};
-ghost use Rattle.commands.specs.{Files.{Gives, IsDeviceStop, IsStopOf, contents_of, first_failed, held_by, is_unread, lacking_of}};
-ghost use Rattle.commands.specs.{Files.{pair_contents, table_contents, three_contents, two_contents, unread_of, with_contents}, Given.layout_of};
-ghost use Rattle.commands.specs.Hearing.{HearsFault, HearsStop, Held, compared, description, held_of, system};
 
 use crate::given::{load_given, load_new};
 use crate::later::{LaterFile, SecondFile, ThirdFile};

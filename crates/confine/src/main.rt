@@ -4,8 +4,7 @@
 #![tactic(auto)]
 
 ghost use Rattle.std.specs.Prelude.{◌≡◌, ◌≤◌, IfOk, IsErr, OnErr, false};
-ghost use Rattle.devices.specs.Watched.{failed_of};
-ghost use Rattle.requests.specs.Requests.{IsWithinLimits, OnInTurn};
+ghost use Rattle.{devices.specs.Watched.failed_of, requests.specs.Requests.{IsWithinLimits, OnInTurn}};
 
 use clap::error::ErrorKind;
 use invocation::{help, read_request};

@@ -1,8 +1,7 @@
 -- The workers of all cores: what they made together is the script.
-use Rattle.std.{specs.Prelude.{map, slice_get}, proofs.Common.{[], ℕ, ◌++◌, ◌<◌, ◌==◌, ◌∙◌, ◌∷◌, ◌≡◌, ◌≤◌, ◌⊎◌, All, Bool}}
-use Rattle.std.proofs.Common.{List, Some, ap, arith, cond, false, inl, inr, length, refl, slice_index_or, subst, sym, true}
-use Rattle.std.proofs.lemmas.List.{Elements.{All-head, All-tail}, length-append, length-map}
-use Rattle.std.proofs.lemmas.Option.{get_or_from_slice_get, slice_get-get_or, slice_get_within}
+use Rattle.std.proofs.Common.{[], ℕ, ◌++◌, ◌<◌, ◌==◌, ◌∙◌, ◌∷◌, ◌≡◌, ◌≤◌, ◌⊎◌, All, Bool, List, Some, ap, arith, cond, false, inl, inr}
+use Rattle.std.proofs.{Common.{length, map, refl, slice_get, slice_index_or, subst, sym, true}, lemmas.List.Elements.{All-head, All-tail}}
+use Rattle.std.proofs.lemmas.{List.{length-append, length-map}, Option.{get_or_from_slice_get, slice_get-get_or, slice_get_within}}
 use Rattle.{machine.specs.{declared.call.Event.Event, Machine.{Machine, empty_machine}}, kernel.specs.Legal.{Entry, Leads}}
 use Rattle.cores.specs.{declared.view.Noted.Noted, History.{OnCores, log_of, own}, Rule.about, Seats.{AreNew, Closes, IsOf, Known}}
 use Rattle.cores.specs.{Seats.{Looks, Ticket, new_seat, no_table}, SplitRun.{IsSplitRun, on_core}, Workers.{AreAllCores, IsFresh, Worked}}

@@ -5,9 +5,7 @@ use Rattle.machine.specs.{declared.{cap.Cap.Cap, object.Object.Object}, Authorit
 use Rattle.machine.specs.{Layout.{Layout, declared_label, initial_cap, initial_parent}, Machine.{Machine, cap_of, object_of, parent_of}}
 use Rattle.machine.specs.{Machine.{queue_of, same_id, same_slot, with_cap, with_object, with_parent, with_queue}, Objects.address_of}
 use Rattle.machine.proofs.LookUps.{cap_of-with_cap, object_of-with_object, parent_of-with_parent, queue_of-with_queue}
-use Rattle.table.proofs.AtBoot.{boot_label}
-use Rattle.integrity.proofs.ObjectLabels.{label_stays}
-use Rattle.counterexamples.proofs.SmallSystem.{id}
+use Rattle.{table.proofs.AtBoot.boot_label, integrity.proofs.ObjectLabels.label_stays, counterexamples.proofs.SmallSystem.id}
 
 -- an object becomes another, threads wait at one, a slot is filled, or gets a parent
 pub data Change : Type 0 where

@@ -2,13 +2,12 @@
 -- of another label and for a second thread.
 use Rattle.std.{specs.Prelude.{Option, codes}, proofs.Common.{[], ◌&&◌, ◌==◌, ◌∷◌, None, true}}
 use Rattle.base.specs.declared.{ids.ObjId.ObjId, kind.Kind.TheVariants.Context}
-use Rattle.machine.specs.{declared.{cap.Cap.Cap, object.Object.{Object, Object as o}}, Layout.Layout}
+use Rattle.{machine.specs.{declared.{cap.Cap.Cap, object.Object.{Object, Object as o}}, Layout.Layout}, policy.specs.Domain.EdgeTest}
+use Rattle.counterexamples.proofs.SmallSystem.{context, filled, id, labelled, node, slot, space_cap, thread}
 use Rattle.machine.specs.declared.cap.Detail.TheVariants as d
 use Rattle.machine.specs.declared.layout.Version.TheVariants as version
 use Rattle.machine.specs.declared.thread.Inbox.TheVariants as inbox
 use Rattle.machine.specs.declared.thread.RunState.TheVariants as state
-use Rattle.policy.specs.Domain.{EdgeTest}
-use Rattle.counterexamples.proofs.SmallSystem.{context, filled, id, labelled, node, slot, space_cap, thread}
 
 -- a context of label 1 that no thread runs on, at first
 abbrev pub spare : Option ObjId → Object

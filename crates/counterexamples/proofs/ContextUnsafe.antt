@@ -2,14 +2,13 @@
 use Rattle.std.proofs.Common.{[], ◌∷◌, ◌≡◌, List, None, Ok, Some, lit≤, refl}
 use Rattle.base.specs.declared.kind.Kind.TheVariants.{Runs}
 use Rattle.machine.specs.declared.call.{Answer.TheVariants.Nothing, Call.TheVariants.Bind, Event.Event, Made.TheVariants.Done}
-use Rattle.machine.specs.{declared.call.Outcome.Outcome as outcome, Authority.{HasAuthority, HasAuthority.by_link}, Boot.IsBoot}
-use Rattle.machine.specs.{Changes.{with_context, with_tcb}, Machine.Machine, Step.{step_of, Bind.{bind_of, with_bound}}}
-use Rattle.machine.specs.{declared.object.ObjectKind.ObjectKind as kind, Step.Find.find}
-use Rattle.policy.specs.Needed.{context_runs}
+use Rattle.machine.specs.declared.{call.Outcome.Outcome as outcome, object.ObjectKind.ObjectKind as kind}
+use Rattle.machine.specs.{Authority.{HasAuthority, HasAuthority.by_link}, Boot.IsBoot, Changes.{with_context, with_tcb}, Machine.Machine}
+use Rattle.{machine.specs.Step.{Bind.{bind_of, with_bound}, Find.find, step_of}, policy.specs.Needed.context_runs}
 use Rattle.counterexamples.{specs.Counterexamples.UnsafeWithout, proofs.BootChanges.{Change, becomes, changing, label_now, object_now}}
 use Rattle.counterexamples.proofs.{BootChanges.with_changes, ContextSystem.{binding, joins, second, second_cap, spare, spare_cap}}
-use Rattle.counterexamples.proofs.{FewLabels.among, SmallSystem.{finding, id, reading, slot, stepping}, UnsafeBy.{LeadsOutside, led_by_one}}
-use Rattle.counterexamples.proofs.UnsafeBy.{tests, unsafe_by_tests}
+use Rattle.counterexamples.proofs.{FewLabels.among, SmallSystem.{finding, id, reading, slot, stepping}}
+use Rattle.counterexamples.proofs.UnsafeBy.{LeadsOutside, led_by_one, tests, unsafe_by_tests}
 
 unfoldable pub binds : Event
 binds = record { core = 0; thread = id 1; call = Bind 0 1 }

@@ -3,10 +3,9 @@
 use Rattle.std.{specs.Prelude.codes, proofs.Common.{[], ◌∷◌, None, true}}
 use Rattle.base.specs.{declared.kind.Kind.TheVariants.Control, Kinds.is_structural}
 use Rattle.machine.specs.{declared.{cap.Cap.Cap, object.{Object.{Object, Object as o}, Untyped.Untyped}}, Layout.Layout}
+use Rattle.{policy.specs.Domain.EdgeTest, counterexamples.proofs.SmallSystem.{context, filled, id, labelled, slot, thread}}
 use Rattle.machine.specs.declared.cap.Detail.TheVariants as d
 use Rattle.machine.specs.declared.layout.Version.TheVariants as version
-use Rattle.policy.specs.Domain.{EdgeTest}
-use Rattle.counterexamples.proofs.SmallSystem.{context, filled, id, labelled, slot, thread}
 
 abbrev pub own : Object
 own = o.CNode (record { address = 0x1000; radix = 2 })

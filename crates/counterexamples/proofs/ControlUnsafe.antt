@@ -2,20 +2,18 @@
 -- the endpoint.
 use Rattle.std.specs.FinMap as map
 use Rattle.std.proofs.Common.{[], ℕ, ◌<◌, ◌∙◌, ◌∷◌, ◌≡◌, Bool, List, Ok, Some, ap, arith, false, if◌then◌else◌, lit<, lit≤, option_map}
-use Rattle.std.proofs.Common.{refl, suc, sym, true, zero}
-use Rattle.base.specs.declared.{ids.ObjId.ObjId, kind.Kind.TheVariants.Reset}
+use Rattle.{std.proofs.Common.{refl, suc, sym, true, zero}, base.specs.declared.{ids.ObjId.ObjId, kind.Kind.TheVariants.Reset}}
 use Rattle.machine.specs.declared.call.{Answer.TheVariants.Count, Call.TheVariants.Retype, Event.Event, Made.TheVariants.Done}
-use Rattle.machine.specs.{declared.{call.Outcome.Outcome as outcome, object.Object.{Object, Object as o}}, Authority.HasAuthority}
+use Rattle.machine.specs.declared.{call.Outcome.Outcome as outcome, object.Object.{Object, Object as o}}
+use Rattle.machine.specs.{Authority.{HasAuthority, HasAuthority.by_cap, label_at, label_of}, Bits.bits, Boot.{IsBoot, booted}}
+use Rattle.machine.specs.{Counts.{objects_in, slots_in, threads_in}, Machine.{Machine, cap_of, id_cmp, object_of, same_id}}
+use Rattle.machine.specs.Memory.{Source, begun, has_child, new_cap, new_detail, new_object, with_made}
+use Rattle.machine.specs.{Objects.kind_of_object, Step.{Retype.{find_taker, find_untyped, retype_of, within_limits}, step_of}}
+use Rattle.{machine.proofs.{LookUps.{id_apart, id_total}, ObjectMade.{MakesObject, made_makes}}, policy.specs.Needed.control_gives_all}
+use Rattle.counterexamples.{specs.Counterexamples.UnsafeWithout, proofs.ControlSystem.{joins, making, memory, own}}
+use Rattle.counterexamples.proofs.{FewLabels.among, SmallSystem.{context, finding, id, reading, slot, stepping, thread}}
+use Rattle.counterexamples.proofs.UnsafeBy.{LeadsOutside, led_by_one, tests, unsafe_by_tests}
 use Rattle.machine.specs.declared.object.MemoryKind.TheVariants as kind
-use Rattle.machine.specs.{Authority.{label_at, label_of, HasAuthority.by_cap}, Bits.bits, Boot.{IsBoot, booted}, Counts.objects_in}
-use Rattle.machine.specs.{Counts.{slots_in, threads_in}, Machine.{Machine, cap_of, id_cmp, object_of, same_id}, Memory.Source}
-use Rattle.machine.specs.{Memory.{begun, has_child, new_cap, new_detail, new_object, with_made}, Objects.kind_of_object, Step.step_of}
-use Rattle.machine.specs.Step.{Retype.{find_taker, find_untyped, retype_of, within_limits}}
-use Rattle.machine.proofs.{LookUps.{id_apart, id_total}, ObjectMade.{MakesObject, made_makes}}
-use Rattle.policy.specs.Needed.{control_gives_all}
-use Rattle.counterexamples.{specs.Counterexamples.UnsafeWithout, proofs.{ControlSystem.{joins, making, memory, own}, FewLabels.among}}
-use Rattle.counterexamples.proofs.{SmallSystem.{context, finding, id, reading, slot, stepping, thread}, UnsafeBy.{LeadsOutside, led_by_one}}
-use Rattle.counterexamples.proofs.UnsafeBy.{tests, unsafe_by_tests}
 
 unfoldable pub retyping : Event
 retyping = record { core = 0; thread = id 1; call = Retype 0 kind.Endpoint 0 1 2 1 }

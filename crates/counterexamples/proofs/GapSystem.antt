@@ -3,9 +3,8 @@
 use Rattle.std.{specs.Prelude.codes, proofs.Common.{[], ℕ, ◌&&◌, ◌==◌, ◌∷◌, None, Some, false, nat_lt, not, true}}
 use Rattle.base.specs.declared.kind.Kind.TheVariants.{Derive, Holds}
 use Rattle.machine.specs.{declared.{cap.{Cap.Cap, Detail.Detail as d}, object.Object.{Object, Object as o}}, Layout.Layout}
+use Rattle.{policy.specs.Domain.EdgeTest, counterexamples.proofs.SmallSystem.{filled, id, labelled, slot, thread}}
 use Rattle.machine.specs.declared.layout.Version.TheVariants as version
-use Rattle.policy.specs.Domain.{EdgeTest}
-use Rattle.counterexamples.proofs.SmallSystem.{filled, id, labelled, slot, thread}
 
 abbrev pub cnode : ℕ → Object
 cnode address = o.CNode (record { address = address; radix = 1 })

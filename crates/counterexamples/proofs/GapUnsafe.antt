@@ -1,18 +1,17 @@
 -- A system that breaks P5 alone, as far as derive is transitive, and isn't safe: its thread copies a derived capability into another
 -- label's CNode, and what it was derived from then derives there.
 use Rattle.std.proofs.Common.{ℕ, ◌∙◌, ◌≡◌, Ok, Some, lit≤, refl, true}
-use Rattle.base.specs.declared.{kind.Kind.TheVariants.Derive}
+use Rattle.base.specs.declared.kind.Kind.TheVariants.{Derive}
 use Rattle.machine.specs.declared.call.{Answer.TheVariants.Nothing, Call.TheVariants.Copy, Event.Event, Made.TheVariants.Done}
 use Rattle.machine.specs.declared.{call.Outcome.Outcome as outcome, slot_address.SlotAddress.SlotAddress}
-use Rattle.machine.specs.{Authority.{HasAuthority, label_of, HasAuthority.by_pair}, Boot.IsBoot, Layout.declared_label}
-use Rattle.machine.specs.{Machine.{Machine, object_of, with_cap, with_parent}, Step.{step_of, Copy.copy_of}}
-use Rattle.machine.{specs.{Step.Target.{ends_of, source_of, target_of}, Tree.with_copy}, proofs.LookUps.parent_of-with_parent}
+use Rattle.machine.specs.{Authority.{HasAuthority, HasAuthority.by_pair, label_of}, Boot.IsBoot, Layout.declared_label}
+use Rattle.machine.specs.{Machine.{Machine, object_of, with_cap, with_parent}, Step.{Copy.copy_of, Target.{ends_of, source_of, target_of}}}
+use Rattle.{machine.{specs.{Step.step_of, Tree.with_copy}, proofs.LookUps.parent_of-with_parent}, table.proofs.AtBoot.boot_label}
 use Rattle.policy.specs.{Closed.MayBeGranted, Domain.{EdgeTest, IsInDomain}, Needed.derive_by_grant, Policy.allows}
-use Rattle.table.proofs.AtBoot.{boot_label}
 use Rattle.integrity.proofs.ObjectLabels.{same_label}
-use Rattle.counterexamples.{specs.Counterexamples.UnsafeWithout, proofs.{FewLabels.{among, granted_derives}, GapSystem.{derived_cap, gap}}}
-use Rattle.counterexamples.proofs.{GapSystem.joins, SmallSystem.{finding, id, reading, slot, stepping}, UnsafeBy.{LeadsOutside, led_by_one}}
-use Rattle.counterexamples.proofs.UnsafeBy.{needs_by_tests, not_safe, tests, unsafe_keeping}
+use Rattle.counterexamples.{specs.Counterexamples.UnsafeWithout, proofs.FewLabels.{among, granted_derives}}
+use Rattle.counterexamples.proofs.{GapSystem.{derived_cap, gap, joins}, SmallSystem.{finding, id, reading, slot, stepping}}
+use Rattle.counterexamples.proofs.UnsafeBy.{LeadsOutside, led_by_one, needs_by_tests, not_safe, tests, unsafe_keeping}
 
 -- the slot of the other CNode, and the slot of the thread's own that holds that CNode's capability
 abbrev to : SlotAddress

@@ -4,13 +4,12 @@
 use Rattle.std.{specs.Prelude.codes, proofs.Common.{[], ◌&&◌, ◌==◌, ◌||◌, ◌∷◌, Bool, None, Option, Some, not, true}}
 use Rattle.base.specs.declared.{ids.ObjId.ObjId, kind.Kind.TheVariants.{Control, Derive, Read, Receive, Space}}
 use Rattle.machine.specs.declared.{cap.{Badged.Badged, Cap.Cap}, object.Object.{Object, Object as o}}
+use Rattle.{machine.specs.{declared.thread.{Inbox.Inbox, RunState.RunState}, Layout.Layout}, policy.specs.Domain.EdgeTest}
+use Rattle.counterexamples.proofs.SmallSystem.{context, endpoint, filled, id, labelled, node, receive_end, slot, space_cap, thread}
 use Rattle.machine.specs.declared.cap.Detail.TheVariants as d
 use Rattle.machine.specs.declared.layout.Version.TheVariants as version
-use Rattle.machine.specs.{declared.thread.{Inbox.Inbox, RunState.RunState}, Layout.Layout}
 use Rattle.machine.specs.declared.thread.Inbox.TheVariants as inbox
 use Rattle.machine.specs.declared.thread.RunState.TheVariants as state
-use Rattle.policy.specs.Domain.{EdgeTest}
-use Rattle.counterexamples.proofs.SmallSystem.{context, endpoint, filled, id, labelled, node, receive_end, slot, space_cap, thread}
 
 abbrev pub taker_node : Object
 taker_node = o.CNode (record { address = 0x1080; radix = 2 })

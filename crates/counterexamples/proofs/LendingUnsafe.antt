@@ -2,22 +2,21 @@
 -- the receiver runs on the context of the caller.
 use Rattle.std.proofs.Common.{[], ℕ, ◌==◌, ◌||◌, ◌∷◌, ◌≡◌, List, None, Ok, Option, Some, false, lit≤, refl, true}
 use Rattle.base.specs.declared.{ids.{ObjId.ObjId, SlotRef.SlotRef}, kind.Kind.TheVariants.{Context, Control, Runs}}
-use Rattle.machine.specs.declared.call.{Answer.TheVariants.Nothing, Call.TheVariants.{Call, Unbind}, Event.Event, Made.TheVariants.Blocked}
-use Rattle.machine.specs.declared.{call.{Made.TheVariants.Done, Outcome.Outcome as outcome}, object.Object.Object as o}
+use Rattle.machine.specs.declared.call.{Answer.TheVariants.Nothing, Call.TheVariants.{Call, Unbind}, Event.Event}
+use Rattle.machine.specs.declared.{call.{Made.TheVariants.{Blocked, Done}, Outcome.Outcome as outcome}, object.Object.Object as o}
 use Rattle.machine.specs.declared.thread.{Calling.Calling, Inbox.Inbox as inbox, RunState.RunState as state, Sending.Sending, Tcb.Tcb}
-use Rattle.machine.specs.{Authority.{HasAuthority, HasAuthority.by_link}, Boot.IsBoot, Changes.{first_waiting, with_reply, with_tcb}}
-use Rattle.machine.specs.{Changes.without_waiting, Machine.{Machine, cap_of, object_of}, Releasing.{with_called, with_halted, with_holding}}
-use Rattle.machine.specs.{Releasing.with_released, Step.{step_of, Bind.{unbind_of, with_handed}, Find.find, Deliver.arrival_of}}
-use Rattle.machine.specs.Step.{Deliver.{delivered, first_at, sending_by}, Send.endpoint_call_of, Step.ends}
+use Rattle.machine.specs.{Authority.{HasAuthority, HasAuthority.by_link}, Boot.IsBoot}
+use Rattle.machine.specs.{Changes.{first_waiting, with_reply, with_tcb, without_waiting}, Machine.{Machine, cap_of, object_of}}
+use Rattle.machine.specs.{Releasing.{with_called, with_halted, with_holding, with_released}, Step.Bind.{unbind_of, with_handed}}
+use Rattle.machine.specs.Step.{Deliver.{arrival_of, delivered, first_at, sending_by}, Find.find, Send.endpoint_call_of, Step.ends, step_of}
+use Rattle.{steps.proofs.ContextsFormed.{bound_is, unbound_is}, policy.specs.{Domain.EdgeTest, Needed.lent_runs}}
+use Rattle.counterexamples.{specs.Counterexamples.UnsafeWithout, proofs.BootChanges.{Change, becomes, cap_after, cap_now}}
+use Rattle.counterexamples.proofs.BootChanges.{changing, label_now, object_after, object_now, queue_now, waits, with_changes}
+use Rattle.counterexamples.proofs.{FewLabels.among, ReplyRun.{awaited, receive_made, received, receiving, waiting}}
+use Rattle.counterexamples.proofs.ReplySystem.{answers, caller, context, context_cap, end, end_cap, receiver, serving}
+use Rattle.counterexamples.proofs.{SmallSystem.{finding, id, reading, slot, stepping}, UnsafeBy.{LeadsOutside, tests, unsafe_by_tests}}
 use Rattle.machine.specs.declared.object.ObjectKind.TheVariants as kind
 use Rattle.machine.specs.declared.object.ReplyState.TheVariants as reply
-use Rattle.steps.proofs.ContextsFormed.{bound_is, unbound_is}
-use Rattle.policy.specs.{Domain.EdgeTest, Needed.lent_runs}
-use Rattle.counterexamples.{specs.Counterexamples.UnsafeWithout, proofs.BootChanges.{Change, becomes, cap_after, cap_now, changing}}
-use Rattle.counterexamples.proofs.{BootChanges.{label_now, object_after, object_now, queue_now, waits, with_changes}, FewLabels.among}
-use Rattle.counterexamples.proofs.{ReplyRun.{awaited, receive_made, received, receiving, waiting}, ReplySystem.{answers, caller, context}}
-use Rattle.counterexamples.proofs.{ReplySystem.{context_cap, end, end_cap, receiver, serving}, SmallSystem.{finding, id, reading, slot}}
-use Rattle.counterexamples.proofs.{SmallSystem.stepping, UnsafeBy.{LeadsOutside, tests, unsafe_by_tests}}
 
 -- The policy, of the labels 0 and 1, obeys every rule but P8: each label has every edge to 0, and to 1 every edge but control and context,
 -- and 1 alone runs on 1.

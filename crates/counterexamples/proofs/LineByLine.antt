@@ -1,14 +1,13 @@
 -- Confinement of a lawful table's boot state, line by line: it is confined if all that each line gives is in the policy.
-use Rattle.std.{specs.{List.{list_all}, Prelude.slice_get}, proofs.Common.{ℕ, ◌&&◌, ◌∙◌, ◌≡◌, Bool, List, Option, Some, ap, false, not}}
-use Rattle.std.proofs.{Common.{subst, sym, true, ◌||◌}, lemmas.Bool.{and_parts, false≢true}}
+use Rattle.std.{specs.{List.list_all, Prelude.slice_get}, proofs.Common.{ℕ, ◌&&◌, ◌||◌, ◌∙◌, ◌≡◌, Bool, List}}
+use Rattle.std.proofs.{Common.{Option, Some, ap, false, not, subst, sym, true}, lemmas.Bool.{and_parts, false≢true}}
 use Rattle.std.proofs.lemmas.{List.Sums.AllPass-from_list_all, Option.{get_or_from_slice_get, slice_get_within}}
 use Rattle.base.specs.declared.{ids.{ObjId.ObjId, SlotRef.SlotRef}, kind.Kind.{Kind, TheVariants.{Derive, Runs, Space}}}
 use Rattle.machine.specs.declared.{cap.{Cap.Cap, Detail.Detail}, layout.{Binding.Binding, Filled.Filled, Pair.Pair}}
-use Rattle.machine.specs.{declared.object.ObjectKind.{ObjectKind, ObjectKind as kind}, Boot.IsBoot, Capabilities.gives}
-use Rattle.machine.specs.{Layout.{Layout, declared_label, initial_cap}, Machine.Machine}
-use Rattle.policy.{specs.Domain.EdgeTest, proofs.KindNumbers.{all_kinds, each_kind}}
+use Rattle.machine.specs.{declared.object.ObjectKind.{ObjectKind, ObjectKind as kind}, Boot.IsBoot}
+use Rattle.machine.specs.{Capabilities.gives, Layout.{Layout, declared_label, initial_cap}, Machine.Machine}
 use Rattle.table.{specs.Rules.{IsLawful, kind_at}, proofs.Lookups.{bound_at, filled_at, parent_at}}
-use Rattle.integrity.specs.Confined.{IsConfined}
+use Rattle.{policy.{specs.Domain.EdgeTest, proofs.KindNumbers.{all_kinds, each_kind}}, integrity.specs.Confined.IsConfined}
 use Rattle.verdict.specs.{Rules.{Exceeds, Excess, binding, capability, holding, pair, recorded, root}, Sources.of_table}
 use Rattle.verdict.proofs.{BindingPlaces.declared_bound, BootPlaces.exceeds_same, Outsides.confined_within}
 

@@ -1,22 +1,21 @@
 -- Links of objects that give authority, each with a state that it takes out of a policy: the boot state of the small system, where the
 -- thread's place has another content.
-use Rattle.std.{specs.Prelude.{None, Some, option_map}, proofs.Common.{[], ℕ, ◌∙◌, ◌∷◌, ◌≡◌, ◌≢◌, ◌||◌, ap, arith, false, inl, inr, refl, subst}}
-use Rattle.std.proofs.{Common.{sym, true}, lemmas.{Bool.false≢true, Option.same_Some}}
+use Rattle.std.{specs.Prelude.{None, Some, option_map}, proofs.Common.{[], ℕ, ◌||◌, ◌∙◌, ◌∷◌, ◌≡◌, ◌≢◌, ap, arith}}
+use Rattle.std.proofs.{Common.{false, inl, inr, refl, subst, sym, true}, lemmas.{Bool.false≢true, Option.same_Some}}
 use Rattle.base.specs.declared.{ids.ObjId.ObjId, kind.Kind.{Kind, Kind as authority}}
-use Rattle.machine.specs.declared.{object.{Object.{Object, Object as o}, Reply.Reply}, thread.{Calling.Calling, Lent.Lent}}
+use Rattle.machine.specs.declared.object.{Object.{Object, Object as o}, Reply.Reply}
+use Rattle.machine.specs.declared.thread.{Calling.Calling, Lent.Lent, Receiving.Receiving, Sending.Sending, Tcb.Tcb}
+use Rattle.machine.specs.Authority.{HasAuthority, HasAuthority.{by_cap, by_link, by_pair, by_root}, label_of, links}
+use Rattle.machine.specs.{Layout.{declared_label, initial_of}, Machine.{Machine, object_of, same_id, with_object}}
+use Rattle.machine.{specs.{Objects.kind_of_object, WellFormed.kind_of}, proofs.Ids.{at_other, one_or_two}}
+use Rattle.machine.proofs.{LookUps.{cap_of-with_object, object_of-with_object, one_id, parent_of-with_object}, RoundLemmas.or_second}
+use Rattle.{policy.specs.{Domain.EdgeTest, Policy.is_edge}, integrity.{specs.Confined.IsConfined, proofs.ObjectLabels.same_label}}
+use Rattle.counterexamples.{specs.Counterexamples.TakesOut, proofs.FewLabels.among}
+use Rattle.counterexamples.proofs.{Reasons.{label_there, m, thread_kind, within}, SmallSystem.{id, signalling}, Unsafe.parted}
 use Rattle.machine.specs.declared.object.ObjectKind.TheVariants as kind
 use Rattle.machine.specs.declared.object.ReplyState.TheVariants as reply
 use Rattle.machine.specs.declared.thread.Inbox.TheVariants as inbox
-use Rattle.machine.specs.{declared.thread.{Receiving.Receiving, Sending.Sending, Tcb.Tcb}, Authority.{HasAuthority, label_of, links}}
 use Rattle.machine.specs.declared.thread.RunState.TheVariants as state
-use Rattle.machine.specs.{Authority.HasAuthority.{by_cap, by_link, by_pair, by_root}, Layout.{declared_label, initial_of}, Machine.Machine}
-use Rattle.machine.{specs.{Machine.{object_of, same_id, with_object}, Objects.kind_of_object, WellFormed.kind_of}, proofs.Ids.at_other}
-use Rattle.machine.proofs.{Ids.one_or_two, LookUps.{cap_of-with_object, object_of-with_object, one_id, parent_of-with_object}}
-use Rattle.machine.proofs.RoundLemmas.{or_second}
-use Rattle.policy.specs.{Domain.EdgeTest, Policy.is_edge}
-use Rattle.integrity.{specs.Confined.IsConfined, proofs.ObjectLabels.same_label}
-use Rattle.counterexamples.{specs.Counterexamples.TakesOut, proofs.{Reasons.{label_there, m, thread_kind, within}, SmallSystem.id}}
-use Rattle.counterexamples.proofs.{SmallSystem.signalling, Unsafe.parted, FewLabels.among}
 
 -- the boot state with this content in the thread's place
 abbrev changed : Object → Machine

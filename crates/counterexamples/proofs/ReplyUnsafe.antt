@@ -1,14 +1,13 @@
 -- A system that breaks P7 alone and isn't safe: a receiver waits with a reply, which then waits with it.
-use Rattle.std.proofs.Common.{Some, false, lit≤, refl, true}
-use Rattle.base.specs.declared.kind.Kind.TheVariants.{Holds}
+use Rattle.{std.proofs.Common.{Some, false, lit≤, refl, true}, base.specs.declared.kind.Kind.TheVariants.Holds}
 use Rattle.machine.specs.declared.{object.Object.Object as o, thread.{Inbox.Inbox as inbox, RunState.RunState as state}}
 use Rattle.machine.specs.{Authority.{HasAuthority, HasAuthority.by_link}, Boot.IsBoot, Machine.Machine}
-use Rattle.machine.specs.declared.object.ReplyState.TheVariants as reply
 use Rattle.policy.specs.{Domain.EdgeTest, Needed.reply_holds}
 use Rattle.counterexamples.{specs.Counterexamples.UnsafeWithout, proofs.BootChanges.{changing, label_now, object_now, with_changes}}
-use Rattle.counterexamples.proofs.{FewLabels.among, ReplyRun.{receive_made, received, receiving, waiting}, ReplySystem.{answers, receiver}}
-use Rattle.counterexamples.proofs.{ReplySystem.serving, SmallSystem.{id, reading}, UnsafeBy.{LeadsOutside, led_by_one, tests}}
-use Rattle.counterexamples.proofs.UnsafeBy.{unsafe_by_tests}
+use Rattle.counterexamples.proofs.{FewLabels.among, ReplyRun.{receive_made, received, receiving, waiting}}
+use Rattle.counterexamples.proofs.{ReplySystem.{answers, receiver, serving}, SmallSystem.{id, reading}}
+use Rattle.counterexamples.proofs.UnsafeBy.{LeadsOutside, led_by_one, tests, unsafe_by_tests}
+use Rattle.machine.specs.declared.object.ReplyState.TheVariants as reply
 
 -- each label has every edge to each but that
 abbrev joins : EdgeTest

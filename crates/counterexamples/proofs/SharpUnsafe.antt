@@ -1,13 +1,12 @@
 -- The systems that break one rule of closed policies: they aren't safe without the sharp rule of its number either, since each sharp rule
 -- asks for no more.
 use Rattle.std.proofs.{Common.{◌∙◌, ◌≢◌, inr, refl, sym}, lemmas.Bool.false≢true}
-use Rattle.policy.specs.{Closed.{ContextRuns}, Needed.{Rule, context_runs}, Policy.allows}
-use Rattle.policy.specs.Needed.{control_gives_all, derive_by_grant, derive_in_domain, grant_shares, lent_runs, reply_holds, subjects_agree}
-use Rattle.policy.{specs.Sharp.{BoundRun, DerivesOn, GrantsDerive, UsesFall}, proofs.Sharpness.{agree_bound, obeys_sharply}}
-use Rattle.integrity.specs.Keeping.{MayKeep}
-use Rattle.counterexamples.specs.Counterexamples.{SharplyUnsafeWithout, UnsafeWithout}
-use Rattle.counterexamples.proofs.{ContextUnsafe.unsafe_without_running, ControlUnsafe.unsafe_without_control}
-use Rattle.counterexamples.proofs.{GapUnsafe.unsafe_without_derivation, GrantUnsafe.{unsafe_without_granted_derivation, unsafe_without_sharing}}
+use Rattle.policy.specs.{Closed.ContextRuns, Needed.{Rule, context_runs, control_gives_all, derive_by_grant, derive_in_domain}}
+use Rattle.policy.specs.{Needed.{grant_shares, lent_runs, reply_holds, subjects_agree}, Policy.allows, Sharp.{BoundRun, DerivesOn}}
+use Rattle.{policy.{specs.Sharp.{GrantsDerive, UsesFall}, proofs.Sharpness.{agree_bound, obeys_sharply}}, integrity.specs.Keeping.MayKeep}
+use Rattle.counterexamples.{specs.Counterexamples.{SharplyUnsafeWithout, UnsafeWithout}, proofs.ContextUnsafe.unsafe_without_running}
+use Rattle.counterexamples.proofs.{ControlUnsafe.unsafe_without_control, GapUnsafe.unsafe_without_derivation}
+use Rattle.counterexamples.proofs.GrantUnsafe.{unsafe_without_granted_derivation, unsafe_without_sharing}
 use Rattle.counterexamples.proofs.{LendingUnsafe.unsafe_without_lending, ReplyUnsafe.unsafe_without_holding, Unsafe.unsafe_without_agreeing}
 
 abbrev sharper :

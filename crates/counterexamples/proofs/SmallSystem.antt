@@ -2,17 +2,15 @@
 -- 0. The thread finds the notification at the address 0, and runs on the context.
 use Rattle.std.{specs.Prelude.codes, proofs.Common.{[], ℕ, ◌∷◌, Bool, None, Option, Some, false, refl, true}}
 use Rattle.base.specs.declared.ids.{ObjId.ObjId, SlotRef.SlotRef}
-use Rattle.machine.specs.declared.{cap.{Badged.Badged, Cap.Cap}, layout.{Filled.Filled, Initial.Initial}, object.Object.Object}
+use Rattle.machine.specs.declared.{cap.{Badged.Badged, Cap.Cap}, layout.{Filled.Filled, Initial.Initial}}
+use Rattle.machine.specs.{declared.object.Object.{Object, Object as o}, Layout.{Layout, bound_context, bound_thread}}
+use Rattle.machine.specs.{Layout.{declared_label, initial_cap, initial_of, initial_parent}, Lookup.{hop, level_at, lookup_of, walk}}
+use Rattle.machine.specs.Step.{Find.{find, find_cap}, Target.lookup_target_of, admitted, made_by, step_of}
+use Rattle.{table.specs.Rules.IsLawful, policy.specs.Domain.EdgeTest, counterexamples.proofs.TestTables.{lawful_by_tests, rebuilding}}
 use Rattle.machine.specs.declared.cap.Detail.TheVariants as d
 use Rattle.machine.specs.declared.layout.Version.TheVariants as version
-use Rattle.machine.specs.{declared.object.Object.Object as o, Layout.{Layout, bound_context, bound_thread, declared_label, initial_cap}}
-use Rattle.machine.specs.{Layout.{initial_of, initial_parent}, Lookup.{hop, level_at, lookup_of, walk}, Step.{admitted, made_by, step_of}}
-use Rattle.machine.specs.Step.{Find.{find, find_cap}, Target.lookup_target_of}
 use Rattle.machine.specs.declared.thread.Inbox.TheVariants as inbox
 use Rattle.machine.specs.declared.thread.RunState.TheVariants as state
-use Rattle.policy.specs.Domain.{EdgeTest}
-use Rattle.table.specs.Rules.{IsLawful}
-use Rattle.counterexamples.proofs.TestTables.{lawful_by_tests, rebuilding}
 
 abbrev pub id : ℕ → ObjId
 id n = record { 0 = n }

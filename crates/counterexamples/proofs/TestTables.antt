@@ -1,22 +1,20 @@
 -- Tables without controls that are lawful: they are built up again of their items, each of which passes the tests of the table so far.
-use Rattle.std.{specs.{List.{AllByRecursion, list_all}, Prelude.is_some}, proofs.Common.{[], ℕ, ◌&&◌, ◌++◌, ◌==◌, ◌∷◌, ◌≡◌, Bool, List, None, Option, Some}}
-use Rattle.std.proofs.Common.{false, length, map, nat_le, nat_lt, not, refl, subst, true}
-use Rattle.std.proofs.lemmas.{Bool.{and_parts, eqb-true, false≢true, leb-true, ltb-true}, List.Elements.recursion_from_All}
-use Rattle.std.proofs.lemmas.List.Sums.{AllPass-from_list_all}
+use Rattle.std.{specs.List.{AllByRecursion, list_all}, proofs.Common.{[], ℕ, ◌&&◌, ◌++◌, ◌==◌, ◌∷◌, ◌≡◌, Bool, List, None, Option, Some}}
+use Rattle.std.proofs.{Common.{false, is_some, length, map, nat_le, nat_lt, not, refl, subst, true}, lemmas.Bool.{and_parts, eqb-true}}
+use Rattle.std.proofs.lemmas.{Bool.{false≢true, leb-true, ltb-true}, List.{Elements.recursion_from_All, Sums.AllPass-from_list_all}}
+use Rattle.{base.specs.declared.{ids.ObjId.ObjId, limits.TheConstants.{ADDRESS_END, MAX_PERIOD, MAX_RADIX}}, words.specs.Name.is_name}
+use Rattle.machine.specs.declared.{layout.Initial.Initial, object.{Object.{Object, Object as o}, ObjectKind.ObjectKind}}
+use Rattle.machine.specs.declared.object.{ObjectKind.ObjectKind as kind, ReplyState.{ReplyState, ReplyState as reply}, Share.Share}
+use Rattle.machine.specs.declared.thread.{Inbox.{Inbox, Inbox as inbox}, RunState.{RunState, RunState as run}}
+use Rattle.machine.specs.{Layout.{Layout, empty_layout, initial_cap, initial_of, initial_parent, most_labels}, Objects.end_of}
+use Rattle.table.specs.Building.{declares_slot, has_cap_to, has_control, has_room, is_above_bindings, is_above_caps}
+use Rattle.table.specs.Building.{is_above_pairs, is_bound, is_fitting, is_free, may_hold, repeats_control, repeats_untyped}
+use Rattle.table.specs.{Items.{BindingItem, CapItem, Item, LabelItem, ObjectItem, PairItem, with_item}, Names.{label_named, object_named}}
+use Rattle.table.specs.{Placement.is_aligned, Rules.{IsAtRest, IsBlank, IsDraft, IsLawful, IsWithinLimits, kind_at}}
+use Rattle.table.specs.Tree.{is_kin, is_original, source_of, tree_fault, with_originals}
+use Rattle.table.proofs.{BindingAdded.draft_binding, CapAdded.draft_filled, DraftKept.draft_empty, LabelAdded.draft_label}
+use Rattle.table.proofs.{ObjectAdded.draft_initial, Pairs.draft_pair, TreeLemmas.{as_original, lawful_marked}}
 use Rattle.base.specs.declared.core_number.TheConstants.CoreNo as CoreNo
-use Rattle.base.specs.declared.{ids.ObjId.ObjId, limits.TheConstants.{ADDRESS_END, MAX_PERIOD, MAX_RADIX}}
-use Rattle.machine.specs.declared.{layout.Initial.Initial, object.{Object.{Object, Object as o}, ObjectKind.{ObjectKind, ObjectKind as kind}}}
-use Rattle.machine.specs.declared.{object.{ReplyState.{ReplyState, ReplyState as reply}, Share.Share}, thread.{Inbox.{Inbox, Inbox as inbox}, RunState.RunState}}
-use Rattle.machine.specs.{declared.thread.RunState.RunState as run, Layout.{Layout, empty_layout, initial_cap, initial_of, initial_parent}}
-use Rattle.machine.specs.{Layout.most_labels, Objects.end_of}
-use Rattle.words.specs.Name.{is_name}
-use Rattle.table.specs.Building.{declares_slot, has_cap_to, has_control, has_room, is_above_bindings, is_above_caps, is_above_pairs, is_bound}
-use Rattle.table.specs.Building.{is_fitting, is_free, may_hold, repeats_control, repeats_untyped}
-use Rattle.table.specs.Items.{BindingItem, CapItem, Item, LabelItem, ObjectItem, PairItem, with_item}
-use Rattle.table.specs.{Names.{label_named, object_named}, Placement.is_aligned, Rules.{IsAtRest, IsBlank, IsDraft, IsLawful, IsWithinLimits}}
-use Rattle.table.{specs.{Rules.kind_at, Tree.{is_kin, is_original, source_of, tree_fault, with_originals}}, proofs.BindingAdded.draft_binding}
-use Rattle.table.proofs.{CapAdded.draft_filled, DraftKept.draft_empty, LabelAdded.draft_label, ObjectAdded.draft_initial, Pairs.draft_pair}
-use Rattle.table.proofs.TreeLemmas.{as_original, lawful_marked}
 
 -- objects as they are at boot
 

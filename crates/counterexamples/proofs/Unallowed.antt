@@ -2,19 +2,18 @@
 use Rattle.std.proofs.Common.{ℕ, ◌∙◌, ◌≡◌, ◌≢◌, ◌⊎◌, None, Ok, Some, arith, false, inl, inr, refl, subst, sym, true}
 use Rattle.std.proofs.lemmas.{Bool.false≢true, Option.{none-some, same_Some}}
 use Rattle.base.specs.{declared.{ids.ObjId.ObjId, kind.Kind.Kind}, Kinds.is_structural}
-use Rattle.base.specs.declared.kind.Kind.TheVariants as authority
 use Rattle.machine.specs.declared.call.{Answer.TheVariants.Nothing, Call.TheVariants.Signal, Event.Event, Outcome.TheVariants.Done}
 use Rattle.machine.specs.declared.object.{Notification.Notification, Object.{Object, Object as o}, ObjectKind.ObjectKind as kind}
-use Rattle.machine.specs.{Authority.label_of, Boot.IsBoot, Changes.{first_waiting, with_pending}, Layout.Layout, Machine.Machine}
-use Rattle.machine.specs.{Machine.object_of, Step.{Step, Step.ends, step_of, Find.find, Signal.{signal_of, signalled}}}
-use Rattle.machine.proofs.LookUps.{object_of-with_object}
-use Rattle.policy.specs.{Domain.EdgeTest, Full.{IsFull, is_modifying, IsFull.{grants, links, modifies, notifies, own, receives, replies}}}
-use Rattle.policy.specs.Full.IsFull.{sends}
-use Rattle.table.proofs.{AtBoot.boot_label, BootState.{boot_state, boot_state_is}}
-use Rattle.integrity.specs.{Allowed.{IsAllowedStep, IsLabelled, IsModified, MayModify}, Shrinks.{IsSame, Shrinks}}
-use Rattle.integrity.proofs.Gains.{word_grows}
-use Rattle.counterexamples.{specs.Counterexamples.UnallowedSignal, proofs.SmallSystem.{finding, id, no_edges, notification, reading}}
-use Rattle.counterexamples.proofs.SmallSystem.{signal_cap, signalling, signalling_lawful, slot, stepping}
+use Rattle.machine.specs.{Authority.label_of, Boot.IsBoot, Changes.{first_waiting, with_pending}, Layout.Layout}
+use Rattle.machine.specs.{Machine.{Machine, object_of}, Step.{Find.find, Signal.{signal_of, signalled}, Step, Step.ends, step_of}}
+use Rattle.{machine.proofs.LookUps.object_of-with_object, table.proofs.{AtBoot.boot_label, BootState.{boot_state, boot_state_is}}}
+use Rattle.policy.specs.{Domain.EdgeTest, Full.{IsFull, IsFull.{grants, links, modifies}}}
+use Rattle.policy.specs.Full.{IsFull.{notifies, own, receives, replies, sends}, is_modifying}
+use Rattle.integrity.specs.Allowed.{IsAllowedStep, IsLabelled, IsModified, MayModify}
+use Rattle.integrity.{specs.Shrinks.{IsSame, Shrinks}, proofs.Gains.word_grows}
+use Rattle.counterexamples.{specs.Counterexamples.UnallowedSignal, proofs.SmallSystem.{finding, id, no_edges, notification}}
+use Rattle.counterexamples.proofs.SmallSystem.{reading, signal_cap, signalling, signalling_lawful, slot, stepping}
+use Rattle.base.specs.declared.kind.Kind.TheVariants as authority
 
 -- a change of a notification's word, without full authority
 

@@ -1,13 +1,11 @@
 -- A system that breaks P1 alone and isn't safe: the thread's label has the CNode's label as its space, and no edge of that label.
 use Rattle.std.proofs.{Common.{[], ℕ, ◌&&◌, ◌==◌, ◌≡◌, false, lit≤, refl, sym}, lemmas.Bool.false≢true}
 use Rattle.base.specs.{declared.kind.Kind.{Kind, TheVariants.{Control, Derive, Holds, Notify, Reset, Runs, Space}}, Kinds.is_structural}
-use Rattle.machine.specs.{Boot.IsBoot, Machine.Machine}
-use Rattle.policy.specs.{Domain.EdgeTest, Needed.subjects_agree, Policy.allows}
-use Rattle.table.proofs.BootState.{boot_state, boot_state_is}
-use Rattle.integrity.specs.{Confined.IsConfined, Safe.IsReached}
+use Rattle.{machine.specs.{Boot.IsBoot, Machine.Machine}, table.proofs.BootState.{boot_state, boot_state_is}}
+use Rattle.{policy.specs.{Domain.EdgeTest, Needed.subjects_agree, Policy.allows}, integrity.specs.{Confined.IsConfined, Safe.IsReached}}
 use Rattle.counterexamples.specs.Counterexamples.{HoldsHeadline, UnsafeWithout}
-use Rattle.counterexamples.proofs.{FewLabels.among, SmallSystem.signalling, Unallowed.after_signal}
-use Rattle.counterexamples.proofs.{Unallowed.{signal, signal_unallowed, signals}, UnsafeBy.{Needs, needs_by_tests, tests, unsafe_keeping}}
+use Rattle.counterexamples.proofs.{FewLabels.among, SmallSystem.signalling, Unallowed.{after_signal, signal, signal_unallowed, signals}}
+use Rattle.counterexamples.proofs.UnsafeBy.{Needs, needs_by_tests, tests, unsafe_keeping}
 
 abbrev joins : EdgeTest
 joins a Space b = a == 0 && b == 1

@@ -1,16 +1,15 @@
 -- Proofs that a rule is needed: a run leads from a system's boot state to authority outside its policy; and the rest are tests.
-use Rattle.std.proofs.{Common.{[], ℕ, ◌&&◌, ◌∙◌, ◌∷◌, ◌≡◌, ◌≢◌, ◌≤◌, Bool, List, false, refl, subst, sym, true}, lemmas.Bool.{and_parts, false≢true}}
-use Rattle.base.specs.declared.kind.Kind.{Kind}
-use Rattle.base.specs.declared.label.TheConstants.Label as Label
-use Rattle.machine.specs.{declared.call.{Event.Event, Outcome.Outcome}, Authority.HasAuthority, Boot.IsBoot, Layout.{Layout, declared_label, initial_of}}
-use Rattle.machine.specs.{Machine.Machine, Run.Run, Step.{step_of, Step.ends}}
-use Rattle.policy.specs.{Domain.EdgeTest, Needed.{Obeys, Rule}, Policy.allows}
+use Rattle.std.proofs.Common.{[], ℕ, ◌&&◌, ◌∙◌, ◌∷◌, ◌≡◌, ◌≢◌, ◌≤◌, Bool, List, false, refl, subst, sym, true}
+use Rattle.{std.proofs.lemmas.Bool.{and_parts, false≢true}, base.specs.declared.kind.Kind.Kind}
+use Rattle.machine.specs.{declared.call.{Event.Event, Outcome.Outcome}, Authority.HasAuthority, Boot.IsBoot}
+use Rattle.machine.specs.{Layout.{Layout, declared_label, initial_of}, Machine.Machine, Run.Run, Step.{Step.ends, step_of}}
 use Rattle.table.{specs.Rules.{IsLawful, kind_at}, proofs.BootState.{boot_state, boot_state_is}}
-use Rattle.integrity.specs.{Confined.IsConfined, Safe.IsReached}
-use Rattle.counterexamples.{specs.Counterexamples.{HoldsHeadline, UnsafeWithout}, proofs.{TestPolicies.IsWithin, FewLabels.{among, few_within}}}
-use Rattle.counterexamples.proofs.{FewLabels.{others_obeyed, passes_others, trying}, LineByLine.{confined_by_lines, is_within}}
-use Rattle.counterexamples.proofs.{TestPolicies.{allows_policy, is_policy, policy_of}, TestTables.{is_rebuilt, lawful_by_tests}}
-use Rattle.counterexamples.proofs.TestTables.{marked_again, rebuilding}
+use Rattle.{policy.specs.{Domain.EdgeTest, Needed.{Obeys, Rule}, Policy.allows}, integrity.specs.{Confined.IsConfined, Safe.IsReached}}
+use Rattle.counterexamples.specs.Counterexamples.{HoldsHeadline, UnsafeWithout}
+use Rattle.counterexamples.proofs.FewLabels.{among, few_within, others_obeyed, passes_others, trying}
+use Rattle.counterexamples.proofs.{LineByLine.{confined_by_lines, is_within}, TestPolicies.{IsWithin, allows_policy, is_policy, policy_of}}
+use Rattle.counterexamples.proofs.TestTables.{is_rebuilt, lawful_by_tests, marked_again, rebuilding}
+use Rattle.base.specs.declared.label.TheConstants.Label as Label
 
 -- a run that leads outside
 pub record LeadsOutside (t : Layout) (allowed : EdgeTest) (m : Machine) : Type 0 where

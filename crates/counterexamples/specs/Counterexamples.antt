@@ -2,12 +2,11 @@
 use Rattle.std.specs.Prelude.{ℕ, ◌≡◌, ◌≢◌, List, Ok, Some, false}
 use Rattle.base.specs.declared.{edge.Edge.Edge, ids.{ObjId.ObjId, SlotRef.SlotRef}, kind.Kind.Kind as authority}
 use Rattle.machine.specs.declared.call.{Answer.TheVariants.Nothing, Call.TheVariants.Signal, Event.Event, Outcome.TheVariants.Done}
-use Rattle.machine.specs.{declared.{cap.Cap.Cap, object.{Object.Object, ObjectKind.TheVariants.Notification}}, Authority.label_of}
-use Rattle.machine.specs.{Boot.IsBoot, Layout.Layout, Machine.{Machine, with_object}, Step.{Step, Find.find}}
-use Rattle.policy.specs.{Domain.EdgeTest, Needed.{Obeys, ObeysSharply, Rule}, Policy.{IsPolicy, allows}}
-use Rattle.table.specs.Rules.{IsLawful}
-use Rattle.integrity.specs.{Allowed.IsAllowedStep, Confined.IsConfined, Safe.{GuardsBudgets, KeepsIntegrity, LabelsObjects, StaysConfined}}
-use Rattle.integrity.specs.Keeping.{MayKeep}
+use Rattle.machine.specs.declared.{cap.Cap.Cap, object.{Object.Object, ObjectKind.TheVariants.Notification}}
+use Rattle.machine.specs.{Authority.label_of, Boot.IsBoot, Layout.Layout, Machine.{Machine, with_object}, Step.{Find.find, Step}}
+use Rattle.{table.specs.Rules.IsLawful, policy.specs.{Domain.EdgeTest, Needed.{Obeys, ObeysSharply, Rule}, Policy.{IsPolicy, allows}}}
+use Rattle.integrity.specs.{Allowed.IsAllowedStep, Confined.IsConfined, Keeping.MayKeep}
+use Rattle.integrity.specs.Safe.{GuardsBudgets, KeepsIntegrity, LabelsObjects, StaysConfined}
 
 -- from the boot state of a lawful table a thread signals a notification, and the signal is done; a policy lacks the edge of
 -- kind notify from the thread's label to the notification's, and doesn't allow the step

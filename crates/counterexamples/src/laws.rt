@@ -1,24 +1,21 @@
 //! Laws by counterexample: each reason of authority and each rule of policies is needed.
 ghost use Rattle.std.specs.Prelude.{ℕ, ◌≡◌, ◌≢◌, None, Some, false, true};
 ghost use Rattle.base.specs.declared.ids.{ObjId.ObjId as Id, SlotRef.SlotRef as Slot};
+ghost use Rattle.machine.specs.declared.{call.Event.Event, cap.Cap.Cap, object.{Notification.Notification, Reply.Reply}};
+ghost use Rattle.machine.specs.declared.thread.{Calling.Calling as Calls, Lent.Lent, Receiving.Receiving as Receives};
+ghost use Rattle.machine.specs.{declared.thread.{Sending.Sending as Sends, Tcb.Tcb}, Authority.label_of};
+ghost use Rattle.machine.specs.{Layout.Layout, Machine.{Machine, object_of, with_cap, with_parent}, WellFormed.kind_of};
+ghost use Rattle.policy.specs.{Closed.MayBeGranted, Domain.{EdgeTest, IsInDomain}, Full.IsFull};
+ghost use Rattle.policy.specs.Needed.{Rule, context_runs, control_gives_all, derive_by_grant, derive_in_domain};
+ghost use Rattle.policy.specs.{Needed.{grant_shares, lent_runs, reply_holds, subjects_agree}, Policy.allows, Sharp.DerivesOn};
+ghost use Rattle.policy.specs.Sharp.{GrantsDerive, KeeperTest, KeepersAreGranted, KeepersDerive, KeepersHaveAll, MayPut, Told, UsesFall};
+ghost use Rattle.integrity.specs.{Allowed.IsAllowedStep, Confined.IsConfined, Keeping.MayKeep};
+ghost use Rattle.counterexamples.specs.Counterexamples.{SharplyUnsafeWithout, TakesOut, UnallowedSignal, UnsafeWithout};
 ghost use Rattle.base.specs.declared.kind.Kind.TheVariants as authority;
-ghost use Rattle.machine.specs.declared.{call.Event.Event, cap.Cap.Cap, object.Notification.Notification};
-ghost use Rattle.machine.specs.declared.{object.Reply.Reply, thread.{Calling.Calling as Calls, Lent.Lent}};
-ghost use Rattle.machine.specs.declared.thread.{Receiving.Receiving as Receives, Sending.Sending as Sends, Tcb.Tcb};
-ghost use Rattle.machine.specs.{Authority.label_of, Layout.Layout, Machine.{Machine, object_of, with_cap, with_parent}};
-ghost use Rattle.machine.specs.WellFormed.{kind_of};
 ghost use Rattle.machine.specs.declared.object.Object.TheVariants as o;
 ghost use Rattle.machine.specs.declared.object.ObjectKind.TheVariants as kind;
 ghost use Rattle.machine.specs.declared.object.ReplyState.TheVariants as answers;
 ghost use Rattle.machine.specs.declared.thread.RunState.TheVariants as run;
-ghost use Rattle.policy.specs.{Closed.MayBeGranted, Domain.{EdgeTest, IsInDomain}, Full.IsFull, Needed.context_runs};
-ghost use Rattle.policy.specs.Needed.{control_gives_all, derive_by_grant, grant_shares, lent_runs, reply_holds};
-ghost use Rattle.policy.specs.{Needed.subjects_agree, Policy.allows};
-ghost use Rattle.integrity.specs.{Allowed.IsAllowedStep, Confined.IsConfined};
-ghost use Rattle.policy.specs.{Needed.{Rule, derive_in_domain}, Sharp.{DerivesOn, GrantsDerive, KeeperTest, UsesFall}};
-ghost use Rattle.policy.specs.Sharp.{KeepersAreGranted, KeepersDerive, KeepersHaveAll, MayPut, Told};
-ghost use Rattle.integrity.specs.Keeping.{MayKeep};
-ghost use Rattle.counterexamples.specs.Counterexamples.{SharplyUnsafeWithout, TakesOut, UnallowedSignal, UnsafeWithout};
 
 /// A law: each reason of authority counts.
 ///

@@ -1,11 +1,10 @@
 //! The whole folded drawing.
-ghost use Rattle.std.specs.Prelude.{◌≡◌, IfErr, IfOk, string_bytes};
-ghost use Rattle.{base.specs.Refusals.out_of_memory, policy.specs.Policy.allows};
-ghost use Rattle.{reach.specs.Extents.limits_by, diagram.specs.Folded.{IsFoldedDrawing, rows_text}};
+ghost use Rattle.std.specs.Prelude.{◌≡◌, IfOk, string_bytes};
+ghost use Rattle.{policy.specs.Policy.allows, reach.specs.Extents.limits_by, diagram.specs.Folded.{IsFoldedDrawing, rows_text}};
 
 use crate::arrows::write_arrows;
 use crate::boxes::write_boxes;
-use base::{Label, Labels, Refusal};
+use base::{Label, Labels};
 use policy::Policy;
 use std::alloc::{AllocError, Global};
 use summary::{Row, others, rows_of};
@@ -28,18 +27,13 @@ digraph authority {
 /// smaller, or whose label uses a label without a thread of which that holds. An arrow is solid where objects
 /// of the other may be changed, dashed where they may only be made smaller, and dotted where they may not.
 /// A label uses another if it may change objects there or make them smaller, or reads from them.
-///
-/// # Errors
-///
-/// 40 where memory is refused.
 pub fn write_programs(
     alloc: Global,
     table: &Table,
     policy: &Policy,
     actors: Labels,
-) -> Result<Vec<u8>, Refusal>
-    ensures text { IfOk result (λ text. IsFoldedDrawing table.now (limits_by policy.now actors) text.items) }
-    ensures memory { IfErr result (λ refusal. refusal ≡ out_of_memory) }
+) -> Result<Vec<u8>, AllocError>
+    ensures { IfOk result (λ text. IsFoldedDrawing table.now (limits_by policy.now actors) text.items) }
 {
     let rows = rows_of(alloc, table, policy, actors)?;
     let others = others(alloc, table)?;

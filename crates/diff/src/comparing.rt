@@ -1,6 +1,5 @@
 //! The changes from one system to another: of labels, of cells, of what programs do to labels without a thread, and of roles.
-ghost use Rattle.std.specs.{List.flat_map, Prelude.{[], ◌++◌, ◌≡◌, IfErr, IfOk, OnOk}};
-ghost use Rattle.base.specs.Refusals.{out_of_memory};
+ghost use Rattle.std.specs.{List.flat_map, Prelude.{[], ◌++◌, ◌≡◌, IfOk, OnOk}};
 ghost use Rattle.diff.specs.Changes.{AreChanges, actor_change, cell_change, changes_among, keeper_change, role_change};
 ghost use Rattle.diff.specs.Changes.{same_standing, standing_change, use_change, use_changes};
 
@@ -8,7 +7,6 @@ use crate::change::{Change, Role, Sign, Standing, Verb, adds_standing};
 use crate::edges::{push_gained, push_lost};
 use crate::names::{Named, names_of};
 use crate::side::Side;
-use base::Refusal;
 use reach::Reach;
 use std::alloc::{AllocError, Global};
 
@@ -17,13 +15,8 @@ use std::alloc::{AllocError, Global};
 /// They come in this order: what labels are, cells of the matrix, what programs do to labels without a thread, labels
 /// that keep capabilities for CNodes, labels whose threads make calls, and edges which none of these shows. Each of
 /// these has the labels of the new system in its order, and then those that only the old one has.
-///
-/// # Errors
-///
-/// 40 where memory is refused.
-pub fn changes(alloc: Global, old: &Reach<'_>, new: &Reach<'_>) -> Result<Vec<Change>, Refusal>
-    ensures changes { IfOk result (λ changes. AreChanges old.now new.now changes.items) }
-    ensures memory { IfErr result (λ refusal. refusal ≡ out_of_memory) }
+pub fn changes(alloc: Global, old: &Reach<'_>, new: &Reach<'_>) -> Result<Vec<Change>, AllocError>
+    ensures { IfOk result (λ changes. AreChanges old.now new.now changes.items) }
 {
     let old = Side::of(alloc, old)?;
     let new = Side::of(alloc, new)?;
@@ -40,10 +33,9 @@ fn push_all(
     old: &Side<'_>,
     new: &Side<'_>,
     names: &[Named],
-) -> Result<(), Refusal>
+) -> Result<(), AllocError>
     requires { changes.old.items ≡ [] }
-    ensures all { OnOk result (changes.new.items ≡ changes_among old.now new.now names.now) }
-    ensures memory { IfErr result (λ refusal. refusal ≡ out_of_memory) }
+    ensures { OnOk result (changes.new.items ≡ changes_among old.now new.now names.now) }
 {
     push_standings(changes, old, new, names)?;
     push_cells(changes, old, new, names)?;

@@ -1,29 +1,23 @@
 //! The edges that one system has and the other lacks, where no other change shows them.
-ghost use Rattle.std.specs.{List.flat_map, Prelude.{◌++◌, ◌≡◌, IfErr, OnOk}};
-ghost use Rattle.base.specs.Refusals.{out_of_memory};
+ghost use Rattle.std.specs.{List.flat_map, Prelude.{◌++◌, ◌≡◌, OnOk}};
 ghost use Rattle.diff.specs.Changes.{gained_edge, is_reading, is_told, lost_edge, same_named, shows_cell, shows_edge, shows_standing};
 ghost use Rattle.diff.specs.Changes.{shows_use, turned};
 
 use crate::change::{Change, Sign, Verb, adds_standing};
 use crate::names::{Named, named_in_new, named_in_old};
 use crate::side::Side;
-use base::{Edge, Kind, Refusal};
+use base::{Edge, Kind};
 use std::alloc::{AllocError, Global};
 
 /// Adds the edges that only the new system has.
-///
-/// # Errors
-///
-/// 40 where memory is refused.
 pub(crate) fn push_gained(
     alloc: Global,
     changes: &mut Vec<Change>,
     old: &Side<'_>,
     new: &Side<'_>,
-) -> Result<(), Refusal>
-    ensures all { OnOk result (changes.new.items
+) -> Result<(), AllocError>
+    ensures { OnOk result (changes.new.items
         ≡ changes.old.items ++ flat_map (gained_edge old.now new.now) new.now.reach.policy) }
-    ensures memory { IfErr result (λ refusal. refusal ≡ out_of_memory) }
 {
     let edges = new.edges(alloc)?;
     push_gained_among(changes, old, new, &edges)?;
@@ -31,19 +25,14 @@ pub(crate) fn push_gained(
 }
 
 /// Adds the edges that only the old system has.
-///
-/// # Errors
-///
-/// 40 where memory is refused.
 pub(crate) fn push_lost(
     alloc: Global,
     changes: &mut Vec<Change>,
     old: &Side<'_>,
     new: &Side<'_>,
-) -> Result<(), Refusal>
-    ensures all { OnOk result (changes.new.items
+) -> Result<(), AllocError>
+    ensures { OnOk result (changes.new.items
         ≡ changes.old.items ++ flat_map (lost_edge old.now new.now) old.now.reach.policy) }
-    ensures memory { IfErr result (λ refusal. refusal ≡ out_of_memory) }
 {
     let edges = old.edges(alloc)?;
     push_lost_among(changes, old, new, &edges)?;

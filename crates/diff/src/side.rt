@@ -1,10 +1,9 @@
 //! A system as one side of a comparison: what its labels are, and what they may do.
-ghost use Rattle.std.specs.Prelude.{◌≡◌, IfErr, IfOk, length, nat_lt, option_copied};
-ghost use Rattle.base.specs.Refusals.{out_of_memory};
+ghost use Rattle.std.specs.Prelude.{◌≡◌, IfOk, length, nat_lt, option_copied};
 ghost use Rattle.diff.specs.Side.{cell, has_edge, has_role, marks_of, region_at, row_at, row_in, standing, use_in, uses};
 
 use crate::change::{Marks, Role, Standing, Verb};
-use base::{Edge, Kind, Label, Refusal};
+use base::{Edge, Kind, Label};
 use reach::Reach;
 use std::alloc::{AllocError, Global};
 use std::marker::Model;
@@ -46,13 +45,8 @@ impl<'a> Side<'a> {
     }
 
     /// Returns the edges of the reach.
-    ///
-    /// # Errors
-    ///
-    /// 40 where memory is refused.
-    pub(crate) fn edges(&self, alloc: Global) -> Result<Vec<Edge>, Refusal>
-        ensures all { IfOk result (λ edges. edges.items ≡ self.now.reach.policy) }
-        ensures memory { IfErr result (λ refusal. refusal ≡ out_of_memory) }
+    pub(crate) fn edges(&self, alloc: Global) -> Result<Vec<Edge>, AllocError>
+        ensures { IfOk result (λ edges. edges.items ≡ self.now.reach.policy) }
     {
         self.reach.policy().edges(alloc)
     }

@@ -106,15 +106,20 @@ pub fn write_log(alloc: Global, log: &Log) -> Result<Vec<u8>, Refusal>
 ///
 /// The first event has the first outcome and so on, as far as there are both. No list of pairs is
 /// made for it.
-///
-/// # Errors
-///
-/// 40 where memory is refused.
-pub fn write_run(alloc: Global, events: &[Event], outcomes: &[Outcome]) -> Result<Vec<u8>, Refusal>
-    ensures text { IfOk result (λ text. text.items ≡ log_text (zip events.now outcomes.now)) }
-    ensures memory { IfErr result (λ refusal. refusal ≡ out_of_memory) }
+pub fn write_run(
+    alloc: Global,
+    events: &[Event],
+    outcomes: &[Outcome],
+) -> Result<Vec<u8>, AllocError>
+    ensures { IfOk result (λ text. text.items ≡ log_text (zip events.now outcomes.now)) }
 {
-    Ok(run_bytes(alloc, events, outcomes)?)
+    let mut text = Vec::new(alloc);
+    text.extend_from_slice(b"confine-log 1\n")?;
+    for (event, outcome) in events.iter().zip(outcomes) {
+        write_entry(&mut text, event, outcome)?;
+    }
+    text.extend_from_slice(b"end\n")?;
+    Ok(text)
 }
 
 /// Returns the line of a log that has the event and its outcome.
@@ -132,18 +137,6 @@ fn log_bytes(alloc: Global, log: &[(Event, Outcome)]) -> Result<Vec<u8>, AllocEr
     let mut text = Vec::new(alloc);
     text.extend_from_slice(b"confine-log 1\n")?;
     for (event, outcome) in log {
-        write_entry(&mut text, event, outcome)?;
-    }
-    text.extend_from_slice(b"end\n")?;
-    Ok(text)
-}
-
-fn run_bytes(alloc: Global, events: &[Event], outcomes: &[Outcome]) -> Result<Vec<u8>, AllocError>
-    ensures { IfOk result (λ text. text.items ≡ log_text (zip events.now outcomes.now)) }
-{
-    let mut text = Vec::new(alloc);
-    text.extend_from_slice(b"confine-log 1\n")?;
-    for (event, outcome) in events.iter().zip(outcomes) {
         write_entry(&mut text, event, outcome)?;
     }
     text.extend_from_slice(b"end\n")?;

@@ -1,10 +1,7 @@
 //! The edge that a denial asks for.
 ghost use Rattle.std.specs.Prelude.{◌≡◌, Some, false};
-ghost use Rattle.base.specs.declared.edge.Edge.{Edge as EdgeOf};
-ghost use Rattle.machine.specs.Layout.{Layout};
-ghost use Rattle.policy.specs.Domain.{EdgeTest};
-ghost use Rattle.verdict.specs.{declared.denial.Denial.Denial as DenialOf, Rules.joined};
-ghost use Rattle.verdict.specs.Verdict.{IsLeastBroken, edge_asked};
+ghost use Rattle.{base.specs.declared.edge.Edge.Edge as EdgeOf, machine.specs.Layout.Layout, policy.specs.Domain.EdgeTest};
+ghost use Rattle.verdict.specs.{declared.denial.Denial.Denial as DenialOf, Rules.joined, Verdict.{IsLeastBroken, edge_asked}};
 
 use base::{Edge, Kind, Label};
 use labels::declared_label;

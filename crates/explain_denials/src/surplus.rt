@@ -54,7 +54,7 @@ fn least(alloc: Global, rules: Rules, table: &Table) -> Result<Policy, Refusal> 
     let edges = authority(alloc, table)?;
     let nothing = Policy::new(alloc);
     match rules {
-        Rules::Closed => close(alloc, &nothing, &edges),
-        Rules::Sharp => close_sharply(alloc, &nothing, &edges, node_holders(table)),
+        Rules::Closed => Ok(close(alloc, &nothing, &edges)?),
+        Rules::Sharp => Ok(close_sharply(alloc, &nothing, &edges, node_holders(table))?),
     }
 }

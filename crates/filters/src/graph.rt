@@ -1,10 +1,9 @@
 //! The graph of flows between programs.
-ghost use Rattle.std.specs.Prelude.{ℕ, ◌<◌, ◌↔◌, ◌≡◌, IfErr, IfOk, true};
-ghost use Rattle.base.specs.{Labels.is_in, Refusals.out_of_memory};
-ghost use Rattle.{reach.specs.Extents.limits_of, filters.specs.Ways.{FlowsDirectly, IsGraph}};
+ghost use Rattle.std.specs.Prelude.{ℕ, ◌<◌, ◌↔◌, ◌≡◌, IfOk, true};
+ghost use Rattle.{base.specs.Labels.is_in, reach.specs.Extents.limits_of, filters.specs.Ways.{FlowsDirectly, IsGraph}};
 ghost use Rattle.base.specs.declared.label.TheConstants.Label as Label;
 
-use base::{Label, Labels, Refusal};
+use base::{Label, Labels};
 use flows::Flows;
 use reach::Reach;
 use std::alloc::{AllocError, Global};
@@ -33,13 +32,8 @@ impl<'a> Model for FlowGraph<'a> {
 
 impl<'a> FlowGraph<'a> {
     /// Returns the graph of the flows by the reach of a table.
-    ///
-    /// # Errors
-    ///
-    /// 40 where memory is refused.
-    pub fn of(alloc: Global, reach: &'a Reach<'a>) -> Result<FlowGraph<'a>, Refusal>
-        ensures reach { IfOk result (λ graph. graph ≡ reach.now) }
-        ensures memory { IfErr result (λ refusal. refusal ≡ out_of_memory) }
+    pub fn of(alloc: Global, reach: &'a Reach<'a>) -> Result<FlowGraph<'a>, AllocError>
+        ensures { IfOk result (λ graph. graph ≡ reach.now) }
     {
         let flows = Flows::of(alloc, reach)?;
         let rows = arrow_rows(alloc, reach, &flows)?;

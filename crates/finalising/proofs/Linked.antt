@@ -1,7 +1,6 @@
 -- The links of a machine whose links agree still agree at both ends where some of its threads were halted, aborted or unbound.
-use Rattle.std.{specs.Prelude.{Contains, None, Option, Some, option_map}, proofs.Common.{◌||◌, ◌∙◌, ◌≡◌, Bool, List, ap, cond, false, not}}
-use Rattle.std.proofs.{Common.{refl, sym, true}, lemmas.{Bool.false≢true, List.Elements.{All-contains_itself, All-weaker}}}
-use Rattle.base.specs.declared.ids.ObjId.{ObjId}
+use Rattle.std.proofs.Common.{◌||◌, ◌∙◌, ◌≡◌, Bool, Contains, List, None, Option, Some, ap, cond, false, not, option_map, refl, sym, true}
+use Rattle.{std.proofs.lemmas.{Bool.false≢true, List.Elements.{All-contains_itself, All-weaker}}, base.specs.declared.ids.ObjId.ObjId}
 use Rattle.machine.specs.declared.object.{Object.{Object, Object as o}, ReplyState.{ReplyState, ReplyState as reply}}
 use Rattle.machine.specs.{declared.thread.{RunState.RunState, Tcb.Tcb}, Machine.{Machine, object_of, queue_of}, Releasing.reply_by}
 use Rattle.machine.{specs.WellFormed.{IsIdle, IsThread, LinksAgree}, proofs.{Filters.filter_all, Leaving.rest_itself}}

@@ -1,16 +1,15 @@
 -- One more object that has lost its links, kind by kind: the threads that are reached are those of the set with it.
-use Rattle.std.{specs.Prelude.{None, Option, Some, option_map}, proofs.Common.{◌&&◌, ◌||◌, ◌∙◌, ◌≡◌, ◌≢◌, Bool, ap, cond, false, not, refl}}
-use Rattle.std.proofs.{Common.{subst, sym, true}, lemmas.{Bool.false≢true, Option.{none-some, same_Some}}}
-use Rattle.base.specs.declared.ids.ObjId.{ObjId}
+use Rattle.std.proofs.Common.{◌&&◌, ◌||◌, ◌∙◌, ◌≡◌, ◌≢◌, Bool, None, Option, Some, ap, cond, false, not, option_map, refl, subst, sym, true}
+use Rattle.{std.proofs.lemmas.{Bool.false≢true, Option.{none-some, same_Some}}, base.specs.declared.ids.ObjId.ObjId}
 use Rattle.machine.specs.declared.object.{Context.Context, Object.{Object, Object as o}, ObjectKind.{ObjectKind, ObjectKind as kind}}
-use Rattle.machine.specs.{declared.{object.Reply.Reply, thread.{RunState.{RunState, RunState as state}, Tcb.Tcb}}, Finalising.is_aborted}
-use Rattle.machine.specs.{Finalising.{is_halted, leads_nowhere, link_after}, Machine.{Machine, object_of, same_id}, Objects.kind_of_object}
-use Rattle.machine.specs.{Releasing.{with_halted, with_unbound}, WellFormed.{IsThread, LinksAgree, WaitsAtKind, kind_of}}
-use Rattle.machine.proofs.{Ids.itself, Leaving.apart_ids, LookUps.one_id, RemovalTable.one_thread, RoundLemmas.or_second}
-use Rattle.steps.proofs.LeavingLinks.{link_was}
+use Rattle.machine.specs.declared.{object.Reply.Reply, thread.{RunState.{RunState, RunState as state}, Tcb.Tcb}}
+use Rattle.machine.specs.Finalising.{is_aborted, is_halted, leads_nowhere, link_after}
+use Rattle.machine.specs.{Machine.{Machine, object_of, same_id}, Objects.kind_of_object, Releasing.{with_halted, with_unbound}}
+use Rattle.machine.{specs.WellFormed.{IsThread, LinksAgree, WaitsAtKind, kind_of}, proofs.{Ids.itself, Leaving.apart_ids}}
+use Rattle.{machine.proofs.{LookUps.one_id, RemovalTable.one_thread, RoundLemmas.or_second}, steps.proofs.LeavingLinks.link_was}
 use Rattle.finalising.{specs.Finalised.with_link_cut, proofs.{Part.{Follows, IsPart}, Reached.{Reach, and_halted, and_unbound}}}
-use Rattle.finalising.proofs.{Releases.{halted_step, unbound_step}, Tests.{alone, both_aborted, both_halted, both_links, is_link, link_is}}
-use Rattle.finalising.proofs.Tests.{neither, no_context, no_queue, no_reply, nobody_waits, or_false, plus, refuted}
+use Rattle.finalising.proofs.{Releases.{halted_step, unbound_step}, Tests.{alone, both_aborted, both_halted, both_links, is_link}}
+use Rattle.finalising.proofs.Tests.{link_is, neither, no_context, no_queue, no_reply, nobody_waits, or_false, plus, refuted}
 
 module _ (old : Machine) (links : LinksAgree old) (done : ObjId → Bool) (x : ObjId) where
   -- who is reached by one more object that is no reply, or at which nobody waits, or that is no context

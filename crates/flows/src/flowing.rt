@@ -1,13 +1,13 @@
 //! Flows between labels: to whom what a label does may come, and through whom.
-ghost use Rattle.std.specs.Prelude.{ℕ, ◌↔◌, ◌≡◌, IfErr, IfOk, IsTrue, false, true};
-ghost use Rattle.{base.specs.{Labels.is_in, Refusals.out_of_memory}, reach.specs.Extents.limits_of};
+ghost use Rattle.std.specs.Prelude.{ℕ, ◌↔◌, ◌≡◌, IfOk, IsTrue, false, true};
+ghost use Rattle.{base.specs.Labels.is_in, reach.specs.Extents.limits_of};
 ghost use Rattle.flows.specs.Flowing.{FlowsBeside, FlowsBy, FlowsTo, GoesOn, GoesThrough, IsClosedOff, IsShielded, Leads, NeverDisturbs};
 
 use crate::meeting::meeting;
 use crate::rows::{affected_rows, labels_are_few, needed_rows};
-use base::{Label, Labels, Refusal};
+use base::{Label, Labels};
 use reach::{Reach, runs_keep_labels_apart};
-use std::alloc::Global;
+use std::alloc::{AllocError, Global};
 use std::marker::Model;
 
 /// The flows between the labels of a table, by its reach.
@@ -34,13 +34,8 @@ impl<'a> Model for Flows<'a> {
 
 impl<'a> Flows<'a> {
     /// Returns the flows by the reach of a table.
-    ///
-    /// # Errors
-    ///
-    /// 40 where memory is refused.
-    pub fn of(alloc: Global, reach: &'a Reach<'a>) -> Result<Flows<'a>, Refusal>
-        ensures reach { IfOk result (λ flows. flows ≡ reach.now) }
-        ensures memory { IfErr result (λ refusal. refusal ≡ out_of_memory) }
+    pub fn of(alloc: Global, reach: &'a Reach<'a>) -> Result<Flows<'a>, AllocError>
+        ensures { IfOk result (λ flows. flows ≡ reach.now) }
     {
         let affected = affected_rows(alloc, reach)?;
         let needed = needed_rows(alloc, reach)?;
@@ -116,8 +111,7 @@ impl<'a> Flows<'a> {
             → NeverDisturbs self.now.table (limits_of self.now) (is_in filters) x y }
     {
         runs_keep_labels_apart();
-        // What the type keeps of the reach is known once its policy is.
-        let _ = self.reach.policy();
+        self.reach.bounds_runs();
         self.sources_of(to, filters)
     }
 
@@ -147,8 +141,7 @@ impl<'a> Flows<'a> {
         ensures kept { IsTrue result → IsShielded self.now.table (limits_of self.now) (is_in filters) from to }
     {
         runs_keep_labels_apart();
-        // What the type keeps of the reach is known once its policy is.
-        let _ = self.reach.policy();
+        self.reach.bounds_runs();
         !self.sources_of(to, filters).has(from)
     }
 }

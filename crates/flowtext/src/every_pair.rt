@@ -1,9 +1,8 @@
 //! The matrix of flows between programs.
-ghost use Rattle.std.specs.Prelude.{◌≡◌, IfErr, IfOk, string_bytes};
-ghost use Rattle.{base.specs.Refusals.out_of_memory, flowtext.specs.FlowMatrix.{IsFlowMatrix, flow_matrix_text}};
+ghost use Rattle.std.specs.Prelude.{◌≡◌, IfOk, string_bytes};
+ghost use Rattle.flowtext.specs.FlowMatrix.{IsFlowMatrix, flow_matrix_text};
 
 use crate::rows::{FlowRow, flow_rows};
-use base::Refusal;
 use filters::FlowGraph;
 use matrix::write_matrix;
 use reach::Reach;
@@ -18,13 +17,8 @@ through how many other programs all flows from one to another go, in any run:
 
 /// Returns the matrix of the flows between the programs of a table: in the row of one and the column of another, the
 /// number of programs in the smallest sets through which all flows from the one to the other go.
-///
-/// # Errors
-///
-/// 40 where memory is refused.
-pub fn flow_matrix(alloc: Global, reach: &Reach<'_>) -> Result<Vec<u8>, Refusal>
-    ensures text { IfOk result (λ text. IsFlowMatrix reach.now text.items) }
-    ensures memory { IfErr result (λ refusal. refusal ≡ out_of_memory) }
+pub fn flow_matrix(alloc: Global, reach: &Reach<'_>) -> Result<Vec<u8>, AllocError>
+    ensures { IfOk result (λ text. IsFlowMatrix reach.now text.items) }
 {
     let table = reach.table();
     let graph = FlowGraph::of(alloc, reach)?;

@@ -1,10 +1,9 @@
 //! The text on the flows from one label to another.
-ghost use Rattle.std.specs.Prelude.{◌≡◌, IfErr, IfOk, string_bytes};
-ghost use Rattle.{base.specs.Refusals.out_of_memory, reach.specs.Extents.limits_of};
-ghost use Rattle.flowtext.specs.FlowText.{AreAvoided, IsFlowText, reached_text};
+ghost use Rattle.std.specs.Prelude.{◌≡◌, IfOk, string_bytes};
+ghost use Rattle.{reach.specs.Extents.limits_of, flowtext.specs.FlowText.{AreAvoided, IsFlowText, reached_text}};
 
 use crate::lines::{write_links, write_smallest};
-use base::{Label, Labels, Refusal};
+use base::{Label, Labels};
 use filters::{FlowGraph, Smallest};
 use flows::{Flows, Link};
 use reach::Reach;
@@ -19,18 +18,13 @@ pub const MOST_SETS: usize = 10;
 /// It is `none` if nothing does. Else it has a line for each of the smallest sets of programs through which all of
 /// it goes, of at most [`MOST_SETS`], or `direct` if no set of programs is one, and then a chain of flows. Where it is
 /// `direct` the chain goes through no other program and by no object of one.
-///
-/// # Errors
-///
-/// 40 where memory is refused.
 pub fn flow_text(
     alloc: Global,
     reach: &Reach<'_>,
     from: Label,
     to: Label,
-) -> Result<Vec<u8>, Refusal>
-    ensures text { IfOk result (λ text. IsFlowText reach.now from to text.items) }
-    ensures memory { IfErr result (λ refusal. refusal ≡ out_of_memory) }
+) -> Result<Vec<u8>, AllocError>
+    ensures { IfOk result (λ text. IsFlowText reach.now from to text.items) }
 {
     let graph = FlowGraph::of(alloc, reach)?;
     let smallest = graph.smallest_filters(alloc, from, to, MOST_SETS)?;

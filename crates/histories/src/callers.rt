@@ -1,7 +1,6 @@
 //! A kernel and callers with seats known to be its own, so that no test has to say so.
 ghost use Rattle.std.specs.Prelude.{◌≡◌, ◌≢◌, All, IfOk};
-ghost use Rattle.cores.specs.Seats.{IsOf};
-ghost use Rattle.histories.specs.Fitting.{IsFit};
+ghost use Rattle.{cores.specs.Seats.IsOf, histories.specs.Fitting.IsFit};
 
 use base::{CoreNo, Misuse, ObjId, Refusal};
 use cores::{Kernel, Naming, Opened, Seat};

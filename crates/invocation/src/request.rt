@@ -1,7 +1,6 @@
 //! Requests as they are read from a command line: the commands, their words and options.
 ghost use Rattle.std.specs.Prelude.{◌≡◌, IfOk, IfSome};
-ghost use Rattle.clap.specs.Matches.{found_of};
-ghost use Rattle.requests.specs.Requests.{IsWithinLimits, OnInTurn};
+ghost use Rattle.{clap.specs.Matches.found_of, requests.specs.Requests.{IsWithinLimits, OnInTurn}};
 ghost use Rattle.invocation.specs.Found.{AreFound, IsAskedIn, IsRead};
 
 use crate::help;

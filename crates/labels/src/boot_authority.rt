@@ -26,7 +26,7 @@ pub fn authority(alloc: Global, table: &Table) -> Result<Vec<Edge>, Refusal>
 {
     let found = collected(alloc, table)?;
     found.edges_rise();
-    found.edges(alloc)
+    Ok(found.edges(alloc)?)
 }
 
 // The edges that the table declares, as a set.

@@ -7,7 +7,7 @@ ghost use Rattle.base.specs.declared.kind.TheConstants.Kind as Kinds;
 use crate::label::declared_label;
 use base::{Edge, Kind, ObjId, Refusal, SlotRef};
 use machine::{Cap, Filled, ObjectKind};
-use std::alloc::Global;
+use std::alloc::{AllocError, Global};
 use table::Table;
 
 /// Returns the edges of authority that a slot gives at boot.
@@ -31,13 +31,8 @@ pub fn slot_edges(alloc: Global, table: &Table, slot: SlotRef) -> Result<Vec<Edg
 }
 
 /// Returns the edges of authority that a filled slot gives at boot, in the order of [`slot_edges`].
-///
-/// # Errors
-///
-/// 40 if memory is refused.
-pub fn filled_edges(alloc: Global, table: &Table, filled: &Filled) -> Result<Vec<Edge>, Refusal>
-    ensures edges { IfOk result (λ edges. edges.items ≡ edges_with table.now filled.now.slot (Some filled.now.cap)) }
-    ensures memory { IfErr result (λ refusal. refusal ≡ out_of_memory) }
+pub fn filled_edges(alloc: Global, table: &Table, filled: &Filled) -> Result<Vec<Edge>, AllocError>
+    ensures { IfOk result (λ edges. edges.items ≡ edges_with table.now filled.now.slot (Some filled.now.cap)) }
 {
     let mut edges = Vec::new(alloc);
     push_given(&mut edges, table, filled.slot, &filled.cap)?;
@@ -51,9 +46,8 @@ fn push_given(
     table: &Table,
     slot: SlotRef,
     held: &Cap,
-) -> Result<(), Refusal>
-    ensures ok { OnOk result (edges.new.items ≡ edges.old.items ++ cap_edges table.now slot (Some held.now)) }
-    ensures err { IfErr result (λ refusal. refusal ≡ out_of_memory) }
+) -> Result<(), AllocError>
+    ensures { OnOk result (edges.new.items ≡ edges.old.items ++ cap_edges table.now slot (Some held.now)) }
 {
     match table.kind(slot.holder) {
         Some(ObjectKind::CNode) => push_kinds(edges, table, slot.holder, held),
@@ -63,10 +57,9 @@ fn push_given(
 }
 
 // Adds the edge that the pair of the derivation tree gives whose child the slot is.
-fn push_derived(edges: &mut Vec<Edge>, table: &Table, slot: SlotRef) -> Result<(), Refusal>
-    ensures ok { OnOk result
+fn push_derived(edges: &mut Vec<Edge>, table: &Table, slot: SlotRef) -> Result<(), AllocError>
+    ensures { OnOk result
         (edges.new.items ≡ edges.old.items ++ pair_edges table.now slot (initial_parent table.now slot)) }
-    ensures err { IfErr result (λ refusal. refusal ≡ out_of_memory) }
 {
     if let Some(parent) = table.parent(slot) {
         push_edge(edges, table, parent.holder, Kind::Derive, slot.holder)?;
@@ -80,10 +73,9 @@ fn push_kinds(
     table: &Table,
     holder: ObjId,
     held: &Cap,
-) -> Result<(), Refusal>
-    ensures ok { let between = edge_between (declared_label table.now holder) (declared_label table.now held.now.object) in
+) -> Result<(), AllocError>
+    ensures { let between = edge_between (declared_label table.now holder) (declared_label table.now held.now.object) in
         OnOk result (edges.new.items ≡ edges.old.items ++ flat_map between (filter (gives held.now.detail) Kinds.ALL)) }
-    ensures err { IfErr result (λ refusal. refusal ≡ out_of_memory) }
 {
     for kind in held.detail.possible_kinds() {
         push_kind(edges, table, holder, *kind, held)?;
@@ -98,10 +90,9 @@ fn push_kind(
     holder: ObjId,
     kind: Kind,
     held: &Cap,
-) -> Result<(), Refusal>
-    ensures ok { let between = edge_between (declared_label table.now holder) (declared_label table.now held.now.object) in
+) -> Result<(), AllocError>
+    ensures { let between = edge_between (declared_label table.now holder) (declared_label table.now held.now.object) in
         OnOk result (edges.new.items ≡ edges.old.items ++ (if gives held.now.detail kind then between kind else [])) }
-    ensures err { IfErr result (λ refusal. refusal ≡ out_of_memory) }
 {
     if !held.gives(kind) {
         return Ok(());
@@ -116,10 +107,9 @@ fn push_edge(
     from: ObjId,
     kind: Kind,
     to: ObjId,
-) -> Result<(), Refusal>
-    ensures ok { let between = edge_between (declared_label table.now from) (declared_label table.now to) in
+) -> Result<(), AllocError>
+    ensures { let between = edge_between (declared_label table.now from) (declared_label table.now to) in
         OnOk result (edges.new.items ≡ edges.old.items ++ between kind) }
-    ensures err { IfErr result (λ refusal. refusal ≡ out_of_memory) }
 {
     if let Some(edge) = edge_between(table, from, kind, to) {
         edges.push(edge)?;

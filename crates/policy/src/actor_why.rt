@@ -1,6 +1,6 @@
 //! Reasons why a label may change another's objects, or make them smaller, if only some labels act.
-ghost use Rattle.std.specs.Prelude.{◌≡◌, IfErr, IfOk};
-ghost use Rattle.base.specs.{Labels.is_in, Refusals.out_of_memory};
+ghost use Rattle.std.specs.Prelude.{◌≡◌, IfOk};
+ghost use Rattle.base.specs.Labels.{is_in};
 ghost use Rattle.policy.specs.{ActorReasons.{IsChangeBy, IsShrinkBy, IsWhyAmong}, Policy.allows, Walks.{FindsWalk, GoesAgainst, GoesAlong}};
 
 use crate::change::CHANGING;
@@ -8,24 +8,23 @@ use crate::guarded::Turn;
 use crate::narrow_take::{REMOVED, WAITING};
 use crate::walks::Step;
 use crate::{Policy, Why};
-use base::{Edge, Kind, Label, Labels, Refusal};
-use std::alloc::Global;
+use base::{Edge, Kind, Label, Labels};
+use std::alloc::{AllocError, Global};
 
 impl Policy {
     /// Returns what `actor` may do to objects of the label `object` if only threads of the labels `actors` act, and why.
     ///
     /// # Errors
     ///
-    /// 40 if memory is refused.
+    /// [`AllocError`] where memory is refused.
     pub fn why_among(
         &self,
         alloc: Global,
         actors: Labels,
         actor: Label,
         object: Label,
-    ) -> Result<Why, Refusal>
-        ensures why { IfOk result (λ why. IsWhyAmong (allows self.now) (is_in actors) actor object why) }
-        ensures memory { IfErr result (λ refusal. refusal ≡ out_of_memory) }
+    ) -> Result<Why, AllocError>
+        ensures { IfOk result (λ why. IsWhyAmong (allows self.now) (is_in actors) actor object why) }
     {
         if let Some(edges) = self.change_reason(alloc, actors, actor, object)? {
             return Ok(Why::Full(edges));
@@ -43,9 +42,8 @@ impl Policy {
         actors: Labels,
         actor: Label,
         object: Label,
-    ) -> Result<Option<Vec<Edge>>, Refusal>
-        ensures least { IfOk result (FindsWalk (IsChangeBy (allows self.now) (is_in actors) actor object)) }
-        ensures memory { IfErr result (λ refusal. refusal ≡ out_of_memory) }
+    ) -> Result<Option<Vec<Edge>>, AllocError>
+        ensures { IfOk result (FindsWalk (IsChangeBy (allows self.now) (is_in actors) actor object)) }
     {
         if !actors.has(actor) {
             return Ok(None);
@@ -87,9 +85,8 @@ impl Policy {
         actors: Labels,
         actor: Label,
         object: Label,
-    ) -> Result<Option<Vec<Edge>>, Refusal>
-        ensures least { IfOk result (FindsWalk (IsShrinkBy (allows self.now) (is_in actors) actor object)) }
-        ensures memory { IfErr result (λ refusal. refusal ≡ out_of_memory) }
+    ) -> Result<Option<Vec<Edge>>, AllocError>
+        ensures { IfOk result (FindsWalk (IsShrinkBy (allows self.now) (is_in actors) actor object)) }
     {
         if !actors.has(actor) {
             return Ok(None);

@@ -1,6 +1,6 @@
 //! The least closed policy that has the edges of a policy, and some more.
-ghost use Rattle.std.specs.Prelude.{ℕ, ◌++◌, ◌↔◌, ◌≡◌, IfErr, IfOk, OnOk, false, true};
-ghost use Rattle.base.specs.{declared.kind.Kind.Kind, Labels.is_in, Refusals.out_of_memory};
+ghost use Rattle.std.specs.Prelude.{ℕ, ◌++◌, ◌↔◌, ◌≡◌, IfOk, OnOk, false, true};
+ghost use Rattle.base.specs.{declared.kind.Kind.Kind, Labels.is_in};
 ghost use Rattle.policy.specs.{Closed.{ControlGives, IsClosed}, Closing.IsLeastClosed, Policy.allows};
 ghost use Rattle.policy.specs.Settling.{Grows, IsGiven, IsMissing, IsSettled, Shares};
 
@@ -9,8 +9,8 @@ use crate::broken::rules::{
     is_given_by_control, not_derived, not_derived_in_domain, not_held, not_lent,
 };
 use crate::broken::steps::{domain, subjects};
-use base::{Edge, Kind, Label, Labels, Refusal};
-use std::alloc::Global;
+use base::{Edge, Kind, Label, Labels};
+use std::alloc::{AllocError, Global};
 
 /// Returns the least closed policy that has the edges of a policy, and these.
 ///
@@ -18,10 +18,9 @@ use std::alloc::Global;
 ///
 /// # Errors
 ///
-/// 40 if memory is refused.
-pub fn close(alloc: Global, policy: &Policy, edges: &[Edge]) -> Result<Policy, Refusal>
-    ensures least { IfOk result (λ closed. IsLeastClosed (policy.now ++ edges.now) closed) }
-    ensures memory { IfErr result (λ refusal. refusal ≡ out_of_memory) }
+/// [`AllocError`] where memory is refused.
+pub fn close(alloc: Global, policy: &Policy, edges: &[Edge]) -> Result<Policy, AllocError>
+    ensures { IfOk result (λ closed. IsLeastClosed (policy.now ++ edges.now) closed) }
 {
     let mut closed = Policy::new(alloc);
     closed.extend(&policy.edges(alloc)?)?;
@@ -31,9 +30,8 @@ pub fn close(alloc: Global, policy: &Policy, edges: &[Edge]) -> Result<Policy, R
 }
 
 // Adds the edges that closed policies have, until none is missing.
-fn settle(policy: &mut Policy) -> Result<(), Refusal>
-    ensures least { OnOk result (IsLeastClosed policy.old policy.new) }
-    ensures memory { IfErr result (λ refusal. refusal ≡ out_of_memory) }
+fn settle(policy: &mut Policy) -> Result<(), AllocError>
+    ensures { OnOk result (IsLeastClosed policy.old policy.new) }
 {
     while settle_labels(policy)? {
         policy.edges_rise();
@@ -42,10 +40,9 @@ fn settle(policy: &mut Policy) -> Result<(), Refusal>
 }
 
 // Adds the missing edges of each label. Returns whether there were any.
-fn settle_labels(policy: &mut Policy) -> Result<bool, Refusal>
+fn settle_labels(policy: &mut Policy) -> Result<bool, AllocError>
     ensures grows { IfOk result (λ changed. Grows policy.old policy.new changed) }
     ensures settled { IfOk result (λ changed. changed ≡ false → IsClosed (allows policy.new)) }
-    ensures memory { IfErr result (λ refusal. refusal ≡ out_of_memory) }
 {
     let mut changed = false;
     for number in 0..policy.span() {
@@ -59,11 +56,10 @@ fn settle_labels(policy: &mut Policy) -> Result<bool, Refusal>
 }
 
 // Adds the missing edges of a label. Returns whether there were any.
-fn settle_label(policy: &mut Policy, from: Label) -> Result<bool, Refusal>
+fn settle_label(policy: &mut Policy, from: Label) -> Result<bool, AllocError>
     ensures grows { IfOk result (λ changed. Grows policy.old policy.new changed) }
     ensures settled { IfOk result
         (λ changed. changed ≡ false → (kind : Kind) → IsSettled (allows policy.new) from kind) }
-    ensures memory { IfErr result (λ refusal. refusal ≡ out_of_memory) }
 {
     let mut sharing = givers(policy, from);
     let mut changed = false;
@@ -82,11 +78,10 @@ fn settle_row(
     from: Label,
     kind: Kind,
     sharing: Labels,
-) -> Result<bool, Refusal>
+) -> Result<bool, AllocError>
     requires { (giver : ℕ) → (is_in sharing giver ≡ true) ↔ Shares (allows policy.old) giver from }
     ensures grows { IfOk result (λ changed. Grows policy.old policy.new changed) }
     ensures settled { IfOk result (λ changed. changed ≡ false → IsSettled (allows policy.new) from kind) }
-    ensures memory { IfErr result (λ refusal. refusal ≡ out_of_memory) }
 {
     let lacks = missing(policy, from, kind, sharing);
     match lacks.first() {

@@ -1,12 +1,12 @@
 //! The least walks whose steps end in given sets of labels.
-ghost use Rattle.std.specs.Prelude.{ℕ, ◌&&◌, ◌↔◌, ◌≡◌, IfErr, IfOk, List, true};
-ghost use Rattle.base.specs.{declared.edge.Edge.Edge, Labels.is_in, Refusals.out_of_memory};
+ghost use Rattle.std.specs.Prelude.{ℕ, ◌&&◌, ◌↔◌, ◌≡◌, IfOk, List, true};
+ghost use Rattle.base.specs.{declared.edge.Edge.Edge, Labels.is_in};
 ghost use Rattle.policy.specs.{Guarded.{FindsLesserGuarded, IsGuardedWalk, lets_through}, Policy.allows, Walks.FindsWalk};
 
 use crate::Policy;
 use crate::walks::{Step, end, lesser};
-use base::{Edge, Label, Labels, Refusal};
-use std::alloc::Global;
+use base::{Edge, Label, Labels};
+use std::alloc::{AllocError, Global};
 
 /// A step of a walk, to a label of a set if one is given.
 #[derive(Clone, Copy)]
@@ -23,9 +23,8 @@ impl Policy {
         turns: &[Turn],
         from: Label,
         to: Label,
-    ) -> Result<Option<Vec<Edge>>, Refusal>
-        ensures least { IfOk result (FindsWalk (IsGuardedWalk (allows self.now) turns.now from to)) }
-        ensures memory { IfErr result (λ refusal. refusal ≡ out_of_memory) }
+    ) -> Result<Option<Vec<Edge>>, AllocError>
+        ensures { IfOk result (FindsWalk (IsGuardedWalk (allows self.now) turns.now from to)) }
     {
         let Some((turn, rest)) = turns.split_first() else {
             return Ok(if from == to {
@@ -53,9 +52,8 @@ impl Policy {
         turns: &[Turn],
         from: Label,
         to: Label,
-    ) -> Result<Option<Vec<Edge>>, Refusal>
-        ensures lesser { IfOk result (FindsLesserGuarded (allows self.now) turns.now from to found) }
-        ensures memory { IfErr result (λ refusal. refusal ≡ out_of_memory) }
+    ) -> Result<Option<Vec<Edge>>, AllocError>
+        ensures { IfOk result (FindsLesserGuarded (allows self.now) turns.now from to found) }
     {
         let walk = self.guarded_walk(alloc, turns, from, to)?;
         Ok(lesser(found, walk))

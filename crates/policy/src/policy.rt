@@ -65,6 +65,18 @@ impl Policy {
         ensures err { OnErr result (self.new ≡ self.old) }
         ensures memory { IfErr result (λ refusal. refusal ≡ out_of_memory) }
     {
+        Ok(self.insert(edge)?)
+    }
+
+    // As `add`, where want of memory is an error of its own.
+    fn insert(&mut self, edge: Edge) -> Result<(), AllocError>
+        ensures rising { IsRising self.new }
+        ensures added { OnOk result ((from : ℕ) (kind : Kind) (to : ℕ) →
+            allows self.new from kind to ≡ (is_edge from kind to edge || allows self.old from kind to)) }
+        ensures pushed { OnOk result (IsAboveLast self.old edge → self.new ≡ self.old ++ edge ∷ []) }
+        ensures present { allows self.old edge.from edge.kind edge.to ≡ true → IsOk result }
+        ensures err { OnErr result (self.new ≡ self.old) }
+    {
         joins_labels(&edge);
         if !self.contains(&edge) {
             set(&mut self.rows, &edge)?;
@@ -78,14 +90,13 @@ impl Policy {
     ///
     /// # Errors
     ///
-    /// 40 if memory is refused. Some of the edges may then be added.
-    pub fn extend(&mut self, edges: &[Edge]) -> Result<(), Refusal>
-        ensures added { OnOk result ((from : ℕ) (kind : Kind) (to : ℕ) →
+    /// [`AllocError`] where memory is refused. Some of the edges may then be added.
+    pub fn extend(&mut self, edges: &[Edge]) -> Result<(), AllocError>
+        ensures { OnOk result ((from : ℕ) (kind : Kind) (to : ℕ) →
             allows self.new from kind to ≡ (allows edges.now from kind to || allows self.old from kind to)) }
-        ensures memory { IfErr result (λ refusal. refusal ≡ out_of_memory) }
     {
         for edge in edges {
-            self.add(*edge)?;
+            self.insert(*edge)?;
         }
         Ok(())
     }
@@ -94,15 +105,14 @@ impl Policy {
     ///
     /// # Errors
     ///
-    /// 40 if memory is refused. Some of the edges may then be added.
-    pub fn add_row(&mut self, from: Label, kind: Kind, to: Labels) -> Result<(), Refusal>
-        ensures joins { OnOk result (Joins self.old self.new from kind to) }
-        ensures memory { IfErr result (λ refusal. refusal ≡ out_of_memory) }
+    /// [`AllocError`] where memory is refused. Some of the edges may then be added.
+    pub fn add_row(&mut self, from: Label, kind: Kind, to: Labels) -> Result<(), AllocError>
+        ensures { OnOk result (Joins self.old self.new from kind to) }
     {
         for number in 0..Label::COUNT {
             if let Some(label) = Label::new(number) {
                 if to.has(label) {
-                    self.add(Edge {
+                    self.insert(Edge {
                         from,
                         kind,
                         to: label,
@@ -143,10 +153,9 @@ impl Policy {
     ///
     /// # Errors
     ///
-    /// 40 if memory is refused.
-    pub fn edges(&self, alloc: Global) -> Result<Vec<Edge>, Refusal>
-        ensures all { IfOk result (λ edges. edges.items ≡ self.now) }
-        ensures memory { IfErr result (λ refusal. refusal ≡ out_of_memory) }
+    /// [`AllocError`] where memory is refused.
+    pub fn edges(&self, alloc: Global) -> Result<Vec<Edge>, AllocError>
+        ensures { IfOk result (λ edges. edges.items ≡ self.now) }
     {
         self.edges_rise();
         let labels = usize::from(self.span());

@@ -13,7 +13,7 @@ use base::{Label, Labels, Refusal};
 use labels::authority;
 use policy::{Policy, Why};
 use sharp::{close_sharply, keepers};
-use std::alloc::Global;
+use std::alloc::{AllocError, Global};
 use std::marker::Model;
 use table::Table;
 
@@ -87,11 +87,18 @@ impl<'a> Reach<'a> {
     /// Returns the policy, which has each edge of authority of every state of a run.
     pub fn policy(&self) -> &Policy
         ensures policy { result.now ≡ self.now.policy }
+    {
+        &self.policy
+    }
+
+    /// A law about every reach, with nothing to run: each run from the table's boot state keeps to its policy.
+    pub fn bounds_runs(&self)
         ensures reach { IsTableReach self.now }
         ensures safe { IsSafe self.now.table (allows self.now.policy) }
     {
         runs_stay_in_reach();
-        &self.policy
+        // What the type keeps is known once a field is read.
+        let _ = &self.policy;
     }
 
     /// Returns the labels that may keep capabilities for CNodes.
@@ -129,6 +136,7 @@ impl<'a> Reach<'a> {
         ensures kept { (l : ℕ) → is_in result l ≡ false → OnlyTakes self.now.table actor l }
     {
         runs_keep_labels_apart();
+        self.bounds_runs();
         self.policy().change_labels(self.actors(), actor)
     }
 
@@ -142,6 +150,7 @@ impl<'a> Reach<'a> {
             → NeverChanges self.now.table actor l }
     {
         runs_keep_labels_apart();
+        self.bounds_runs();
         self.policy().shrink_labels(self.actors(), actor)
     }
 
@@ -162,14 +171,9 @@ impl<'a> Reach<'a> {
     }
 
     /// Returns what threads of the label `actor` may do to objects of the label `object`, and why.
-    ///
-    /// # Errors
-    ///
-    /// 40 if memory is refused.
-    pub fn why(&self, alloc: Global, actor: Label, object: Label) -> Result<Why, Refusal>
-        ensures why { IfOk result
+    pub fn why(&self, alloc: Global, actor: Label, object: Label) -> Result<Why, AllocError>
+        ensures { IfOk result
             (λ why. IsWhyAmong (allows self.now.policy) (is_in self.now.actors) actor object why) }
-        ensures memory { IfErr result (λ refusal. refusal ≡ out_of_memory) }
     {
         self.policy().why_among(alloc, self.actors(), actor, object)
     }
@@ -183,5 +187,6 @@ fn least_policy(alloc: Global, table: &Table, held: Labels) -> Result<Policy, Re
     ensures memory { IfErr result (λ refusal. refusal ≡ out_of_memory) }
 {
     let edges = authority(alloc, table)?;
-    close_sharply(alloc, &Policy::new(alloc), &edges, held)
+    let policy = close_sharply(alloc, &Policy::new(alloc), &edges, held)?;
+    Ok(policy)
 }

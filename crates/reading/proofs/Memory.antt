@@ -1,20 +1,15 @@
 -- Labels of frames have memory in the table: a frame is an initial one, or was made of initial untyped memory of its label.
-use Rattle.std.{specs.List.{find, slice_get}, proofs.Common.{ℕ, ◌&&◌, ◌==◌, ◌∙◌, ◌≡◌, Bool, None, Option, Some, ap, false}}
-use Rattle.std.proofs.Common.{if◌then◌else◌, length, nat_lt, option_and_then, option_map, refl, sym, true}
-use Rattle.std.proofs.lemmas.{Bool.eq-eqb, List.Folds.list_any_at, Option.{get_or_from_slice_get, none-some, same_Some, slice_get_within}}
-use Rattle.base.specs.declared.ids.ObjId.{ObjId}
-use Rattle.base.specs.declared.kind.Kind.TheVariants as authority
+use Rattle.std.{specs.List.{find, slice_get}, proofs.Common.{ℕ, ◌&&◌, ◌==◌, ◌∙◌, ◌≡◌, Bool, None, Option, Some, ap, false, if◌then◌else◌}}
+use Rattle.std.proofs.{Common.{length, nat_lt, option_and_then, option_map, refl, sym, true}, lemmas.{Bool.eq-eqb, List.Folds.list_any_at}}
+use Rattle.{std.proofs.lemmas.Option.{get_or_from_slice_get, none-some, same_Some, slice_get_within}, base.specs.declared.ids.ObjId.ObjId}
 use Rattle.machine.specs.declared.{call.Call.{Call, Call as call}, layout.Initial.Initial, object.Object.{Object, Object as o}}
+use Rattle.machine.specs.{Authority.{has_memory_at, label_at, label_of}, Capabilities.kind_of_detail, Layout.{Layout, declared_label}}
+use Rattle.machine.specs.{Layout.initial_of, Machine.{Machine, object_of}, Objects.{address_of, kind_of_object}, WellFormed.kind_of}
+use Rattle.{steps.proofs.Finding.{as_kind, finds, found_kind}, table.proofs.Lookups.found_at, policy.specs.Domain.EdgeTest}
+use Rattle.integrity.{specs.{Invariant.IsSound, OfTable.IsOfTable, Safe.IsReached}, proofs.ObjectLabels.kind_there}
+use Rattle.{summary.specs.Labelled.{has_memory, is_memory}, reading.specs.Reading.{IsUsed, Use, use_of}}
+use Rattle.base.specs.declared.kind.Kind.TheVariants as authority
 use Rattle.machine.specs.declared.object.ObjectKind.TheVariants as kind
-use Rattle.machine.specs.{Authority.{has_memory_at, label_at, label_of}, Capabilities.kind_of_detail, Layout.{Layout, declared_label, initial_of}}
-use Rattle.machine.specs.{Machine.{Machine, object_of}, Objects.{address_of, kind_of_object}, WellFormed.kind_of}
-use Rattle.steps.proofs.Finding.{as_kind, finds, found_kind}
-use Rattle.table.proofs.Lookups.{found_at}
-use Rattle.policy.specs.Domain.{EdgeTest}
-use Rattle.integrity.specs.{Invariant.IsSound, OfTable.IsOfTable, Safe.IsReached}
-use Rattle.integrity.proofs.ObjectLabels.{kind_there}
-use Rattle.summary.specs.Labelled.{has_memory, is_memory}
-use Rattle.reading.specs.Reading.{IsUsed, Use, use_of}
 
 -- frames and untyped memory are memory
 

@@ -4,9 +4,8 @@
 use Rattle.std.specs.Prelude.{ℕ, ◌≡◌, ◌≢◌, None, Ok, Option, Some}
 use Rattle.base.specs.declared.{ids.{ObjId.ObjId, SlotRef.SlotRef}, kind.Kind.{Kind, Kind as authority}}
 use Rattle.machine.specs.declared.{call.{Call.{Call, Call as call}, Event.Event, Outcome.Outcome}, cap.Cap.Cap}
-use Rattle.machine.specs.declared.object.ObjectKind.{ObjectKind, ObjectKind as kind}
-use Rattle.machine.specs.{Authority.label_of, Layout.Layout, Machine.Machine, Outcomes.IsRefused, Step.{Find.find, Step}}
-use Rattle.integrity.specs.Safe.{IsReached}
+use Rattle.machine.specs.{declared.object.ObjectKind.{ObjectKind, ObjectKind as kind}, Authority.label_of, Layout.Layout}
+use Rattle.{machine.specs.{Machine.Machine, Outcomes.IsRefused, Step.{Find.find, Step}}, integrity.specs.Safe.IsReached}
 
 -- the authority by which a call reads or writes, the kind of the object, and the address at which it finds its capability
 pub record Use : Type 0 where

@@ -1,12 +1,8 @@
 //! Laws on reading.
 ghost use Rattle.std.specs.Prelude.{ℕ, ◌≡◌, List, false};
-ghost use Rattle.base.specs.declared.{edge.Edge.Edge, kind.Kind.Kind};
-ghost use Rattle.machine.specs.Layout.{Layout};
-ghost use Rattle.policy.specs.{Domain.EdgeTest, Policy.allows};
-ghost use Rattle.table.specs.Rules.{IsLawful};
-ghost use Rattle.integrity.specs.{Confined.IsConfined, Keeping.IsSharp};
-ghost use Rattle.reach.specs.Reach.{HasBootAuthority, IsReach};
-ghost use Rattle.summary.specs.Sharing.{SharesMemory, reads_of};
+ghost use Rattle.{base.specs.declared.{edge.Edge.Edge, kind.Kind.Kind}, machine.specs.Layout.Layout, table.specs.Rules.IsLawful};
+ghost use Rattle.{policy.specs.{Domain.EdgeTest, Policy.allows}, integrity.specs.{Confined.IsConfined, Keeping.IsSharp}};
+ghost use Rattle.{reach.specs.Reach.{HasBootAuthority, IsReach}, summary.specs.Sharing.{SharesMemory, reads_of}};
 ghost use Rattle.reading.specs.Reading.{NeverPassesMemory, NeverReads, NeverUses};
 
 use table::boot_states_are_well_formed;

@@ -6,6 +6,7 @@ use crate::memory::{
 };
 use base::Edge;
 use policy::Policy;
+use std::alloc::AllocError;
 
 /// Asserts that a policy has these of the system's edges, and that the last of them is its last.
 ///
@@ -72,7 +73,7 @@ pub fn adds_edges<R: AllocGlobal>(rt: &R, count: u64) -> Result<(), Stopped> {
 
 fn lists_the_edges<R: AllocGlobal>(rt: &R, policy: &Policy) -> Result<(), Stopped> {
     let expected = edges()?;
-    match met(NO_MEMORY, policy.edges(rt.alloc()))? {
+    match met(AllocError, policy.edges(rt.alloc()))? {
         Some(made) => are_made(made, &expected),
         None => are_made_again(policy.edges(rt.alloc()), &expected),
     }
@@ -103,7 +104,7 @@ pub fn lists_edges<R: AllocGlobal>(rt: &R, count: u64) -> Result<(), Stopped> {
 /// Closes a policy without an edge, with all edges of the system.
 fn closes_the<R: AllocGlobal>(rt: &R, empty: &Policy) -> Result<(), Stopped> {
     let edges = edges()?;
-    match met(NO_MEMORY, policy::close(rt.alloc(), empty, &edges))? {
+    match met(AllocError, policy::close(rt.alloc(), empty, &edges))? {
         Some(made) => passes(made, has_all_edges),
         None => passes_again(policy::close(rt.alloc(), empty, &edges), has_all_edges),
     }

@@ -1,7 +1,6 @@
 -- The cascade of a removal: how far it has come, and what it has reached when no more objects are going.
-use Rattle.std.{specs.Prelude.{None, Some, slice_get}, proofs.Common.{ℕ, ◌+◌, ◌∙◌, ◌≡◌, Bool, add-one, ap, arith, true}}
-use Rattle.{std.proofs.lemmas.Option.slice_get_past, base.specs.declared.ids.{ObjId.ObjId, SlotRef.SlotRef}}
-use Rattle.machine.specs.{Counts.objects_in, Machine.{Machine, cap_of}}
+use Rattle.std.proofs.{Common.{ℕ, ◌+◌, ◌∙◌, ◌≡◌, Bool, None, Some, add-one, ap, arith, slice_get, true}, lemmas.Option.slice_get_past}
+use Rattle.{base.specs.declared.ids.{ObjId.ObjId, SlotRef.SlotRef}, machine.specs.{Counts.objects_in, Machine.{Machine, cap_of}}}
 use Rattle.removal.specs.UnderWay.{AreEmptied, AreGoing, IsUnderWay, emptied, emptied_below, slots_at}
 use Rattle.removal.proofs.{Ending.ended, Fitting.no_more_than_objects, Turns.{empty_below, rest_below, turned}}
 

@@ -1,15 +1,10 @@
 -- That the least policy over the labels of a table joins only these labels, by each set of rules.
-use Rattle.std.{specs.List.AllByRecursion, proofs.Common.{[], ℕ, ◌++◌, ◌<◌, ◌||◌, ◌∙◌, ◌∷◌, ◌≡◌, Bool, List, arith}}
-use Rattle.std.proofs.{Common.{false, inl, inr, length, refl, sym, true}, lemmas.Bool.or_cases}
-use Rattle.base.specs.declared.{edge.Edge.Edge, kind.Kind.Kind}
-use Rattle.machine.specs.Layout.{Layout}
-use Rattle.policy.{specs.Policy.allows, proofs.{RowEdges.{of_parts, same_parts}, Sharpness.closed_sharply}}
-use Rattle.integrity.specs.Keeping.{MayKeep}
-use Rattle.verdict.specs.declared.rules.Rules.{Rules, Rules as rules}
-use Rattle.captext.specs.PolicyText.{IsEdgeOf}
-use Rattle.labels.proofs.EdgeLists.{allows-append}
-use Rattle.reach.proofs.Among.{all_closed, among, joined, joins}
-use Rattle.report.specs.Closings.{IsLeastBy, Obeys}
+use Rattle.std.{specs.List.AllByRecursion, proofs.Common.{[], ℕ, ◌++◌, ◌<◌, ◌||◌, ◌∙◌, ◌∷◌, ◌≡◌, Bool, List, arith, false, inl, inr}}
+use Rattle.{std.proofs.{Common.{length, refl, sym, true}, lemmas.Bool.or_cases}, base.specs.declared.{edge.Edge.Edge, kind.Kind.Kind}}
+use Rattle.{machine.specs.Layout.Layout, policy.{specs.Policy.allows, proofs.{RowEdges.{of_parts, same_parts}, Sharpness.closed_sharply}}}
+use Rattle.{labels.proofs.EdgeLists.allows-append, integrity.specs.Keeping.MayKeep}
+use Rattle.{reach.proofs.Among.{all_closed, among, joined, joins}, verdict.specs.declared.rules.Rules.{Rules, Rules as rules}}
+use Rattle.{captext.specs.PolicyText.IsEdgeOf, report.specs.Closings.{IsLeastBy, Obeys}}
 
 -- the policy with every edge between labels below a number obeys each set of rules
 all_obeyed : (n : ℕ) (set : Rules) (t : Layout) → Obeys set t (among n)

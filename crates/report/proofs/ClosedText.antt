@@ -1,18 +1,15 @@
 -- The text of the least policy over a table by a set of rules: what it says, and that it is read back.
-use Rattle.std.{specs.{List.AllByRecursion, Prelude.{Err, IfOk, Ok, Result}}, proofs.Common.{[], ℕ, ◌++◌, ◌<◌, ◌↔◌, ◌∙◌, ◌∷◌, ◌≡◌, List}}
-use Rattle.std.proofs.{Common.{ap, inl, inr, length, refl, subst, sym}, lemmas.Bool.or_cases}
-use Rattle.base.specs.declared.{edge.Edge.Edge, kind.Kind.Kind}
+use Rattle.std.{specs.List.AllByRecursion, proofs.Common.{[], ℕ, ◌++◌, ◌<◌, ◌↔◌, ◌∙◌, ◌∷◌, ◌≡◌, Err, IfOk, List, Ok, Result, ap, inl, inr}}
+use Rattle.{std.proofs.{Common.{length, refl, subst, sym}, lemmas.Bool.or_cases}, base.specs.declared.{edge.Edge.Edge, kind.Kind.Kind}}
 use Rattle.machine.specs.{Authority.HasAuthority, Boot.IsBoot, Layout.Layout, Machine.Machine}
 use Rattle.policy.specs.{Closing.IsWithin, Policy.{IsRising, allows}}
-use Rattle.labels.proofs.EdgeLists.{allows-append, allows_after, allows_before}
-use Rattle.integrity.specs.Confined.{IsConfined}
-use Rattle.verdict.specs.{ByRules.IsAcceptedBy, declared.rules.Rules.{Rules, Rules as rules}}
-use Rattle.captext.specs.{Policies.read_policy_of, PolicyText.{IsEdgeOf, edge_lines, policy_text}}
-use Rattle.reptext.proofs.OneText.{same_answer}
+use Rattle.{labels.proofs.EdgeLists.{allows-append, allows_after, allows_before}, integrity.specs.Confined.IsConfined}
+use Rattle.verdict.specs.{declared.rules.Rules.{Rules, Rules as rules}, ByRules.IsAcceptedBy}
+use Rattle.{captext.specs.{Policies.read_policy_of, PolicyText.{IsEdgeOf, edge_lines, policy_text}}, reptext.proofs.OneText.same_answer}
 use Rattle.commands.specs.{declared.{answer.Answer.Answer, choices.OnClose.OnClose as on_close}, Commands.{IsBare, IsPlain}}
 use Rattle.report.specs.Closings.{Closes, IsAuthorityOf, IsClosing, IsInEachPolicyFor, IsLeastBy, Obeys, missing_edges, missing_status}
-use Rattle.report.proofs.{ClosedLabels.{either_within, least_within, listed_within, within_listed}, Missing.none_if_within}
-use Rattle.report.proofs.Missing.{within_if_none}
+use Rattle.report.proofs.ClosedLabels.{either_within, least_within, listed_within, within_listed}
+use Rattle.report.proofs.Missing.{none_if_within, within_if_none}
 
 abbrev pub AcceptedAs : Rules → Layout → List Edge → Type 0
 AcceptedAs set t p = IsAcceptedBy set t (allows p) ↔ (Obeys set t (allows p) × ((m : Machine) → IsBoot t m → IsConfined t (allows p) m))

@@ -1,11 +1,8 @@
 -- The answer to a denied system.
 use Rattle.std.proofs.Common.{◌≤◌, List, arith}
-use Rattle.base.specs.declared.edge.Edge.{Edge}
-use Rattle.machine.specs.Layout.{Layout}
-use Rattle.policy.specs.Policy.{allows}
-use Rattle.verdict.specs.{ByRules.IsLeastBrokenBy, declared.{denial.Denial.Denial, rules.Rules.Rules}}
-use Rattle.commands.specs.{declared.answer.Answer.Answer, Commands.Denies}
-use Rattle.report.specs.Answers.{AnswersVerdict, denied}
+use Rattle.{base.specs.declared.edge.Edge.Edge, machine.specs.Layout.Layout, policy.specs.Policy.allows}
+use Rattle.verdict.specs.{declared.{denial.Denial.Denial, rules.Rules.Rules}, ByRules.IsLeastBrokenBy}
+use Rattle.{commands.specs.{declared.answer.Answer.Answer, Commands.Denies}, report.specs.Answers.{AnswersVerdict, denied}}
 
 pub denied_by :
     (set : Rules) (t : Layout) (edges : List Edge) {Tells : Answer → Type 0} {answer : Answer} (denial : Denial)

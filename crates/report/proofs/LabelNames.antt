@@ -1,7 +1,6 @@
 -- That the names of a table's labels are copied one after another.
-use Rattle.std.specs.Global.{Vec}
-use Rattle.std.proofs.{Common.{[], ℕ, ◌++◌, ◌+◌, ◌<◌, ◌∙◌, ◌∷◌, ◌≡◌, List, ap, get_or, length, sym, take}, lemmas.List.{map_push, take_more}}
-use Rattle.microkit.specs.LabelView.{bytes_of}
+use Rattle.std.{specs.Global.Vec, proofs.Common.{[], ℕ, ◌++◌, ◌+◌, ◌<◌, ◌∙◌, ◌∷◌, ◌≡◌, List, ap, get_or, length, sym, take}}
+use Rattle.{std.proofs.lemmas.List.{map_push, take_more}, microkit.specs.LabelView.bytes_of}
 
 pub name_more : (labels : List (List ℕ)) (names : List (Vec ℕ)) (name : Vec ℕ) (i : ℕ) → i < length labels
     → bytes_of names ≡ take i labels → name.items ≡ get_or labels i [] → bytes_of (names ++ name ∷ []) ≡ take (i + 1) labels

@@ -1,14 +1,11 @@
 -- The least policy by a set of rules: the policy that closing gives, also without given edges.
 use Rattle.std.proofs.Common.{[], ℕ, ◌↔◌, ◌≡◌, List, true}
 use Rattle.base.specs.{declared.{edge.Edge.Edge, labels.Labels.Labels}, Labels.is_in}
-use Rattle.machine.specs.Layout.{Layout}
+use Rattle.{machine.specs.Layout.Layout, table.proofs.BootState.{boot_state, boot_state_is}}
 use Rattle.policy.{specs.{Closing.IsLeastClosed, Policy.allows}, proofs.Sharpness.fewer_keepers}
-use Rattle.table.proofs.BootState.{boot_state, boot_state_is}
-use Rattle.integrity.specs.Keeping.{HoldsNode, MayKeep}
-use Rattle.sharp.specs.{Keeping.KeepsFrom, Least.IsLeastSharp}
+use Rattle.{sharp.specs.{Keeping.KeepsFrom, Least.IsLeastSharp}, integrity.specs.Keeping.{HoldsNode, MayKeep}}
 use Rattle.reach.{specs.Reach.IsReach, proofs.LeastReach.{from_may, may_from}}
-use Rattle.verdict.specs.declared.rules.Rules.{Rules as rules}
-use Rattle.report.specs.Closings.{IsClosing, IsLeastBy}
+use Rattle.{verdict.specs.declared.rules.Rules.Rules as rules, report.specs.Closings.{IsClosing, IsLeastBy}}
 
 pub least_closed : (t : Layout) (edges policy : List Edge) → IsLeastClosed edges policy → IsLeastBy rules.Closed t edges policy
 least_closed t edges policy is = record { obeys = is.closed; has = is.has; least = is.least }

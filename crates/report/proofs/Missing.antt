@@ -1,7 +1,6 @@
 -- The edges of a policy that another lacks: there are none exactly if the policy is within the other.
 use Rattle.std.{specs.Prelude.filter, proofs.Common.{[], ℕ, ◌∙◌, ◌∷◌, ◌≡◌, Bool, List, ap, false, if◌then◌else◌, inl, inr, not, refl, sym}}
-use Rattle.std.proofs.{Common.true, lemmas.Bool.or_cases}
-use Rattle.base.specs.declared.{edge.Edge.Edge, kind.Kind.Kind}
+use Rattle.{std.proofs.{Common.true, lemmas.Bool.or_cases}, base.specs.declared.{edge.Edge.Edge, kind.Kind.Kind}}
 use Rattle.policy.{specs.{Closing.IsWithin, Domain.EdgeTest, Policy.allows}, proofs.{KindNumbers.same_kind, RowEdges.same_parts}}
 use Rattle.report.proofs.ClosedLabels.{first_allowed, later_allowed}
 

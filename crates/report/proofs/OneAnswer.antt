@@ -1,10 +1,8 @@
 -- That the bytes of files have one answer, if what the files hold has one.
 use Rattle.std.proofs.Common.{ℕ, ◌∙◌, ◌≡◌, Err, List, None, Ok, Option, Result, Some, sym}
-use Rattle.base.specs.declared.edge.Edge.{Edge}
-use Rattle.machine.specs.Layout.{Layout}
-use Rattle.words.specs.declared.faults.Fault.{Fault}
+use Rattle.{base.specs.declared.edge.Edge.Edge, words.specs.declared.faults.Fault.Fault}
+use Rattle.{forms.specs.declared.file.File.{File, File as file}, machine.specs.Layout.Layout}
 use Rattle.captext.specs.{Policies.read_policy_of, Tables.read_table_of}
-use Rattle.forms.specs.declared.file.File.{File, File as file}
 use Rattle.commands.specs.declared.{answer.Answer.Answer, load.{Three.Three, With.With}}
 use Rattle.commands.specs.{Files.{Contents, and_then, as_table, faulty, held_by, misused, pair_contents, unknown, whole}, Given.layout_of}
 use Rattle.report.specs.OneAnswer.{IsAnsweredOnce, ThreeHaveOneAnswer, TwoHaveOneAnswer}

@@ -1,20 +1,14 @@
 -- That a script has one log if no call is refused memory, and that a log has one report of its replay.
 use Rattle.std.{specs.List.zip, proofs.Common.{[], ℕ, ◌+◌, ◌∙◌, ◌∷◌, ◌≡◌, ◌⊎◌, All, List, Some, ap, inl, inr, length, refl, subst, sym}}
-use Rattle.std.proofs.lemmas.List.Elements.{All-head, All-tail}
-use Rattle.base.specs.declared.edge.Edge.{Edge}
+use Rattle.{std.proofs.lemmas.List.Elements.{All-head, All-tail}, base.specs.declared.edge.Edge.Edge}
 use Rattle.machine.specs.{declared.call.{Event.Event, Outcome.Outcome}, Boot.IsBoot, Layout.Layout, Machine.Machine, Run.Run}
-use Rattle.machine.specs.{Step.LacksMemory, WellFormed.kind_of}
-use Rattle.steps.proofs.Steps.{steps_agree}
-use Rattle.policy.specs.{Places.{ComesBefore, IsLeast}, Policy.allows}
-use Rattle.table.proofs.BootState.{boot_one}
-use Rattle.evtext.specs.Log.{log_text}
+use Rattle.{machine.specs.{Step.LacksMemory, WellFormed.kind_of}, steps.proofs.Steps.steps_agree, table.proofs.BootState.boot_one}
 use Rattle.kernel.{specs.Legal.{Entry, IsLack, Leads, StopsAt}, proofs.LegalLemmas.{no_run, one_next, one_stop}}
-use Rattle.integrity.specs.Confined.{IsConfined}
-use Rattle.verdict.specs.declared.{denial.Denial.Denial, rules.Rules.Rules}
-use Rattle.verdict.specs.{Rules.{Exceeds, Excess, excess_place}, Sources.of_machine, Verdict.excess_of}
-use Rattle.verdict.specs.Verdict.{place_of, rule_name}
+use Rattle.{policy.specs.{Places.{ComesBefore, IsLeast}, Policy.allows}, integrity.specs.Confined.IsConfined}
+use Rattle.verdict.specs.{declared.{denial.Denial.Denial, rules.Rules.Rules}, Rules.{Exceeds, Excess, excess_place}}
+use Rattle.verdict.specs.{Sources.of_machine, Verdict.{excess_of, place_of, rule_name}}
 use Rattle.verdict.proofs.{DenialPlaces.numbered, OneVerdict.{one_least, same_outside}, Outsides.within_confined}
-use Rattle.reptext.specs.{Places.place_names_by, Reports.{illegal_data, line_of, outside_data}}
+use Rattle.{evtext.specs.Log.log_text, reptext.specs.{Places.place_names_by, Reports.{illegal_data, line_of, outside_data}}}
 use Rattle.report.specs.{OneAnswer.{IsLogInMemory, RunsInMemory}, Replays.{IsFirstOutside, IsReplayedTo, Replays, illegal, outside, within}}
 use Rattle.report.proofs.{OneAnswer.{IsOne, JudgesOnce}, OneReport.verdict_once}
 

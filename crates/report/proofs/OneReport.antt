@@ -1,19 +1,13 @@
 -- That a verdict has one text and one status, as the answer to `check` and to `verify`.
-use Rattle.std.{specs.Prelude.slice_get, proofs.Common.{ℕ, ◌+◌, ◌∙◌, ◌≡◌, List, ap, inl, inr, sym}}
-use Rattle.std.proofs.lemmas.Bool.{cases_order}
-use Rattle.base.specs.declared.edge.Edge.{Edge}
-use Rattle.machine.specs.Layout.{Layout}
-use Rattle.policy.specs.Policy.{allows}
-use Rattle.verdict.specs.{ByRules.{IsAcceptedBy, IsLeastBrokenBy}, Verdict.rule_name}
+use Rattle.std.{specs.Prelude.slice_get, proofs.{Common.{ℕ, ◌+◌, ◌∙◌, ◌≡◌, List, ap, inl, inr, sym}, lemmas.Bool.cases_order}}
+use Rattle.{base.specs.declared.edge.Edge.Edge, machine.specs.Layout.Layout, policy.specs.Policy.allows}
 use Rattle.verdict.specs.declared.{denial.Denial.{Denial, Denial as denial}, rules.Rules.Rules}
-use Rattle.verdict.proofs.OneVerdict.{one_denial}
-use Rattle.certificate.specs.{declared.line.Line.Line, Right.right_certificate}
-use Rattle.checker.specs.Verified.{DiffersFirst, IsDeniedBy}
+use Rattle.verdict.{specs.{ByRules.{IsAcceptedBy, IsLeastBrokenBy}, Verdict.rule_name}, proofs.OneVerdict.one_denial}
+use Rattle.{certificate.specs.{declared.line.Line.Line, Right.right_certificate}, checker.specs.Verified.{DiffersFirst, IsDeniedBy}}
 use Rattle.reptext.{specs.{Places.place_names, Reports.{accept_data, denial_report, line_of}}, proofs.OneText.report_once}
-use Rattle.commands.specs.declared.{answer.Answer.Answer, choices.OnAccept.{OnAccept, OnAccept as on_accept}}
-use Rattle.commands.specs.Commands.{IsPlain, Says}
-use Rattle.report.specs.Answers.{Answers, AnswersVerdict, Checks}
-use Rattle.report.{specs.Answers.{TellsCheck, Verifies, accepted, denied}, proofs.OneAnswer.{IsOne, JudgesOnce, JudgesTwoOnce}}
+use Rattle.commands.specs.{declared.{answer.Answer.Answer, choices.OnAccept.{OnAccept, OnAccept as on_accept}}, Commands.{IsPlain, Says}}
+use Rattle.report.specs.Answers.{Answers, AnswersVerdict, Checks, TellsCheck, Verifies, accepted, denied}
+use Rattle.report.proofs.OneAnswer.{IsOne, JudgesOnce, JudgesTwoOnce}
 
 -- an acceptance with one text, and denials of which there is at most one, and none beside an acceptance
 module _

@@ -1,20 +1,16 @@
 -- The answers of `check`, `verify` and `run` to a table, a policy and a third file (confine's own).
-use Rattle.std.specs.{List.zip, Prelude.{ℕ, ◌≡◌, List, None, Some, Vec}, declared.alloc.Global.Global}
+use Rattle.std.specs.{declared.alloc.Global.Global, List.zip, Prelude.{ℕ, ◌≡◌, List, None, Some, Vec}}
 use Rattle.base.specs.declared.edge.Edge.{Edge}
 use Rattle.machine.specs.{declared.call.{Event.Event, Outcome.Outcome}, Boot.IsBoot, Layout.Layout, Machine.Machine, Run.Run}
-use Rattle.policy.specs.Policy.{allows}
-use Rattle.captext.specs.Policies.{read_policy_of}
-use Rattle.evtext.specs.{Log.log_text, Script.read_script_of}
-use Rattle.kernel.specs.Legal.{Entry}
-use Rattle.verdict.specs.ByRules.{IsAcceptedBy, IsLeastBrokenBy}
-use Rattle.verdict.specs.declared.{denial.Denial.Denial, rules.Rules.{Rules, Rules as rules}}
-use Rattle.cores.specs.SplitRun.{IsSplitRun}
+use Rattle.{kernel.specs.Legal.Entry, policy.specs.Policy.allows}
+use Rattle.verdict.specs.{declared.{denial.Denial.Denial, rules.Rules.{Rules, Rules as rules}}, ByRules.{IsAcceptedBy, IsLeastBrokenBy}}
+use Rattle.{cores.specs.SplitRun.IsSplitRun, captext.specs.Policies.read_policy_of, evtext.specs.{Log.log_text, Script.read_script_of}}
 use Rattle.certificate.specs.{declared.line.Line.Line, Certificate.certificate_text, Reading.read_certificate_of, Right.right_certificate}
-use Rattle.checker.specs.Verified.{IsDeniedBy}
-use Rattle.reptext.specs.Reports.{IsCheckReport, accept_data, line_of}
+use Rattle.{checker.specs.Verified.IsDeniedBy, reptext.specs.Reports.{IsCheckReport, accept_data, line_of}}
+use Rattle.commands.specs.declared.answer.{Answer.Answer, Made.Made as made}
+use Rattle.commands.specs.declared.{choices.{OnAccept.{OnAccept, OnAccept as on_accept}, Taken.Taken as taken}, end.End.End}
+use Rattle.commands.specs.Commands.{Denies, Input, IsDoneOnThree, IsDoneWith, IsPlain, Output, Says}
 use Rattle.forms.specs.declared.file.File.TheVariants as file
-use Rattle.commands.specs.declared.{answer.{Answer.Answer, Made.Made as made}, choices.{OnAccept.{OnAccept, OnAccept as on_accept}, Taken.Taken as taken}}
-use Rattle.commands.specs.{declared.end.End.End, Commands.{Denies, Input, IsDoneOnThree, IsDoneWith, IsPlain, Output, Says}}
 
 -- the answer to a verdict: it says that a table and a policy are accepted, or with status 1 why they are denied
 pub data Answers (t : Layout) (Accepted : Type 0) (Denied : Denial → Type 0) (Tells : Answer → Type 0) (answer : Answer) : Type 0 where

@@ -1,17 +1,14 @@
 -- The answers to claims on a table, and the strongest claims that hold (confine's own; claims are kept by the integrity of 'seL4 Enforces
 -- Integrity', section 4, restated).
-use Rattle.std.specs.{List.{Contains, filter}, Prelude.{[], ℕ, ◌∷◌, ◌≡◌, List, None, Option, Some, Vec, is_some, length}}
-use Rattle.std.specs.declared.alloc.Global.{Global}
-use Rattle.forms.specs.declared.file.File.{File as file}
-use Rattle.machine.specs.Layout.{Layout}
-use Rattle.reach.specs.{Extents.{Limits, limits_of}, Reach.{IsReachOf, TableReach}}
-use Rattle.fixed.specs.Fixed.{IsFixed}
+use Rattle.std.specs.{declared.alloc.Global.Global, List.{Contains, filter}, Prelude.{[], ℕ, ◌∷◌, ◌≡◌, List, None, Option, Some}}
+use Rattle.{std.specs.Prelude.{Vec, is_some, length}, forms.specs.declared.file.File.File as file, machine.specs.Layout.Layout}
+use Rattle.{fixed.specs.Fixed.IsFixed, reach.specs.{Extents.{Limits, limits_of}, Reach.{IsReachOf, TableReach}}}
 use Rattle.claims.specs.{declared.{claim.Claim.Claim, deciding.Broken.Broken, keeping.Kept.Kept}, Holding.{AreBroken, Holds, IsKept}}
 use Rattle.claims.specs.{Learning.{IsKeptInCalls, IsKeptSo}, Reading.read_claims_of, Strongest.AreStrongest, Text.lines_text}
-use Rattle.claims.specs.declared.lines.TheConstants.ClaimLines as ClaimLines
 use Rattle.reptext.specs.{Breaches.breaches_data, Reports.{hold_data, line_of}}
 use Rattle.commands.specs.declared.{answer.Answer.Answer, choices.Taken.Taken, end.End.End, listener.Finding.{Finding, Finding as finding}}
 use Rattle.commands.specs.Commands.{Finds, Input, IsDoneWith, IsPlain, Output}
+use Rattle.claims.specs.declared.lines.TheConstants.ClaimLines as ClaimLines
 
 -- the number of claims in lines
 abbrev pub claim_count : List (Option Claim) → ℕ

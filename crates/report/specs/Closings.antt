@@ -4,9 +4,8 @@ use Rattle.std.specs.Prelude.{[], ℕ, ◌++◌, ◌↔◌, ◌∷◌, ◌≡◌
 use Rattle.base.specs.declared.{edge.Edge.Edge, kind.Kind.Kind}
 use Rattle.machine.specs.{Authority.HasAuthority, Boot.IsBoot, Layout.Layout, Machine.Machine}
 use Rattle.policy.specs.{Closed.IsClosed, Closing.IsWithin, Domain.EdgeTest, Policy.{IsRising, allows}}
-use Rattle.integrity.specs.Keeping.{IsSharp}
+use Rattle.{integrity.specs.Keeping.IsSharp, verdict.specs.{declared.rules.Rules.{Rules, Rules as rules}, ByRules.IsAcceptedBy}}
 use Rattle.captext.specs.{Policies.read_policy_of, PolicyText.{IsPolicyOf, edge_lines, policy_text}}
-use Rattle.verdict.specs.{ByRules.IsAcceptedBy, declared.rules.Rules.{Rules, Rules as rules}}
 use Rattle.commands.specs.{declared.{answer.Answer.Answer, choices.OnClose.{OnClose, OnClose as on_close}}, Commands.IsBare}
 
 -- these edges are the authority of the table's boot state

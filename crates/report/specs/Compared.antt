@@ -1,11 +1,9 @@
 -- The answer of `diff` to two tables (confine's own).
-use Rattle.std.specs.{List.list_any, Prelude.{ℕ, ◌≡◌, List, if◌then◌else◌}}
-use Rattle.machine.specs.Layout.{Layout}
-use Rattle.reach.specs.Reach.{IsReachOf, TableReach}
+use Rattle.std.specs.{List.list_any, Prelude.{ℕ, List, if◌then◌else◌}}
+use Rattle.{machine.specs.Layout.Layout, reach.specs.Reach.{IsReachOf, TableReach}}
 use Rattle.diff.specs.{declared.change.Change.Change, Changes.{AreChanges, adds}, Text.changes_text}
 use Rattle.reptext.specs.{Differences.changes_data, Reports.line_of}
-use Rattle.commands.specs.declared.{answer.Answer.Answer, choices.Form.{Form, Form as form}}
-use Rattle.commands.specs.Commands.{IsPlain}
+use Rattle.commands.specs.{declared.{answer.Answer.Answer, choices.Form.{Form, Form as form}}, Commands.IsPlain}
 
 -- the exit status: 1 if a change adds authority
 abbrev pub change_status : List Change → ℕ

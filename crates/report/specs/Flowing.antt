@@ -1,8 +1,6 @@
 -- The answers of `flows` to a table (confine's own).
 use Rattle.std.specs.Prelude.{ℕ, ◌≡◌, List, Some}
-use Rattle.machine.specs.Layout.{Layout}
-use Rattle.table.specs.Names.{label_named}
-use Rattle.reach.specs.Reach.{IsReachOf, TableReach}
+use Rattle.{machine.specs.Layout.Layout, table.specs.Names.label_named, reach.specs.Reach.{IsReachOf, TableReach}}
 use Rattle.flowtext.specs.{FlowMatrix.IsFlowMatrix, FlowText.IsFlowText}
 
 -- a text lists what flows from the label of one name to that of another, by the table's reach

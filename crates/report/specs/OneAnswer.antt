@@ -1,14 +1,10 @@
 -- That files have one answer, whenever and wherever a command reads them (confine's own).
 use Rattle.std.specs.{List.zip, Prelude.{ℕ, ◌≡◌, All, List, Result, Some}}
-use Rattle.base.specs.declared.edge.Edge.{Edge}
-use Rattle.machine.specs.{declared.call.Event.Event, Layout.Layout}
-use Rattle.words.specs.declared.faults.Fault.{Fault}
-use Rattle.captext.specs.Policies.{read_policy_of}
-use Rattle.kernel.specs.Legal.{IsLack}
-use Rattle.forms.specs.declared.file.File.{File, File as file}
-use Rattle.commands.specs.{declared.{answer.Answer.Answer, choices.Taken.Taken as taken, load.{Three.Three, With.With}}, Commands.IsAnswer}
-use Rattle.commands.specs.{Files.{Contents, three_contents, with_contents}, Given.layout_of}
-use Rattle.verdict.specs.declared.rules.Rules.{Rules}
+use Rattle.{base.specs.declared.edge.Edge.Edge, words.specs.declared.faults.Fault.Fault}
+use Rattle.{forms.specs.declared.file.File.{File, File as file}, machine.specs.{declared.call.Event.Event, Layout.Layout}}
+use Rattle.{kernel.specs.Legal.IsLack, verdict.specs.declared.rules.Rules.Rules, captext.specs.Policies.read_policy_of}
+use Rattle.commands.specs.declared.{answer.Answer.Answer, choices.Taken.Taken as taken, load.{Three.Three, With.With}}
+use Rattle.commands.specs.{Commands.IsAnswer, Files.{Contents, three_contents, with_contents}, Given.layout_of}
 use Rattle.report.specs.Answers.{AnswersVerdict, IsLogOfRun}
 
 -- two answers to the same files have the same text and status

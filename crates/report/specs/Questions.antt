@@ -1,16 +1,14 @@
 -- The answers on what a label may do to another, and the pictures of all labels (compare the integrity of 'seL4 Enforces Integrity',
 -- section 4; reasons and pictures are confine's own).
 use Rattle.std.specs.Prelude.{ℕ, ◌++◌, ◌<◌, ◌↔◌, ◌≡◌, List, None, Option, Some, codes, true}
-use Rattle.base.specs.declared.edge.Edge.{Edge}
-use Rattle.base.specs.declared.label.TheConstants.Label as Label
-use Rattle.machine.specs.Layout.{Layout}
-use Rattle.table.specs.Names.{label_named}
+use Rattle.{base.specs.declared.edge.Edge.Edge, machine.specs.Layout.Layout, table.specs.Names.label_named}
 use Rattle.policy.specs.{declared.why.Why.{Why, Why as why}, ActorReasons.IsWhyAmong, Policy.allows}
 use Rattle.reach.specs.{declared.extent.Extent.Extent, Extents.{GoesTo, KeepsTo, Limits, limits_of}, Reach.{IsReachOf, TableReach}}
-use Rattle.captext.specs.PolicyText.{edge_lines}
-use Rattle.diagram.specs.Folded.{IsFoldedDrawing}
+use Rattle.{captext.specs.PolicyText.edge_lines, diagram.specs.Folded.IsFoldedDrawing}
 use Rattle.reptext.specs.{Drawing.IsDrawing, Reasons.why_data, Reports.line_of}
-use Rattle.commands.specs.declared.{choices.{Form.{Form, Form as form}, Picture.{Picture, Picture as picture}}, end.Asked.{Asked, Asked as asked}}
+use Rattle.commands.specs.declared.choices.{Form.{Form, Form as form}, Picture.{Picture, Picture as picture}}
+use Rattle.commands.specs.declared.end.Asked.{Asked, Asked as asked}
+use Rattle.base.specs.declared.label.TheConstants.Label as Label
 
 -- the first of two labels that is absent
 abbrev pub first_absent : Option ℕ → Option ℕ → Option Asked

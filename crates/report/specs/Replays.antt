@@ -1,14 +1,10 @@
 -- The answers of `replay` to a table, a policy and a log (confine's own).
 use Rattle.std.specs.Prelude.{ℕ, ◌+◌, ◌≡◌, ◌⊎◌, List, None, Option, Some, length, slice_get, take}
-use Rattle.base.specs.declared.edge.Edge.{Edge}
-use Rattle.forms.specs.declared.file.File.{File as file}
+use Rattle.{base.specs.declared.edge.Edge.Edge, forms.specs.declared.file.File.File as file}
 use Rattle.machine.specs.{declared.call.Outcome.Outcome, Boot.IsBoot, Layout.Layout, Machine.Machine, Step.Step, WellFormed.kind_of}
-use Rattle.kernel.specs.Legal.{Entry, Leads, StopsAt}
-use Rattle.policy.specs.Policy.{allows}
-use Rattle.integrity.specs.Confined.{IsConfined}
+use Rattle.{kernel.specs.Legal.{Entry, Leads, StopsAt}, policy.specs.Policy.allows, integrity.specs.Confined.IsConfined}
 use Rattle.verdict.specs.{declared.denial.Denial.Denial, Rules.Excess, Verdict.{IsOutside, excess_of, rule_name}}
-use Rattle.evtext.specs.Log.{read_log_of}
-use Rattle.reptext.specs.{Places.place_names_by, Reports.{illegal_data, line_of, outside_data, within_data}}
+use Rattle.{evtext.specs.Log.read_log_of, reptext.specs.{Places.place_names_by, Reports.{illegal_data, line_of, outside_data, within_data}}}
 use Rattle.commands.specs.declared.{answer.Answer.Answer, end.End.End, listener.Finding.Finding as finding}
 use Rattle.commands.specs.Commands.{Finds, Input, IsDoneOnThree, IsPlain, Output}
 

@@ -1,12 +1,10 @@
 -- The answers of `show` to a table and two labels: a run that shows what the one may do to the other (compare the integrity of 'seL4
 -- Enforces Integrity', section 4; showing runs is confine's own).
-use Rattle.std.specs.{Prelude.{ℕ, ◌≡◌, ◌≤◌, List, None, Some, Vec, if◌then◌else◌}, declared.alloc.Global.Global}
-use Rattle.machine.specs.{declared.call.Event.Event, Layout.Layout}
-use Rattle.table.specs.Names.{label_named}
-use Rattle.reach.specs.{declared.extent.Extent.{Extent, Extent as extent}, Extents.{GoesTo, KeepsTo, limits_of}, Reach.{IsReachOf, TableReach}}
-use Rattle.runs.specs.{declared.question.Question.Question, Shown.Answers}
-use Rattle.evtext.specs.Script.{script_text}
-use Rattle.reptext.specs.Reports.{impossible_data, line_of, unfound_data}
+use Rattle.std.specs.{declared.alloc.Global.Global, Prelude.{ℕ, ◌≡◌, ◌≤◌, List, None, Some, Vec, if◌then◌else◌}}
+use Rattle.{machine.specs.{declared.call.Event.Event, Layout.Layout}, table.specs.Names.label_named}
+use Rattle.reach.specs.{declared.extent.Extent.{Extent, Extent as extent}, Extents.{GoesTo, KeepsTo, limits_of}}
+use Rattle.{reach.specs.Reach.{IsReachOf, TableReach}, runs.specs.{declared.question.Question.Question, Shown.Answers}}
+use Rattle.{evtext.specs.Script.script_text, reptext.specs.Reports.{impossible_data, line_of, unfound_data}}
 use Rattle.commands.specs.{declared.{answer.Answer.Answer, choices.Search.Search}, Commands.IsPlain}
 
 -- the question: that a thread of the one label takes from an object of the other, or changes it in another way

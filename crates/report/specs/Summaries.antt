@@ -1,11 +1,7 @@
 -- The answer of `summary` to a table (confine's own).
-use Rattle.std.specs.Prelude.{ℕ, List}
-use Rattle.machine.specs.Layout.{Layout}
-use Rattle.reach.specs.{Extents.limits_of, Reach.{IsReachOf, TableReach}}
-use Rattle.summary.specs.Whole.{IsSummary}
-use Rattle.reptext.specs.Summaries.{IsSummaryReport}
-use Rattle.commands.specs.declared.choices.Form.{Form, Form as form}
-use Rattle.report.specs.Questions.{AreKept}
+use Rattle.{std.specs.Prelude.{ℕ, List}, machine.specs.Layout.Layout, reach.specs.{Extents.limits_of, Reach.{IsReachOf, TableReach}}}
+use Rattle.{summary.specs.Whole.IsSummary, reptext.specs.Summaries.IsSummaryReport}
+use Rattle.{commands.specs.declared.choices.Form.{Form, Form as form}, report.specs.Questions.AreKept}
 
 abbrev pub IsSummaryIn : Form → TableReach → List ℕ → Type 0
 IsSummaryIn form.Text reach text = IsSummary reach text

@@ -1,17 +1,16 @@
 -- The answers to a system alone, and to a system and a policy, by what is asked (compare the integrity of 'seL4 Enforces Integrity',
 -- section 4; the questions are confine's own).
 use Rattle.std.specs.Prelude.{[], ℕ, ◌≡◌, List, None, Option}
-use Rattle.base.specs.declared.edge.Edge.{Edge}
-use Rattle.machine.specs.Layout.{Layout}
-use Rattle.captext.specs.{Drafts.read_draft_of, Policies.read_policy_of}
-use Rattle.reptext.specs.Objects.{objects_text}
-use Rattle.forms.specs.declared.file.File.TheVariants as file
-use Rattle.commands.specs.declared.{answer.Answer.Answer, choices.OfPolicy.{OfPolicy, OfPolicy as of_policy}, end.{Asked.Asked, End.End}}
-use Rattle.commands.specs.declared.choices.{OfSystem.{OfSystem, OfSystem as of_system}, Taken.Taken}
+use Rattle.{base.specs.declared.edge.Edge.Edge, machine.specs.Layout.Layout}
+use Rattle.{captext.specs.{Drafts.read_draft_of, Policies.read_policy_of}, reptext.specs.Objects.objects_text}
+use Rattle.commands.specs.declared.{answer.Answer.Answer, choices.OfPolicy.{OfPolicy, OfPolicy as of_policy}}
+use Rattle.commands.specs.declared.{choices.{OfSystem.{OfSystem, OfSystem as of_system}, Taken.Taken}, end.{Asked.Asked, End.End}}
 use Rattle.commands.specs.{Commands.{Input, IsDoneOnSystem, IsDoneWith, Output, Says, no_label}, Hearing.{Hearing, WithIsHeard}}
+use Rattle.report.specs.{Claimed.TellsStrongest, Closings.Closes, Flowing.{TellsAllFlows, TellsFlows}}
+use Rattle.report.specs.Questions.{IsPicture, IsSoByPolicy, IsSoByReach, TellsWhy, unlabelled}
+use Rattle.report.specs.{Shows.Shows, Summaries.TellsSummary, Using.{TellsUsers, unlabelled_object}}
+use Rattle.forms.specs.declared.file.File.TheVariants as file
 use Rattle.commands.specs.Hearing as held
-use Rattle.report.specs.{Claimed.TellsStrongest, Closings.Closes, Questions.{IsPicture, IsSoByPolicy, IsSoByReach, TellsWhy, unlabelled}}
-use Rattle.report.specs.{Flowing.{TellsAllFlows, TellsFlows}, Shows.Shows, Summaries.TellsSummary, Using.{TellsUsers, unlabelled_object}}
 
 -- the first label of the question that the table lacks
 abbrev pub lacking : OfSystem → Layout → Option Asked

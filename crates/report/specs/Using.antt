@@ -1,11 +1,8 @@
 -- The answer of `why` about all users of a label (confine's own).
 use Rattle.std.specs.Prelude.{ℕ, ◌≡◌, List, None, Option, Some}
-use Rattle.machine.specs.Layout.{Layout}
-use Rattle.table.specs.Names.{label_named}
-use Rattle.reach.specs.{Extents.limits_of, Reach.{IsReachOf, TableReach}}
-use Rattle.commands.specs.declared.{choices.Use.{Use, Use as usage}, end.Asked.{Asked, Asked as asked}}
+use Rattle.{machine.specs.Layout.Layout, table.specs.Names.label_named, reach.specs.{Extents.limits_of, Reach.{IsReachOf, TableReach}}}
 use Rattle.usertext.specs.UsersText.{IsChangersText, IsReadersText}
-use Rattle.report.specs.Questions.{AreKept}
+use Rattle.{commands.specs.declared.{choices.Use.{Use, Use as usage}, end.Asked.{Asked, Asked as asked}}, report.specs.Questions.AreKept}
 
 -- the name asked about, if it is no label
 abbrev pub absent_object : Option ℕ → Option Asked

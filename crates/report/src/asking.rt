@@ -1,13 +1,11 @@
 //! The answers to questions about a system alone, and about a system and a policy.
 ghost use Rattle.std.specs.Prelude.{◌++◌, ◌≡◌, IfErr, IfOk, None, false};
-ghost use Rattle.base.specs.Refusals.{out_of_memory};
-ghost use Rattle.captext.specs.PolicyText.{edge_lines};
+ghost use Rattle.{base.specs.Refusals.out_of_memory, reach.specs.Extents.limits_by, captext.specs.PolicyText.edge_lines};
 ghost use Rattle.commands.specs.Commands.{IsDoneWith, IsJudgedSo, Says, SystemIsJudged, WithIsJudged, input, output};
 ghost use Rattle.commands.specs.Hearing.{SystemIsHeard, WithIsHeard};
-ghost use Rattle.reach.specs.Extents.{limits_by};
+ghost use Rattle.report.specs.{Summaries.{IsSummaryIn, TellsSummary}, Systems.{AnswersPolicy, AnswersSystem}};
+ghost use Rattle.report.specs.Systems.{IsAsked, IsAskedOfPolicy, PolicyIsHeard, lacking, lacking_of_policy};
 ghost use Rattle.report.specs.Questions as questions;
-ghost use Rattle.report.specs.{Summaries.{IsSummaryIn, TellsSummary}, Systems.{AnswersPolicy, AnswersSystem, IsAsked, IsAskedOfPolicy, PolicyIsHeard}};
-ghost use Rattle.report.specs.Systems.{lacking, lacking_of_policy};
 
 use crate::claiming::strongest_text;
 use crate::closing::closed;
@@ -25,7 +23,7 @@ use diagram::write_programs;
 use policy::{Policy, Why};
 use reach::Reach;
 use reptext::{summary_report, why_report, write_drawing, write_objects};
-use std::alloc::Global;
+use std::alloc::{AllocError, Global};
 use table::Table;
 
 /// Answers a question about a system alone.
@@ -265,9 +263,8 @@ fn told(
     actor: Label,
     object: Label,
     why: &Why,
-) -> Result<Vec<u8>, Refusal>
-    ensures text { IfOk result (λ text. text.items ≡ questions.told_in form table.now actor object why.now) }
-    ensures memory { IfErr result (λ refusal. refusal ≡ out_of_memory) }
+) -> Result<Vec<u8>, AllocError>
+    ensures { IfOk result (λ text. text.items ≡ questions.told_in form table.now actor object why.now) }
 {
     match form {
         Form::Text => why_text(alloc, table, why),
@@ -276,9 +273,8 @@ fn told(
 }
 
 /// The lines on what a label may do.
-fn why_text(alloc: Global, table: &Table, why: &Why) -> Result<Vec<u8>, Refusal>
-    ensures text { IfOk result (λ text. text.items ≡ questions.why_text table.now why.now) }
-    ensures memory { IfErr result (λ refusal. refusal ≡ out_of_memory) }
+fn why_text(alloc: Global, table: &Table, why: &Why) -> Result<Vec<u8>, AllocError>
+    ensures { IfOk result (λ text. text.items ≡ questions.why_text table.now why.now) }
 {
     match why {
         Why::Full(edges) => headed(alloc, "full\n", table, edges),
@@ -288,9 +284,8 @@ fn why_text(alloc: Global, table: &Table, why: &Why) -> Result<Vec<u8>, Refusal>
 }
 
 /// A line, and the lines of edges.
-fn headed(alloc: Global, line: &str, table: &Table, edges: &[Edge]) -> Result<Vec<u8>, Refusal>
-    ensures text { IfOk result (λ text. text.items ≡ line.now ++ edge_lines table.now edges.now) }
-    ensures memory { IfErr result (λ refusal. refusal ≡ out_of_memory) }
+fn headed(alloc: Global, line: &str, table: &Table, edges: &[Edge]) -> Result<Vec<u8>, AllocError>
+    ensures { IfOk result (λ text. text.items ≡ line.now ++ edge_lines table.now edges.now) }
 {
     let mut text = Vec::new(alloc);
     text.extend_from_slice(line.as_bytes())?;
@@ -305,7 +300,8 @@ fn reach_picture(alloc: Global, picture: Picture, table: &Table) -> Result<Vec<u
     ensures memory { IfErr result (λ refusal. refusal ≡ out_of_memory) }
 {
     let reach = kept_reach(alloc, table)?;
-    picture_text(alloc, picture, table, reach.policy(), reach.actors())
+    let text = picture_text(alloc, picture, table, reach.policy(), reach.actors())?;
+    Ok(text)
 }
 
 /// The picture of who may change or take from whom as a policy allows it.
@@ -314,10 +310,9 @@ fn policy_picture(
     picture: Picture,
     table: &Table,
     policy: &Policy,
-) -> Result<Vec<u8>, Refusal>
-    ensures text { IfOk result
+) -> Result<Vec<u8>, AllocError>
+    ensures { IfOk result
         (λ text. questions.IsSoByPolicy policy.now (questions.IsPicture picture table.now text.items)) }
-    ensures memory { IfErr result (λ refusal. refusal ≡ out_of_memory) }
 {
     picture_text(alloc, picture, table, policy, Labels::all())
 }
@@ -329,9 +324,8 @@ fn picture_text(
     table: &Table,
     policy: &Policy,
     actors: Labels,
-) -> Result<Vec<u8>, Refusal>
-    ensures text { IfOk result (λ text. questions.IsPicture picture table.now text.items (limits_by policy.now actors)) }
-    ensures memory { IfErr result (λ refusal. refusal ≡ out_of_memory) }
+) -> Result<Vec<u8>, AllocError>
+    ensures { IfOk result (λ text. questions.IsPicture picture table.now text.items (limits_by policy.now actors)) }
 {
     match picture {
         Picture::Labels => write_drawing(alloc, table, policy, actors),
@@ -345,13 +339,13 @@ fn summary_text(alloc: Global, form: Form, table: &Table) -> Result<Vec<u8>, Ref
     ensures memory { IfErr result (λ refusal. refusal ≡ out_of_memory) }
 {
     let reach = kept_reach(alloc, table)?;
-    summary_in(alloc, form, &reach)
+    let text = summary_in(alloc, form, &reach)?;
+    Ok(text)
 }
 
 /// The summary of the reach of a table, in a form.
-fn summary_in(alloc: Global, form: Form, reach: &Reach<'_>) -> Result<Vec<u8>, Refusal>
-    ensures text { IfOk result (λ text. IsSummaryIn form reach.now text.items) }
-    ensures memory { IfErr result (λ refusal. refusal ≡ out_of_memory) }
+fn summary_in(alloc: Global, form: Form, reach: &Reach<'_>) -> Result<Vec<u8>, AllocError>
+    ensures { IfOk result (λ text. IsSummaryIn form reach.now text.items) }
 {
     match form {
         Form::Text => summary::summary(alloc, reach),

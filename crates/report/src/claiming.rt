@@ -1,8 +1,7 @@
 //! The command `claims`: whether claims hold, and the strongest claims that do.
 ghost use Rattle.std.specs.{List.filter, Prelude.{[], ◌≡◌, ◌≤◌, IfOk, None, false, is_some, length}};
-ghost use Rattle.claims.specs.Reading.{read_claims_of};
+ghost use Rattle.{claims.specs.Reading.read_claims_of, commands.specs.{Commands.{WithIsJudged, input, output}, Hearing.WithIsHeard}};
 ghost use Rattle.forms.specs.declared.file.File.TheVariants as file;
-ghost use Rattle.commands.specs.{Commands.{WithIsJudged, input, output}, Hearing.WithIsHeard};
 ghost use Rattle.commands.specs.Hearing as held;
 ghost use Rattle.report.specs.Claimed as claimed;
 
@@ -70,8 +69,7 @@ fn reach_answer(alloc: Global, reach: &Reach<'_>, lines: &ClaimLines) -> Result<
     ensures right { IfOk result (claimed.Judges reach.now.table lines.now) }
     ensures exit { IfOk result (λ answer. answer.status ≤ 2) }
 {
-    // The contract of `policy` says that this is the reach of its table.
-    reach.policy();
+    reach.bounds_runs();
     let broken = all_broken(alloc, reach, lines)?;
     let table = reach.table();
     let kept = kept_of(table);
@@ -102,5 +100,6 @@ pub(crate) fn strongest_text(alloc: Global, table: &Table) -> Result<Vec<u8>, Re
 {
     let reach = Reach::of(alloc, table)?;
     let lines = strongest(alloc, &reach)?;
-    claims::write(alloc, &lines, table)
+    let text = claims::write(alloc, &lines, table)?;
+    Ok(text)
 }

@@ -1,10 +1,8 @@
 //! The command `close`: the least policy to which a table keeps, and what a policy lacks of it.
 ghost use Rattle.std.specs.Prelude.{[], ◌++◌, ◌≡◌, ◌≤◌, IfOk, List};
-ghost use Rattle.base.specs.declared.edge.Edge.{Edge};
-ghost use Rattle.machine.specs.Layout.{Layout};
-ghost use Rattle.captext.specs.PolicyText.{edge_lines, policy_text};
-ghost use Rattle.reach.specs.Reach.{IsReach};
-ghost use Rattle.commands.specs.{declared.answer.Answer.{Answer as AnswerOf}, Commands.IsBare};
+ghost use Rattle.{base.specs.declared.edge.Edge.Edge, machine.specs.Layout.Layout};
+ghost use Rattle.{reach.specs.Reach.IsReach, captext.specs.PolicyText.{edge_lines, policy_text}};
+ghost use Rattle.commands.specs.{declared.answer.Answer.Answer as AnswerOf, Commands.IsBare};
 ghost use Rattle.report.specs.Closings as closings;
 
 use crate::{OnClose, Rules};
@@ -16,7 +14,7 @@ use labels::{authority, boot_authority_joins_labels_of_its_table};
 use policy::Policy;
 use reach::node_holders;
 use sharp::close_sharply;
-use std::alloc::Global;
+use std::alloc::{AllocError, Global};
 use table::Table;
 use verdict::a_verdict_is_on_the_boot_state;
 
@@ -62,7 +60,7 @@ fn least_by(
     table: &Table,
     policy: &Policy,
     edges: &[Edge],
-) -> Result<Policy, Refusal>
+) -> Result<Policy, AllocError>
     ensures { IfOk result (λ closed. closings.IsLeastBy rules table.now (policy.now ++ edges.now) closed) }
 {
     match rules {
@@ -149,7 +147,7 @@ fn lacked_answer(
 }
 
 /// The edges of the second policy that the first lacks.
-fn missing_edges(alloc: Global, policy: &Policy, other: &Policy) -> Result<Vec<Edge>, Refusal>
+fn missing_edges(alloc: Global, policy: &Policy, other: &Policy) -> Result<Vec<Edge>, AllocError>
     ensures missing { IfOk result (λ missing. missing.items ≡ closings.missing_edges policy.now other.now) }
 {
     let mut missing = other.edges(alloc)?;

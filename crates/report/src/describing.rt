@@ -1,11 +1,8 @@
 //! The command `import`: a system description becomes a capability table, or claims.
 ghost use Rattle.std.specs.Prelude.{◌<◌, ◌≡◌, IfErr, IfOk, None, false, length};
-ghost use Rattle.base.specs.Refusals.{out_of_memory};
-ghost use Rattle.captext.specs.PolicyText.{label_name};
-ghost use Rattle.microkit.specs.LabelView.{bytes_of};
-ghost use Rattle.separation.specs.Claims.{claims_text};
-ghost use Rattle.commands.specs.{Commands.{DescriptionIsJudged, Says, input, output}, Files.described_contents};
-ghost use Rattle.commands.specs.Hearing.{IsHeard};
+ghost use Rattle.{base.specs.Refusals.out_of_memory, microkit.specs.LabelView.bytes_of};
+ghost use Rattle.{captext.specs.PolicyText.label_name, separation.specs.Claims.claims_text};
+ghost use Rattle.commands.specs.{Commands.{DescriptionIsJudged, Says, input, output}, Files.described_contents, Hearing.IsHeard};
 ghost use Rattle.commands.specs.Hearing as held;
 ghost use Rattle.report.specs.Imports as imports;
 
@@ -71,15 +68,14 @@ fn import_text(
 {
     match on_import.writes {
         Imported::Table => write_table(alloc, &described.table),
-        Imported::Claims => claims_text(alloc, described),
+        Imported::Claims => Ok(claims_text(alloc, described)?),
     }
 }
 
 /// The text of the claims that a description makes, with the names of its table's labels.
-fn claims_text(alloc: Global, described: &Described) -> Result<Vec<u8>, Refusal>
-    ensures told { IfOk result (λ text. text.items
+fn claims_text(alloc: Global, described: &Described) -> Result<Vec<u8>, AllocError>
+    ensures { IfOk result (λ text. text.items
         ≡ claims_text described.now.table.labels described.now.description) }
-    ensures memory { IfErr result (λ refusal. refusal ≡ out_of_memory) }
 {
     let names = label_names(alloc, &described.table)?;
     let text = write_claims(alloc, &names, &described.description)?;

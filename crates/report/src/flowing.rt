@@ -1,7 +1,6 @@
 //! The command `flows`: what flows from one label to another, and through which programs.
 ghost use Rattle.std.specs.Prelude.{◌≡◌, IfErr, IfOk};
-ghost use Rattle.base.specs.Refusals.{out_of_memory};
-ghost use Rattle.commands.specs.Commands.{IsJudgedSo, Says};
+ghost use Rattle.{base.specs.Refusals.out_of_memory, commands.specs.Commands.{IsJudgedSo, Says}};
 ghost use Rattle.report.specs.{Flowing.{TellsAllFlows, TellsFlows}, Questions.unlabelled};
 
 use crate::Asked;
@@ -32,5 +31,6 @@ pub(crate) fn all_flows_told(alloc: Global, table: &Table) -> Result<Vec<u8>, Re
     ensures memory { IfErr result (λ refusal. refusal ≡ out_of_memory) }
 {
     let reach = Reach::of(alloc, table)?;
-    flow_matrix(alloc, &reach)
+    let text = flow_matrix(alloc, &reach)?;
+    Ok(text)
 }

@@ -1,11 +1,8 @@
 //! The law that reports are functions of the bytes of files.
 ghost use Rattle.forms.specs.declared.file.File.TheVariants as file;
-ghost use Rattle.evtext.specs.{Log.read_log_of, Script.read_script_of};
-ghost use Rattle.verdict.specs.declared.rules.Rules.{Rules};
-ghost use Rattle.certificate.specs.Reading.{read_certificate_of};
-ghost use Rattle.commands.specs.declared.choices.OnAccept.{OnAccept};
-ghost use Rattle.report.specs.{Answers.{Checks, Verifies}, OneAnswer.{RunsInMemory, ThreeHaveOneAnswer, TwoHaveOneAnswer}};
-ghost use Rattle.report.specs.Replays.{Replays};
+ghost use Rattle.{verdict.specs.declared.rules.Rules.Rules, evtext.specs.{Log.read_log_of, Script.read_script_of}};
+ghost use Rattle.{certificate.specs.Reading.read_certificate_of, commands.specs.declared.choices.OnAccept.OnAccept};
+ghost use Rattle.report.specs.{Answers.{Checks, Verifies}, OneAnswer.{RunsInMemory, ThreeHaveOneAnswer, TwoHaveOneAnswer}, Replays.Replays};
 
 /// Proves that the answers of `check`, `verify`, `replay` and `run` are functions of the bytes of
 /// the files: text and status are the same whenever and wherever a command reads them. For a run

@@ -1,8 +1,6 @@
 //! The reach of a table, by which questions are answered.
 ghost use Rattle.std.specs.Prelude.{◌≡◌, IfErr, IfOk};
-ghost use Rattle.base.specs.Refusals.{out_of_memory};
-ghost use Rattle.reach.specs.{Extents.limits_of, Reach.IsReachOf};
-ghost use Rattle.report.specs.Questions.{AreKept};
+ghost use Rattle.{base.specs.Refusals.out_of_memory, reach.specs.{Extents.limits_of, Reach.IsReachOf}, report.specs.Questions.AreKept};
 
 use base::Refusal;
 use reach::Reach;
@@ -16,7 +14,6 @@ pub(crate) fn kept_reach(alloc: Global, table: &Table) -> Result<Reach<'_>, Refu
     ensures memory { IfErr result (λ refusal. refusal ≡ out_of_memory) }
 {
     let reach = Reach::of(alloc, table)?;
-    // The contract of `policy` says that runs stay within the reach.
-    reach.policy();
+    reach.bounds_runs();
     Ok(reach)
 }

@@ -1,9 +1,8 @@
 //! The command `replay`: whether a log is that of a run of a system.
 ghost use Rattle.std.specs.Prelude.{◌≡◌, ◌≤◌, IfOk, None, false};
-ghost use Rattle.machine.specs.{Boot.IsBoot, WellFormed.IsWellFormed};
-ghost use Rattle.evtext.specs.Log.{read_log_of};
-ghost use Rattle.forms.specs.declared.file.File.TheVariants as file;
+ghost use Rattle.{machine.specs.{Boot.IsBoot, WellFormed.IsWellFormed}, evtext.specs.Log.read_log_of};
 ghost use Rattle.commands.specs.{Commands.{ThreeIsJudged, input, output}, Hearing.ThreeIsHeard};
+ghost use Rattle.forms.specs.declared.file.File.TheVariants as file;
 ghost use Rattle.commands.specs.Hearing as held;
 ghost use Rattle.report.specs.Answers as answers;
 ghost use Rattle.report.specs.Replays as replays;

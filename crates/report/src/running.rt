@@ -1,8 +1,7 @@
 //! The command `run`, if one thread makes all calls.
 ghost use Rattle.std.specs.Prelude.{◌≡◌, IfOk, None, false};
-ghost use Rattle.evtext.specs.Script.{read_script_of};
+ghost use Rattle.{evtext.specs.Script.read_script_of, commands.specs.{Commands.{ThreeIsJudged, input, output}, Hearing.ThreeIsHeard}};
 ghost use Rattle.forms.specs.declared.file.File.TheVariants as file;
-ghost use Rattle.commands.specs.{Commands.{ThreeIsJudged, input, output}, Hearing.ThreeIsHeard};
 ghost use Rattle.commands.specs.Hearing as held;
 ghost use Rattle.report.specs.Answers as answers;
 

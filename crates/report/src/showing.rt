@@ -1,8 +1,6 @@
 //! The command `show`: a run in which a label changes or takes from an object of another.
 ghost use Rattle.std.specs.Prelude.{◌≡◌, ◌≤◌, IfErr, IfOk};
-ghost use Rattle.base.specs.Refusals.{out_of_memory};
-ghost use Rattle.commands.specs.Commands.{IsJudgedSo};
-ghost use Rattle.report.specs.Questions.{unlabelled};
+ghost use Rattle.{base.specs.Refusals.out_of_memory, commands.specs.Commands.IsJudgedSo, report.specs.Questions.unlabelled};
 ghost use Rattle.report.specs.Shows as shows;
 
 use crate::{Asked, Search};
@@ -50,8 +48,7 @@ fn run_answer(
     ensures exit { IfOk result (λ answer. answer.status ≤ 2) }
     ensures memory { IfErr result (λ refusal. refusal ≡ out_of_memory) }
 {
-    // The contract of `policy` says that this is the reach of its table.
-    reach.policy();
+    reach.bounds_runs();
     let bound = reach.extent(actor, object);
     let question = Question {
         actor,

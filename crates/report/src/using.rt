@@ -1,15 +1,13 @@
 //! The answer of the command `why` about all users of a label.
-ghost use Rattle.std.specs.Prelude.{◌≡◌, IfErr, IfOk};
-ghost use Rattle.base.specs.Refusals.{out_of_memory};
-ghost use Rattle.commands.specs.Commands.{IsJudgedSo, Says};
-ghost use Rattle.report.specs.Using.{IsUsersText, TellsUsers, unlabelled_object};
+ghost use Rattle.std.specs.Prelude.{◌≡◌, IfOk};
+ghost use Rattle.{commands.specs.Commands.{IsJudgedSo, Says}, report.specs.Using.{IsUsersText, TellsUsers, unlabelled_object}};
 
 use crate::reaching::kept_reach;
 use crate::{Asked, Use};
-use base::{Label, Refusal};
+use base::Label;
 use commands::{Answer, Stop};
 use reach::Reach;
-use std::alloc::Global;
+use std::alloc::{AllocError, Global};
 use table::Table;
 use usertext::{changers_text, readers_text};
 
@@ -35,9 +33,8 @@ fn users_text(
     reach: &Reach<'_>,
     usage: Use,
     object: Label,
-) -> Result<Vec<u8>, Refusal>
-    ensures text { IfOk result (λ text. IsUsersText usage reach.now object text.items) }
-    ensures memory { IfErr result (λ refusal. refusal ≡ out_of_memory) }
+) -> Result<Vec<u8>, AllocError>
+    ensures { IfOk result (λ text. IsUsersText usage reach.now object text.items) }
 {
     match usage {
         Use::Changes => changers_text(alloc, reach, object),

@@ -1,18 +1,16 @@
 -- Drawings that grow label by label and pair by pair; and that an authority of a label on another has a reason with a first edge.
-use Rattle.std.{specs.{List.{flat_map, range_with_len}, Prelude.{IfSome, IsSome, codes}}, proofs.Common.{[], ℕ, ◌++◌, ◌+◌, ◌<◌, ◌==◌, ◌∙◌}}
-use Rattle.std.proofs.Common.{◌∷◌, ◌≡◌, ◌≢◌, List, None, Option, Some, ap, append_assoc, arith, false, get_or, length, refl, subst, sym}
-use Rattle.std.proofs.{Common.{take, true}, lemmas.{Bool.Decides.nat_tests, List.{append-nil, flat_map_more, map-id, take_more}}}
-use Rattle.std.proofs.lemmas.List.FromFn.{map-range_with_len_more}
-use Rattle.base.specs.declared.edge.Edge.{Edge}
-use Rattle.machine.specs.Layout.{Layout}
-use Rattle.policy.specs.{ActorReasons.{IsChangeBy, IsShrinkBy, change_edges, shrink_edges}, Change.{WayToChange, MayChangeContext.binds}}
-use Rattle.policy.specs.Change.{MayChangeContext.{configures, lends, returns as returns_it}, WayToChange.{grants, links, modifies}}
-use Rattle.policy.specs.{Change.WayToChange.{notifies, own, receives, replies, sends, shares}, NarrowTake.WayToShrink}
-use Rattle.policy.specs.NarrowTake.{TakesByControl.{drops, releases, removes, wakes}, WayToShrink.{controls, ends, frees, halts, stops}}
-use Rattle.policy.specs.{NarrowTake.WayToShrink.unbinds, Places.IsLeast, Reasons.reason_place}
-use Rattle.reach.specs.Extents.{MayChangeIn, MayShrinkIn, Limits}
-use Rattle.reptext.specs.Drawing.{AddsArrows, Draws, IsArrow, arrow_line, pairs_with, IsArrow.{dashed, itself, nothing, solid}}
 use mathlib.Core.Bool.{false≢true}
+use Rattle.std.{specs.{List.{flat_map, range_with_len}, Prelude.{IfSome, IsSome, codes}}, proofs.Common.{[], ℕ, ◌++◌, ◌+◌, ◌<◌, ◌==◌}}
+use Rattle.std.proofs.Common.{◌∙◌, ◌∷◌, ◌≡◌, ◌≢◌, List, None, Option, Some, ap, append_assoc, arith, false, get_or, length, refl, subst}
+use Rattle.std.proofs.{Common.{sym, take, true}, lemmas.{Bool.Decides.nat_tests, List.{FromFn.map-range_with_len_more, append-nil}}}
+use Rattle.{std.proofs.lemmas.List.{flat_map_more, map-id, take_more}, base.specs.declared.edge.Edge.Edge, machine.specs.Layout.Layout}
+use Rattle.policy.specs.ActorReasons.{IsChangeBy, IsShrinkBy, change_edges, shrink_edges}
+use Rattle.policy.specs.Change.{MayChangeContext.{binds, configures, lends, returns as returns_it}, WayToChange}
+use Rattle.policy.specs.Change.WayToChange.{grants, links, modifies, notifies, own, receives, replies, sends, shares}
+use Rattle.policy.specs.NarrowTake.{TakesByControl.{drops, releases, removes, wakes}, WayToShrink}
+use Rattle.policy.specs.{NarrowTake.WayToShrink.{controls, ends, frees, halts, stops, unbinds}, Places.IsLeast, Reasons.reason_place}
+use Rattle.reach.specs.Extents.{Limits, MayChangeIn, MayShrinkIn}
+use Rattle.reptext.specs.Drawing.{AddsArrows, Draws, IsArrow, IsArrow.{dashed, itself, nothing, solid}, arrow_line, pairs_with}
 
 -- one more piece, for the next value
 pub piece_more : {X Y : Type 0} (f : X → List Y) (xs : List X) (i : ℕ) (d : X) (before text longer : List Y) → i < length xs

@@ -1,9 +1,7 @@
 -- That the changes from one system to another, as JSON, have no number with a fraction.
 use Rattle.std.proofs.Common.{[], ◌∷◌, ◌≡◌, List, false, map, refl}
-use Rattle.machine.specs.Layout.{Layout}
-use Rattle.diff.specs.declared.change.Change.{Change, Change as change}
-use Rattle.reptext.specs.Differences.{change_data, changes_data}
-use Rattle.serde_json.specs.{View.items_of, Written.{has_float, items_have_float}}
+use Rattle.{serde_json.specs.{View.items_of, Written.{has_float, items_have_float}}, machine.specs.Layout.Layout}
+use Rattle.{diff.specs.declared.change.Change.{Change, Change as change}, reptext.specs.Differences.{change_data, changes_data}}
 
 one : (old new : Layout) (told : Change) → has_float (change_data old new told) ≡ false
 one old new (change.Standing named was is) = refl

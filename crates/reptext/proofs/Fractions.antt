@@ -1,17 +1,14 @@
 -- That the reports of broken claims, of what a label may do, and of summaries have no number with a fraction.
-use Rattle.std.{specs.{List.flat_map, Prelude.codes, Str.bytes_eq}, proofs.Common.{[], ℕ, ◌++◌, ◌==◌, ◌∷◌, ◌≡◌, Bool, List, None, Option, Some}}
-use Rattle.std.{specs.Prelude.if◌then◌else◌, proofs.Common.{false, map, refl, true}}
-use Rattle.base.specs.declared.edge.Edge.{Edge}
-use Rattle.machine.specs.Layout.{Layout}
-use Rattle.policy.specs.declared.why.Why.{Why, Why as why}
-use Rattle.captext.specs.PolicyText.{label_name}
+use Rattle.std.specs.{List.flat_map, Prelude.{codes, if◌then◌else◌}, Str.bytes_eq}
+use Rattle.std.proofs.Common.{[], ℕ, ◌++◌, ◌==◌, ◌∷◌, ◌≡◌, Bool, List, None, Option, Some, false, map, refl, true}
+use Rattle.{serde_json.specs.{Data.Data, View.items_of, Written.{has_float, items_have_float}}, base.specs.declared.edge.Edge.Edge}
+use Rattle.{machine.specs.Layout.Layout, policy.specs.declared.why.Why.{Why, Why as why}, captext.specs.PolicyText.label_name}
 use Rattle.summary.specs.{declared.rows.Row.Row, Labelled.{others_of, programs_of}, Marks.marks, Regions.{changers, readers, takers}}
-use Rattle.claims.specs.{Lines.claim_at, declared.{claim.Claim.Claim, deciding.{Broken.Broken, Failure.{Failure, Failure as failure}}}}
-use Rattle.claims.specs.declared.keeping.Kept.{Kept}
+use Rattle.claims.specs.declared.{claim.Claim.Claim, deciding.{Broken.Broken, Failure.{Failure, Failure as failure}}}
+use Rattle.claims.specs.{declared.keeping.Kept.Kept, Lines.claim_at}
 use Rattle.reptext.specs.{Breaches.{breaches_data, failure_data, names_both, told, told_of}, Reasons.{edge_data, why_data}}
 use Rattle.reptext.specs.Summaries.{cell_data, cells_of, region_data, summary_data, told_cell}
 use Rattle.reptext.proofs.Names.{names_have_no_float, neither}
-use Rattle.serde_json.specs.{Data.Data, View.items_of, Written.{has_float, items_have_float}}
 
 one : (t : Layout) (claim : Claim) (line : ℕ) (why : Failure) → has_float (failure_data t claim line why) ≡ false
 one t claim line (failure.Pair breach) = by (names_both claim) refl where

@@ -1,12 +1,10 @@
 -- That names as JSON have no number, and that the report of an acceptance has none with a fraction.
-use Rattle.std.specs.{declared.cmp.Ordering.{Ordering, TheVariants.{Equal, Greater, Less}}, Cmp.Lexicographic.slice_cmp, List.filter}
-use Rattle.std.{specs.{List.fold, Ordering.{match_ordering, nat_cmp}}, proofs.Common.{[], ℕ, ◌||◌, ◌∷◌, ◌≡◌, Bool, List, false, map, refl}}
-use Rattle.std.proofs.Common.{true}
-use Rattle.serde_json.specs.{Data.{Data, Members, member, no_members, put, string}, View.items_of, Written.{has_float, items_have_float}}
-use Rattle.serde_json.specs.Written.{members_have_float}
-use Rattle.machine.specs.Layout.{Layout}
-use Rattle.captext.specs.PolicyText.{label_name}
-use Rattle.reptext.specs.Reports.{check_data, labels_of, names_data, with_related}
+use Rattle.std.specs.declared.cmp.Ordering.{Ordering, TheVariants.{Equal, Greater, Less}}
+use Rattle.std.specs.{Cmp.Lexicographic.slice_cmp, List.{filter, fold}, Ordering.{match_ordering, nat_cmp}}
+use Rattle.std.proofs.Common.{[], ℕ, ◌||◌, ◌∷◌, ◌≡◌, Bool, List, false, map, refl, true}
+use Rattle.serde_json.specs.{Data.{Data, Members, member, no_members, put, string}, View.items_of}
+use Rattle.{serde_json.specs.Written.{has_float, items_have_float, members_have_float}, machine.specs.Layout.Layout}
+use Rattle.{captext.specs.PolicyText.label_name, reptext.specs.Reports.{check_data, labels_of, names_data, with_related}}
 
 pub names_have_no_float : (names : List (List ℕ)) → items_have_float (items_of (map string names)) ≡ false
 names_have_no_float [] = refl

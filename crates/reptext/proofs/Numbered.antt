@@ -1,9 +1,7 @@
 -- Lists of numbered values with names: how they grow by one, and end.
 use Rattle.std.{specs.List.{enumerate_from, zip}, proofs.Common.{ℕ, ◌++◌, ◌+◌, ◌<◌, ◌∙◌, ◌≡◌, ◌≤◌, List, ap, arith, get_or, length}}
-use Rattle.std.proofs.{Common.{map, sym, take}, lemmas.List.{take_all, FromFn.{get_or-enumerate_from, length-enumerate_from}}}
-use Rattle.std.proofs.lemmas.Slice.Zip.{get_or-zip, length-zip}
-use Rattle.words.specs.Text.{line_text, text_of}
-use Rattle.captext.proofs.Written.{line_more}
+use Rattle.std.proofs.{Common.{map, sym, take}, lemmas.List.{FromFn.{get_or-enumerate_from, length-enumerate_from}, take_all}}
+use Rattle.{std.proofs.lemmas.Slice.Zip.{get_or-zip, length-zip}, words.specs.Text.{line_text, text_of}, captext.proofs.Written.line_more}
 
 module _ {X Y : Type 0} (f : ℕ × (X × Y) → List (List ℕ)) (xs : List X) (ys : List Y) (each : length xs ≡ length ys) where
   count : length (enumerate_from 0 (zip xs ys)) ≡ length ys

@@ -1,12 +1,10 @@
 -- That the report of an acceptance has one text: two tests that decide the same relation agree on the labels of a table.
-use Rattle.std.{specs.{List.{filter, fold}, Prelude.codes}, proofs.Common.{[], ℕ, ◌<◌, ◌∙◌, ◌∷◌, ◌≡◌, All, Bool, List, ap, arith, false}}
-use Rattle.std.proofs.{Common.{get_or, length, map, refl, sym, true}, lemmas.List.Elements.{All-head, All-tail}}
-use Rattle.std.proofs.lemmas.List.FromFn.{get_or-range_with_len, length-range_with_len}
+use Rattle.std.specs.{List.{filter, fold}, Prelude.codes}
+use Rattle.std.proofs.Common.{[], ℕ, ◌<◌, ◌∙◌, ◌∷◌, ◌≡◌, All, Bool, List, ap, arith, false, get_or, length, map, refl, sym, true}
+use Rattle.std.proofs.lemmas.List.{Elements.{All-head, All-tail}, FromFn.{get_or-range_with_len, length-range_with_len}}
 use Rattle.serde_json.specs.Data.{Data, Members, member, no_members, number, object, put, string, unsigned}
-use Rattle.base.specs.declared.edge.Edge.{Edge}
-use Rattle.machine.specs.Layout.{Layout}
-use Rattle.policy.specs.{Cut.IsCut, Full.IsFull, Policy.allows}
-use Rattle.captext.specs.PolicyText.{label_name}
+use Rattle.{base.specs.declared.edge.Edge.Edge, machine.specs.Layout.Layout}
+use Rattle.{policy.specs.{Cut.IsCut, Full.IsFull, Policy.allows}, captext.specs.PolicyText.label_name}
 use Rattle.reptext.specs.{Relations.Decides, Reports.{IsCheckReport, labels_of, line_of, names_data, relation_data, with_related}}
 
 -- two booleans are equal if each is true whenever the other is

@@ -1,15 +1,14 @@
 -- That a table keeps the report of its acceptance and the names of places when it is turned into one of version 2.
 use Rattle.std.{specs.Prelude.Option, proofs.Common.{ℕ, ◌↔◌, ◌≡◌, List, refl, subst, sym}}
 use Rattle.base.specs.declared.{edge.Edge.Edge, ids.ObjId.ObjId}
-use Rattle.machine.specs.{declared.object.ObjectKind.ObjectKind, Authority.{label_at, label_of}, Layout.{Layout, declared_label, initial_of, upgraded}}
-use Rattle.machine.specs.Machine.{Machine}
-use Rattle.policy.specs.{declared.broken.Broken.Broken, Domain.EdgeTest, Places.IsLeast}
-use Rattle.policy.specs.declared.broken.Broken.TheVariants as broken
+use Rattle.machine.specs.{declared.object.ObjectKind.ObjectKind, Authority.{label_at, label_of}}
+use Rattle.machine.specs.{Layout.{Layout, declared_label, initial_of, upgraded}, Machine.Machine}
+use Rattle.{table.specs.Rules.kind_at, policy.specs.{declared.broken.Broken.Broken, Domain.EdgeTest, Places.IsLeast}}
 use Rattle.sharp.specs.declared.broken.SharpBroken.{SharpBroken, SharpBroken as sharp}
-use Rattle.table.specs.Rules.{kind_at}
-use Rattle.verdict.specs.{declared.denial.Denial.{Denial, Denial as denial}, Rules.{Exceeds, Excess, excess_place}, Sources.{Sources, of_machine}}
-use Rattle.verdict.specs.Verdict.{IsOutside}
+use Rattle.verdict.specs.declared.denial.Denial.{Denial, Denial as denial}
+use Rattle.verdict.specs.{Rules.{Exceeds, Excess, excess_place}, Sources.{Sources, of_machine}, Verdict.IsOutside}
 use Rattle.reptext.specs.{Places.{broken_names, place_names, place_names_by, sharp_names}, Reports.IsCheckReport}
+use Rattle.policy.specs.declared.broken.Broken.TheVariants as broken
 
 pub reported : (t : Layout) (edges : List Edge) (text : List ℕ) → IsCheckReport (upgraded t) edges text → IsCheckReport t edges text
 reported t edges text h = record { cut = h.cut; full = h.full; cuts = h.cuts; fulls = h.fulls; told = h.told }

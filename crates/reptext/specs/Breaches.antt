@@ -1,13 +1,10 @@
 -- The report of claims that don't hold: each with its line and what breaks it, an authority or an edge (confine's own).
 use Rattle.std.specs.{List.flat_map, Prelude.{[], ℕ, ◌∷◌, Bool, List, None, Option, Some, codes, false, if◌then◌else◌, true}}
-use Rattle.base.specs.declared.edge.Edge.{Edge}
-use Rattle.machine.specs.Layout.{Layout}
-use Rattle.captext.specs.PolicyText.{label_name}
-use Rattle.claims.specs.declared.{breaches.Breach.Breach, claim.{Claim.{Claim, Claim as claim}, Who.Who as who}, deciding.Broken.Broken}
-use Rattle.claims.specs.{Claims.kept_word, declared.{deciding.Failure.{Failure, Failure as failure}, keeping.Kept.Kept}}
-use Rattle.claims.specs.{Lines.claim_at, Text.claim_text}
-use Rattle.reptext.specs.{Reasons.edge_data, Reports.{extent_word, names_data}}
 use Rattle.serde_json.specs.{Data.{Data, array, member, no_members, number, object, string, unsigned}, View.items_of}
+use Rattle.{base.specs.declared.edge.Edge.Edge, machine.specs.Layout.Layout, captext.specs.PolicyText.label_name}
+use Rattle.claims.specs.declared.{breaches.Breach.Breach, claim.{Claim.{Claim, Claim as claim}, Who.Who as who}}
+use Rattle.claims.specs.{declared.{deciding.{Broken.Broken, Failure.{Failure, Failure as failure}}, keeping.Kept.Kept}, Claims.kept_word}
+use Rattle.{claims.specs.{Lines.claim_at, Text.claim_text}, reptext.specs.{Reasons.edge_data, Reports.{extent_word, names_data}}}
 
 -- whether the claim itself names the two labels that it bounds, or the edge that it excludes
 abbrev pub names_both : Claim → Bool

@@ -1,12 +1,10 @@
 -- The changes from one system to another, as JSON: each line of their text as an object (confine's own).
-use Rattle.std.specs.{List.list_any, Prelude.{[], ℕ, ◌∷◌, ◌≡◌, List, codes, map}}
-use Rattle.base.specs.{declared.kind.Kind.Kind, Kinds.kind_name}
-use Rattle.machine.specs.Layout.{Layout}
-use Rattle.reach.specs.Reach.{TableReach}
-use Rattle.diff.specs.declared.change.{Change.{Change, Change as change}, Marks.Marks, Role.Role, Sign.Sign, Standing.Standing, Verb.Verb}
-use Rattle.diff.specs.{Changes.{AreChanges, adds, sign_of}, Text.{cell_text, name_text, role_text, sign_text, standing_text, verb_text}}
-use Rattle.reptext.specs.Reports.{line_of, names_data}
+use Rattle.std.specs.{List.list_any, Prelude.{[], ℕ, ◌∷◌, List, codes, map}}
 use Rattle.serde_json.specs.{Data.{Data, array, boolean, member, no_members, object, string}, View.items_of}
+use Rattle.{base.specs.{declared.kind.Kind.Kind, Kinds.kind_name}, machine.specs.Layout.Layout}
+use Rattle.diff.specs.declared.change.{Change.{Change, Change as change}, Marks.Marks, Role.Role, Sign.Sign, Standing.Standing, Verb.Verb}
+use Rattle.diff.specs.{Changes.{adds, sign_of}, Text.{cell_text, name_text, role_text, sign_text, standing_text, verb_text}}
+use Rattle.reptext.specs.Reports.{names_data}
 
 -- what a label was and what it is
 abbrev pub standing_data : Sign → List ℕ → Standing → Standing → Data

@@ -2,11 +2,9 @@
 -- change (solid) or only make smaller (dashed), with an edge of the reason (compare the integrity of 'seL4 Enforces Integrity', section 4;
 -- the drawing is confine's own).
 use Rattle.std.specs.{List.{flat_map, range_with_len}, Prelude.{[], ℕ, ◌++◌, ◌∷◌, ◌≡◌, ◌≢◌, List, codes, length, map}}
-use Rattle.base.specs.{declared.edge.Edge.Edge, Kinds.kind_name}
-use Rattle.machine.specs.Layout.{Layout}
+use Rattle.{base.specs.{declared.edge.Edge.Edge, Kinds.kind_name}, machine.specs.Layout.Layout}
 use Rattle.policy.specs.{ActorReasons.{IsChangeBy, IsShrinkBy}, Places.IsLeast, Reasons.reason_place}
-use Rattle.reach.specs.Extents.{MayChangeIn, MayShrinkIn, Limits}
-use Rattle.captext.specs.PolicyText.{label_name}
+use Rattle.{reach.specs.Extents.{Limits, MayChangeIn, MayShrinkIn}, captext.specs.PolicyText.label_name}
 
 -- the line of a label
 abbrev pub label_line : List ℕ → List ℕ

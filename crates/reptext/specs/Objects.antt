@@ -1,7 +1,6 @@
 -- The list of a table's objects: a line for each, in the order of their numbers, with its number, kind, name and label (confine's own).
 use Rattle.std.specs.{Fmt.decimal, List.{enumerate_from, zip}, Prelude.{[], ℕ, ◌∷◌, List, map}}
-use Rattle.machine.specs.{declared.layout.Initial.Initial, Layout.Layout}
-use Rattle.words.specs.Text.{text_of}
+use Rattle.{words.specs.Text.text_of, machine.specs.{declared.layout.Initial.Initial, Layout.Layout}}
 use Rattle.captext.specs.{PolicyText.label_name, TableText.kind_word}
 
 -- NUMBER KIND NAME LABEL

@@ -1,14 +1,11 @@
 -- The names of a place: labels, kinds and objects by their names, slots as the texts spell them (confine's own).
 use Rattle.std.specs.Prelude.{[], ℕ, ◌++◌, ◌∷◌, List, Option, codes, decimal, slice_get, unwrap_or}
 use Rattle.base.specs.{declared.{ids.{ObjId.ObjId, SlotRef.SlotRef}, kind.Kind.{Kind, TheVariants.{Derive, Holds, Runs}}}, Kinds.kind_name}
-use Rattle.machine.specs.{declared.object.ObjectKind.ObjectKind, Layout.Layout}
-use Rattle.policy.specs.declared.broken.Broken.{Broken}
+use Rattle.{machine.specs.{declared.object.ObjectKind.ObjectKind, Layout.Layout}, table.specs.Rules.kind_at}
+use Rattle.{policy.specs.declared.broken.Broken.Broken, sharp.specs.declared.broken.SharpBroken.SharpBroken}
+use Rattle.{verdict.specs.declared.denial.Denial.Denial, captext.specs.{PolicyText.label_name, Spelling.slot_word, TableText.place_in}}
 use Rattle.policy.specs.declared.broken.Broken.TheVariants as broken
-use Rattle.sharp.specs.declared.broken.SharpBroken.{SharpBroken}
 use Rattle.sharp.specs.declared.broken.SharpBroken.TheVariants as sharp
-use Rattle.table.specs.Rules.{kind_at}
-use Rattle.captext.specs.{PolicyText.label_name, Spelling.slot_word, TableText.place_in}
-use Rattle.verdict.specs.declared.denial.Denial.{Denial}
 use Rattle.verdict.specs.declared.denial.Denial.TheVariants as denial
 
 -- the name of an object; `#` and its number if the table doesn't name it, as a call made it

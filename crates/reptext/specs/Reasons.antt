@@ -1,13 +1,9 @@
 -- The authority of a label on another, as JSON: how far it goes, and the edges of a reason for it (confine's own).
 use Rattle.std.specs.Prelude.{[], ℕ, List, codes, map}
-use Rattle.base.specs.declared.edge.Edge.{Edge}
-use Rattle.machine.specs.Layout.{Layout}
-use Rattle.policy.specs.declared.why.Why.{Why, Why as why}
-use Rattle.captext.specs.PolicyText.{label_name}
-use Rattle.reach.specs.declared.extent.Extent.{Extent}
+use Rattle.{serde_json.specs.{Data.{Data, array, member, no_members, object, string}, View.items_of}, base.specs.declared.edge.Edge.Edge}
+use Rattle.{machine.specs.Layout.Layout, policy.specs.declared.why.Why.{Why, Why as why}, reach.specs.declared.extent.Extent.Extent}
+use Rattle.{captext.specs.PolicyText.label_name, reptext.specs.{Places.edge_names, Reports.{extent_word, names_data}}}
 use Rattle.reach.specs.declared.extent.Extent.TheVariants as extent
-use Rattle.reptext.specs.{Places.edge_names, Reports.{extent_word, names_data}}
-use Rattle.serde_json.specs.{Data.{Data, array, member, no_members, object, string}, View.items_of}
 
 -- an edge is its three words
 abbrev pub edge_data : Layout → Edge → Data

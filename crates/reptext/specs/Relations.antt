@@ -1,8 +1,7 @@
 -- The relations of labels in the report of an acceptance, and tests that decide them (confine's own).
 use Rattle.std.specs.Prelude.{ℕ, ◌<◌, ◌↔◌, ◌≡◌, Bool, List, get_or, length, true}
 use Rattle.base.specs.{declared.labels.Labels.Labels, Labels.{is_in, no_labels}}
-use Rattle.machine.specs.Layout.{Layout}
-use Rattle.policy.specs.{Cut.IsCut, Domain.EdgeTest, Full.IsFull}
+use Rattle.{machine.specs.Layout.Layout, policy.specs.{Cut.IsCut, Domain.EdgeTest, Full.IsFull}}
 use Rattle.reptext.specs.declared.relations.Relation.{Relation, TheVariants.{Cut, Full}}
 
 abbrev pub relates : Relation → EdgeTest → ℕ → ℕ → Type 0

@@ -1,16 +1,12 @@
 -- Reports, each one JSON object on a line, without spaces and with its keys in the order of their bytes (confine's own).
 use Rattle.std.specs.{List.{filter, fold, range_with_len}, Prelude.{[], ℕ, ◌++◌, ◌∷◌, ◌≡◌, Bool, List, codes, length, map}}
-use Rattle.serde_json.specs.{Data.{Data, Members, array, member, no_members, number, object, put, string, unsigned}, View.items_of}
-use Rattle.serde_json.specs.Written.{compact_text}
-use Rattle.base.specs.declared.edge.Edge.{Edge}
-use Rattle.machine.specs.Layout.{Layout}
-use Rattle.policy.specs.{Cut.IsCut, Full.IsFull, Policy.allows}
-use Rattle.captext.specs.PolicyText.{label_name}
-use Rattle.claims.specs.{Claims.kept_word, declared.keeping.Kept.{Kept}}
-use Rattle.reach.specs.declared.extent.Extent.{Extent}
+use Rattle.serde_json.specs.Data.{Data, Members, array, member, no_members, number, object, put, string}
+use Rattle.serde_json.specs.{Data.unsigned, View.items_of, Written.compact_text}
+use Rattle.{base.specs.declared.edge.Edge.Edge, forms.specs.{declared.file.File.File, Files.file_word}}
+use Rattle.{machine.specs.Layout.Layout, policy.specs.{Cut.IsCut, Full.IsFull, Policy.allows}}
+use Rattle.{reach.specs.declared.extent.Extent.Extent, captext.specs.PolicyText.label_name}
+use Rattle.{claims.specs.{declared.keeping.Kept.Kept, Claims.kept_word}, reptext.specs.Relations.Decides}
 use Rattle.reach.specs.declared.extent.Extent.TheVariants as extent
-use Rattle.forms.specs.{Files.file_word, declared.file.File.{File}}
-use Rattle.reptext.specs.Relations.{Decides}
 
 -- a value on a line, where 10 is the line feed
 abbrev pub line_of : Data → List ℕ

@@ -1,11 +1,9 @@
 -- The summary of a table's reach, as JSON: what its text says, with whole lists (confine's own).
-use Rattle.std.specs.{List.flat_map, Prelude.{[], ℕ, ◌∷◌, ◌==◌, ◌≡◌, List, codes, if◌then◌else◌, map}, Str.bytes_eq}
-use Rattle.machine.specs.Layout.{Layout}
-use Rattle.captext.specs.PolicyText.{label_name}
-use Rattle.reach.specs.Reach.{TableReach}
-use Rattle.summary.specs.{declared.rows.Row.Row, Labelled.{others_of, programs_of}, Marks.marks, Regions.{changers, readers, takers}, Rows.AreRows}
-use Rattle.reptext.specs.Reports.{line_of, names_data}
+use Rattle.std.specs.{List.flat_map, Prelude.{[], ℕ, ◌==◌, ◌∷◌, ◌≡◌, List, codes, if◌then◌else◌, map}, Str.bytes_eq}
 use Rattle.serde_json.specs.{Data.{Data, array, member, no_members, object, string}, View.items_of}
+use Rattle.{machine.specs.Layout.Layout, reach.specs.Reach.TableReach, captext.specs.PolicyText.label_name}
+use Rattle.summary.specs.{declared.rows.Row.Row, Labelled.{others_of, programs_of}, Marks.marks}
+use Rattle.{summary.specs.{Regions.{changers, readers, takers}, Rows.AreRows}, reptext.specs.Reports.{line_of, names_data}}
 
 abbrev pub labels_data : Layout → List ℕ → Data
 labels_data t labels = names_data (map (label_name t) labels)

@@ -1,9 +1,8 @@
 //! The report of claims that don't hold.
 ghost use Rattle.std.specs.{List.flat_map, Prelude.{[], ◌++◌, ◌∷◌, ◌≡◌, IfOk, OnOk, map}};
-ghost use Rattle.captext.specs.PolicyText.{label_name as label_name_of};
-ghost use Rattle.reptext.specs.Breaches.{breaches_data, excluded_data, failure_data, names_both, pair_data, plain_data};
-ghost use Rattle.reptext.specs.{Breaches.told, Reports.{line_of, names_data}};
-ghost use Rattle.serde_json.specs.View.{view};
+ghost use Rattle.{serde_json.specs.View.view, captext.specs.PolicyText.label_name as label_name_of};
+ghost use Rattle.reptext.specs.Breaches.{breaches_data, excluded_data, failure_data, names_both, pair_data, plain_data, told};
+ghost use Rattle.reptext.specs.Reports.{line_of, names_data};
 
 use crate::places::label_name;
 use crate::reasons::edge_value;

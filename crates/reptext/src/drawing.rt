@@ -1,11 +1,10 @@
 //! The drawing of who may change or take from whom, for Graphviz.
-ghost use Rattle.std.specs.List.{flat_map};
-ghost use Rattle.std.specs.Prelude.{[], ◌++◌, ◌<◌, ◌∷◌, ◌≡◌, IfErr, IfOk, List, OnErr, OnOk, length, string_bytes};
-ghost use Rattle.base.specs.{declared.edge.Edge.Edge as EdgeOf, Refusals.out_of_memory};
+ghost use Rattle.std.specs.{List.flat_map, Prelude.{[], ◌++◌, ◌<◌, ◌∷◌, ◌≡◌, IfOk, List, OnErr, OnOk, length, string_bytes}};
 ghost use Rattle.reach.specs.Extents.{limits_by};
 ghost use Rattle.reptext.specs.Drawing.{AddsArrows, IsDrawing, arrow_line, label_line, pairs_of, pairs_with};
+ghost use Rattle.base.specs.declared.edge.Edge.Edge as EdgeOf;
 
-use base::{Edge, Label, Labels, Refusal};
+use base::{Edge, Label, Labels};
 use captext::label_name;
 use policy::{Policy, Why};
 use std::alloc::{AllocError, Global};
@@ -17,18 +16,13 @@ use table::Table;
 /// It has the labels of the table, and from each an arrow to each other label whose objects it may
 /// change or make smaller, with the first edge of the reason that [`Policy::why_among`] gives. The
 /// arrow is solid if the label may change them, and dashed if it may only make them smaller.
-///
-/// # Errors
-///
-/// 40 where memory is refused.
 pub fn write_drawing(
     alloc: Global,
     table: &Table,
     policy: &Policy,
     actors: Labels,
-) -> Result<Vec<u8>, Refusal>
-    ensures text { IfOk result (λ text. IsDrawing table.now (limits_by policy.now actors) text.items) }
-    ensures memory { IfErr result (λ refusal. refusal ≡ out_of_memory) }
+) -> Result<Vec<u8>, AllocError>
+    ensures { IfOk result (λ text. IsDrawing table.now (limits_by policy.now actors) text.items) }
 {
     let mut text = String::from_str(alloc, "digraph authority {\n")?;
     write_labels(&mut text, table)?;
@@ -59,10 +53,9 @@ fn write_arrows(
     table: &Table,
     policy: &Policy,
     actors: Labels,
-) -> Result<(), Refusal>
-    ensures drawn { OnOk result (AddsArrows (limits_by policy.now actors) table.now (pairs_of (length table.now.labels))
+) -> Result<(), AllocError>
+    ensures { OnOk result (AddsArrows (limits_by policy.now actors) table.now (pairs_of (length table.now.labels))
         (string_bytes text.old) (string_bytes text.new)) }
-    ensures memory { IfErr result (λ refusal. refusal ≡ out_of_memory) }
 {
     table.keeps_rules();
     for number in 0..table.label_count() {
@@ -81,11 +74,10 @@ fn write_arrows_from(
     policy: &Policy,
     actors: Labels,
     actor: Label,
-) -> Result<(), Refusal>
-    ensures drawn { OnOk result (AddsArrows (limits_by policy.now actors) table.now
+) -> Result<(), AllocError>
+    ensures { OnOk result (AddsArrows (limits_by policy.now actors) table.now
         (pairs_with (length table.now.labels) actor)
         (string_bytes text.old) (string_bytes text.new)) }
-    ensures memory { IfErr result (λ refusal. refusal ≡ out_of_memory) }
 {
     table.keeps_rules();
     for number in 0..table.label_count() {
@@ -105,10 +97,9 @@ fn write_arrow_of(
     actors: Labels,
     actor: Label,
     object: Label,
-) -> Result<(), Refusal>
-    ensures drawn { OnOk result (AddsArrows (limits_by policy.now actors) table.now ((actor, object) ∷ [])
+) -> Result<(), AllocError>
+    ensures { OnOk result (AddsArrows (limits_by policy.now actors) table.now ((actor, object) ∷ [])
         (string_bytes text.old) (string_bytes text.new)) }
-    ensures memory { IfErr result (λ refusal. refusal ≡ out_of_memory) }
 {
     if actor == object {
         return Ok(());

@@ -2,8 +2,7 @@
 ghost use Rattle.std.specs.Prelude.{ℕ, ◌↔◌, ◌≡◌, List, Option};
 ghost use Rattle.base.specs.declared.{edge.Edge.Edge, ids.ObjId.ObjId};
 ghost use Rattle.machine.specs.{declared.object.ObjectKind.ObjectKind, Layout.{Layout, upgraded}, Machine.Machine};
-ghost use Rattle.policy.specs.Domain.{EdgeTest};
-ghost use Rattle.verdict.specs.{declared.denial.Denial.Denial, Rules.Excess, Verdict.IsOutside};
+ghost use Rattle.{policy.specs.Domain.EdgeTest, verdict.specs.{declared.denial.Denial.Denial, Rules.Excess, Verdict.IsOutside}};
 ghost use Rattle.reptext.specs.{Places.{place_names, place_names_by}, Reports.IsCheckReport};
 
 /// Proves that an upgraded table keeps the report of its acceptance, the names at the place of each

@@ -1,12 +1,9 @@
 //! The list of a table's objects.
-ghost use Rattle.std.specs.Prelude.{◌++◌, ◌≡◌, IfErr, IfOk, OnOk, string_bytes};
-ghost use Rattle.base.specs.Refusals.{out_of_memory};
-ghost use Rattle.machine.specs.KindWords.{object_kind_word};
-ghost use Rattle.words.specs.Text.{line_text};
-ghost use Rattle.captext.specs.TableText.{object_name};
-ghost use Rattle.reptext.specs.Objects.{entry_words, objects_text};
+ghost use Rattle.std.specs.Prelude.{◌++◌, ◌≡◌, IfOk, OnOk, string_bytes};
+ghost use Rattle.{words.specs.Text.line_text, machine.specs.KindWords.object_kind_word};
+ghost use Rattle.{captext.specs.TableText.object_name, reptext.specs.Objects.{entry_words, objects_text}};
 
-use base::{ObjId, Refusal};
+use base::ObjId;
 use captext::{label_name, object_name};
 use machine::{Initial, ObjectKind};
 use std::alloc::{AllocError, Global};
@@ -14,13 +11,8 @@ use table::Table;
 
 /// Returns the list of a table's objects. Each object has a line: its number, which scripts name,
 /// its kind, its name and its label.
-///
-/// # Errors
-///
-/// 40 where memory is refused.
-pub fn write_objects(alloc: Global, table: &Table) -> Result<Vec<u8>, Refusal>
-    ensures text { IfOk result (λ text. text.items ≡ objects_text table.now) }
-    ensures memory { IfErr result (λ refusal. refusal ≡ out_of_memory) }
+pub fn write_objects(alloc: Global, table: &Table) -> Result<Vec<u8>, AllocError>
+    ensures { IfOk result (λ text. text.items ≡ objects_text table.now) }
 {
     let mut text = String::new(alloc);
     write_entries(&mut text, table)?;

@@ -1,8 +1,7 @@
 //! The names at the place of a denial.
 ghost use Rattle.std.specs.Prelude.{[], ◌∷◌, ◌≡◌, IfOk, Option, map, string_bytes};
-ghost use Rattle.base.specs.{Kinds.kind_name, declared.ids.ObjId.ObjId as Id};
-ghost use Rattle.machine.specs.{declared.object.ObjectKind.ObjectKind as KindOfObject, WellFormed.kind_of};
-ghost use Rattle.table.specs.Rules.{kind_at};
+ghost use Rattle.base.specs.{declared.ids.ObjId.ObjId as Id, Kinds.kind_name};
+ghost use Rattle.{machine.specs.{declared.object.ObjectKind.ObjectKind as KindOfObject, WellFormed.kind_of}, table.specs.Rules.kind_at};
 ghost use Rattle.captext.specs.PolicyText as policy_text;
 ghost use Rattle.reptext.specs.Places as places;
 

@@ -1,12 +1,10 @@
 //! The authority of a label on another, as JSON.
-ghost use Rattle.std.specs.Prelude.{◌≡◌, IfErr, IfOk, map};
-ghost use Rattle.serde_json.specs.View.{view};
-ghost use Rattle.base.specs.Refusals.{out_of_memory};
-ghost use Rattle.reptext.specs.{Reasons.{edge_data, reason_data, why_data}, Reports.line_of};
+ghost use Rattle.std.specs.Prelude.{◌≡◌, IfOk, map};
+ghost use Rattle.{serde_json.specs.View.view, reptext.specs.{Reasons.{edge_data, reason_data, why_data}, Reports.line_of}};
 
 use crate::places::label_name;
 use crate::reports::{extent_word, line_of};
-use base::{Edge, Label, Refusal};
+use base::{Edge, Label};
 use policy::Why;
 use reach::Extent;
 use serde_json::{Value, json};
@@ -15,25 +13,8 @@ use table::Table;
 
 /// Returns what a label may do to another, as one JSON object on a line: how far it goes, and the
 /// edges of a reason.
-///
-/// # Errors
-///
-/// 40 where memory is refused.
-pub fn why_report(
-    alloc: Global,
-    table: &Table,
-    actor: Label,
-    object: Label,
-    why: &Why,
-) -> Result<Vec<u8>, Refusal>
-    ensures text { IfOk result (λ text. text.items ≡ line_of (why_data table.now actor object why.now)) }
-    ensures memory { IfErr result (λ refusal. refusal ≡ out_of_memory) }
-{
-    Ok(why_line(alloc, table, actor, object, why)?)
-}
-
 #[tactic(auto, using(crate::proofs::Fractions::why_has_no_float))]
-fn why_line(
+pub fn why_report(
     alloc: Global,
     table: &Table,
     actor: Label,

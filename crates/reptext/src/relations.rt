@@ -1,11 +1,8 @@
 //! The labels that each label may act on, in the report of an acceptance.
-ghost use Rattle.std.specs.List.{filter};
-ghost use Rattle.std.specs.Prelude.{[], ℕ, ◌++◌, ◌<◌, ◌↔◌, ◌∷◌, ◌≡◌, Bool, IfOk, OnOk, length, map, true};
-ghost use Rattle.serde_json.specs.{Data.string, View.{members_view, view}};
-ghost use Rattle.base.specs.Labels.{is_in};
-ghost use Rattle.policy.specs.Policy.{allows};
+ghost use Rattle.std.specs.{List.filter, Prelude.{[], ℕ, ◌++◌, ◌<◌, ◌↔◌, ◌∷◌, ◌≡◌, Bool, IfOk, OnOk, length, map, true}};
+ghost use Rattle.{serde_json.specs.{Data.string, View.{members_view, view}}, base.specs.Labels.is_in};
+ghost use Rattle.{policy.specs.Policy.allows, reptext.specs.Relations.{Decides, relates, relation_of}};
 ghost use Rattle.captext.specs.PolicyText as policy_text;
-ghost use Rattle.reptext.specs.Relations.{Decides, relates, relation_of};
 ghost use Rattle.reptext.specs.Reports as reports;
 
 use crate::places::label_name;

@@ -1,8 +1,6 @@
 //! Reports, each one JSON object on a line.
 ghost use Rattle.std.specs.Prelude.{ℕ, ◌≡◌, Bool, IfOk, false, map, string_bytes};
-ghost use Rattle.serde_json.specs.{View.view, Written.has_float};
-ghost use Rattle.verdict.specs.Verdict.{rule_name};
-ghost use Rattle.reptext.specs.Places.{place_names};
+ghost use Rattle.{serde_json.specs.{View.view, Written.has_float}, verdict.specs.Verdict.rule_name, reptext.specs.Places.place_names};
 ghost use Rattle.reptext.specs.Reports as reports;
 
 use crate::File;

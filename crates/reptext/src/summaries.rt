@@ -1,14 +1,12 @@
 //! The summary of an accepted system, as JSON.
-ghost use Rattle.std.specs.{List.flat_map, Prelude.{◌++◌, ◌≡◌, IfErr, IfOk, OnOk, map, string_bytes}};
-ghost use Rattle.serde_json.specs.View.{view};
-ghost use Rattle.summary.specs.Marks.{marks};
-ghost use Rattle.base.specs.Refusals.{out_of_memory};
-ghost use Rattle.reptext.specs.{Reports.line_of, Summaries.{IsSummaryReport, cell_data, cells_of, labels_data}};
-ghost use Rattle.reptext.specs.Summaries.{region_data, summary_data, told_cell};
+ghost use Rattle.std.specs.{List.flat_map, Prelude.{◌++◌, ◌≡◌, IfOk, OnOk, map, string_bytes}};
+ghost use Rattle.{serde_json.specs.View.view, summary.specs.Marks.marks};
+ghost use Rattle.reptext.specs.{Reports.line_of, Summaries.{IsSummaryReport, cell_data, cells_of}};
+ghost use Rattle.reptext.specs.Summaries.{labels_data, region_data, summary_data, told_cell};
 
 use crate::places::label_name;
 use crate::reports::line_of;
-use base::{Label, Refusal};
+use base::Label;
 use reach::Reach;
 use serde_json::{Value, json};
 use std::alloc::{AllocError, Global};
@@ -18,13 +16,8 @@ use table::Table;
 /// Returns the summary of a table with this reach, as one JSON object on a line: who may change
 /// whom in any run, and the labels without a thread with those who change them, read them, and may
 /// only take from them.
-///
-/// # Errors
-///
-/// 40 where memory is refused.
-pub fn summary_report(alloc: Global, reach: &Reach<'_>) -> Result<Vec<u8>, Refusal>
-    ensures text { IfOk result (λ text. IsSummaryReport reach.now text.items) }
-    ensures memory { IfErr result (λ refusal. refusal ≡ out_of_memory) }
+pub fn summary_report(alloc: Global, reach: &Reach<'_>) -> Result<Vec<u8>, AllocError>
+    ensures { IfOk result (λ text. IsSummaryReport reach.now text.items) }
 {
     let table = reach.table();
     let rows = rows_of(alloc, table, reach.policy(), reach.actors())?;

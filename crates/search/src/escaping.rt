@@ -1,9 +1,6 @@
 //! The search for a run that leaves a policy, which is one that ends in a state whose authority lies outside the policy.
 ghost use Rattle.std.specs.Prelude.{◌≡◌, ◌≤◌, IfErr, IfOk, IfSome};
-ghost use Rattle.base.specs.Refusals.{plain};
-ghost use Rattle.machine.specs.WellFormed.{IsWellFormed};
-ghost use Rattle.policy.specs.Policy.{allows};
-ghost use Rattle.runs.specs.Escapes.{Leaves};
+ghost use Rattle.{base.specs.Refusals.plain, machine.specs.WellFormed.IsWellFormed, policy.specs.Policy.allows, runs.specs.Escapes.Leaves};
 
 use crate::atoms::{Known, News};
 use crate::finding::{Found, copied, longer, unfound};

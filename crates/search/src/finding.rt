@@ -1,8 +1,6 @@
 //! The search for a script that answers a question.
 ghost use Rattle.std.specs.Prelude.{[], ◌++◌, ◌<◌, ◌∷◌, ◌≡◌, ◌≤◌, IfErr, IfOk, IfSome, None};
-ghost use Rattle.base.specs.Refusals.{plain};
-ghost use Rattle.machine.specs.WellFormed.{IsWellFormed};
-ghost use Rattle.runs.specs.Shown.{Answers};
+ghost use Rattle.{base.specs.Refusals.plain, machine.specs.WellFormed.IsWellFormed, runs.specs.Shown.Answers};
 
 use crate::atoms::{Known, News};
 use crate::origin::{Origin, settle};

@@ -1,7 +1,6 @@
 //! The state in which calls are tried one after another, and the undoing of each call.
 ghost use Rattle.std.specs.Prelude.{◌≡◌, IfErr};
-ghost use Rattle.base.specs.Refusals.{plain};
-ghost use Rattle.machine.specs.WellFormed.{IsWellFormed};
+ghost use Rattle.{base.specs.Refusals.plain, machine.specs.WellFormed.IsWellFormed};
 
 use crate::touching::{changes, reverse};
 use base::{ObjId, Refusal};

@@ -1,7 +1,6 @@
 //! The answer to a request: files are opened by their names, an engine does the request, and its end is reported.
 ghost use Rattle.std.specs.{Fn.FnReturnsAt, Prelude.{◌≡◌, ◌≤◌, false}};
-ghost use Rattle.devices.specs.Watched.{failed_of};
-ghost use Rattle.commands.specs.Ends.{status_of};
+ghost use Rattle.{devices.specs.Watched.failed_of, commands.specs.Ends.status_of};
 ghost use Rattle.requests.specs.Requests.{HaveArrived, IsWithinLimits, names_of};
 ghost use Rattle.serving.specs.Opening.{IsServed, IsServedInShort, RunsSplit, Serves, written};
 

@@ -1,9 +1,7 @@
 //! The call of the engine that does a request, on files that are open.
 ghost use Rattle.std.specs.Prelude.{◌≡◌, ◌≤◌, false};
-ghost use Rattle.devices.specs.Watched.{failed_of};
-ghost use Rattle.commands.specs.{Commands.{input, output}, Ends.status_of};
-ghost use Rattle.requests.specs.Requests.{HaveArrived, IsWithinLimits};
-ghost use Rattle.serving.specs.Opening.{AreSound, Serves, ServesThree, written};
+ghost use Rattle.{devices.specs.Watched.failed_of, commands.specs.{Commands.{input, output}, Ends.status_of}};
+ghost use Rattle.{requests.specs.Requests.{HaveArrived, IsWithinLimits}, serving.specs.Opening.{AreSound, Serves, ServesThree, written}};
 
 use crate::opening::Opened;
 use report::{

@@ -1,7 +1,6 @@
 //! The opening of a request's files.
 ghost use Rattle.std.specs.{Fn.FnReturnsAt, Prelude.{◌≡◌, IfOk, Some, false}};
-ghost use Rattle.devices.specs.{Bounded.bytes_allowed, Watched.failed_of};
-ghost use Rattle.requests.specs.Requests.{IsWithinLimits};
+ghost use Rattle.{devices.specs.{Bounded.bytes_allowed, Watched.failed_of}, requests.specs.Requests.IsWithinLimits};
 ghost use Rattle.serving.specs.{declared.opening.TheConstants.MOST_BYTES, Opening.{AreOpenedBy, AreSound, IsOpenedBy}};
 
 use devices::Bounded;

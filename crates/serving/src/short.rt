@@ -1,7 +1,6 @@
 //! The lines that `--format short` prints on standard output: one for each finding, or one that says that there is none.
 ghost use Rattle.std.specs.Prelude.{◌≡◌, ◌⊎◌, false};
-ghost use Rattle.devices.specs.Watched.{failed_of};
-ghost use Rattle.commands.specs.Ends.{status_of};
+ghost use Rattle.{devices.specs.Watched.failed_of, commands.specs.Ends.status_of};
 
 use crate::explaining::Explainer;
 use crate::opening::Opened;

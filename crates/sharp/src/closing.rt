@@ -1,14 +1,13 @@
 //! The closing of a policy: the least sharply closed policy that has its edges and some more.
-ghost use Rattle.std.specs.Prelude.{ℕ, ◌++◌, ◌≡◌, IfErr, IfOk, OnOk, false, true};
-ghost use Rattle.base.specs.{declared.kind.Kind.Kind, Labels.is_in, Refusals.out_of_memory};
-ghost use Rattle.policy.specs.{Policy.allows, Sharp.{IsSharplyClosed, Told}};
+ghost use Rattle.std.specs.Prelude.{ℕ, ◌++◌, ◌≡◌, IfOk, OnOk, false, true};
+ghost use Rattle.{base.specs.{declared.kind.Kind.Kind, Labels.is_in}, policy.specs.{Policy.allows, Sharp.{IsSharplyClosed, Told}}};
 ghost use Rattle.sharp.specs.{Asked.{IsSettledAmong, IsSharplySettled, SharesSharply}, Least.{GrowsSharply, IsLeastSharp}};
 
 use crate::asked::{givers, missing};
 use crate::keeping::keepers;
-use base::{Edge, Kind, Label, Labels, Refusal};
+use base::{Edge, Kind, Label, Labels};
 use policy::Policy;
-use std::alloc::Global;
+use std::alloc::{AllocError, Global};
 
 /// Returns the least sharply closed policy that has the edges of a policy and these edges.
 ///
@@ -17,15 +16,14 @@ use std::alloc::Global;
 ///
 /// # Errors
 ///
-/// 40 where memory is refused.
+/// [`AllocError`] where memory is refused.
 pub fn close_sharply(
     alloc: Global,
     policy: &Policy,
     edges: &[Edge],
     held: Labels,
-) -> Result<Policy, Refusal>
-    ensures least { IfOk result (λ closed. IsLeastSharp (policy.now ++ edges.now) (is_in held) closed) }
-    ensures memory { IfErr result (λ refusal. refusal ≡ out_of_memory) }
+) -> Result<Policy, AllocError>
+    ensures { IfOk result (λ closed. IsLeastSharp (policy.now ++ edges.now) (is_in held) closed) }
 {
     let mut closed = Policy::new(alloc);
     closed.extend(&policy.edges(alloc)?)?;
@@ -35,9 +33,8 @@ pub fn close_sharply(
 }
 
 // Adds missing edges of sharply closed policies, until none is missing.
-fn settle(policy: &mut Policy, held: Labels) -> Result<(), Refusal>
-    ensures least { OnOk result (IsLeastSharp policy.old (is_in held) policy.new) }
-    ensures memory { IfErr result (λ refusal. refusal ≡ out_of_memory) }
+fn settle(policy: &mut Policy, held: Labels) -> Result<(), AllocError>
+    ensures { OnOk result (IsLeastSharp policy.old (is_in held) policy.new) }
 {
     let mut keeping = keepers(policy, held);
     while settle_labels(policy, keeping)? {
@@ -48,11 +45,10 @@ fn settle(policy: &mut Policy, held: Labels) -> Result<(), Refusal>
 }
 
 // Adds the edges that are missing at each label, for these keepers. Returns whether there were any.
-fn settle_labels(policy: &mut Policy, keeping: Labels) -> Result<bool, Refusal>
+fn settle_labels(policy: &mut Policy, keeping: Labels) -> Result<bool, AllocError>
     ensures grows { IfOk result (λ changed. GrowsSharply keeping policy.old policy.new changed) }
     ensures settled { IfOk result
         (λ changed. changed ≡ false → IsSharplyClosed (allows policy.new) (Told (is_in keeping))) }
-    ensures memory { IfErr result (λ refusal. refusal ≡ out_of_memory) }
 {
     let mut changed = false;
     for number in 0..policy.span() {
@@ -66,11 +62,10 @@ fn settle_labels(policy: &mut Policy, keeping: Labels) -> Result<bool, Refusal>
 }
 
 // Adds the edges that are missing at a label. Returns whether there were any.
-fn settle_label(policy: &mut Policy, keeping: Labels, from: Label) -> Result<bool, Refusal>
+fn settle_label(policy: &mut Policy, keeping: Labels, from: Label) -> Result<bool, AllocError>
     ensures grows { IfOk result (λ changed. GrowsSharply keeping policy.old policy.new changed) }
     ensures settled { IfOk result (λ changed.
         changed ≡ false → (kind : Kind) → IsSharplySettled (allows policy.new) (Told (is_in keeping)) from kind) }
-    ensures memory { IfErr result (λ refusal. refusal ≡ out_of_memory) }
 {
     let sharing = givers(policy, keeping, from);
     let mut changed = false;
@@ -89,13 +84,12 @@ fn settle_row(
     from: Label,
     kind: Kind,
     sharing: Labels,
-) -> Result<bool, Refusal>
+) -> Result<bool, AllocError>
     requires { (giver : ℕ) → is_in sharing giver ≡ true
         → SharesSharply (allows policy.old) (Told (is_in keeping)) giver from }
     ensures grows { IfOk result (λ changed. GrowsSharply keeping policy.old policy.new changed) }
     ensures settled { IfOk result (λ changed. changed ≡ false
         → IsSettledAmong (allows policy.new) (Told (is_in keeping)) (Told (is_in sharing)) from kind) }
-    ensures memory { IfErr result (λ refusal. refusal ≡ out_of_memory) }
 {
     let lacks = missing(policy, keeping, from, kind, sharing);
     match lacks.first() {

@@ -48,7 +48,7 @@ pub(crate) fn with_memory(table: &Table) -> Labels
 pub fn programs(alloc: Global, table: &Table) -> Result<Vec<Label>, AllocError>
     ensures { IfOk result (λ labels. labels.items ≡ programs_of table.now) }
 {
-    let _ = table.objects();
+    table.keeps_rules();
     let threads = with_threads(table);
     let mut labels = Vec::new(alloc);
     for number in 0..table.label_count() {
@@ -65,7 +65,7 @@ pub fn programs(alloc: Global, table: &Table) -> Result<Vec<Label>, AllocError>
 pub fn others(alloc: Global, table: &Table) -> Result<Vec<Label>, AllocError>
     ensures { IfOk result (λ labels. labels.items ≡ others_of table.now) }
 {
-    let _ = table.objects();
+    table.keeps_rules();
     let threads = with_threads(table);
     let mut labels = Vec::new(alloc);
     for number in 0..table.label_count() {

@@ -1,11 +1,10 @@
 //! The summary of a system as one text.
-ghost use Rattle.std.specs.Prelude.{◌++◌, ◌≡◌, IfErr, IfOk, OnOk, string_bytes};
-ghost use Rattle.{base.specs.Refusals.out_of_memory, summary.specs.{Labelled.others_of, Whole.{IsSummary, others_text, summary_text}}};
+ghost use Rattle.std.specs.Prelude.{◌++◌, ◌≡◌, IfOk, OnOk, string_bytes};
+ghost use Rattle.summary.specs.{Labelled.others_of, Whole.{IsSummary, others_text, summary_text}};
 
 use crate::labelled::others;
 use crate::regions::write_regions;
 use crate::rows::{Row, rows_of};
-use base::Refusal;
 use matrix::write_matrix;
 use reach::Reach;
 use std::alloc::{AllocError, Global};
@@ -19,13 +18,8 @@ who may change whom, in any run: C calls, A answers, S signals, F for another re
 
 /// Returns the summary of a table with this reach: a matrix of who may change whom in any run, and the labels
 /// without a thread with those who change and read them.
-///
-/// # Errors
-///
-/// 40 where memory is refused.
-pub fn summary(alloc: Global, reach: &Reach<'_>) -> Result<Vec<u8>, Refusal>
-    ensures text { IfOk result (λ text. IsSummary reach.now text.items) }
-    ensures memory { IfErr result (λ refusal. refusal ≡ out_of_memory) }
+pub fn summary(alloc: Global, reach: &Reach<'_>) -> Result<Vec<u8>, AllocError>
+    ensures { IfOk result (λ text. IsSummary reach.now text.items) }
 {
     let table = reach.table();
     let rows = rows_of(alloc, table, reach.policy(), reach.actors())?;

@@ -1,13 +1,9 @@
 -- The texts on a label's users: the labels that may change it, and the labels that may read it (confine's own).
 use Rattle.std.specs.{List.flat_map, Prelude.{[], ℕ, ◌++◌, ◌==◌, ◌∷◌, ◌≡◌, All, List, codes, if◌then◌else◌, map}}
-use Rattle.base.specs.{declared.labels.Labels.Labels, Labels.members_of}
-use Rattle.machine.specs.Layout.{Layout}
-use Rattle.table.specs.Names.{AreLabelsOf}
-use Rattle.policy.specs.{Domain.EdgeTest, Policy.allows}
-use Rattle.captext.specs.PolicyText.{label_name}
+use Rattle.{base.specs.{declared.labels.Labels.Labels, Labels.members_of}, machine.specs.Layout.Layout}
+use Rattle.{table.specs.Names.AreLabelsOf, policy.specs.{Domain.EdgeTest, Policy.allows}}
 use Rattle.reach.specs.{declared.extent.Extent.{Extent, Extent as extent}, Extents.{GoesTo, Limits, limits_of}, Reach.TableReach}
-use Rattle.summary.specs.Sharing.{reads_of}
-use Rattle.usertext.specs.declared.lines.User.{User}
+use Rattle.{captext.specs.PolicyText.label_name, summary.specs.Sharing.reads_of, usertext.specs.declared.lines.User.User}
 
 -- these labels, each with how far it goes with another
 pub record AreUsers (limits : Limits) (labels : List ℕ) (object : ℕ) (users : List User) : Type 0 where

@@ -1,13 +1,10 @@
 //! The lines on a label's users: one for each label that may change another, or read it.
-ghost use Rattle.std.specs.{List.flat_map, Prelude.{◌++◌, ◌≡◌, IfErr, IfOk, OnOk, string_bytes}};
-ghost use Rattle.base.specs.{Labels.members_of, Refusals.out_of_memory};
-ghost use Rattle.captext.specs.PolicyText.{label_name};
-ghost use Rattle.policy.specs.Policy.{allows};
-ghost use Rattle.reach.specs.Extents.{limits_of};
-ghost use Rattle.summary.specs.Sharing.{reads_of};
+ghost use Rattle.std.specs.{List.flat_map, Prelude.{◌++◌, ◌≡◌, IfOk, OnOk, string_bytes}};
+ghost use Rattle.{base.specs.Labels.members_of, policy.specs.Policy.allows, reach.specs.Extents.limits_of};
+ghost use Rattle.{captext.specs.PolicyText.label_name, summary.specs.Sharing.reads_of};
 ghost use Rattle.usertext.specs.UsersText.{AreUsers, IsChangersText, IsReadersText, change_line, extent_line, or_none, read_line};
 
-use base::{Edge, Kind, Label, Labels, Refusal};
+use base::{Edge, Kind, Label, Labels};
 use captext::label_name;
 use policy::Policy;
 use reach::{Extent, Reach};
@@ -23,13 +20,8 @@ struct User {
 
 /// Returns a line for each other label that may change objects of a label, or take something away from them: its name,
 /// and `full` or `take`. The lines are in the order of labels. If there is none, the line is `none`.
-///
-/// # Errors
-///
-/// 40 where memory is refused.
-pub fn changers_text(alloc: Global, reach: &Reach<'_>, object: Label) -> Result<Vec<u8>, Refusal>
-    ensures text { IfOk result (λ text. IsChangersText reach.now object text.items) }
-    ensures memory { IfErr result (λ refusal. refusal ≡ out_of_memory) }
+pub fn changers_text(alloc: Global, reach: &Reach<'_>, object: Label) -> Result<Vec<u8>, AllocError>
+    ensures { IfOk result (λ text. IsChangersText reach.now object text.items) }
 {
     let labels = members(alloc, reach.table().labels())?;
     let users = users(alloc, reach, &labels, object)?;
@@ -40,13 +32,8 @@ pub fn changers_text(alloc: Global, reach: &Reach<'_>, object: Label) -> Result<
 
 /// Returns a line for each other label that may read words, messages or signals of a label: its name, and `reads`.
 /// The lines are in the order of labels. If there is none, the line is `none`.
-///
-/// # Errors
-///
-/// 40 where memory is refused.
-pub fn readers_text(alloc: Global, reach: &Reach<'_>, object: Label) -> Result<Vec<u8>, Refusal>
-    ensures text { IfOk result (λ text. IsReadersText reach.now object text.items) }
-    ensures memory { IfErr result (λ refusal. refusal ≡ out_of_memory) }
+pub fn readers_text(alloc: Global, reach: &Reach<'_>, object: Label) -> Result<Vec<u8>, AllocError>
+    ensures { IfOk result (λ text. IsReadersText reach.now object text.items) }
 {
     let labels = members(alloc, reach.table().labels())?;
     let mut lines = String::new(alloc);

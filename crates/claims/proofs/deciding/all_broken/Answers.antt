@@ -7,24 +7,24 @@ use Rattle.claims.specs.declared.lines.TheConstants.ClaimLines as ClaimLines
 pub returns-clause-broken : goal.returns-clause-broken
 returns-clause-broken c =
     subst (λ entries. AreBroken c.args.reach.now.table (limits_of c.args.reach.now) ClaimLines.FIRST entries c.in_ok-broken.broken.items)
-    c.as_slice.ensures c.in_ok-broken.ensures.broken
+    c.as_slice.ensures c.in_ok-broken.ensures
 
 pub returns-clause-kept : goal.returns-clause-kept
-returns-clause-kept c = claim_kept c.args.reach.now c.policy.ensures.reach c.policy.ensures.safe
+returns-clause-kept c = claim_kept c.args.reach.now c.bounds_runs.ensures.reach c.bounds_runs.ensures.safe
 
 pub returns-clause-all_kept : goal.returns-clause-all_kept
 returns-clause-all_kept c = λ none claim has.
     let reach = c.args.reach.now in
-    claim_kept reach c.policy.ensures.reach c.policy.ensures.safe claim
+    claim_kept reach c.bounds_runs.ensures.reach c.bounds_runs.ensures.safe claim
     (all_hold reach.table (limits_of reach) (returns-clause-broken c) none claim has)
 
 pub returns-in_err-broken-clause-kept : goal.returns-in_err-broken-clause-kept
-returns-in_err-broken-clause-kept c = claim_kept c.args.reach.now c.policy.ensures.reach c.policy.ensures.safe
+returns-in_err-broken-clause-kept c = claim_kept c.args.reach.now c.bounds_runs.ensures.reach c.bounds_runs.ensures.safe
 
 pub returns-clause-calls : goal.returns-clause-calls
 returns-clause-calls c = λ fixed.
     let reach = c.args.reach.now in
-    let is = c.policy.ensures.reach in
+    let is = c.bounds_runs.ensures.reach in
     claim_learnt reach.table (limits_of reach)
     (λ from to off boot m n events others outcomes ends booted beside one other.
     c.others_make_no_difference.ensures.reach reach (is_one_of []) from to off boot m n events others outcomes ends is fixed (λ label. refl)
@@ -40,7 +40,7 @@ returns-clause-all_calls c = λ fixed none claim has.
 pub returns-in_err-broken-clause-calls : goal.returns-in_err-broken-clause-calls
 returns-in_err-broken-clause-calls c = λ fixed.
     let reach = c.args.reach.now in
-    let is = c.policy.ensures.reach in
+    let is = c.bounds_runs.ensures.reach in
     claim_learnt reach.table (limits_of reach)
     (λ from to off boot m n events others outcomes ends booted beside one other.
     c.others_make_no_difference.ensures.reach reach (is_one_of []) from to off boot m n events others outcomes ends is fixed (λ label. refl)

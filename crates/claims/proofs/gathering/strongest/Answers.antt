@@ -15,5 +15,5 @@ returns-clause-hold c =
 pub returns-clause-kept : goal.returns-clause-kept
 returns-clause-kept c = λ claim has.
     let reach = c.args.reach.now in
-    claim_kept reach c.policy.ensures.reach c.policy.ensures.safe claim
+    claim_kept reach c.bounds_runs.ensures.reach c.bounds_runs.ensures.safe claim
     (all_hold reach.table (limits_of reach) (returns-clause-hold c) refl claim has)

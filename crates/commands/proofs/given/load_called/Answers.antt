@@ -1,7 +1,6 @@
 -- The system that is loaded is that of the text, which the file's bytes are known to be.
-use Rattle.std.proofs.Common.{IfSome, List, ℕ, ◌≡◌, subst, sym}
-use Rattle.commands.specs.declared.choices.Taken.{Taken as taken}
-use Rattle.commands.proofs.Following.{named_heard}
+use Rattle.std.proofs.Common.{ℕ, ◌≡◌, IfSome, List, subst, sym}
+use Rattle.commands.{specs.declared.choices.Taken.Taken as taken, proofs.Following.named_heard}
 use Rattle.commands.proofs.given.load_called.Goals as goal
 
 pub returns-in-System-clause-heard : goal.returns-in-System-clause-heard

@@ -1,6 +1,5 @@
-use Rattle.std.proofs.Common.{Err, Some, subst}
-use Rattle.machine.specs.Layout.{Layout}
-use Rattle.commands.specs.{Files.{Gives, contents_of, given_contents, whole}, Given.layout_of, Hearing.HearsFault}
+use Rattle.{std.proofs.Common.{Err, Some, subst}, machine.specs.Layout.Layout}
+use Rattle.commands.specs.{Files.{Gives, contents_of, given_contents}, Given.layout_of, Hearing.HearsFault}
 use Rattle.commands.proofs.Following.{given_after, heard_after, heard_first, stopped_first}
 use Rattle.commands.proofs.load.load_with.Goals as goal
 

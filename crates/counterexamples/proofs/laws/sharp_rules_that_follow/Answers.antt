@@ -1,6 +1,5 @@
 -- A keeper may grant to itself, and to a keeper, where both control a label.
-use Rattle.policy.specs.Sharp.{Told}
-use Rattle.counterexamples.proofs.Following.{derive_follows, fall_follows}
+use Rattle.{policy.specs.Sharp.Told, counterexamples.proofs.Following.{derive_follows, fall_follows}}
 use Rattle.counterexamples.proofs.laws.sharp_rules_that_follow.Goals as goal
 
 pub returns-clause-derive : goal.returns-clause-derive

@@ -6,8 +6,8 @@ use Rattle.flowtext.specs.declared.flow.TheConstants.{MOST_SETS}
 use Rattle.flowtext.{specs.FlowText.{IsFlowText.{none, some}, reached_text}, proofs.Avoiding.none_avoided}
 use Rattle.flowtext.proofs.flow.flow_text.Goals as goal
 
-pub returns-in-Some-clause-text : goal.returns-in-Some-clause-text
-returns-in-Some-clause-text c =
+pub returns-in-Some : goal.returns-in-Some
+returns-in-Some c =
     let from = c.args.from in
     let to = c.args.to in
     let avoided = c.avoided-avoided.result in
@@ -20,12 +20,12 @@ returns-in-Some-clause-text c =
     c.in-Some.is c.in_ok-links.ensures in
     let text : c.into_bytes.result.items ≡ reached_text c.args.reach.now.table sets links = search rules in
     some sets avoided links
-    (subst (λ (r : TableReach). IsSmallest (IsFilterSet (limits_of r) from to) MOST_SETS sets) c.in_ok-graph.ensures.reach c.in_ok-smallest.ensures)
+    (subst (λ (r : TableReach). IsSmallest (IsFilterSet (limits_of r) from to) MOST_SETS sets) c.in_ok-graph.ensures c.in_ok-smallest.ensures)
     c.avoided-avoided.ensures
-    (subst (λ (r : TableReach). IsChain (limits_of r) (is_in avoided) from links to) c.in_ok-flows.ensures.reach chain) text
+    (subst (λ (r : TableReach). IsChain (limits_of r) (is_in avoided) from links to) c.in_ok-flows.ensures chain) text
 
-pub returns-clause-text : goal.returns-clause-text
-returns-clause-text c =
+pub returns : goal.returns
+returns c =
     let from = c.args.from in
     let to = c.args.to in
     let avoided = c.avoided-avoided.result in
@@ -36,9 +36,9 @@ returns-clause-text c =
     (λ found. MatchOption found (GoesThrough (limits_of flows) (is_in avoided) from to) (λ links. IsChain (limits_of flows) (is_in avoided) from links.items to))
     c.in-None.is c.in_ok-links.ensures in
     let through : GoesThrough limits (is_in avoided) from to =
-    subst (λ (r : TableReach). GoesThrough (limits_of r) (is_in avoided) from to) c.in_ok-flows.ensures.reach goes in
+    subst (λ (r : TableReach). GoesThrough (limits_of r) (is_in avoided) from to) c.in_ok-flows.ensures goes in
     let smallest : IsSmallest (IsFilterSet limits from to) MOST_SETS c.in_ok-smallest.smallest =
-    subst (λ (r : TableReach). IsSmallest (IsFilterSet (limits_of r) from to) MOST_SETS c.in_ok-smallest.smallest) c.in_ok-graph.ensures.reach
+    subst (λ (r : TableReach). IsSmallest (IsFilterSet (limits_of r) from to) MOST_SETS c.in_ok-smallest.smallest) c.in_ok-graph.ensures
     c.in_ok-smallest.ensures in
     let text : c.into_bytes-in-None.result.items ≡ codes "none\n" = search rules in
     none avoided (none_avoided limits from to MOST_SETS c.in_ok-smallest.smallest avoided smallest c.avoided-avoided.ensures through) through text

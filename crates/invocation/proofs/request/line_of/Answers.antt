@@ -1,7 +1,5 @@
 use Rattle.std.proofs.Common.{◌∙◌, ◌≡◌, IfSome, None, Some, ap, refl, rules, sym}
-use Rattle.clap.specs.Matches.{found_of, subcommand_name_of}
-use Rattle.invocation.specs.Found.{IsAskedIn}
-use Rattle.requests.specs.Meaning.{verb_name}
+use Rattle.{clap.specs.Matches.{found_of, subcommand_name_of}, requests.specs.Meaning.verb_name, invocation.specs.Found.IsAskedIn}
 use Rattle.invocation.proofs.request.line_of.Goals as goal
 
 pub returns-clause-meaning : goal.returns-clause-meaning

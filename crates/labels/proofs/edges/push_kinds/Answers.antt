@@ -9,10 +9,10 @@ pub loop-kind-preserved : goal.loop-kind-preserved
 loop-kind-preserved c =
     let between = edge_between (declared_label c.args.table.now c.args.holder) (declared_label c.args.table.now c.args.held.now.object) in
     edges_more between (gives c.args.held.now.detail) c.possible_kinds-kind-items.result.now c.loop-kind.kind-index _ c.args.edges.now.items c.loop-kind.edges.items
-    c.push_kind.new.edges.items c.loop-kind-test.true c.loop-kind.invariant c.in_ok-push_kind.ensures.ok
+    c.push_kind.new.edges.items c.loop-kind-test.true c.loop-kind.invariant c.in_ok-push_kind.ensures
 
-pub returns-clause-ok : goal.returns-clause-ok
-returns-clause-ok c =
+pub returns : goal.returns
+returns c =
     let between = edge_between (declared_label c.args.table.now c.args.holder) (declared_label c.args.table.now c.args.held.now.object) in
     let given = gives c.args.held.now.detail in
     let all = take_all c.loop-kind.kind-index c.possible_kinds-kind-items.result.now c.loop-kind-test.false in

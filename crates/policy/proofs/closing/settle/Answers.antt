@@ -16,8 +16,8 @@ loop-policy-preserved c =
       least = λ other closed within. grows.forced other closed (kept.least other closed within);
     }
 
-pub returns-clause-least : goal.returns-clause-least
-returns-clause-least c =
+pub returns : goal.returns
+returns c =
     let grows = c.in_ok-settle_labels.ensures.grows in
     let kept = c.loop-policy.invariant in
     record {

@@ -8,4 +8,4 @@ returns-in-None-clause-settled c = λ is.
 pub returns-in_ok-add_row-in-Some-clause-grows : goal.returns-in_ok-add_row-in-Some-clause-grows
 returns-in_ok-add_row-in-Some-clause-grows c =
     grows_by_join c.args.policy.now c.add_row.new.self c.args.from c.args.kind c.missing-lacks.result c.in-Some.first (λ to. (c.missing-lacks.ensures to).0)
-    c.in_ok-add_row-in-Some.ensures.joins (omega (arith, c.number.ensures.value, c.number.ensures.below)) c.in-Some.ensures.some.0
+    c.in_ok-add_row-in-Some.ensures (omega (arith, c.number.ensures.value, c.number.ensures.below)) c.in-Some.ensures.some.0

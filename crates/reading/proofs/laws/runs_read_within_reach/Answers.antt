@@ -1,7 +1,5 @@
 -- Reads and writes need an edge of the reach, or of any policy that has the boot state's authority.
-use Rattle.policy.specs.Policy.{allows}
-use Rattle.integrity.proofs.{Runs.sound_at, Starting.starts_kept}
-use Rattle.reading.proofs.ReadEdges.{never_uses}
+use Rattle.{policy.specs.Policy.allows, integrity.proofs.{Runs.sound_at, Starting.starts_kept}, reading.proofs.ReadEdges.never_uses}
 use Rattle.reading.proofs.laws.runs_read_within_reach.Goals as goal
 
 pub returns-clause-reach : goal.returns-clause-reach

@@ -1,12 +1,8 @@
 -- Reads and writes that a summary doesn't show never happen: each is by an edge, and what is written is memory of the table.
 use Rattle.std.proofs.Common.{◌||◌, ◌≡◌, Bool, false, inl, refl, sym}
-use Rattle.base.specs.declared.kind.Kind.{Kind, Kind as authority}
-use Rattle.machine.specs.{Machine.Machine}
-use Rattle.policy.specs.Policy.{allows}
-use Rattle.integrity.specs.{Invariant.IsSound, Safe.IsReached}
-use Rattle.integrity.proofs.{Runs.sound_at, Starting.starts_kept}
-use Rattle.reading.specs.Reading.{NeverUses}
-use Rattle.reading.proofs.{Memory.written_has_memory, ReadEdges.{never_uses, used_edge}}
+use Rattle.{base.specs.declared.kind.Kind.{Kind, Kind as authority}, machine.specs.Machine.Machine, policy.specs.Policy.allows}
+use Rattle.integrity.{specs.{Invariant.IsSound, Safe.IsReached}, proofs.{Runs.sound_at, Starting.starts_kept}}
+use Rattle.reading.{specs.Reading.NeverUses, proofs.{Memory.written_has_memory, ReadEdges.{never_uses, used_edge}}}
 use Rattle.reading.proofs.laws.summaries_show_who_reads.Goals as goal
 
 pub returns-clause-memory : goal.returns-clause-memory

@@ -19,8 +19,8 @@ returns c =
             actor_named = of_actor;
             object_named = of_object;
             authority = c.in_ok-why.why;
-            is_why = c.in_ok-why.ensures.why;
-            told = c.in_ok-told.ensures.text;
+            is_why = c.in_ok-why.ensures;
+            told = c.in_ok-told.ensures;
           };
         });
         status = plain.status;

@@ -8,4 +8,4 @@ pub returns-in-Why : goal.returns-in-Why
 returns-in-Why c = rw c.in-Why.is c.explained_by.ensures
 
 pub returns-in_ok-policy_picture-in-Draw : goal.returns-in_ok-policy_picture-in-Draw
-returns-in_ok-policy_picture-in-Draw c = rw c.in-Draw.is (said c.in_ok-policy_picture-in-Draw.ensures.text c.plain.ensures.plain)
+returns-in_ok-policy_picture-in-Draw c = rw c.in-Draw.is (said c.in_ok-policy_picture-in-Draw.ensures c.plain.ensures.plain)

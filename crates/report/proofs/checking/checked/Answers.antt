@@ -1,6 +1,4 @@
-use Rattle.std.proofs.Common.{None, subst}
-use Rattle.machine.specs.Layout.{Layout}
-use Rattle.commands.specs.Commands.{IsJudgedSo}
+use Rattle.{std.proofs.Common.{None, subst}, machine.specs.Layout.Layout, commands.specs.Commands.IsJudgedSo}
 use Rattle.report.specs.Answers as answers
 use Rattle.report.proofs.checking.checked.Goals as goal
 

@@ -1,5 +1,4 @@
-use Rattle.std.proofs.Common.{IfOk, subst}
-use Rattle.machine.specs.Layout.{Layout}
+use Rattle.{std.proofs.Common.{IfOk, subst}, machine.specs.Layout.Layout}
 use Rattle.report.specs.Claimed as claimed
 use Rattle.report.proofs.claiming.claims_answer.Goals as goal
 

@@ -1,5 +1,4 @@
-use Rattle.std.proofs.Common.{subst}
-use Rattle.machine.specs.Layout.{Layout}
+use Rattle.{std.proofs.Common.subst, machine.specs.Layout.Layout}
 use Rattle.report.specs.Claimed as claimed
 use Rattle.report.proofs.claiming.claims_judged.Goals as goal
 

@@ -1,16 +1,13 @@
 -- That the answer to claims is by the reach of the table.
-use Rattle.std.proofs.Common.{[], ℕ, ◌==◌, ◌∙◌, ◌∷◌, ◌≡◌, List, Option, ap, arith, false, length, refl, subst, suc, true}
-use Rattle.std.{specs.{declared.alloc.Global.Global, Prelude.Vec}, proofs.lemmas.Bool.Decides.nat_tests}
-use Rattle.machine.specs.Layout.{Layout}
-use Rattle.reach.specs.{Extents.limits_of, Reach.{IsReachOf, IsTableReach, TableReach}}
+use Rattle.std.{specs.{declared.alloc.Global.Global, Prelude.Vec}, proofs.Common.{[], ℕ, ◌==◌, ◌∙◌, ◌∷◌, ◌≡◌, List}}
+use Rattle.std.proofs.{Common.{Option, ap, arith, false, length, refl, subst, suc, true}, lemmas.Bool.Decides.nat_tests}
+use Rattle.{machine.specs.Layout.Layout, reach.specs.{Extents.limits_of, Reach.{IsReachOf, IsTableReach, TableReach}}}
 use Rattle.claims.specs.{declared.{claim.Claim.Claim, deciding.Broken.Broken, keeping.Kept.Kept}, Holding.{AreBroken, Holds}}
-use Rattle.claims.specs.Learning.{IsKeptSo}
-use Rattle.claims.specs.declared.lines.TheConstants.ClaimLines as ClaimLines
-use Rattle.reptext.specs.{Breaches.breaches_data, Reports.{hold_data, line_of}}
-use Rattle.report.proofs.claiming.reach_answer.Goals as goal
-use Rattle.commands.specs.declared.{answer.Answer.Answer, listener.Finding.Finding as finding}
-use Rattle.commands.specs.Commands.{Finds}
+use Rattle.{claims.specs.Learning.IsKeptSo, reptext.specs.{Breaches.breaches_data, Reports.{hold_data, line_of}}}
+use Rattle.commands.specs.{declared.{answer.Answer.Answer, listener.Finding.Finding as finding}, Commands.Finds}
 use Rattle.report.proofs.Retold.{finding_retold, plain_retold}
+use Rattle.claims.specs.declared.lines.TheConstants.ClaimLines as ClaimLines
+use Rattle.report.proofs.claiming.reach_answer.Goals as goal
 use Rattle.report.specs.Claimed as claimed
 
 some : (t : Layout) (lines : List (Option Claim)) (reach : TableReach) → IsReachOf t reach → (v : Vec Broken Global) → (all : List Broken)
@@ -47,7 +44,7 @@ returns-then-is_empty-clause-right c =
     let none = none_of c.in_ok-broken.broken.items empty in
     let kept = c.kept_of-kept.result in
     let told = c.in_ok-hold_report.ensures ∙ ap (λ n. line_of (hold_data n kept)) c.claim_count.ensures in
-    claimed.all_hold reach (own reach c.policy.ensures.reach)
+    claimed.all_hold reach (own reach c.bounds_runs.ensures.reach)
     (subst (AreBroken reach.table (limits_of reach) ClaimLines.FIRST c.args.lines.now) none c.in_ok-broken.ensures.broken)
     kept
     (record {
@@ -69,7 +66,7 @@ returns-clause-right c =
     let told =
     c.in_ok-text.ensures ∙ ap (λ t. line_of (breaches_data t lines c.deref.result.now kept)) c.table-table.ensures
     ∙ ap (λ broken. line_of (breaches_data reach.table lines broken kept)) c.deref.ensures.value in
-    some reach.table lines reach (own reach c.policy.ensures.reach) c.in_ok-broken.broken c.in_ok-broken.broken.items refl
+    some reach.table lines reach (own reach c.bounds_runs.ensures.reach) c.in_ok-broken.broken c.in_ok-broken.broken.items refl
     c.in_ok-broken.ensures.broken (some_of c.in_ok-broken.broken.items filled)
     kept
     (record {

@@ -1,5 +1,4 @@
-use Rattle.std.proofs.Common.{subst}
-use Rattle.report.{specs.Closings.IsClosing, proofs.ClosedText.{accepted_as, surplus_told}}
+use Rattle.{std.proofs.Common.subst, report.{specs.Closings.IsClosing, proofs.ClosedText.{accepted_as, surplus_told}}}
 use Rattle.report.proofs.closing.surplus_answer.Goals as goal
 
 pub returns-clause-right : goal.returns-clause-right

@@ -16,7 +16,7 @@ returns c =
           to_named = of_to;
           reach = c.in_ok-reach.reach;
           is_reach = record { of_table = c.in_ok-reach.ensures.table; is = c.in_ok-reach.ensures.reach };
-          told = c.in_ok-flow_text.ensures.text;
+          told = c.in_ok-flow_text.ensures;
         });
         status = plain.status;
         bare = plain.bare;

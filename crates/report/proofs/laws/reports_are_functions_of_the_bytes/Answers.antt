@@ -1,7 +1,6 @@
 -- That each command has one answer, by the lemma of its kind.
-use Rattle.evtext.specs.{Log.read_log_of, Script.read_script_of}
+use Rattle.{forms.specs.declared.file.File.File as file, evtext.specs.{Log.read_log_of, Script.read_script_of}}
 use Rattle.certificate.specs.Reading.{read_certificate_of}
-use Rattle.forms.specs.declared.file.File.{File as file}
 use Rattle.report.specs.{Answers.{Checks, Verifies}, OneAnswer.RunsInMemory, Replays.Replays}
 use Rattle.report.proofs.{OneAnswer.{of_three, of_two}, OneLog.{replay_once, run_told_once}, OneReport.{check_once, verify_once}}
 use Rattle.report.proofs.laws.reports_are_functions_of_the_bytes.Goals as goal

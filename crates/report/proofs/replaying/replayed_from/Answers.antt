@@ -1,9 +1,7 @@
 use Rattle.std.proofs.Common.{ℕ, ◌∙◌, ◌≡◌, List, ap, length, map, string_bytes}
-use Rattle.machine.specs.WellFormed.{kind_of}
-use Rattle.verdict.specs.Verdict.{rule_name}
+use Rattle.{machine.specs.WellFormed.kind_of, verdict.specs.Verdict.rule_name}
 use Rattle.reptext.specs.{Places.place_names_by, Reports.{line_of, outside_data}}
-use Rattle.report.specs.Replays.{illegal, outside, within}
-use Rattle.report.proofs.Retold.{finding_retold, plain_retold}
+use Rattle.report.{specs.Replays.{illegal, outside, within}, proofs.Retold.{finding_retold, plain_retold}}
 use Rattle.report.proofs.replaying.replayed_from.Goals as goal
 
 pub returns-in-Some-clause-right : goal.returns-in-Some-clause-right

@@ -1,6 +1,5 @@
 use Rattle.std.{specs.List.zip, proofs.Common.{◌++◌, ◌∙◌, ap, refl, subst, sym}}
-use Rattle.machine.specs.Run.{Run}
-use Rattle.evtext.specs.Log.{log_text}
+use Rattle.{machine.specs.Run.Run, evtext.specs.Log.log_text}
 use Rattle.report.proofs.running.run_answer.Goals as goal
 
 pub returns : goal.returns
@@ -19,7 +18,7 @@ returns c =
             subst (λ os. Run c.in_ok-state.state c.args.script.now os c.run-ran.new.state) (sym items)
             (subst (λ events. Run c.in_ok-state.state events ran.0 c.run-ran.new.state) script ran.2);
         told =
-            c.in_ok-write_run.ensures.text ∙ ap (λ xs. log_text (zip c.as_slice-events.result.now xs)) c.deref.ensures.value
+            c.in_ok-write_run.ensures ∙ ap (λ xs. log_text (zip c.as_slice-events.result.now xs)) c.deref.ensures.value
             ∙ ap (λ events. log_text (zip events outcomes.items)) script;
       };
       status = refl;

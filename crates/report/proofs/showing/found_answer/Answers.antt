@@ -1,7 +1,5 @@
 use Rattle.std.{specs.{declared.alloc.Global.Global, Prelude.Vec}, proofs.Common.{◌∙◌, ap, arith, refl}}
-use Rattle.machine.specs.declared.call.Event.{Event}
-use Rattle.evtext.specs.Script.{script_text}
-use Rattle.report.proofs.Retold.{plain_retold}
+use Rattle.{machine.specs.declared.call.Event.Event, evtext.specs.Script.script_text, report.proofs.Retold.plain_retold}
 use Rattle.report.proofs.showing.found_answer.Goals as goal
 use Rattle.report.specs.Shows as shows
 

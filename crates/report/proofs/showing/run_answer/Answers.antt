@@ -1,6 +1,5 @@
 -- That the answer is by the reach of the table.
-use Rattle.std.proofs.{Common.{ℕ, refl, subst}, lemmas.Result.IfOk-weaker}
-use Rattle.machine.specs.Layout.{Layout}
+use Rattle.{std.proofs.{Common.{ℕ, refl, subst}, lemmas.Result.IfOk-weaker}, machine.specs.Layout.Layout}
 use Rattle.report.proofs.showing.run_answer.Goals as goal
 use Rattle.report.specs.Shows as shows
 
@@ -12,7 +11,7 @@ returns-clause-right c =
     IfOk-weaker c.bounded_answer.result _ _
     (λ answer told. record {
       reach = reach;
-      is_reach = record { of_table = refl; is = c.policy.ensures.reach };
+      is_reach = record { of_table = refl; is = c.bounds_runs.ensures.reach };
       bound = bound;
       goes = c.extent-bound.ensures.extent;
       kept = c.extent-bound.ensures.kept;

@@ -1,5 +1,4 @@
-use Rattle.verdict.specs.declared.rules.Rules.{Rules as rules}
-use Rattle.report.proofs.Denied.{denied_by}
+use Rattle.{verdict.specs.declared.rules.Rules.Rules as rules, report.proofs.Denied.denied_by}
 use Rattle.report.proofs.splitting.ran_split.Goals as goal
 
 pub returns-in_ok-denied-in-Err-2 : goal.returns-in_ok-denied-in-Err-2

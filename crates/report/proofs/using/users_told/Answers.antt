@@ -14,7 +14,7 @@ returns c =
           reach = c.in_ok-reach.reach;
           is_reach = c.in_ok-reach.ensures.reach;
           kept = c.in_ok-reach.ensures.kept;
-          told = c.in_ok-users_text.ensures.text;
+          told = c.in_ok-users_text.ensures;
         });
         status = plain.status;
         bare = plain.bare;

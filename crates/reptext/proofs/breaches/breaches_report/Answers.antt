@@ -1,6 +1,5 @@
 use Rattle.std.proofs.Common.{◌∙◌, ap}
-use Rattle.serde_json.specs.Written.{has_float}
-use Rattle.reptext.proofs.Fractions.{breaches_have_no_float}
+use Rattle.{serde_json.specs.Written.has_float, reptext.proofs.Fractions.breaches_have_no_float}
 use Rattle.reptext.proofs.breaches.breaches_report.Goals as goal
 
 pub line_of-requires : goal.line_of-requires

@@ -1,6 +1,5 @@
 use Rattle.std.proofs.Common.{◌∙◌, ap}
-use Rattle.serde_json.specs.Written.{has_float}
-use Rattle.reptext.proofs.ChangeValues.{changes_have_no_float}
+use Rattle.{serde_json.specs.Written.has_float, reptext.proofs.ChangeValues.changes_have_no_float}
 use Rattle.reptext.proofs.differences.changes_report.Goals as goal
 
 pub line_of-requires : goal.line_of-requires

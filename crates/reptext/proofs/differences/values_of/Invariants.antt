@@ -1,7 +1,6 @@
 use Rattle.std.proofs.Common.{◌≡◌, map, take}
-use Rattle.reptext.specs.Differences.{change_data}
+use Rattle.{serde_json.specs.View.view, reptext.specs.Differences.change_data}
 use Rattle.reptext.proofs.differences.values_of.Given as goal
-use Rattle.serde_json.specs.View.{view}
 
 -- the changes so far are kept
 abbrev pub invariant-loop-change : goal.invariant-loop-change

@@ -1,6 +1,5 @@
 -- That the arrows from the next label are written after those from the labels before.
-use Rattle.std.proofs.Common.{arith, length, string_bytes, subst, sym}
-use Rattle.reach.specs.Extents.{limits_by}
+use Rattle.{std.proofs.Common.{arith, length, string_bytes, subst, sym}, reach.specs.Extents.limits_by}
 use Rattle.reptext.{specs.Drawing.{AddsArrows, pairs_with}, proofs.Arrows.{adds_label, label_is, label_there}}
 use Rattle.reptext.proofs.drawing.write_arrows.Goals.{in-Some+in_ok-write_arrows_from, in_default}
 use Rattle.reptext.proofs.drawing.write_arrows.Goals as goal
@@ -16,7 +15,7 @@ loop-number-preserved c =
     elim c.match-new.branch [
       | in-Some+in_ok-write_arrows_from w ↦
           let same = label_is c.new.result w.in-Some.actor n w.in-Some.is c.new.ensures.value in
-          let from = subst (λ a. AddsArrows test t (pairs_with count a) mid (string_bytes w.write_arrows_from.new.text)) same w.in_ok-write_arrows_from.ensures.drawn in
+          let from = subst (λ a. AddsArrows test t (pairs_with count a) mid (string_bytes w.write_arrows_from.new.text)) same w.in_ok-write_arrows_from.ensures in
           adds_label test t count n old mid (string_bytes c.match-new.text) c.loop-number.invariant
           (subst (λ text. AddsArrows test t (pairs_with count n) mid (string_bytes text)) (sym w.text-is) from)
       | in_default w ↦ absurd (label_there c.new.result w.in_default.is (c.new.ensures.valid.1 (omega (arith, c.keeps_rules.ensures.draft.labels.few))))

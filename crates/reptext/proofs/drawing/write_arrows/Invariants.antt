@@ -1,6 +1,5 @@
 use Rattle.std.{specs.List.{flat_map, range_with_len}, proofs.Common.{length, string_bytes}}
-use Rattle.reach.specs.Extents.{limits_by}
-use Rattle.reptext.specs.Drawing.{AddsArrows, pairs_with}
+use Rattle.{reach.specs.Extents.limits_by, reptext.specs.Drawing.{AddsArrows, pairs_with}}
 use Rattle.reptext.proofs.drawing.write_arrows.Given as goal
 
 -- the arrows from the labels so far are written

@@ -16,7 +16,7 @@ loop-number-preserved c =
     elim c.match-new.branch [
       | in-Some+in_ok-write_arrow_of w ↦
           let same = label_is c.new.result w.in-Some.object n w.in-Some.is c.new.ensures.value in
-          let one = subst (λ l. AddsArrows test t ((a, l) ∷ []) mid (string_bytes w.write_arrow_of.new.text)) same w.in_ok-write_arrow_of.ensures.drawn in
+          let one = subst (λ l. AddsArrows test t ((a, l) ∷ []) mid (string_bytes w.write_arrow_of.new.text)) same w.in_ok-write_arrow_of.ensures in
           adds_pair test t a n old mid (string_bytes c.match-new.text) c.loop-number.invariant
           (subst (λ text. AddsArrows test t ((a, n) ∷ []) mid (string_bytes text)) (sym w.text-is) one)
       | in_default w ↦ absurd (label_there c.new.result w.in_default.is (c.new.ensures.valid.1 (omega (arith, c.keeps_rules.ensures.draft.labels.few))))

@@ -1,6 +1,4 @@
-use Rattle.std.proofs.Common.{string_bytes}
-use Rattle.reach.specs.Extents.{limits_by}
-use Rattle.reptext.specs.Drawing.{AddsArrows, pairs_with}
+use Rattle.{std.proofs.Common.string_bytes, reach.specs.Extents.limits_by, reptext.specs.Drawing.{AddsArrows, pairs_with}}
 use Rattle.reptext.proofs.drawing.write_arrows_from.Given as goal
 
 -- the arrows to the labels so far are written

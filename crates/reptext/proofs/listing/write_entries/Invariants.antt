@@ -1,6 +1,5 @@
 use Rattle.std.proofs.Common.{◌++◌, ◌≡◌, map, string_bytes, take}
-use Rattle.words.specs.Text.{text_of}
-use Rattle.reptext.specs.Objects.{entries, entry_words}
+use Rattle.{words.specs.Text.text_of, reptext.specs.Objects.{entries, entry_words}}
 use Rattle.reptext.proofs.listing.write_entries.Given as goal
 
 -- the lines of the objects so far are written

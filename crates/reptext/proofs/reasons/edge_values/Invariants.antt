@@ -1,7 +1,6 @@
 use Rattle.std.proofs.Common.{◌≡◌, map, take}
-use Rattle.reptext.specs.Reasons.{edge_data}
+use Rattle.{serde_json.specs.View.view, reptext.specs.Reasons.edge_data}
 use Rattle.reptext.proofs.reasons.edge_values.Given as goal
-use Rattle.serde_json.specs.View.{view}
 
 -- the edges so far are kept
 abbrev pub invariant-loop-edge : goal.invariant-loop-edge

@@ -1,7 +1,5 @@
 use Rattle.std.{specs.List.{filter, range_with_len}, proofs.Common.{◌≡◌, map}}
-use Rattle.serde_json.specs.{Data.string, View.view}
-use Rattle.base.specs.Labels.{is_in}
-use Rattle.captext.specs.PolicyText.{label_name}
+use Rattle.{serde_json.specs.{Data.string, View.view}, base.specs.Labels.is_in, captext.specs.PolicyText.label_name}
 use Rattle.reptext.proofs.relations.names_in.Given as goal
 
 abbrev pub invariant-loop-number : goal.invariant-loop-number

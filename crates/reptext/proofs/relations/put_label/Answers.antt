@@ -1,8 +1,6 @@
 use Rattle.std.{specs.List.filter, proofs.Common.{◌∙◌, ap, arith, map}}
-use Rattle.serde_json.{specs.{Data.put, View.{members_view, view}}, proofs.Views.members_view-insert_entry}
-use Rattle.base.specs.Labels.{is_in}
-use Rattle.captext.specs.PolicyText.{label_name}
-use Rattle.reptext.{specs.Reports.{labels_of, names_data}, proofs.LabelLists.same_set}
+use Rattle.{serde_json.{specs.{Data.put, View.{members_view, view}}, proofs.Views.members_view-insert_entry}, base.specs.Labels.is_in}
+use Rattle.{captext.specs.PolicyText.label_name, reptext.{specs.Reports.{labels_of, names_data}, proofs.LabelLists.same_set}}
 use Rattle.reptext.proofs.relations.put_label.Goals as goal
 
 pub returns : goal.returns

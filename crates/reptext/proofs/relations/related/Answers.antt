@@ -1,7 +1,5 @@
 use Rattle.std.proofs.Common.{ℕ, ◌↔◌, ◌≡◌, subst, sym, true}
-use Rattle.base.specs.Labels.{is_in}
-use Rattle.policy.specs.Policy.{allows}
-use Rattle.reptext.specs.Relations.{relates}
+use Rattle.{base.specs.Labels.is_in, policy.specs.Policy.allows, reptext.specs.Relations.relates}
 use Rattle.reptext.proofs.relations.related.Goals as goal
 
 pub returns-in-Cut : goal.returns-in-Cut

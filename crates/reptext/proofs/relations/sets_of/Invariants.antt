@@ -1,6 +1,5 @@
 use Rattle.std.proofs.Common.{ℕ, ◌<◌, ◌↔◌, ◌≡◌, length, true}
-use Rattle.policy.specs.Policy.{allows}
-use Rattle.reptext.specs.Relations.{relates, relation_of}
+use Rattle.{policy.specs.Policy.allows, reptext.specs.Relations.{relates, relation_of}}
 use Rattle.reptext.proofs.relations.sets_of.Given as goal
 
 abbrev pub invariant-loop-number : goal.invariant-loop-number

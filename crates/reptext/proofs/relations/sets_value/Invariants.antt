@@ -1,6 +1,5 @@
 use Rattle.std.{specs.List.{fold, range_with_len}, proofs.Common.◌≡◌}
-use Rattle.serde_json.specs.{Data.no_members, View.members_view}
-use Rattle.reptext.specs.{Relations.relation_of, Reports.with_related}
+use Rattle.{serde_json.specs.{Data.no_members, View.members_view}, reptext.specs.{Relations.relation_of, Reports.with_related}}
 use Rattle.reptext.proofs.relations.sets_value.Given as goal
 
 abbrev pub invariant-loop-number : goal.invariant-loop-number

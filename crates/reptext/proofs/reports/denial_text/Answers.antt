@@ -1,6 +1,5 @@
 use Rattle.std.proofs.{Common.{◌∙◌, ap, map, string_bytes}, lemmas.Result.IfOk-weaker}
-use Rattle.verdict.specs.Verdict.{rule_name}
-use Rattle.reptext.specs.Reports.{denial_report}
+use Rattle.{verdict.specs.Verdict.rule_name, reptext.specs.Reports.denial_report}
 use Rattle.reptext.proofs.reports.denial_text.Goals as goal
 
 pub returns : goal.returns

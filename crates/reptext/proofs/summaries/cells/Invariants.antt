@@ -1,7 +1,6 @@
 use Rattle.std.{specs.List.flat_map, proofs.Common.{◌≡◌, map, take}}
-use Rattle.reptext.specs.Summaries.{cells_of}
+use Rattle.{serde_json.specs.View.view, reptext.specs.Summaries.cells_of}
 use Rattle.reptext.proofs.summaries.cells.Given as goal
-use Rattle.serde_json.specs.View.{view}
 
 -- the cells of the rows so far are kept
 abbrev pub invariant-loop-row : goal.invariant-loop-row

@@ -1,7 +1,6 @@
 use Rattle.std.proofs.Common.{◌≡◌, map, take}
-use Rattle.captext.specs.PolicyText.{label_name}
+use Rattle.{serde_json.specs.{Data.string, View.view}, captext.specs.PolicyText.label_name}
 use Rattle.reptext.proofs.summaries.labels_value.Given as goal
-use Rattle.serde_json.specs.{Data.string, View.view}
 
 -- the names so far are kept
 abbrev pub invariant-loop-label : goal.invariant-loop-label

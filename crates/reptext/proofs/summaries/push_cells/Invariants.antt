@@ -1,7 +1,6 @@
 use Rattle.std.{specs.List.flat_map, proofs.Common.{◌++◌, ◌≡◌, map, take}}
-use Rattle.reptext.specs.Summaries.{told_cell}
+use Rattle.{serde_json.specs.View.view, reptext.specs.Summaries.told_cell}
 use Rattle.reptext.proofs.summaries.push_cells.Given as goal
-use Rattle.serde_json.specs.View.{view}
 
 -- the cells so far are added
 abbrev pub invariant-loop-other : goal.invariant-loop-other

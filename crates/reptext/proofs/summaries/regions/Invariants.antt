@@ -1,7 +1,6 @@
 use Rattle.std.proofs.Common.{◌≡◌, map, take}
-use Rattle.reptext.specs.Summaries.{region_data}
+use Rattle.{serde_json.specs.View.view, reptext.specs.Summaries.region_data}
 use Rattle.reptext.proofs.summaries.regions.Given as goal
-use Rattle.serde_json.specs.View.{view}
 
 -- the labels so far are kept
 abbrev pub invariant-loop-label : goal.invariant-loop-label

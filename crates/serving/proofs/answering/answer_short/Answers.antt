@@ -1,9 +1,8 @@
 -- That the status is that of the request's end, unless the lines can't be written.
 use Rattle.std.{specs.Global.Vec, proofs.Common.{ℕ, ◌<◌, ◌∙◌, ◌≡◌, ◌⊎◌, ap, inl, inr, subst, sym}}
-use Rattle.devices.specs.{declared.watched.Watched.Watched, Watched.device_of}
-use Rattle.commands.specs.{declared.end.End.End, Ends.status_of}
-use Rattle.requests.specs.declared.request.{Check.{Check as CheckOf}, Request.{Request, TheVariants.{Check, OfClaims, OfDescription, OfPolicy, OfSystem, OfThree, OfTwo}}}
-use Rattle.requests.specs.Requests.{HaveArrived, OnEach}
+use Rattle.{devices.specs.{declared.watched.Watched.Watched, Watched.device_of}, commands.specs.{declared.end.End.End, Ends.status_of}}
+use Rattle.requests.specs.declared.request.{Check.Check as CheckOf, Request.{Request, TheVariants.{Check, OfClaims, OfDescription}}}
+use Rattle.requests.specs.{declared.request.Request.TheVariants.{OfPolicy, OfSystem, OfThree, OfTwo}, Requests.{HaveArrived, OnEach}}
 use Rattle.serving.proofs.answering.answer_short.Goals as goal
 
 status_is :

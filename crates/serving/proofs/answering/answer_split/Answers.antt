@@ -1,6 +1,5 @@
-use Rattle.std.proofs.Common.{refl, sym}
+use Rattle.{std.proofs.Common.{refl, sym}, verdict.specs.declared.rules.Rules.TheVariants.Closed}
 use Rattle.requests.specs.declared.request.{OfThree.TheVariants.Run, Request.TheVariants.OfThree}
-use Rattle.verdict.specs.declared.rules.Rules.TheVariants.{Closed}
 use Rattle.serving.proofs.answering.answer_split.Goals as goal
 
 pub returns-clause-served : goal.returns-clause-served

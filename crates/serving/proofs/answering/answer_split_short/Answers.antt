@@ -1,7 +1,6 @@
 use Rattle.std.{specs.Global.Vec, proofs.Common.{ℕ, ◌∙◌, ap, inl, inr, refl}}
-use Rattle.devices.specs.{declared.watched.Watched.Watched, Watched.device_of}
+use Rattle.{devices.specs.{declared.watched.Watched.Watched, Watched.device_of}, verdict.specs.declared.rules.Rules.TheVariants.Closed}
 use Rattle.requests.specs.declared.request.{OfThree.TheVariants.Run, Request.TheVariants.OfThree}
-use Rattle.verdict.specs.declared.rules.Rules.TheVariants.{Closed}
 use Rattle.serving.proofs.answering.answer_split_short.Goals as goal
 
 pub returns-clause-served : goal.returns-clause-served

@@ -1,8 +1,7 @@
 -- That a question about a system and a policy ends with a status of at most 2.
 use Rattle.std.proofs.Common.{◌≤◌}
 use Rattle.commands.specs.declared.{choices.{OfPolicy.{OfPolicy, TheVariants.{Close, Draw, Why}}, Taken.Taken}, end.End.End}
-use Rattle.commands.specs.{Commands.{Input, Output}, Ends.status_of}
-use Rattle.report.specs.Systems.{IsAskedOfPolicy}
+use Rattle.{commands.specs.{Commands.{Input, Output}, Ends.status_of}, report.specs.Systems.IsAskedOfPolicy}
 use Rattle.serving.proofs.engines.serve.Goals as goal
 
 ends_within :

@@ -2,12 +2,12 @@ use Rattle.std.proofs.Common.{◌++◌, ◌∙◌}
 use Rattle.{base.specs.Labels.is_in, policy.proofs.ClosingGrowth.both_added, sharp.proofs.SharpGrowth.least_of_same}
 use Rattle.sharp.proofs.closing.close_sharply.Goals as goal
 
-pub returns-clause-least : goal.returns-clause-least
-returns-clause-least c =
+pub returns : goal.returns
+returns c =
     let old = c.args.policy.now in
     let edges = c.args.edges.now in
     let second = c.extend-2.new.self in
     least_of_same (old ++ edges) second c.settle.new.policy (is_in c.args.held)
-    (both_added old edges c.deref.result.now c.new-closed.result c.extend.new.self second (c.deref.ensures.value ∙ c.in_ok-edges.ensures.all) c.new-closed.ensures
-    c.in_ok-extend.ensures.added c.in_ok-extend-2.ensures.added)
-    c.in_ok-settle.ensures.least
+    (both_added old edges c.deref.result.now c.new-closed.result c.extend.new.self second (c.deref.ensures.value ∙ c.in_ok-edges.ensures) c.new-closed.ensures
+    c.in_ok-extend.ensures c.in_ok-extend-2.ensures)
+    c.in_ok-settle.ensures

@@ -28,8 +28,8 @@ loop-policy-preserved c =
       keep = c.keepers-keeping-in-loop-policy.ensures;
     }
 
-pub returns-clause-least : goal.returns-clause-least
-returns-clause-least c =
+pub returns : goal.returns
+returns c =
     let middle = c.loop-policy.policy in
     let new = c.settle_labels.new.policy in
     let grows = c.in_ok-settle_labels.ensures.grows in

@@ -19,5 +19,5 @@ loop-number-preserved c =
           ap (λ v. v.items) w.labels-is
           ∙ number_fails p n w.in-Some.label c.loop-number.labels.items w.in-Some.ensures.value
           (ap not (sym (threads w.in-Some.label) ∙ sym w.has.ensures ∙ w.if-not-has.false)) c.loop-number.invariant
-      | in_default w ↦ absurd (false≢true (w.in_default.ensures.valid.1 (omega (arith, c.objects.ensures.lawful.draft.labels.few))))
+      | in_default w ↦ absurd (false≢true (w.in_default.ensures.valid.1 (omega (arith, c.keeps_rules.ensures.draft.labels.few))))
     ]

@@ -1,5 +1,4 @@
-use Rattle.std.proofs.{Common.ap, lemmas.Iterator.{Consumers.YieldsList-from_first, items_from_collect}}
-use Rattle.base.specs.Labels.{members_of}
+use Rattle.{std.proofs.{Common.ap, lemmas.Iterator.{Consumers.YieldsList-from_first, items_from_collect}}, base.specs.Labels.members_of}
 use Rattle.usertext.proofs.lines.members.Goals as goal
 
 pub returns : goal.returns

@@ -1,8 +1,6 @@
 -- That the loop finds how far each label goes.
-use Rattle.std.proofs.Common.{arith, refl}
-use Rattle.reach.specs.Extents.{GoesTo, limits_of}
-use Rattle.matrix.proofs.Pieces.{each_more, labels_more}
-use Rattle.usertext.specs.declared.lines.User.{User}
+use Rattle.{std.proofs.Common.{arith, refl}, reach.specs.Extents.{GoesTo, limits_of}}
+use Rattle.{matrix.proofs.Pieces.{each_more, labels_more}, usertext.specs.declared.lines.User.User}
 use Rattle.usertext.proofs.lines.users.Goals as goal
 
 pub loop-label-preserved : goal.loop-label-preserved

@@ -1,6 +1,5 @@
 use Rattle.std.{specs.Prelude.All, proofs.Common.{◌≡◌, map, take}}
-use Rattle.reach.specs.Extents.{GoesTo, limits_of}
-use Rattle.usertext.specs.declared.lines.User.{User}
+use Rattle.{reach.specs.Extents.{GoesTo, limits_of}, usertext.specs.declared.lines.User.User}
 use Rattle.usertext.proofs.lines.users.Given as goal
 
 -- the users of the labels so far are there

@@ -1,6 +1,5 @@
 use Rattle.std.{specs.List.flat_map, proofs.Common.{◌++◌, ◌≡◌, string_bytes, take}}
-use Rattle.policy.specs.Policy.{allows}
-use Rattle.usertext.specs.UsersText.{read_line}
+use Rattle.{policy.specs.Policy.allows, usertext.specs.UsersText.read_line}
 use Rattle.usertext.proofs.lines.write_readers.Given as goal
 
 -- the lines so far are written

@@ -15,7 +15,7 @@ returns-clause-closed c is =
 pub returns-clause-kept : goal.returns-clause-kept
 returns-clause-kept c is =
     let reach = c.args.self.now in
-    let its : IsTableReach reach = subst (λ (r : TableReach). IsTableReach r) c.self.view_is c.policy.ensures.reach in
+    let its : IsTableReach reach = subst (λ (r : TableReach). IsTableReach r) c.self.view_is c.bounds_runs.ensures.reach in
     shielded reach.table (limits_of reach) (is_in c.args.filters)
     (λ x l never. c.runs_keep_labels_apart.ensures.apart reach.table reach.policy (is_in reach.actors) x l its.lawful its.least
     (actors_told reach its) (λ may. never (inl may)) (λ may. never (inr may)))

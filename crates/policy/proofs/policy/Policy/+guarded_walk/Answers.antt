@@ -4,8 +4,8 @@ use Rattle.policy.proofs.{GuardedWalking.{goes_nowhere, least_turn, no_turn, sta
 use Rattle.policy.proofs.policy.Policy.+guarded_walk.Goals as goal
 use mathlib.Core.Bool.{false≢true}
 
-pub returns-in_default-clause-least : goal.returns-in_default-clause-least
-returns-in_default-clause-least t c =
+pub returns-in_default : goal.returns-in_default
+returns-in_default t c =
     let test = allows c.args.self.now in
     let turns = c.args.turns.now in
     let from = c.args.from in
@@ -20,19 +20,19 @@ returns-in_default-clause-least t c =
           (goes_nowhere test turns c.in_default.ensures.cases from to (λ same. false≢true (sym w.if-eq.false ∙ c.eq.ensures ∙ eq-eqb from to same)))
     ]
 
-pub returns-in_default-first_edge-clause-least : goal.returns-in_default-first_edge-clause-least
-returns-in_default-first_edge-clause-least t c =
+pub returns-in_default-first_edge : goal.returns-in_default-first_edge
+returns-in_default-first_edge t c =
     no_turn (allows c.args.self.now) c.in-Some.turn.now c.in-Some.rest.now c.guarded_reaching.result c.guarded-goals.result c.args.to
     c.guarded_reaching.ensures c.guarded-goals.ensures c.args.turns.now c.in-Some.ensures.cases.0 c.args.from c.in_default-first_edge.ensures
 
-pub returns-clause-least : goal.returns-clause-least
-returns-clause-least t c =
+pub returns : goal.returns
+returns t c =
     let test = allows c.args.self.now in
     let rest = c.in-Some.rest.now in
     let to = c.args.to in
     let edges = c.in-Some-2.edges.items in
     let first = c.in-Some-first_edge.ensures in
-    let tail = subst (FindsWalk (IsGuardedWalk test rest c.end.result to)) c.in-Some-2.is c.in_ok-edges.ensures.least in
+    let tail = subst (FindsWalk (IsGuardedWalk test rest c.end.result to)) c.in-Some-2.is c.in_ok-edges.ensures in
     subst (IsLeast reason_place (IsGuardedWalk test c.args.turns.now c.args.from to)) (sym c.in_ok-insert.ensures.items)
     (least_turn test c.in-Some.turn.now rest c.guarded_reaching.result c.guarded-goals.result to c.guarded_reaching.ensures c.guarded-goals.ensures
     c.args.turns.now c.in-Some.ensures.cases.0 c.args.from c.in-Some-first_edge.edge edges first.0 first.1

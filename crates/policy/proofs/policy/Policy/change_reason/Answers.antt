@@ -4,8 +4,8 @@ use Rattle.policy.specs.{ActorReasons.IsChangeBy, Guarded.FindsLesserGuarded, Po
 use Rattle.policy.proofs.{ChangeWalks.{change_least, lets_all, lets_some}, Gathering.{itself_tells, row_tells}}
 use Rattle.policy.proofs.policy.Policy.change_reason.Goals as goal
 
-pub returns-clause-least : goal.returns-clause-least
-returns-clause-least c =
+pub returns : goal.returns
+returns c =
     let test = allows c.args.self.now in
     let actor = c.args.actor in
     let acts = is_in c.args.actors in
@@ -49,7 +49,7 @@ returns-clause-least c =
       held_is = c.along-held.ensures.along;
       held_lets = lets_all c.along-held.result c.along-held.ensures.among;
     }) c.in_ok-own.own c.in_ok-modifies.modifies c.in_ok-binds.binds c.in_ok-lends.lends c.in_ok-sends.sends c.in_ok-receives.receives
-    c.in_ok-notifies.notifies c.in_ok-links.links c.in_ok-grants.grants last c.in_ok-own.ensures.least c.in_ok-modifies.ensures.lesser
-    c.in_ok-binds.ensures.lesser c.in_ok-lends.ensures.lesser c.in_ok-sends.ensures.lesser c.in_ok-receives.ensures.lesser
-    c.in_ok-notifies.ensures.lesser c.in_ok-links.ensures.lesser c.in_ok-grants.ensures.lesser finds)
-    c.lesser_guarded-9.ensures.lesser
+    c.in_ok-notifies.notifies c.in_ok-links.links c.in_ok-grants.grants last c.in_ok-own.ensures c.in_ok-modifies.ensures
+    c.in_ok-binds.ensures c.in_ok-lends.ensures c.in_ok-sends.ensures c.in_ok-receives.ensures
+    c.in_ok-notifies.ensures c.in_ok-links.ensures c.in_ok-grants.ensures finds)
+    c.lesser_guarded-9.ensures

@@ -14,8 +14,8 @@ loop-number-preserved c = elim c.match-edge_numbered.branch [
   | in_default w ↦ absurd (w.in_default.ensures (omega arith))
 ]
 
-pub returns-clause-all : goal.returns-clause-all
-returns-clause-all c =
+pub returns : goal.returns
+returns c =
     c.loop-number.invariant
     ∙ listed c.args.self.now c.edges_rise.ensures.rising c.from-labels.result
     (subst (λ n. JoinsBelow n c.args.self.now) (sym c.from-labels.ensures) c.span.ensures.joins) c.loop-number.number (omega (arith, c.loop-number.auto.number-end))

@@ -18,7 +18,7 @@ loop-edge-preserved c from kind to =
     let edges = c.args.edges.now in
     let edge = c.edge-item.result in
     let old = allows c.args.self.now from kind to in
-    c.in_ok-add.ensures.added from kind to ∙ ap (λ b. is_edge from kind to edge || b) (c.loop-edge.invariant from kind to)
+    c.in_ok-insert.ensures.added from kind to ∙ ap (λ b. is_edge from kind to edge || b) (c.loop-edge.invariant from kind to)
     ∙ turned (is_edge from kind to edge) (allows (take c.loop-edge.edge-index edges) from kind to) old
     ∙ ap (λ e. (allows (take c.loop-edge.edge-index edges) from kind to || is_edge from kind to e) || old) c.edge-item.is
     ∙ sym (ap (λ b. b || old) (list_any_more (is_edge from kind to) edges c.loop-edge.edge-index edge (omega arith)))

@@ -4,8 +4,8 @@ use Rattle.policy.specs.{ActorReasons.IsShrinkBy, Guarded.FindsLesserGuarded, Po
 use Rattle.policy.proofs.{ChangeWalks.{lets_all, lets_some}, Gathering.{itself_tells, row_tells}, ShrinkWalks.shrink_least}
 use Rattle.policy.proofs.policy.Policy.shrink_reason.Goals as goal
 
-pub returns-clause-least : goal.returns-clause-least
-returns-clause-least c =
+pub returns : goal.returns
+returns c =
     let test = allows c.args.self.now in
     let actor = c.args.actor in
     let object = c.args.object in
@@ -50,7 +50,7 @@ returns-clause-least c =
       waiter_is = c.against-waiter.ensures.against;
       waiter_lets = lets_some _ c.args.actors c.against-waiter.result c.against-waiter.ensures.among actors;
     }) c.in_ok-unbinds.unbinds c.in_ok-stops.stops c.in_ok-halts.halts c.in_ok-ends.ends c.in_ok-frees.frees c.in_ok-removes.removes
-    c.in_ok-releases.releases c.in_ok-wakes.wakes last c.in_ok-unbinds.ensures.least c.in_ok-stops.ensures.lesser c.in_ok-halts.ensures.lesser
-    c.in_ok-ends.ensures.lesser c.in_ok-frees.ensures.lesser c.in_ok-removes.ensures.lesser c.in_ok-releases.ensures.lesser
-    c.in_ok-wakes.ensures.lesser finds)
-    c.lesser_guarded-8.ensures.lesser
+    c.in_ok-releases.releases c.in_ok-wakes.wakes last c.in_ok-unbinds.ensures c.in_ok-stops.ensures c.in_ok-halts.ensures
+    c.in_ok-ends.ensures c.in_ok-frees.ensures c.in_ok-removes.ensures c.in_ok-releases.ensures
+    c.in_ok-wakes.ensures finds)
+    c.lesser_guarded-8.ensures

@@ -8,6 +8,6 @@ returns-clause-shrunk c = rw (c.policy.ensures.policy, c.actors.ensures.actors) 
 pub returns-clause-kept : goal.returns-clause-kept
 returns-clause-kept c l out change =
     let reach = c.args.self.now in
-    let is = c.policy.ensures.reach in
+    let is = c.bounds_runs.ensures.reach in
     c.runs_keep_labels_apart.ensures.apart reach.table reach.policy (is_in reach.actors) c.args.actor l is.lawful is.least
     (actors_told reach is) change (λ may. false≢true (sym out ∙ (returns-clause-shrunk c l).1 may))

@@ -2,7 +2,7 @@ use Rattle.std.proofs.Common.{[], ◌++◌, ◌||◌, ◌∙◌, ◌∷◌, Some
 use Rattle.base.specs.declared.label.TheConstants.Label as Label
 use Rattle.policy.{specs.{Policy.{IsAboveLast, IsRising, allows, is_edge}, Rows.{edges_of_rows, last_with}}, proofs.Members.last_added}
 use Rattle.policy.proofs.{Members.{not_above, pushed}, RowEdges.{edges_added, edges_rising}}
-use Rattle.policy.proofs.policy.Policy.add.Goals as goal
+use Rattle.policy.proofs.policy.Policy.insert.Goals as goal
 
 pub returns-in_err-set-clause-rising : goal.returns-in_err-set-clause-rising
 returns-in_err-set-clause-rising c = edges_rising c.set.new.rows.items

@@ -1,5 +1,5 @@
 use Rattle.{std.proofs.Common.subst, reach.specs.Reach.{IsTableReach, TableReach}}
-use Rattle.reach.proofs.least.Reach.policy.Goals as goal
+use Rattle.reach.proofs.least.Reach.bounds_runs.Goals as goal
 
 pub returns-clause-reach : goal.returns-clause-reach
 returns-clause-reach c = subst (λ (reach : TableReach). IsTableReach reach) c.self.view_is c.self.invariant

@@ -1,7 +1,7 @@
 use Rattle.std.specs.{Iterator.Adapters.{zip_first, zip_second}, List.zip, Slice.Iter.iter_rest}
 use Rattle.std.proofs.{Common.{◌∙◌, ◌∷◌, ap, length, map, sym, take}, lemmas.{List.length_push, Slice.Zip.{zip_end, zip_turn}}}
 use Rattle.{words.specs.Text.text_of, evtext.{specs.Log.{entry_words, log_header}, proofs.Logs.{lines_all, lines_more}}}
-use Rattle.evtext.proofs.log.run_bytes.Goals as goal
+use Rattle.evtext.proofs.log.write_run.Goals as goal
 
 pub loop-event-preserved : goal.loop-event-preserved
 loop-event-preserved c =

@@ -1,6 +1,6 @@
 use Rattle.std.{specs.List.zip, proofs.Common.{◌∷◌, ◌≡◌, length, map, take}}
 use Rattle.{words.specs.Text.text_of, evtext.specs.Log.{entry_words, log_header}}
-use Rattle.evtext.proofs.log.run_bytes.Given as goal
+use Rattle.evtext.proofs.log.write_run.Given as goal
 
 -- the lines so far are the header's and those of the entries so far
 abbrev pub invariant-loop-event : goal.invariant-loop-event
