@@ -1,11 +1,11 @@
 -- Kinds of authority, their names and their numbers: each way between a kind and these.
-use Rattle.std.{specs.{Bool.Decides, Prelude.{IfSome, bytes_eq, slice_get}}, proofs.Common.{ℕ, ◌+◌, ◌<◌, ◌==◌, ◌^◌, ◌↔◌, ◌∙◌, ◌≡◌, ◌≤◌, ◌⊎◌, Bool, List}}
+use Rattle.std.{specs.{Bool.Decides, Prelude.{IfSome, bytes_eq, slice_get}}, proofs.Common.{ℕ, ◌+◌, ◌<◌, ◌==◌, ◌↔◌, ◌∙◌, ◌≡◌, ◌≤◌, ◌⊎◌, Bool, List}}
 use Rattle.std.proofs.Common.{None, Option, Some, ap, arith, cond, false, inl, inr, lit<, refl, slice_index_or, subst, sym, true}
 use Rattle.std.proofs.lemmas.{Bool.cases_lt, Option.get_or_from_slice_get, Slice.Eq.bytes_eq-Decides}
 use mathlib.Core.Bool.{false≢true}
 use Rattle.base.specs.declared.kind.Kind.{Kind, TheVariants.{Await, Call, Context, Control, Derive, Grant, Holds, Notify, Read, Receive}}
 use Rattle.base.specs.declared.kind.{Kind.TheVariants.{Reply, Reset, Runs, SchedControl, Send, Space, Write}, TheConstants.Kind.ALL}
-use Rattle.base.specs.Kinds.{kind_bit, kind_name, kind_named, kind_number}
+use Rattle.base.specs.Kinds.{kind_name, kind_named, kind_number}
 
 -- a kind that is found by its name, or one that is found later, has the name
 here : (word : List ℕ) (kind : Kind) (later : Option Kind) → IfSome later (λ other. word ≡ kind_name other)
@@ -130,26 +130,6 @@ number_below Space = lit< tt
 number_below Derive = lit< tt
 number_below Runs = lit< tt
 number_below Holds = lit< tt
-
--- the set of a kind alone is the bit at its number
-pub bit_at_number : (kind : Kind) → kind_bit kind ≡ 2 ^ kind_number kind
-bit_at_number Control = refl
-bit_at_number Reset = refl
-bit_at_number Send = refl
-bit_at_number Receive = refl
-bit_at_number Grant = refl
-bit_at_number Call = refl
-bit_at_number Notify = refl
-bit_at_number Await = refl
-bit_at_number Read = refl
-bit_at_number Write = refl
-bit_at_number Reply = refl
-bit_at_number Context = refl
-bit_at_number SchedControl = refl
-bit_at_number Space = refl
-bit_at_number Derive = refl
-bit_at_number Runs = refl
-bit_at_number Holds = refl
 
 -- each kind stands at its number in the list of all
 pub in_order : (kind : Kind) → slice_get ALL (kind_number kind) ≡ Some kind

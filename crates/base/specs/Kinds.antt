@@ -1,6 +1,6 @@
 -- The kinds of authority: their numbers, their names, and sets of them as numbers whose bit k stands for the kind of number k
 -- ('seL4 Enforces Integrity', section 3, with the kinds of this profile).
-use Rattle.std.specs.{Int.RustNames.bit_and, Prelude.{ℕ, ◌==◌, Bool, List, None, Option, Some, bytes_eq, codes, false, if◌then◌else◌, true}}
+use Rattle.std.specs.{Int.RustNames.bit_and, Prelude.{ℕ, ◌==◌, ◌^◌, Bool, List, None, Option, Some, bytes_eq, codes, false, if◌then◌else◌, true}}
 use Rattle.base.specs.declared.kind.Kind.{Kind, TheVariants.{Await, Call, Context, Control, Derive, Grant, Holds, Notify, Read, Receive}}
 use Rattle.base.specs.declared.kind.Kind.TheVariants.{Reply, Reset, Runs, SchedControl, Send, Space, Write}
 
@@ -25,23 +25,7 @@ kind_number Holds = 16
 
 -- the set that holds one kind
 abbrev pub kind_bit : Kind → ℕ
-kind_bit Control = 1
-kind_bit Reset = 2
-kind_bit Send = 4
-kind_bit Receive = 8
-kind_bit Grant = 16
-kind_bit Call = 32
-kind_bit Notify = 64
-kind_bit Await = 128
-kind_bit Read = 256
-kind_bit Write = 512
-kind_bit Reply = 1024
-kind_bit Context = 2048
-kind_bit SchedControl = 4096
-kind_bit Space = 8192
-kind_bit Derive = 16384
-kind_bit Runs = 32768
-kind_bit Holds = 65536
+kind_bit kind = 2 ^ kind_number kind
 
 -- whether a set of kinds has a kind
 abbrev pub is_among : ℕ → Kind → Bool

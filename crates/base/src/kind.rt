@@ -1,7 +1,7 @@
 //! The kinds of authority, their names, and sets of them.
-ghost use Rattle.std.specs.{Int.RustNames.bit_and, Prelude.{[], ℕ, ⊤, ◌<◌, ◌==◌, ◌^◌, ◌↔◌, ◌∷◌, ◌≡◌, Bool, List, None}};
+ghost use Rattle.std.specs.{Int.RustNames.bit_and, Prelude.{[], ℕ, ⊤, ◌<◌, ◌==◌, ◌↔◌, ◌∷◌, ◌≡◌, Bool, List, None}};
 ghost use Rattle.std.specs.Prelude.{Some, codes, length, slice_get};
-ghost use Rattle.base.specs.{declared.kind.Kind.Kind as KindOf, Kinds.{is_among, is_structural, kind_bit, kind_name}};
+ghost use Rattle.base.specs.{declared.kind.Kind.Kind as KindOf, Kinds.{is_among, is_structural, kind_name}};
 ghost use Rattle.base.specs.Kinds.{kind_named, kind_number};
 
 use bitflags::{Flag, Flags, bitflag_items};
@@ -236,7 +236,7 @@ impl From<Kind> for Kinds {
 /// A law: a word names a kind exactly where it is that kind's name.
 ///
 /// So different kinds have different names. They have different numbers too, all below 17, in the
-/// order of [`Kind::ALL`]. The set of a kind alone is the bit at its number.
+/// order of [`Kind::ALL`].
 pub fn kind_names_are_read_back()
     ensures named { (word : List ℕ) (kind : KindOf)
         → (kind_named word ≡ Some kind) ↔ (word ≡ kind_name kind) }
@@ -245,5 +245,4 @@ pub fn kind_names_are_read_back()
     ensures number_below { (kind : KindOf) → kind_number kind < 17 }
     ensures in_order { (kind : KindOf) → slice_get Kind.ALL (kind_number kind) ≡ Some kind }
     ensures all { length Kind.ALL ≡ 17 }
-    ensures bit { (kind : KindOf) → kind_bit kind ≡ 2 ^ kind_number kind }
 {}

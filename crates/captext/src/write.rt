@@ -2,7 +2,7 @@
 ghost use Rattle.std.specs.{Fmt.decimal, List.AllByRecursion};
 ghost use Rattle.std.specs.Prelude.{[], ℕ, ◌++◌, ◌∷◌, ◌≡◌, IfErr, IfOk, List, Ok, OnOk, Some, map, string_bytes};
 ghost use Rattle.{base.specs.Refusals.out_of_memory, words.specs.Text.{line_text, text_of}};
-ghost use Rattle.{machine.specs.{KindWords.object_kind_word, Layout.Layout}, table.specs.Rules.kind_at};
+ghost use Rattle.{machine.specs.Layout.Layout, table.specs.Rules.kind_at};
 ghost use Rattle.captext.specs.{Policies.read_policy_of, PolicyText.{IsEdgeOf, edge_lines, edge_words, label_name, policy_text}};
 ghost use Rattle.captext.specs.{Spelling.place_word, TableText.{binding_words, cap_words, content_words, detail_words, label_lines}};
 ghost use Rattle.captext.specs.TableText.{object_lines, object_name, object_words, pair_words, place_in, share_words, slot_name};
@@ -214,23 +214,6 @@ impl fmt::Display for SlotName<'_> {
     }
 }
 
-/// The word that begins the line of an object of this kind.
-fn kind_name(kind: ObjectKind) -> &'static str
-    ensures { result.now ≡ object_kind_word kind }
-{
-    match kind {
-        ObjectKind::Untyped => "untyped",
-        ObjectKind::CNode => "cnode",
-        ObjectKind::Tcb => "tcb",
-        ObjectKind::Endpoint => "endpoint",
-        ObjectKind::Notification => "notification",
-        ObjectKind::Reply => "reply",
-        ObjectKind::Context => "context",
-        ObjectKind::Frame => "frame",
-        ObjectKind::Control => "control",
-    }
-}
-
 #[tactic(auto, using(crate::proofs::Written::line_begun))]
 fn write_object(
     text: &mut String,
@@ -241,7 +224,7 @@ fn write_object(
     ensures { OnOk result (string_bytes text.new
         ≡ string_bytes text.old ++ line_text (object_words table.now (object_name table.now id) initial.now)) }
 {
-    let kind = kind_name(initial.object.kind());
+    let kind = initial.object.kind().name();
     let name = object_name(table, id);
     let label = label_name(table, initial.label);
     write!(text, "{kind} {name} {label}")?;

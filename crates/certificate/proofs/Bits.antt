@@ -1,10 +1,10 @@
 -- Sets of kinds by their bits: a kind that rises above a set goes last among its kinds, and a set is that of its kinds.
 use Rattle.std.{specs.Int.bit_at, proofs.Common.{[], ℕ, ◌*◌, ◌++◌, ◌+◌, ◌<◌, ◌==◌, ◌^◌, ◌∙◌, ◌∷◌, ◌≡◌, ◌≢◌, ◌≤◌, Bool, List, ap, arith}}
-use Rattle.std.proofs.Common.{bit_and, bit_or, cond, false, filter, fold, inl, inr, length, max, refl, subst, suc, sym, true, zero}
+use Rattle.std.proofs.Common.{bit_or, cond, false, filter, fold, inl, inr, length, max, refl, subst, suc, sym, true, zero}
 use Rattle.std.proofs.lemmas.{Bool.{cond-false, cond-true, eq-eqb, ne_eqb, Decides.eqb_tells}, Nat.{or_lt, pow_below, pow_pos}}
 use Rattle.std.proofs.lemmas.Nat.Bits.{and_pow, bit_at-lt, bit_at-pow_other, bit_at-pow_same, bit_at_above, bit_at_or, same_from_bits_below}
 use Rattle.base.specs.{declared.kind.{Kind.Kind, Kinds.Kinds, TheConstants.Kind.ALL}, Kinds.{is_among, kind_bit, kind_number}}
-use Rattle.base.proofs.KindNames.{bit_at_number, number_below, number_once}
+use Rattle.base.proofs.KindNames.{number_below, number_once}
 use Rattle.certificate.specs.Kinds.{members, with_kind}
 
 -- a kind is in a set just where its bit is 1
@@ -17,8 +17,7 @@ bit_test (suc (suc b)) p small full = absurd (omega arith)
 pub among : (set : ℕ) (kind : Kind) → is_among set kind ≡ (bit_at set (kind_number kind) == 1)
 among set kind =
     let n = kind_number kind in
-    ap (λ bit. bit_and set bit == bit) (bit_at_number kind)
-    ∙ ap (λ b. b == 2 ^ n) (and_pow set n)
+    ap (λ b. b == 2 ^ n) (and_pow set n)
     ∙ bit_test (bit_at set n) (2 ^ n) (bit_at-lt set n) (pow_pos n)
 
 pub is_not_above : (set : ℕ) (kind : Kind) → set < 2 ^ kind_number kind → is_among set kind ≡ false
@@ -30,17 +29,17 @@ is_not_above set kind small =
 bit_same : (set : ℕ) (kind : Kind) → set < 2 ^ kind_number kind → bit_at (bit_or set (kind_bit kind)) (kind_number kind) ≡ 1
 bit_same set kind small =
     let n = kind_number kind in
-    ap (λ bit. bit_at (bit_or set bit) n) (bit_at_number kind) ∙ bit_at_or set (2 ^ n) n
+    bit_at_or set (2 ^ n) n
     ∙ (λ i. max (bit_at_above set n n small (omega arith) i) (bit_at-pow_same n i))
 
 pub bit_other : (set i : ℕ) (kind : Kind) → i ≢ kind_number kind → bit_at (bit_or set (kind_bit kind)) i ≡ bit_at set i
 bit_other set i kind apart =
     let n = kind_number kind in
-    ap (λ bit. bit_at (bit_or set bit) i) (bit_at_number kind) ∙ bit_at_or set (2 ^ n) i
+    bit_at_or set (2 ^ n) i
     ∙ ap (λ b. max (bit_at set i) b) (bit_at-pow_other n i apart) ∙ omega arith
 
 with_below : (set k : ℕ) (kind : Kind) → set < 2 ^ k → kind_number kind < k → bit_or set (kind_bit kind) < 2 ^ k
-with_below set k kind small below = or_lt k set (kind_bit kind) small (rw bit_at_number (pow_below (kind_number kind) k below))
+with_below set k kind small below = or_lt k set (kind_bit kind) small (pow_below (kind_number kind) k below)
 
 -- kinds that follow one another by their numbers
 abbrev Numbered : ℕ → List Kind → Type 0
@@ -95,7 +94,7 @@ rises (first ∷ kinds) n numbered set kind small from below =
 
 pub members_more : (kinds : Kinds) (kind : Kind) → kinds.0 < kind_bit kind → members (with_kind kinds kind) ≡ members kinds ++ kind ∷ []
 members_more kinds kind small =
-    rises ALL 0 all_numbered kinds.0 kind (rw (← bit_at_number kind) small) (omega arith) (number_below kind)
+    rises ALL 0 all_numbered kinds.0 kind small (omega arith) (number_below kind)
 
 pub with_kind_small : (kinds : Kinds) (kind : Kind) → kinds.0 < 2 ^ 17 → (with_kind kinds kind).0 < 2 ^ 17
 with_kind_small kinds kind small = with_below kinds.0 17 kind small (number_below kind)
@@ -143,7 +142,7 @@ one_joined set n so_far kind kinds at below agree later (suc zero) is under =
     λ i low. bit_other so_far i kind (λ same. absurd (omega (arith, same, at))) ∙ agree i low in
     let fits : new < 2 ^ suc n = with_below so_far (suc n) kind (omega arith) (omega (arith, at)) in
     subst (λ ks. Joins (record { 0 = so_far }) ks (record { 0 = set })) (sym (cond-true _ _ _ (bit_tells set n kind 1 at is)))
-    (one_joins kind (rw bit_at_number here) (later new fits (agree_here n new set others (bit ∙ sym is))))
+    (one_joins kind here (later new fits (agree_here n new set others (bit ∙ sym is))))
 one_joined set n so_far kind kinds at below agree later (suc (suc b)) is under = absurd (omega arith)
 
 joined : (set : ℕ) → set < 2 ^ 17 → (kinds : List Kind) (n : ℕ) → Numbered n kinds → n + length kinds ≡ 17 → GoesOn set kinds n

@@ -1,7 +1,7 @@
 -- The content of a capability table: its version, the labels, the initial objects with their names and labels, the slots that hold
 -- capabilities, the pairs of the derivation tree, and which thread runs on which context (compare the seL4 manual,
 -- "Bootstrapping", and 'seL4 Enforces Integrity', section 3: the initial state and its labelling).
-use Rattle.std.specs.{Coded.{Coded, code_by, coded_list, coded_ℕ, coded×}, Prelude.{[], ℕ, List, Option, find, option_map, refl, slice_get}}
+use Rattle.std.specs.Prelude.{[], ℕ, List, Option, find, option_map, slice_get}
 use Rattle.base.specs.declared.ids.{ObjId.ObjId, SlotRef.SlotRef}
 use Rattle.base.specs.declared.label.TheConstants.Label as Label
 use Rattle.machine.specs.declared.{cap.Cap.Cap, layout.{Binding.Binding, Filled.Filled, Initial.Initial, Pair.Pair, Version.Version}}
@@ -22,28 +22,6 @@ pub record Layout : Type 0 where
   pub pairs : List Pair
   -- rising by thread
   pub bindings : List Binding
-
--- a layout is stored as the tuple of its parts
-abbrev pub layout_code :
-    Coded Version → Coded Initial → Coded Filled → Coded Pair → Coded Binding → Coded Layout
-layout_code version initial filled pair binding =
-    code_by
-    (Version × (List (List ℕ) × (List (List ℕ) × (List Initial × (List Filled × (List Pair × List Binding))))))
-    (coded× version (coded× (coded_list (coded_list coded_ℕ))
-    (coded× (coded_list (coded_list coded_ℕ))
-    (coded× (coded_list initial) (coded× (coded_list filled) (coded× (coded_list pair) (coded_list binding)))))))
-    (λ t. (t.version, (t.labels, (t.names, (t.objects, (t.caps, (t.pairs, t.bindings)))))))
-    (λ p.
-    record {
-      version = p.0;
-      labels = p.1.0;
-      names = p.1.1.0;
-      objects = p.1.1.1.0;
-      caps = p.1.1.1.1.0;
-      pairs = p.1.1.1.1.1.0;
-      bindings = p.1.1.1.1.1.1;
-    })
-    (λ _. refl)
 
 -- the number of labels that a table of a version may have
 abbrev pub most_labels : Version → ℕ

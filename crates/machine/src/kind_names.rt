@@ -7,7 +7,24 @@ use crate::{MemoryKind, ObjectKind};
 use std::fmt;
 
 impl ObjectKind {
-    /// Returns the kind of this name, as tables and scripts spell it, if it is one.
+    /// Returns the kind's name, as tables and scripts spell it.
+    pub fn name(self) -> &'static str
+        ensures { result.now ≡ object_kind_word self }
+    {
+        match self {
+            ObjectKind::Untyped => "untyped",
+            ObjectKind::CNode => "cnode",
+            ObjectKind::Tcb => "tcb",
+            ObjectKind::Endpoint => "endpoint",
+            ObjectKind::Notification => "notification",
+            ObjectKind::Reply => "reply",
+            ObjectKind::Context => "context",
+            ObjectKind::Frame => "frame",
+            ObjectKind::Control => "control",
+        }
+    }
+
+    /// Returns the kind of this name, if it is one.
     #[tactic(auto, unfolding(crate::specs::KindWords::object_kind_of))]
     pub fn from_name(name: &[u8]) -> Option<ObjectKind>
         ensures kind { result ≡ object_kind_of name.now }

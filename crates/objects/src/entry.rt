@@ -48,10 +48,6 @@ fn new_entry(alloc: Global, object: Object) -> Result<Entry, AllocError>
 }
 
 /// Returns the entries of new objects.
-///
-/// # Errors
-///
-/// [`AllocError`] if memory is refused.
 pub fn new_entries(alloc: Global, objects: &[Object]) -> Result<Vec<Entry>, AllocError>
     ensures made { IfOk result (λ made. made.items ≡ map new_entry objects.now) }
     ensures radices { OnOk result (AllByRecursion HasRadix objects.now) }

@@ -121,10 +121,6 @@ pub fn late_place_of(late: &HashMap<u64, usize>, number: u64) -> Option<usize>
 ///
 /// Does nothing if the number is too high for it, or if a number is hashed already. No place has
 /// changed, even on an error.
-///
-/// # Errors
-///
-/// [`AllocError`] if memory is refused.
 #[tactic(auto, using(crate::proofs::NumberLemmas::widened))]
 pub fn widen(places: &mut Places, number: u64) -> Result<(), AllocError>
     ensures { (other : ℕ) → places_in places.new other ≡ places_in places.old other }
@@ -149,10 +145,6 @@ fn width_for(len: usize, number: usize) -> usize
 /// Makes room for `count` more numbers.
 ///
 /// No place has changed, even on an error.
-///
-/// # Errors
-///
-/// [`AllocError`] if memory is refused.
 pub fn make_room(places: &mut Places, count: usize) -> Result<(), AllocError>
     ensures same { (number : ℕ) → places_in places.new number ≡ places_in places.old number }
     ensures room { OnOk result (count ≤ hash.spare places.new.late) }

@@ -188,10 +188,6 @@ pub fn empty_slot(places: &Places, entries: &mut Slab<Entry>, at: SlotRef) -> Op
 /// Makes room for `count` more entries, under numbers from `first` on.
 ///
 /// No entry has changed, even on an error.
-///
-/// # Errors
-///
-/// [`AllocError`] if memory is refused.
 pub fn reserve(
     places: &mut Places,
     entries: &mut Slab<Entry>,

@@ -39,10 +39,6 @@ impl Model for Slots {
 
 impl Slots {
     /// Returns `count` empty slots.
-    ///
-    /// # Errors
-    ///
-    /// [`AllocError`] if memory is refused.
     pub fn empty(alloc: Global, count: u64) -> Result<Slots, AllocError>
         ensures { IfOk result (λ slots. slots ≡ replicate count empty_slot) }
     {

@@ -19,10 +19,6 @@ impl Model for Words {
 
 impl Words {
     /// Returns `count` words of zero.
-    ///
-    /// # Errors
-    ///
-    /// [`AllocError`] if memory is refused.
     pub fn zeros(alloc: Global, count: u64) -> Result<Words, AllocError>
         ensures { IfOk result (λ words. words ≡ replicate count 0) }
     {

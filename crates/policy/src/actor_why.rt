@@ -13,10 +13,6 @@ use std::alloc::{AllocError, Global};
 
 impl Policy {
     /// Returns what `actor` may do to objects of the label `object` if only threads of the labels `actors` act, and why.
-    ///
-    /// # Errors
-    ///
-    /// [`AllocError`] where memory is refused.
     pub fn why_among(
         &self,
         alloc: Global,

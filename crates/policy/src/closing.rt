@@ -15,10 +15,6 @@ use std::alloc::{AllocError, Global};
 /// Returns the least closed policy that has the edges of a policy, and these.
 ///
 /// Every closed policy that has them has all edges of the result.
-///
-/// # Errors
-///
-/// [`AllocError`] where memory is refused.
 pub fn close(alloc: Global, policy: &Policy, edges: &[Edge]) -> Result<Policy, AllocError>
     ensures { IfOk result (λ closed. IsLeastClosed (policy.now ++ edges.now) closed) }
 {

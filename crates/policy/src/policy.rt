@@ -150,10 +150,6 @@ impl Policy {
     }
 
     /// Returns the edges in rising order.
-    ///
-    /// # Errors
-    ///
-    /// [`AllocError`] where memory is refused.
     pub fn edges(&self, alloc: Global) -> Result<Vec<Edge>, AllocError>
         ensures { IfOk result (λ edges. edges.items ≡ self.now) }
     {

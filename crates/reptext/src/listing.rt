@@ -1,11 +1,11 @@
 //! The list of a table's objects.
 ghost use Rattle.std.specs.Prelude.{◌++◌, ◌≡◌, IfOk, OnOk, string_bytes};
-ghost use Rattle.{words.specs.Text.line_text, machine.specs.KindWords.object_kind_word};
+ghost use Rattle.words.specs.Text.line_text;
 ghost use Rattle.{captext.specs.TableText.object_name, reptext.specs.Objects.{entry_words, objects_text}};
 
 use base::ObjId;
 use captext::{label_name, object_name};
-use machine::{Initial, ObjectKind};
+use machine::Initial;
 use std::alloc::{AllocError, Global};
 use table::Table;
 
@@ -28,23 +28,6 @@ fn write_entries(text: &mut String, table: &Table) -> Result<(), AllocError>
     Ok(())
 }
 
-/// The word for objects of a kind, as tables have it.
-fn kind_word(kind: ObjectKind) -> &'static str
-    ensures { result.now ≡ object_kind_word kind }
-{
-    match kind {
-        ObjectKind::Untyped => "untyped",
-        ObjectKind::CNode => "cnode",
-        ObjectKind::Tcb => "tcb",
-        ObjectKind::Endpoint => "endpoint",
-        ObjectKind::Notification => "notification",
-        ObjectKind::Reply => "reply",
-        ObjectKind::Context => "context",
-        ObjectKind::Frame => "frame",
-        ObjectKind::Control => "control",
-    }
-}
-
 fn write_entry(
     text: &mut String,
     table: &Table,
@@ -55,7 +38,7 @@ fn write_entry(
         ≡ string_bytes text.old ++ line_text (entry_words table.now id.0 (object_name table.now id) initial.now)) }
 {
     let number = id.0;
-    let kind = kind_word(initial.object.kind());
+    let kind = initial.object.kind().name();
     let name = object_name(table, id);
     let label = label_name(table, initial.label);
     writeln!(text, "{number} {kind} {name} {label}")

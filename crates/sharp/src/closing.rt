@@ -13,10 +13,6 @@ use std::alloc::{AllocError, Global};
 ///
 /// The labels of `held` hold capabilities for CNodes at boot, and a policy's keepers are the result
 /// of [`keepers`]. Every sharply closed policy that has these edges has all edges of the result.
-///
-/// # Errors
-///
-/// [`AllocError`] where memory is refused.
 pub fn close_sharply(
     alloc: Global,
     policy: &Policy,

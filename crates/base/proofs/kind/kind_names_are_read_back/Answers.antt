@@ -1,4 +1,4 @@
-use Rattle.{std.proofs.Common.refl, base.proofs.KindNames.{bit_at_number, in_order, kind_once, named_iff, number_below, number_once}}
+use Rattle.{std.proofs.Common.refl, base.proofs.KindNames.{in_order, kind_once, named_iff, number_below, number_once}}
 use Rattle.base.proofs.kind.kind_names_are_read_back.Goals as goal
 
 pub returns : goal.returns
@@ -10,5 +10,4 @@ returns c =
       number_below = number_below;
       in_order = in_order;
       all = refl;
-      bit = bit_at_number;
     }

@@ -1,5 +1,5 @@
 -- A set to which one kind was added: it has that kind, and of the others those that it had.
-use Rattle.std.proofs.Common.{ℕ, ◌&&◌, ◌+◌, ◌<◌, ◌==◌, ◌^◌, ◌∙◌, ◌≡◌, ◌≢◌, Bool, ap, arith, bit_or, false, get_or, inl, inr, nat_lt, refl}
+use Rattle.std.proofs.Common.{ℕ, ◌&&◌, ◌+◌, ◌<◌, ◌==◌, ◌∙◌, ◌≡◌, ◌≢◌, Bool, ap, arith, bit_or, false, get_or, inl, inr, nat_lt, refl}
 use Rattle.std.proofs.{Common.{sym, true, zero-add}, lemmas.Bool.{eq-eqb, le-ltb, lt-ltb, Decides.{eqb_tells, nat_tests}}}
 use Rattle.std.proofs.lemmas.{List.{get_or-map, FromFn.get_or-range_with_len}, Nat.{and_or_apart, and_or_self, or_lt, pow_apart, pow_below}}
 use Rattle.base.specs.{declared.kind.{Kind.Kind, TheConstants.Kind.ALL}, Kinds.{is_among, kind_bit, kind_number}}
@@ -32,15 +32,14 @@ one_more given i set new x at once before here others kind =
 
 taken : (given : Kind → Bool) (i set new : ℕ) (x : Kind) (is : Bool) → kind_number x ≡ i
     → ((one other : Kind) → kind_number one ≡ kind_number other → one ≡ other)
-    → ((kind : Kind) → kind_bit kind ≡ 2 ^ kind_number kind)
     → ((kind : Kind) → is_among set kind ≡ (nat_lt (kind_number kind) i && given kind))
     → is ≡ given x → is ≡ true → new ≡ bit_or set (kind_bit x)
     → (kind : Kind) → is_among new kind ≡ (nat_lt (kind_number kind) (i + 1) && given kind)
-taken given i set new x is at once bit before tested holds grown =
+taken given i set new x is at once before tested holds grown =
     one_more given i set new x at once before
     (rw grown (eq-eqb _ _ (and_or_self (kind_bit x) set) ∙ sym holds ∙ tested))
     (λ kind apart. rw grown (ap (λ n. n == kind_bit kind) (and_or_apart (kind_bit kind) set (kind_bit x)
-    (rw (bit x, bit kind) (pow_apart (kind_number x) (kind_number kind) apart)))))
+    (pow_apart (kind_number x) (kind_number kind) apart))))
 
 left : (given : Kind → Bool) (i set : ℕ) (x : Kind) (is : Bool) → kind_number x ≡ i
     → ((one other : Kind) → kind_number one ≡ kind_number other → one ≡ other)
@@ -59,9 +58,9 @@ loop-kind-preserved c =
     elim c.if-gives.branch [
       | then-gives w ↦ record {
         each = rw w.kinds-is (taken (gives c.args.self.now.detail) i c.loop-kind.kinds.0 w.insert.new.self.0 (get_or ALL i _) c.gives.result
-            (number_at i _ c.loop-kind-test.true) names.number_once names.bit c.loop-kind.invariant.each c.gives.ensures w.if-gives.true (w.insert.ensures tt ∙ ap (λ n. bit_or c.loop-kind.kinds.0 n) w.from.ensures));
+            (number_at i _ c.loop-kind-test.true) names.number_once c.loop-kind.invariant.each c.gives.ensures w.if-gives.true (w.insert.ensures tt ∙ ap (λ n. bit_or c.loop-kind.kinds.0 n) w.from.ensures));
         alone = rw (w.kinds-is, w.insert.ensures tt) (or_lt 17 c.loop-kind.kinds.0 w.from.result.0 c.loop-kind.invariant.alone
-            (rw (w.from.ensures, names.bit (get_or ALL i _)) (pow_below _ 17 (names.number_below _))));
+            (rw w.from.ensures (pow_below _ 17 (names.number_below _))));
       }
       | else-gives w ↦ record {
         each = rw w.kinds-is (left (gives c.args.self.now.detail) i c.loop-kind.kinds.0 (get_or ALL i _) c.gives.result
