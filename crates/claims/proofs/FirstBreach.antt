@@ -7,7 +7,7 @@ use Rattle.std.proofs.lemmas.{Map.Views.Contains-from_any, Option.{get_or_from_s
 use Rattle.{machine.specs.Layout.Layout, reach.specs.Extents.{GoesTo, Limits, MayChangeIn, MayShrinkIn}}
 use Rattle.claims.specs.declared.{breaches.Breach.Breach, claim.{Claim.{Claim, Claim as claim}, Most.Most as most}, rows.Row.Row}
 use Rattle.claims.specs.{Breaches.{HoldsOf, IsFirstBreachBy}, Claims.is_one_of}
-use Rattle.claims.specs.{Holding.{Bounds, ComesBefore, HasAtMost, IsFirstBreach, most_of}, Rows.IsRow}
+use Rattle.claims.specs.{Holding.{Bounds, PairComesBefore, HasAtMost, IsFirstBreach, most_of}, Rows.IsRow}
 
 -- a row has more than a claim leaves
 
@@ -44,7 +44,7 @@ module _ (t : Layout) (limits : Limits) (claim : Claim) where
     at : (P : ℕ → Type 0) → P a → P breach.actor
     at P = subst P (sym is.by)
 
-    earlier : (x l : ℕ) → Bounds t claim x l → ComesBefore x l breach.actor breach.object → HasAtMost limits x l (most_of claim)
+    earlier : (x l : ℕ) → Bounds t claim x l → PairComesBefore x l breach.actor breach.object → HasAtMost limits x l (most_of claim)
     earlier x l bounded (inl below) = before x (subst (λ n. x < n) is.by below) l bounded
     earlier x l bounded (inr (same, below)) =
         let here = same ∙ is.by in

@@ -5,7 +5,7 @@ use Rattle.base.specs.{declared.{edge.Edge.Edge, kind.Kind.Kind, labels.Labels.L
 use Rattle.{machine.specs.Layout.Layout, policy.specs.Domain.EdgeTest}
 use Rattle.claims.specs.declared.claim.{Claim.{Claim, Claim as claim}, Who.Who}
 use Rattle.claims.specs.Edges.{IsFirstEdgeBy, IsFirstOfKind, IsFirstRead, LacksEdgesOf, LacksKind, LacksReads}
-use Rattle.claims.specs.Holding.{AreNamed, AreTwo, ComesBefore, EdgeComesBefore, Excludes, HoldsOnEdges, IsFirstEdge}
+use Rattle.claims.specs.Holding.{AreLabelNames, AreTwo, PairComesBefore, EdgeComesBefore, Excludes, HoldsOnEdges, IsFirstEdge}
 
 -- claim by claim
 
@@ -34,7 +34,7 @@ module _ (t : Layout) (test : EdgeTest) (a : ℕ) (objects : Labels) where
           (λ kind l excluded. lacks kind l excluded.3 ((are l).1 ((are_others l).1 excluded.0, excluded.1, excluded.2)))
 
   module _ (one : Claim) (actors : Who) (sort : Kind) (whose : Who) (is : one ≡ claim.Without actors sort whose)
-      (are : (l : ℕ) → (is_in objects l ≡ true) ↔ AreNamed t actors whose a l)
+      (are : (l : ℕ) → (is_in objects l ≡ true) ↔ AreLabelNames t actors whose a l)
     where
       pub without_first : (edge : Edge) → IsFirstOfKind test a sort objects edge → IsFirstEdgeBy t test one a edge
       without_first edge found = subst (λ c. IsFirstEdgeBy t test c a edge) (sym is) (record {
@@ -44,7 +44,7 @@ module _ (t : Layout) (test : EdgeTest) (a : ℕ) (objects : Labels) where
         first = λ kind l excluded comes. earlier kind l excluded comes;
       }) where
         earlier : (kind : Kind) (l : ℕ) → Excludes t (claim.Without actors sort whose) a kind l
-            → ComesBefore (kind_number kind) l (kind_number edge.kind) edge.to → test a kind l ≡ false
+            → PairComesBefore (kind_number kind) l (kind_number edge.kind) edge.to → test a kind l ≡ false
         earlier kind l excluded (inl less) =
             absurd (omega (arith, less, ap kind_number (excluded.1 ∙ sym found.of_kind)))
         earlier kind l excluded (inr (same, below)) =

@@ -4,8 +4,8 @@ use Rattle.{base.specs.declared.kind.Kind.Kind, machine.specs.Layout.Layout, pol
 use Rattle.reach.{specs.{Extents.{Limits, limits_of}, Reach.{IsTableReach, TableReach}}, proofs.Extents.{apart, takes}}
 use Rattle.flows.proofs.Leading.{no_chain, shielded}
 use Rattle.claims.specs.declared.claim.{Claim.{Claim, Claim as claim}, Most.{Most, Most as most}, Who.Who}
-use Rattle.claims.specs.{declared.deciding.Failure.{Failure, Failure as failure}, Claims.is_one_of, Holding.Fails}
-use Rattle.claims.specs.Holding.{FailsOnEdge, FailsOnPair, HasAtMost, Holds, HoldsOnEdges, HoldsOnPairs, IsKept, KeepsAtMost, KeepsEdges}
+use Rattle.claims.specs.{declared.deciding.Failure.{Failure, Failure as failure}, Claims.is_one_of, Holding.ClaimFails}
+use Rattle.claims.specs.Holding.{FailsOnEdge, FailsOnPair, HasAtMost, Holds, HoldsOnEdges, HoldsOnPairs, ClaimIsKept, KeepsAtMost, KeepsEdges}
 
 module _ (reach : TableReach) (is : IsTableReach reach) (safe : IsSafe reach.table (allows reach.policy)) where
   abbrev t : Layout
@@ -22,7 +22,7 @@ module _ (reach : TableReach) (is : IsTableReach reach) (safe : IsSafe reach.tab
   edges_kept claim holds =
       λ a kind l excluded m reached has. false≢true (sym (holds a kind l excluded) ∙ safe.confined m reached a kind l has)
 
-  pub claim_kept : (claim : Claim) → Holds t limits claim → IsKept t limits claim
+  pub claim_kept : (claim : Claim) → Holds t limits claim → ClaimIsKept t limits claim
   claim_kept (claim.AtMost limit actor object) holds = λ a l bounded. most_kept a l limit (holds a l bounded)
   claim_kept (claim.Only object actors) holds = λ a l bounded. most_kept a l most.Nothing (holds a l bounded)
   claim_kept (claim.Within actor objects) holds = λ a l bounded. most_kept a l most.Nothing (holds a l bounded)
@@ -43,7 +43,7 @@ module _ (t : Layout) (limits : Limits) where
   edge_breaks claim failure.Chain fails holds = fails
   edge_breaks claim (failure.Pair breach) fails holds = fails
 
-  pub fails_breaks : (claim : Claim) (told : Failure) → Fails t limits claim told → ¬ Holds t limits claim
+  pub fails_breaks : (claim : Claim) (told : Failure) → ClaimFails t limits claim told → ¬ Holds t limits claim
   fails_breaks (claim.AtMost limit actor object) told fails holds = pair_breaks (claim.AtMost limit actor object) told fails holds
   fails_breaks (claim.Only object actors) told fails holds = pair_breaks (claim.Only object actors) told fails holds
   fails_breaks (claim.Within actor objects) told fails holds = pair_breaks (claim.Within actor objects) told fails holds

@@ -8,7 +8,7 @@ use Rattle.{std.proofs.lemmas.Option.{get_or_from_slice_get, slice_get-get_or}, 
 use Rattle.reach.specs.{declared.extent.Extent.{Extent, Extent as extent}, Extents.{GoesTo, Limits, MayChangeIn, MayShrinkIn}}
 use Rattle.summary.specs.Labelled.{labels_of, others_of, programs_of}
 use Rattle.claims.specs.{declared.{claim.{Claim.Claim, Most.Most as most}, rows.{Row.Row, Rows.Rows}}, Holding.AreBroken}
-use Rattle.claims.specs.{Holding.{AreBroken.{ended, held}, HasAtMost, Holds}, Rows.{AreRows, IsRow, extents_of, no_row, row_extent}}
+use Rattle.claims.specs.{Holding.{AreBroken.{ended, held}, HasAtMost, Holds}, Rows.{AreRowsByLabel, IsRow, extents_of, no_row, row_extent}}
 use Rattle.claims.specs.Strongest.{AreExtents, AreStrongest, Extents, affects, claim_to, claims_among, claims_for, claims_of}
 use Rattle.claims.{specs.Strongest.{claims_on, is_user, only_these, pair_claims, strongest_by, users_of}}
 
@@ -24,7 +24,7 @@ module _ (limits : Limits) (a l : ℕ) where
 pub row_goes : (limits : Limits) (a : ℕ) (row : Row) → IsRow limits a row → (l : ℕ) → GoesTo limits a l (row_extent row l)
 row_goes limits a row is l = extent_goes limits a l (is_in row.changed l) (is_in row.shrunk l) (is.changed l) (is.shrunk l)
 
-pub rows_go : (t : Layout) (limits : Limits) (rows : Rows) → AreRows limits rows → length t.labels ≤ length rows.rows.items
+pub rows_go : (t : Layout) (limits : Limits) (rows : Rows) → AreRowsByLabel limits rows → length t.labels ≤ length rows.rows.items
     → AreExtents t limits (extents_of rows)
 rows_go t limits rows are few a l within =
     let there = slice_get-get_or rows.rows.items a no_row (omega (arith, within, few)) in

@@ -2,7 +2,7 @@
 use Rattle.std.specs.Prelude.{ℕ, ◌<◌, ◌≡◌, false, true}
 use Rattle.base.specs.{declared.{edge.Edge.Edge, kind.Kind.Kind, labels.Labels.Labels}, Kinds.kind_number, Labels.is_in}
 use Rattle.{machine.specs.Layout.Layout, policy.specs.Domain.EdgeTest}
-use Rattle.claims.specs.{declared.claim.Claim.Claim, Holding.{ComesBefore, Excludes, IsReading}}
+use Rattle.claims.specs.{declared.claim.Claim.Claim, Holding.{PairComesBefore, Excludes, IsReading}}
 
 -- the first edge of a kind from this label to one of these
 pub record IsFirstOfKind (test : EdgeTest) (a : ℕ) (kind : Kind) (objects : Labels) (edge : Edge) : Type 0 where
@@ -23,7 +23,7 @@ pub record IsFirstRead (test : EdgeTest) (a : ℕ) (objects : Labels) (edge : Ed
   pub among : is_in objects edge.to ≡ true
   pub has : test a edge.kind edge.to ≡ true
   pub first : (kind : Kind) (l : ℕ) → IsReading kind → is_in objects l ≡ true
-      → ComesBefore (kind_number kind) l (kind_number edge.kind) edge.to → test a kind l ≡ false
+      → PairComesBefore (kind_number kind) l (kind_number edge.kind) edge.to → test a kind l ≡ false
 
 -- there is none
 abbrev pub LacksReads : EdgeTest → ℕ → Labels → Type 0
@@ -34,7 +34,7 @@ pub record IsFirstEdgeBy (t : Layout) (test : EdgeTest) (claim : Claim) (a : ℕ
   pub by : edge.from ≡ a
   pub excluded : Excludes t claim a edge.kind edge.to
   pub has : test a edge.kind edge.to ≡ true
-  pub first : (kind : Kind) (l : ℕ) → Excludes t claim a kind l → ComesBefore (kind_number kind) l (kind_number edge.kind) edge.to
+  pub first : (kind : Kind) (l : ℕ) → Excludes t claim a kind l → PairComesBefore (kind_number kind) l (kind_number edge.kind) edge.to
       → test a kind l ≡ false
 
 -- there is none

@@ -4,7 +4,7 @@ use Rattle.std.specs.{List.Contains, Prelude.{[], ℕ, ◌+◌, ◌<◌, ◌∷�
 use Rattle.base.specs.{declared.{edge.Edge.Edge, kind.Kind.{Kind, TheVariants.{Await, Read, Receive}}}, Kinds.kind_number}
 use Rattle.machine.specs.{Authority.HasAuthority, Layout.Layout, Machine.Machine}
 use Rattle.{policy.specs.Domain.EdgeTest, integrity.specs.{Apart.{NeverChanges, OnlyTakes}, Safe.IsReached}}
-use Rattle.{reach.specs.Extents.{GoesTo, Limits, MayChangeIn, MayShrinkIn}, flows.specs.Flowing.{IsClosedOff, IsShielded, Leads}}
+use Rattle.{reach.specs.Extents.{GoesTo, Limits, MayChangeIn, MayShrinkIn}, flows.specs.Flowing.{IsClosedOff, IsShielded, FlowLeads}}
 use Rattle.claims.specs.declared.{breaches.Breach.Breach, claim.{Claim.{Claim, Claim as claim}, Most.{Most, Most as most}, Who.Who}}
 use Rattle.claims.specs.{declared.{claim.Who.Who as who, deciding.{Broken.Broken, Failure.{Failure, Failure as failure}}}, Claims.is_one_of}
 
@@ -38,15 +38,15 @@ abbrev pub IsReading : Kind → Type 0
 IsReading kind = (kind ≡ Receive) ⊎ ((kind ≡ Await) ⊎ (kind ≡ Read))
 
 -- the ends of `without` name these labels: `*` each label of the table but that of the other end. Two labels may be one
-abbrev pub AreNamed : Layout → Who → Who → ℕ → ℕ → Type 0
-AreNamed t (who.One actor) (who.One object) a l = (a ≡ actor) × (l ≡ object)
-AreNamed t (who.One actor) who.Others a l = AreTwo t a l × (a ≡ actor)
-AreNamed t who.Others object a l = AreTwo t a l × IsNamed object l
+abbrev pub AreLabelNames : Layout → Who → Who → ℕ → ℕ → Type 0
+AreLabelNames t (who.One actor) (who.One object) a l = (a ≡ actor) × (l ≡ object)
+AreLabelNames t (who.One actor) who.Others a l = AreTwo t a l × (a ≡ actor)
+AreLabelNames t who.Others object a l = AreTwo t a l × IsNamed object l
 
 -- a claim excludes authority of this kind of a label on another
 abbrev pub Excludes : Layout → Claim → ℕ → Kind → ℕ → Type 0
 Excludes t (claim.Readers object readers) a kind l = AreTwo t a l × (l ≡ object) × (¬ Contains readers a) × IsReading kind
-Excludes t (claim.Without actor sort object) a kind l = AreNamed t actor object a l × (kind ≡ sort)
+Excludes t (claim.Without actor sort object) a kind l = AreLabelNames t actor object a l × (kind ≡ sort)
 Excludes t _ a kind l = ⊥
 
 -- when it holds: labels are kept apart, but for filters, if a set of labels is closed off. Then no chain of flows leads from the one to the
@@ -92,31 +92,31 @@ abbrev pub KeepsEdges : Layout → Claim → Type 0
 KeepsEdges t claim = (a : ℕ) (kind : Kind) (l : ℕ) → Excludes t claim a kind l → NeverHas t a kind l
 
 -- what is claimed is kept in every run from the table's boot state
-abbrev pub IsKept : Layout → Limits → Claim → Type 0
-IsKept t limits (claim.AtMost limit actor object) = KeepsPairs t (claim.AtMost limit actor object)
-IsKept t limits (claim.Only object actors) = KeepsPairs t (claim.Only object actors)
-IsKept t limits (claim.Within actor objects) = KeepsPairs t (claim.Within actor objects)
-IsKept t limits (claim.Readers object readers) = KeepsEdges t (claim.Readers object readers)
-IsKept t limits (claim.Through from to filters) = IsShielded t limits (is_one_of filters) from to
-IsKept t limits (claim.Without actor kind object) = KeepsEdges t (claim.Without actor kind object)
+abbrev pub ClaimIsKept : Layout → Limits → Claim → Type 0
+ClaimIsKept t limits (claim.AtMost limit actor object) = KeepsPairs t (claim.AtMost limit actor object)
+ClaimIsKept t limits (claim.Only object actors) = KeepsPairs t (claim.Only object actors)
+ClaimIsKept t limits (claim.Within actor objects) = KeepsPairs t (claim.Within actor objects)
+ClaimIsKept t limits (claim.Readers object readers) = KeepsEdges t (claim.Readers object readers)
+ClaimIsKept t limits (claim.Through from to filters) = IsShielded t limits (is_one_of filters) from to
+ClaimIsKept t limits (claim.Without actor kind object) = KeepsEdges t (claim.Without actor kind object)
 
 -- where it doesn't hold
 
 -- a pair comes before another: by label, then label
-abbrev pub ComesBefore : ℕ → ℕ → ℕ → ℕ → Type 0
-ComesBefore x y a l = (x < a) ⊎ ((x ≡ a) × (y < l))
+abbrev pub PairComesBefore : ℕ → ℕ → ℕ → ℕ → Type 0
+PairComesBefore x y a l = (x < a) ⊎ ((x ≡ a) × (y < l))
 
 -- the first pair of labels, by label and then label, that has more authority than a claim leaves; and how far that goes
 pub record IsFirstBreach (t : Layout) (limits : Limits) (claim : Claim) (breach : Breach) : Type 0 where
   pub bounded : Bounds t claim breach.actor breach.object
   pub breaks : ¬ HasAtMost limits breach.actor breach.object (most_of claim)
   pub goes_to : GoesTo limits breach.actor breach.object breach.extent
-  pub first : (a l : ℕ) → Bounds t claim a l → ComesBefore a l breach.actor breach.object → HasAtMost limits a l (most_of claim)
+  pub first : (a l : ℕ) → Bounds t claim a l → PairComesBefore a l breach.actor breach.object → HasAtMost limits a l (most_of claim)
 
 -- an edge comes before another: by label, then kind, then label
 abbrev pub EdgeComesBefore : ℕ → Kind → ℕ → Edge → Type 0
 EdgeComesBefore a kind l edge =
-    (a < edge.from) ⊎ ((a ≡ edge.from) × ComesBefore (kind_number kind) l (kind_number edge.kind) edge.to)
+    (a < edge.from) ⊎ ((a ≡ edge.from) × PairComesBefore (kind_number kind) l (kind_number edge.kind) edge.to)
 
 -- the first edge that a claim excludes, and that is there
 pub record IsFirstEdge (t : Layout) (test : EdgeTest) (claim : Claim) (edge : Edge) : Type 0 where
@@ -137,19 +137,19 @@ FailsOnEdge t test claim (failure.Edge edge) = IsFirstEdge t test claim edge
 FailsOnEdge t test claim failure.Chain = ⊥
 FailsOnEdge t test claim (failure.Pair breach) = ⊥
 
-abbrev pub Fails : Layout → Limits → Claim → Failure → Type 0
-Fails t limits (claim.AtMost limit actor object) told = FailsOnPair t limits (claim.AtMost limit actor object) told
-Fails t limits (claim.Only object actors) told = FailsOnPair t limits (claim.Only object actors) told
-Fails t limits (claim.Within actor objects) told = FailsOnPair t limits (claim.Within actor objects) told
-Fails t limits (claim.Readers object readers) told = FailsOnEdge t limits.test (claim.Readers object readers) told
-Fails t limits (claim.Through from to filters) told = (told ≡ failure.Chain) × Leads limits (is_one_of filters) from to
-Fails t limits (claim.Without actor kind object) told = FailsOnEdge t limits.test (claim.Without actor kind object) told
+abbrev pub ClaimFails : Layout → Limits → Claim → Failure → Type 0
+ClaimFails t limits (claim.AtMost limit actor object) told = FailsOnPair t limits (claim.AtMost limit actor object) told
+ClaimFails t limits (claim.Only object actors) told = FailsOnPair t limits (claim.Only object actors) told
+ClaimFails t limits (claim.Within actor objects) told = FailsOnPair t limits (claim.Within actor objects) told
+ClaimFails t limits (claim.Readers object readers) told = FailsOnEdge t limits.test (claim.Readers object readers) told
+ClaimFails t limits (claim.Through from to filters) told = (told ≡ failure.Chain) × FlowLeads limits (is_one_of filters) from to
+ClaimFails t limits (claim.Without actor kind object) told = FailsOnEdge t limits.test (claim.Without actor kind object) told
 
 -- the claim of a line doesn't hold
 pub record IsBroken (t : Layout) (limits : Limits) (line : ℕ) (claim : Claim) (broken : Broken) : Type 0 where
   pub line_is : broken.line ≡ line
   pub breaks : ¬ Holds t limits claim
-  pub fails : Fails t limits claim broken.failure
+  pub fails : ClaimFails t limits claim broken.failure
 
 -- these are all lines, from this number on, whose claims don't hold, in their order
 pub data AreBroken (t : Layout) (limits : Limits) : ℕ → List (Option Claim) → List Broken → Type 0 where

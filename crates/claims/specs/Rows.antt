@@ -10,8 +10,8 @@ pub record IsRow (limits : Limits) (a : ℕ) (row : Row) : Type 0 where
   pub shrunk : (l : ℕ) → (is_in row.shrunk l ≡ true) ↔ MayShrinkIn limits a l
 
 -- each label has its row at its number
-abbrev pub AreRows : Limits → Rows → Type 0
-AreRows limits rows = (a : ℕ) (row : Row) → slice_get rows.rows.items a ≡ Some row → IsRow limits a row
+abbrev pub AreRowsByLabel : Limits → Rows → Type 0
+AreRowsByLabel limits rows = (a : ℕ) (row : Row) → slice_get rows.rows.items a ≡ Some row → IsRow limits a row
 
 -- how far a row goes with a label
 abbrev pub row_extent : Row → ℕ → Extent

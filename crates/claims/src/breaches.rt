@@ -2,7 +2,7 @@
 ghost use Rattle.std.specs.{List.{Contains, list_any}, Prelude.{ℕ, ◌==◌, ◌↔◌, ◌≡◌, IfNone, IfSome, IsTrue, true}};
 ghost use Rattle.{base.specs.Labels.is_in, machine.specs.Layout.Layout, table.specs.Names.AreLabelsOf, reach.specs.Extents.Limits};
 ghost use Rattle.claims.specs.Breaches.{AreExcess, HoldsOf, IsFirstBreachBy};
-ghost use Rattle.claims.specs.{Holding.{Bounds, HoldsOnPairs, IsFirstBreach, IsNamed, most_of}, Rows.{AreRows, IsRow}};
+ghost use Rattle.claims.specs.{Holding.{Bounds, HoldsOnPairs, IsFirstBreach, IsNamed, most_of}, Rows.{AreRowsByLabel, IsRow}};
 
 use crate::claim::{Claim, LabelList, Most, Who};
 use crate::rows::{Row, Rows};
@@ -125,9 +125,9 @@ fn most_of(claim: &Claim) -> Most
 
 /// Returns the first pair of labels that has more authority than a claim leaves, if there is one.
 pub(crate) fn first_breach(rows: &Rows, labels: Labels, claim: &Claim) -> Option<Breach>
-    ensures some { IfSome result (λ breach. (t : Layout) (limits : Limits) → AreLabelsOf t labels → AreRows limits rows.now
+    ensures some { IfSome result (λ breach. (t : Layout) (limits : Limits) → AreLabelsOf t labels → AreRowsByLabel limits rows.now
         → IsFirstBreach t limits claim.now breach) }
-    ensures none { IfNone result ((t : Layout) (limits : Limits) → AreLabelsOf t labels → AreRows limits rows.now
+    ensures none { IfNone result ((t : Layout) (limits : Limits) → AreLabelsOf t labels → AreRowsByLabel limits rows.now
         → HoldsOnPairs t limits claim.now) }
 {
     for number in 0..Label::COUNT {

@@ -1,9 +1,9 @@
 //! The claims that don't hold of a table, and why.
 ghost use Rattle.std.specs.{List.Contains, Prelude.{[], ℕ, ◌≡◌, IfNone, IfOk, IfSome, Some}};
 ghost use Rattle.{machine.specs.Layout.Layout, table.specs.Names.AreLabelsOf, policy.specs.Policy.allows};
-ghost use Rattle.{fixed.specs.Fixed.IsFixed, reach.specs.Extents.{Limits, limits_of}, flows.specs.Flowing.{IsClosedOff, Leads}};
-ghost use Rattle.claims.specs.{declared.claim.Claim.Claim as ClaimOf, Claims.is_one_of, Holding.{AreBroken, Fails, FailsOnEdge}};
-ghost use Rattle.claims.specs.{Holding.{FailsOnPair, Holds, HoldsOnEdges, HoldsOnPairs, IsKept}, Learning.IsKeptInCalls, Rows.AreRows};
+ghost use Rattle.{fixed.specs.Fixed.IsFixed, reach.specs.Extents.{Limits, limits_of}, flows.specs.Flowing.{IsClosedOff, FlowLeads}};
+ghost use Rattle.claims.specs.{declared.claim.Claim.Claim as ClaimOf, Claims.is_one_of, Holding.{AreBroken, ClaimFails, FailsOnEdge}};
+ghost use Rattle.claims.specs.{Holding.{FailsOnPair, Holds, HoldsOnEdges, HoldsOnPairs, ClaimIsKept}, Learning.IsKeptInCalls, Rows.AreRowsByLabel};
 ghost use Rattle.claims.specs.declared.lines.TheConstants.ClaimLines as ClaimLines;
 
 use crate::breaches::{Breach, first_breach};
@@ -56,9 +56,9 @@ pub fn all_broken(
     // outside it, but for each F, never change an object of a label in it, or one that a label in it sees, but for objects of each F.
     // `without A KIND B`: no state gives A this authority on B.
     ensures kept { (claim : ClaimOf) → Holds reach.now.table (limits_of reach.now) claim
-        → IsKept reach.now.table (limits_of reach.now) claim }
+        → ClaimIsKept reach.now.table (limits_of reach.now) claim }
     ensures all_kept { IfOk result (λ broken. broken.items ≡ []
-        → (claim : ClaimOf) → Contains lines.now (Some claim) → IsKept reach.now.table (limits_of reach.now) claim) }
+        → (claim : ClaimOf) → Contains lines.now (Some claim) → ClaimIsKept reach.now.table (limits_of reach.now) claim) }
 
     // In a fixed system `through A B F ..` and `apart A B` also bound what calls return to threads of the set that decides the claim.
     // `apart`: each event of such a thread has the same outcome in two runs from the boot state whose scripts differ, position by
@@ -104,9 +104,9 @@ fn broken_by(
 
 /// Why a claim on pairs doesn't hold, if it doesn't.
 fn pair_failure(rows: &Rows, labels: Labels, claim: &Claim) -> Option<Failure>
-    ensures some { IfSome result (λ told. (t : Layout) (limits : Limits) → AreLabelsOf t labels → AreRows limits rows.now
+    ensures some { IfSome result (λ told. (t : Layout) (limits : Limits) → AreLabelsOf t labels → AreRowsByLabel limits rows.now
         → FailsOnPair t limits claim.now told) }
-    ensures none { IfNone result ((t : Layout) (limits : Limits) → AreLabelsOf t labels → AreRows limits rows.now
+    ensures none { IfNone result ((t : Layout) (limits : Limits) → AreLabelsOf t labels → AreRowsByLabel limits rows.now
         → HoldsOnPairs t limits claim.now) }
 {
     match first_breach(rows, labels, claim) {
@@ -136,7 +136,7 @@ fn through_failure(
     filters: &LabelList,
 ) -> Option<Failure>
     ensures some { IfSome result (λ told. (told ≡ Failure.Chain)
-        × Leads (limits_of flows.now) (is_one_of filters.now) from to) }
+        × FlowLeads (limits_of flows.now) (is_one_of filters.now) from to) }
     ensures none { IfNone result (IsClosedOff (limits_of flows.now) (is_one_of filters.now) from to) }
 {
     if flows.goes_through(from, to, filters.set()) {
@@ -155,8 +155,8 @@ fn failure_of(
 ) -> Option<Failure>
     requires flows { flows.now ≡ reach.now }
     requires labels { AreLabelsOf reach.now.table labels }
-    requires rows { AreRows (limits_of reach.now) rows.now }
-    ensures some { IfSome result (Fails reach.now.table (limits_of reach.now) claim.now) }
+    requires rows { AreRowsByLabel (limits_of reach.now) rows.now }
+    ensures some { IfSome result (ClaimFails reach.now.table (limits_of reach.now) claim.now) }
     ensures none { IfNone result (Holds reach.now.table (limits_of reach.now) claim.now) }
 {
     match claim {

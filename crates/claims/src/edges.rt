@@ -2,7 +2,7 @@
 ghost use Rattle.std.specs.Prelude.{ℕ, ◌↔◌, ◌≡◌, IfNone, IfSome, true};
 ghost use Rattle.{base.specs.Labels.is_in, machine.specs.Layout.Layout, table.specs.Names.AreLabelsOf, policy.specs.Policy.allows};
 ghost use Rattle.claims.specs.Edges.{IsFirstEdgeBy, IsFirstOfKind, IsFirstRead, LacksEdgesOf, LacksKind, LacksReads};
-ghost use Rattle.claims.specs.Holding.{AreNamed, AreTwo, HoldsOnEdges, IsFirstEdge};
+ghost use Rattle.claims.specs.Holding.{AreLabelNames, AreTwo, HoldsOnEdges, IsFirstEdge};
 
 use crate::breaches::{named, objects_of_only};
 use crate::claim::{Claim, Who};
@@ -32,7 +32,7 @@ fn if_named(named: Label, label: Label, labels: Labels) -> Labels
 /// The labels that the one end of `without` names, where the other end names this label.
 fn objects_named(actors: Who, objects: Who, labels: Labels, actor: Label) -> Labels
     ensures { (t : Layout) → AreLabelsOf t labels
-        → (l : ℕ) → (is_in result l ≡ true) ↔ AreNamed t actors objects actor l }
+        → (l : ℕ) → (is_in result l ≡ true) ↔ AreLabelNames t actors objects actor l }
 {
     match actors {
         Who::One(one) => match objects {

@@ -1,7 +1,7 @@
 //! The strongest claims that hold of a table.
 ghost use Rattle.std.specs.{List.{Contains, flat_map}, Prelude.{[], ◌++◌, ◌≡◌, IfOk, OnOk, Some, map}};
 ghost use Rattle.{reach.specs.Extents.limits_of, summary.specs.Labelled.labels_of};
-ghost use Rattle.claims.specs.{declared.claim.Claim.Claim as ClaimOf, Holding.{AreBroken, IsKept}, Rows.{extents_of, row_extent}};
+ghost use Rattle.claims.specs.{declared.claim.Claim.Claim as ClaimOf, Holding.{AreBroken, ClaimIsKept}, Rows.{extents_of, row_extent}};
 ghost use Rattle.claims.specs.Strongest.{AreStrongest, affects, claims_among, claims_for, claims_on, is_user, only_these, users_of};
 ghost use Rattle.claims.specs.declared.lines.TheConstants.ClaimLines as ClaimLines;
 
@@ -26,7 +26,7 @@ pub fn strongest(alloc: Global, reach: &Reach<'_>) -> Result<ClaimLines, AllocEr
     ensures hold { IfOk result (λ lines.
         AreBroken reach.now.table (limits_of reach.now) ClaimLines.FIRST lines []) }
     ensures kept { IfOk result (λ lines.
-        (claim : ClaimOf) → Contains lines (Some claim) → IsKept reach.now.table (limits_of reach.now) claim) }
+        (claim : ClaimOf) → Contains lines (Some claim) → ClaimIsKept reach.now.table (limits_of reach.now) claim) }
 {
     reach.bounds_runs();
     let lines = strongest_by(alloc, reach.table(), reach)?;

@@ -57,11 +57,11 @@ pub(crate) struct Rows {
 }
 
 impl Rows {
-    ghost use Rattle.claims.specs.Rows.{AreRows};
+    ghost use Rattle.claims.specs.Rows.{AreRowsByLabel};
 
     /// Returns how far each label goes in a system.
     pub fn of(alloc: Global, reach: &Reach<'_>) -> Result<Rows, AllocError>
-        ensures { IfOk result (AreRows (limits_of reach.now)) }
+        ensures { IfOk result (AreRowsByLabel (limits_of reach.now)) }
     {
         let mut rows = Vec::with_capacity(alloc, usize::from(Label::COUNT))?;
         for number in 0..Label::COUNT {

@@ -2,9 +2,9 @@
 use Rattle.std.proofs.Common.{ℕ, ◌∙◌, ◌≡◌, ◌≤◌, Err, IfOk, IfSome, List, None, Ok, Option, Result, Some, ap, arith, refl, sym}
 use Rattle.{std.proofs.lemmas.Option.{none-some, same_Some}, forms.specs.declared.file.File.File, reptext.specs.Reports.fault_report}
 use Rattle.commands.specs.declared.{answer.Answer.Answer, end.{Asked.Asked, End.{End, End as ends}, Misuse.Misuse}}
-use Rattle.commands.specs.{declared.load.Stop.{Stop, Stop as stop}, Commands.{IsAnswer, IsCarriedOut, IsJudged, IsJudgedSo, IsMisused}}
+use Rattle.commands.specs.{declared.load.Stop.{Stop, Stop as stop}, Commands.{IsAnswerTo, IsCarriedOut, IsJudged, IsJudgedSo, IsMisused}}
 use Rattle.commands.specs.{Commands.{IsTold, IsUnlabelled, Output, report_of}, Ends.{IfCannotWrite, IfMisused, IfNoLabel, IfStatus}}
-use Rattle.commands.specs.{Ends.status_of, Files.{Contents, Gives, faulty, lacking_of, misused, unknown, unread_of, whole}}
+use Rattle.commands.specs.{Ends.status_of, Files.{Contents, IsLoadedAs, faulty, lacking_of, misused, unknown, unread_of, whole}}
 
 -- an answer to what was loaded is what is judged of it
 judged_ok : (judges : Answer → Type 0) (lacking : Option Asked) (a : Answer) → IsJudgedSo lacking judges (Ok a)
@@ -31,14 +31,14 @@ told_lacks judges (Some other) asked is = cc
 told_lacks judges None asked is = cc
 
 module _ {X : Type 0} (lacks : X → Option Asked) (judges : X → Answer → Type 0) where
-  at_held : (contents : Contents X) (x : X) (a : Answer) → Gives contents (Ok x) → judges x a → IsAnswer judges contents a.text.items a.status
+  at_held : (contents : Contents X) (x : X) (a : Answer) → IsLoadedAs contents (Ok x) → judges x a → IsAnswerTo judges contents a.text.items a.status
   at_held (whole y) x a gives right = (a, rw gives right, refl, refl)
   at_held (faulty file text table fault) x a gives right = absurd gives
   at_held (misused why) x a gives right = absurd gives
   at_held unknown x a gives right = tt
 
-  at_fault : (contents : Contents X) (file : File) (fault : _) → Gives contents (Err (stop.Faulty file fault))
-      → IsAnswer judges contents (fault_report fault.number file fault.line) 2
+  at_fault : (contents : Contents X) (file : File) (fault : _) → IsLoadedAs contents (Err (stop.Faulty file fault))
+      → IsAnswerTo judges contents (fault_report fault.number file fault.line) 2
   at_fault (whole y) file fault gives = absurd gives
   at_fault (faulty which text table told) file fault gives = (λ i. fault_report (gives.1 i).number (gives.0 i) (gives.1 i).line, refl)
   at_fault (misused why) file fault gives = absurd gives
@@ -46,16 +46,16 @@ module _ {X : Type 0} (lacks : X → Option Asked) (judges : X → Answer → Ty
 
   -- a report is the answer to what the files hold
   abbrev IsReport : Contents X → Option (List ℕ × ℕ) → Type 0
-  IsReport contents report = IfSome report (λ r. IsAnswer judges contents r.0 r.1 × (r.1 ≤ 2))
+  IsReport contents report = IfSome report (λ r. IsAnswerTo judges contents r.0 r.1 × (r.1 ≤ 2))
 
-  of_stop : (contents : Contents X) (why : Stop) → Gives contents (Err why) → IsReport contents (report_of (Err why))
+  of_stop : (contents : Contents X) (why : Stop) → IsLoadedAs contents (Err why) → IsReport contents (report_of (Err why))
   of_stop contents stop.NoMemory gives = tt
   of_stop contents (stop.CannotRead file) gives = tt
   of_stop contents (stop.NoLabel asked) gives = tt
   of_stop contents (stop.Misused why) gives = tt
   of_stop contents (stop.Faulty file fault) gives = (at_fault contents file fault gives, omega arith)
 
-  of_judged : (contents : Contents X) (x : X) (answer : Result Answer Stop) → Gives contents (Ok x)
+  of_judged : (contents : Contents X) (x : X) (answer : Result Answer Stop) → IsLoadedAs contents (Ok x)
       → IsJudgedSo (lacks x) (judges x) answer → IsReport contents (report_of answer)
   of_judged contents x (Ok a) gives judged =
       let is = judged_ok (judges x) (lacks x) a judged in (at_held contents x a gives is.0, is.1)
@@ -67,12 +67,12 @@ module _ {X : Type 0} (lacks : X → Option Asked) (judges : X → Answer → Ty
   of_judged contents x (Err (stop.Misused why)) gives judged =
       absurd (no_fault (judges x) (lacks x) (stop.Misused why) judged)
 
-  of_loaded : (contents : Contents X) (loaded : Result X Stop) (answer : Result Answer Stop) → Gives contents loaded
+  of_loaded : (contents : Contents X) (loaded : Result X Stop) (answer : Result Answer Stop) → IsLoadedAs contents loaded
       → IsJudged lacks judges loaded answer → IsReport contents (report_of answer)
   of_loaded contents (Ok x) answer gives judged = of_judged contents x answer gives judged
   of_loaded contents (Err why) answer gives judged = rw judged (of_stop contents why gives)
 
-  unlabelled_of : (contents : Contents X) (loaded : Result X Stop) (asked : Asked) → Gives contents loaded → lacking_of loaded ≡ None
+  unlabelled_of : (contents : Contents X) (loaded : Result X Stop) (asked : Asked) → IsLoadedAs contents loaded → lacking_of loaded ≡ None
       → IsJudged lacks judges loaded (Err (stop.NoLabel asked)) → IsUnlabelled lacks contents asked
   unlabelled_of (whole y) (Ok x) asked gives none judged = rw gives (told_lacks (judges x) (lacks x) asked judged)
   unlabelled_of (faulty file text table fault) (Ok x) asked gives none judged = absurd gives
@@ -82,7 +82,7 @@ module _ {X : Type 0} (lacks : X → Option Asked) (judges : X → Answer → Ty
       let same : why ≡ stop.NoLabel asked = cc in absurd (none-some asked (sym (rw same at none)))
 
   -- why the system isn't read as it was given is why it wasn't loaded
-  misused_of : (contents : Contents X) (loaded : Result X Stop) (told : Misuse) → Gives contents loaded
+  misused_of : (contents : Contents X) (loaded : Result X Stop) (told : Misuse) → IsLoadedAs contents loaded
       → IsJudged lacks judges loaded (Err (stop.Misused told)) → IsMisused contents told
   misused_of contents (Ok x) told gives judged = absurd (no_fault (judges x) (lacks x) (stop.Misused told) judged)
   misused_of (whole y) (Err why) told gives judged = let same : why ≡ stop.Misused told = cc in absurd (rw same at gives)
@@ -149,7 +149,7 @@ exit_of ends.CannotWrite is = omega arith
 
 pub carried_out :
     {X O : Type 0} {lacks : X → Option Asked} {judges : X → Answer → Type 0} {contents : Contents X} {failed : Option File}
-    {answer : Result Answer Stop} {out : Output O} {end : End} (loaded : Result X Stop) → Gives contents loaded → unread_of loaded ≡ failed
+    {answer : Result Answer Stop} {out : Output O} {end : End} (loaded : Result X Stop) → IsLoadedAs contents loaded → unread_of loaded ≡ failed
     → lacking_of loaded ≡ None → IsJudged lacks judges loaded answer → IsTold answer out end → IsCarriedOut lacks judges contents failed out end
 carried_out {X} {O} {lacks} {judges} {contents} {failed} {answer} {out} {end} loaded gives is none judged told =
     let report = of_loaded lacks judges contents loaded answer gives judged in

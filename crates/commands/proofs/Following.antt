@@ -1,7 +1,7 @@
 -- Files that are loaded one after another: what the load gives, and what is heard of it.
 use Rattle.std.proofs.Common.{ℕ, ◌≡◌, Err, IfSome, List, None, Ok, Option, Result, Some, subst, sym}
 use Rattle.forms.specs.declared.file.File.{File}
-use Rattle.commands.specs.{declared.{choices.Taken.Taken, given.Given.Given, load.Stop.{Stop, Stop as stop}}, Files.{Contents, Gives}}
+use Rattle.commands.specs.{declared.{choices.Taken.Taken, given.Given.Given, load.Stop.{Stop, Stop as stop}}, Files.{Contents, IsLoadedAs}}
 use Rattle.commands.specs.{Files.{and_then, as_taken, faulty, misused, named_contents, unknown, whole}, Hearing.{Hearing, HearsFault}}
 
 -- a stop that is neither a fault nor a misuse says nothing of the files
@@ -12,7 +12,7 @@ IsFree (stop.NoLabel asked) = Unit {0}
 IsFree (stop.Faulty file fault) = ⊥
 IsFree (stop.Misused told) = ⊥
 
-gives_free : {X : Type 0} (contents : Contents X) (why : Stop) → IsFree why → Gives contents (Err why)
+gives_free : {X : Type 0} (contents : Contents X) (why : Stop) → IsFree why → IsLoadedAs contents (Err why)
 gives_free (whole x) stop.NoMemory free = tt
 gives_free (whole x) (stop.CannotRead file) free = tt
 gives_free (whole x) (stop.NoLabel asked) free = tt
@@ -32,7 +32,7 @@ gives_free unknown why free = tt
 
 module _ {X Y : Type 0} (next : Y → Contents X) where
   -- the first files stop a load: so do all
-  pub stopped_first : (contents : Contents Y) (why : Stop) → Gives contents (Err why) → Gives (and_then contents next) (Err why)
+  pub stopped_first : (contents : Contents Y) (why : Stop) → IsLoadedAs contents (Err why) → IsLoadedAs (and_then contents next) (Err why)
   stopped_first (whole y) stop.NoMemory gives = gives_free (next y) stop.NoMemory tt
   stopped_first (whole y) (stop.CannotRead file) gives = gives_free (next y) (stop.CannotRead file) tt
   stopped_first (whole y) (stop.NoLabel asked) gives = gives_free (next y) (stop.NoLabel asked) tt
@@ -51,8 +51,8 @@ module _ {X Y : Type 0} (next : Y → Contents X) where
   stopped_first unknown why gives = tt
 
   -- the first files were loaded: then all give what those after them do
-  pub given_after : (contents : Contents Y) (y : Y) (loaded : Result X Stop) → Gives contents (Ok y) → Gives (next y) loaded
-      → Gives (and_then contents next) loaded
+  pub given_after : (contents : Contents Y) (y : Y) (loaded : Result X Stop) → IsLoadedAs contents (Ok y) → IsLoadedAs (next y) loaded
+      → IsLoadedAs (and_then contents next) loaded
   given_after (whole z) y loaded first gives = rw first gives
   given_after (faulty file text table fault) y loaded first gives = absurd first
   given_after (misused is) y loaded first gives = absurd first
@@ -70,7 +70,7 @@ module _ {X Y : Type 0} (next : Y → Contents X) where
     heard_first (misused is) (stop.Faulty file fault) heard = absurd heard
     heard_first unknown (stop.Faulty file fault) heard = heard
 
-    told_as : (contents : Contents X) (why : Stop) → Gives contents (Err why) → HearsFault Hears contents (Err why) old new
+    told_as : (contents : Contents X) (why : Stop) → IsLoadedAs contents (Err why) → HearsFault Hears contents (Err why) old new
         → HearsFault {X = X} Hears unknown (Err why) old new
     told_as contents stop.NoMemory gives heard = heard
     told_as contents (stop.CannotRead file) gives heard = heard
@@ -81,7 +81,7 @@ module _ {X Y : Type 0} (next : Y → Contents X) where
     told_as (misused is) (stop.Faulty file fault) gives heard = absurd heard
     told_as unknown (stop.Faulty file fault) gives heard = heard
 
-    pub heard_after : (contents : Contents Y) (y : Y) (why : Stop) → Gives contents (Ok y) → Gives (next y) (Err why)
+    pub heard_after : (contents : Contents Y) (y : Y) (why : Stop) → IsLoadedAs contents (Ok y) → IsLoadedAs (next y) (Err why)
         → HearsFault Hears (next y) (Err why) old new → HearsFault Hears (and_then contents next) (Err why) old new
     heard_after (whole z) y why first gives heard = subst (λ (k : Y). HearsFault Hears (next k) (Err why) old new) (sym first) heard
     heard_after (faulty file text table fault) y why first gives heard = absurd first
@@ -91,7 +91,7 @@ module _ {X Y : Type 0} (next : Y → Contents X) where
 -- what is heard of a system's text is heard of a file whose bytes are known to be that text
 module _ (table description : File) (taken : Taken) {L : Type 0} (Hears : L → Hearing → L → Type 0) (old new : L) where
   pub named_heard : (known : Option (List ℕ)) (text : List ℕ) (loaded : Result Given Stop) → IfSome known (λ bytes. text ≡ bytes)
-      → Gives (as_taken table description taken text) loaded → HearsFault Hears (as_taken table description taken text) loaded old new
+      → IsLoadedAs (as_taken table description taken text) loaded → HearsFault Hears (as_taken table description taken text) loaded old new
       → HearsFault Hears (named_contents table description taken known) loaded old new
   named_heard None text (Ok x) is gives heard = heard
   named_heard None text (Err why) is gives heard = told_as whole Hears old new (as_taken table description taken text) why gives heard

@@ -58,7 +58,7 @@ abbrev pub HasSystem : {T : Type 0} → Taken → Input T → Type 0
 HasSystem taken system = (system.failed ≡ false) × MayBeWhole (given_contents taken system.bytes)
 
 -- a listener hears of an answer nothing but its text and status
-pub record IsBare (answer : Answer) : Type 0 where
+pub record HasTextAlone (answer : Answer) : Type 0 where
   pub finding : answer.finding ≡ None
   pub made : answer.made ≡ None
   pub script : answer.script ≡ None
@@ -67,16 +67,16 @@ pub record IsBare (answer : Answer) : Type 0 where
 pub record IsPlain (told : List ℕ) (exit : ℕ) (answer : Answer) : Type 0 where
   pub text : answer.text.items ≡ told
   pub status : answer.status ≡ exit
-  pub bare : IsBare answer
+  pub bare : HasTextAlone answer
 
 -- an answer with status 0 and a text of which this is so, and nothing else
 pub record Says (IsSo : List ℕ → Type 0) (answer : Answer) : Type 0 where
   pub so : IsSo answer.text.items
   pub status : answer.status ≡ 0
-  pub bare : IsBare answer
+  pub bare : HasTextAlone answer
 
 -- an answer with status 1 and a text, and the finding of which this is so
-pub record Finds (told : List ℕ) (IsFinding : Finding → Type 0) (answer : Answer) : Type 0 where
+pub record TellsFinding (told : List ℕ) (IsFinding : Finding → Type 0) (answer : Answer) : Type 0 where
   pub text : answer.text.items ≡ told
   pub status : answer.status ≡ 1
   pub finding : Finding
@@ -87,15 +87,15 @@ pub record Finds (told : List ℕ) (IsFinding : Finding → Type 0) (answer : An
 
 -- an answer tells of a denial
 abbrev pub Denies : Layout → Denial → Answer → Type 0
-Denies t denial = Finds (denial_report (rule_name denial) (place_names t denial)) (λ told. told ≡ finding.Denied denial)
+Denies t denial = TellsFinding (denial_report (rule_name denial) (place_names t denial)) (λ told. told ≡ finding.Denied denial)
 
 -- a text and a status are the answer to what the files hold, where that is known: the report of the first fault, or what the
 -- command judges of the values
-abbrev pub IsAnswer : {X : Type 0} → (X → Answer → Type 0) → Contents X → List ℕ → ℕ → Type 0
-IsAnswer judges (whole x) text status = (answer : Answer) × judges x answer × (answer.text.items ≡ text) × (answer.status ≡ status)
-IsAnswer judges (faulty file faulty_text table fault) text status = (text ≡ fault_report fault.number file fault.line) × (status ≡ 2)
-IsAnswer judges (misused why) text status = ⊥
-IsAnswer judges unknown text status = Unit {0}
+abbrev pub IsAnswerTo : {X : Type 0} → (X → Answer → Type 0) → Contents X → List ℕ → ℕ → Type 0
+IsAnswerTo judges (whole x) text status = (answer : Answer) × judges x answer × (answer.text.items ≡ text) × (answer.status ≡ status)
+IsAnswerTo judges (faulty file faulty_text table fault) text status = (text ≡ fault_report fault.number file fault.line) × (status ≡ 2)
+IsAnswerTo judges (misused why) text status = ⊥
+IsAnswerTo judges unknown text status = Unit {0}
 
 -- the first label that a command asks about and the table lacks
 abbrev pub IsUnlabelled : {X : Type 0} → (X → Option Asked) → Contents X → Asked → Type 0
@@ -121,8 +121,8 @@ pub record IsCarriedOut
     {X O : Type 0} (lacks : X → Option Asked) (judges : X → Answer → Type 0) (contents : Contents X) (failed : Option File)
     (out : Output O) (end : End) : Type 0 where
   -- what was written is the answer to the bytes of the files, or a beginning of it, or nothing
-  pub answered : IfStatus end (λ status. (text : List ℕ) × IsAnswer judges contents text status × Appends out.before out.after text)
-  pub begun : IfCannotWrite end ((text : List ℕ) × (status : ℕ) × IsAnswer judges contents text status
+  pub answered : IfStatus end (λ status. (text : List ℕ) × IsAnswerTo judges contents text status × Appends out.before out.after text)
+  pub begun : IfCannotWrite end ((text : List ℕ) × (status : ℕ) × IsAnswerTo judges contents text status
       × AppendsBeginning out.before out.after text)
   pub unwritten : IfUnwritten end (out.new ≡ out.old)
   -- a label is told that the table lacks, or why the system isn't read as it was given

@@ -160,15 +160,15 @@ lacking_of (Err (stop.NoLabel asked)) = Some asked
 lacking_of _ = None
 
 -- what was loaded is what the files hold, and the fault or the misuse that was told is theirs
-abbrev pub Gives : {X : Type 0} → Contents X → Result X Stop → Type 0
-Gives unknown loaded = Unit {0}
-Gives (whole x) (Ok y) = x ≡ y
-Gives (faulty file text table fault) (Ok x) = ⊥
-Gives (misused why) (Ok x) = ⊥
-Gives (whole x) (Err (stop.Faulty which told)) = ⊥
-Gives (faulty file text table fault) (Err (stop.Faulty which told)) = (which ≡ file) × (told ≡ fault)
-Gives (misused why) (Err (stop.Faulty which told)) = ⊥
-Gives (whole x) (Err (stop.Misused told)) = ⊥
-Gives (faulty file text table fault) (Err (stop.Misused told)) = ⊥
-Gives (misused why) (Err (stop.Misused told)) = told ≡ why
-Gives contents (Err _) = Unit {0}
+abbrev pub IsLoadedAs : {X : Type 0} → Contents X → Result X Stop → Type 0
+IsLoadedAs unknown loaded = Unit {0}
+IsLoadedAs (whole x) (Ok y) = x ≡ y
+IsLoadedAs (faulty file text table fault) (Ok x) = ⊥
+IsLoadedAs (misused why) (Ok x) = ⊥
+IsLoadedAs (whole x) (Err (stop.Faulty which told)) = ⊥
+IsLoadedAs (faulty file text table fault) (Err (stop.Faulty which told)) = (which ≡ file) × (told ≡ fault)
+IsLoadedAs (misused why) (Err (stop.Faulty which told)) = ⊥
+IsLoadedAs (whole x) (Err (stop.Misused told)) = ⊥
+IsLoadedAs (faulty file text table fault) (Err (stop.Misused told)) = ⊥
+IsLoadedAs (misused why) (Err (stop.Misused told)) = told ≡ why
+IsLoadedAs contents (Err _) = Unit {0}

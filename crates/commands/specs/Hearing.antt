@@ -6,7 +6,7 @@ use Rattle.{captext.specs.Drafts.Draft, claims.specs.declared.claim.Claim.Claim}
 use Rattle.commands.specs.declared.{answer.Answer.Answer, choices.Taken.Taken, end.{Asked.Asked, End.End}}
 use Rattle.commands.specs.declared.{files.Files.{Files, Files as heard}, given.Given.Given, load.Stop.{Stop, Stop as stop}}
 use Rattle.commands.specs.{declared.load.{Three.Three, With.With}, Commands.{IsJudged, IsTold, Output}, Described.Described}
-use Rattle.commands.specs.{Files.{Contents, Gives, given_contents, three_contents, two_contents, with_contents}, Given.layout_of}
+use Rattle.commands.specs.{Files.{Contents, IsLoadedAs, given_contents, three_contents, two_contents, with_contents}, Given.layout_of}
 use Rattle.commands.specs.Files as files
 
 -- what the files of a command hold
@@ -72,7 +72,7 @@ pub record IsHeard
   pub loaded : Result X Stop
   pub answer : Result Answer Stop
   pub between : L
-  pub gives : Gives contents loaded
+  pub gives : IsLoadedAs contents loaded
   pub judged : IsJudged lacks judges loaded answer
   pub told : IsTold answer out end
   pub fault : HearsFault Hears contents loaded old between

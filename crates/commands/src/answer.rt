@@ -1,6 +1,6 @@
 //! Answers: what a command writes, with its exit status, and what a listener hears besides.
 ghost use Rattle.std.specs.Prelude.{◌≡◌, IfOk};
-ghost use Rattle.commands.specs.Commands.{Denies, Finds, IsPlain};
+ghost use Rattle.commands.specs.Commands.{Denies, TellsFinding, IsPlain};
 
 use crate::Finding;
 use machine::{Event, Log, Outcome};
@@ -49,7 +49,7 @@ impl Answer {
     /// Returns the answer to a finding: the text that says what is wrong, with status 1.
     pub fn found(text: Vec<u8>, finding: Finding) -> Answer
         ensures text { result.text ≡ text }
-        ensures finds { Finds text.items (λ told. told ≡ finding) result }
+        ensures finds { TellsFinding text.items (λ told. told ≡ finding) result }
     {
         Answer {
             text,

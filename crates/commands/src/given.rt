@@ -1,7 +1,7 @@
 //! Systems as they are given: a capability table, or a system description with the table that it becomes.
 ghost use Rattle.std.specs.Prelude.{[], ◌∷◌, ◌≡◌, IfErr, None, false};
 ghost use Rattle.{words.specs.Reading.Reads, xml.specs.Characters.is_space};
-ghost use Rattle.commands.specs.Files.{Gives, IsStopOf, IsSystemStop, as_description, as_either, as_system, as_table, described_contents};
+ghost use Rattle.commands.specs.Files.{IsLoadedAs, IsStopOf, IsSystemStop, as_description, as_either, as_system, as_table, described_contents};
 ghost use Rattle.commands.specs.Files.{described_of, first_failed, given_contents, lacking_of, named_contents, new_contents, unread_of};
 ghost use Rattle.commands.specs.{Given.{first_visible, is_description, is_tag, layout_of}, Hearing.HearsFault};
 ghost use Rattle.forms.specs.declared.file.File.TheVariants as file;
@@ -75,7 +75,7 @@ pub fn load_description<S: Source, L: Listener>(
     listener: &mut L,
 ) -> Result<Described, Stop>
     requires { S.failed source.old ≡ false }
-    ensures loaded { Gives (described_contents minting (S.remaining source.old)) result }
+    ensures loaded { IsLoadedAs (described_contents minting (S.remaining source.old)) result }
     ensures stops { IfErr result (λ stop. IsStopOf file.Description stop) }
     ensures unread { unread_of result ≡ first_failed ((file.Description, S.failed source.new) ∷ []) }
     ensures labels { lacking_of result ≡ None }
@@ -110,7 +110,7 @@ pub fn load_given<S: Source, L: Listener>(
     listener: &mut L,
 ) -> Result<Given, Stop>
     requires { S.failed source.old ≡ false }
-    ensures loaded { Gives (given_contents taken (S.remaining source.old)) result }
+    ensures loaded { IsLoadedAs (given_contents taken (S.remaining source.old)) result }
     ensures stops { IfErr result (IsSystemStop file.Table file.Description) }
     ensures unread { unread_of result ≡ first_failed ((file.Table, S.failed source.new) ∷ []) }
     ensures labels { lacking_of result ≡ None }
@@ -135,7 +135,7 @@ pub(crate) fn load_new<S: Source, L: Listener>(
     listener: &mut L,
 ) -> Result<Given, Stop>
     requires { S.failed source.old ≡ false }
-    ensures loaded { Gives (new_contents taken (S.remaining source.old)) result }
+    ensures loaded { IsLoadedAs (new_contents taken (S.remaining source.old)) result }
     ensures stops { IfErr result (IsSystemStop file.New file.New) }
     ensures unread { unread_of result ≡ first_failed ((file.New, S.failed source.new) ∷ []) }
     ensures labels { lacking_of result ≡ None }
@@ -157,7 +157,7 @@ fn load_called<S: Source, L: Listener>(
     listener: &mut L,
 ) -> Result<Given, Stop>
     requires { S.failed source.old ≡ false }
-    ensures loaded { Gives (named_contents called.table called.description taken (S.remaining source.old)) result }
+    ensures loaded { IsLoadedAs (named_contents called.table called.description taken (S.remaining source.old)) result }
     ensures stops { IfErr result (IsSystemStop called.table called.description) }
     ensures unread { unread_of result ≡ first_failed ((called.table, S.failed source.new) ∷ []) }
     ensures labels { lacking_of result ≡ None }
@@ -180,7 +180,7 @@ fn as_system<L: Listener>(
     text: &[u8],
     listener: &mut L,
 ) -> Result<Given, Stop>
-    ensures loaded { Gives (as_system called.table called.description rights (is_description text.now) text.now) result }
+    ensures loaded { IsLoadedAs (as_system called.table called.description rights (is_description text.now) text.now) result }
     ensures stops { IfErr result (IsSystemStop called.table called.description) }
     ensures unread { unread_of result ≡ None }
     ensures labels { lacking_of result ≡ None }
@@ -203,7 +203,7 @@ fn as_either<L: Listener>(
     text: &[u8],
     listener: &mut L,
 ) -> Result<Given, Stop>
-    ensures loaded { Gives (as_either called.table called.description rights (is_description text.now) text.now) result }
+    ensures loaded { IsLoadedAs (as_either called.table called.description rights (is_description text.now) text.now) result }
     ensures stops { IfErr result (IsSystemStop called.table called.description) }
     ensures unread { unread_of result ≡ None }
     ensures labels { lacking_of result ≡ None }
@@ -224,7 +224,7 @@ fn as_table<L: Listener>(
     text: &[u8],
     listener: &mut L,
 ) -> Result<Given, Stop>
-    ensures loaded { Gives (as_table called.table called.description text.now) result }
+    ensures loaded { IsLoadedAs (as_table called.table called.description text.now) result }
     ensures stops { IfErr result (IsSystemStop called.table called.description) }
     ensures unread { unread_of result ≡ None }
     ensures labels { lacking_of result ≡ None }
@@ -244,7 +244,7 @@ fn as_description<L: Listener>(
     text: &[u8],
     listener: &mut L,
 ) -> Result<Given, Stop>
-    ensures loaded { Gives (as_description called.table called.description minting text.now) result }
+    ensures loaded { IsLoadedAs (as_description called.table called.description minting text.now) result }
     ensures stops { IfErr result (IsSystemStop called.table called.description) }
     ensures unread { unread_of result ≡ None }
     ensures labels { lacking_of result ≡ None }

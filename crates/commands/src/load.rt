@@ -2,7 +2,7 @@
 ghost use Rattle.std.specs.Prelude.{[], ◌∷◌, ◌≡◌, ◌≢◌, ◌⊎◌, Err, IfErr, IfOk, IfSome, None, Ok, Some, false, option_copied};
 ghost use Rattle.{words.specs.Fault.no_memory, machine.specs.Layout.Layout, captext.specs.Tables.read_table_of};
 ghost use Rattle.commands.specs.{declared.load.Stop.Stop, Commands.{HasPolicy, HasSystem, HasTable, input}};
-ghost use Rattle.commands.specs.Files.{Gives, IsDeviceStop, IsStopOf, contents_of, first_failed, held_by, is_unread, lacking_of};
+ghost use Rattle.commands.specs.Files.{IsLoadedAs, IsDeviceStop, IsStopOf, contents_of, first_failed, held_by, is_unread, lacking_of};
 ghost use Rattle.commands.specs.Files.{pair_contents, table_contents, three_contents, two_contents, unread_of, with_contents};
 ghost use Rattle.commands.specs.{Given.layout_of, Hearing.{HearsFault, HearsStop, Held, compared, description, held_of, system}};
 ghost use Rattle.forms.specs.declared.file.File.TheVariants as file;
@@ -200,7 +200,7 @@ pub fn load_table<T: Source, L: Listener>(
     listener: &mut L,
 ) -> Result<Table, Stop>
     requires { T.failed table.old ≡ false }
-    ensures loaded { Gives (table_contents (T.remaining table.old)) result }
+    ensures loaded { IsLoadedAs (table_contents (T.remaining table.old)) result }
     ensures stops { IfErr result (λ stop. IsStopOf file.Table stop) }
     ensures unread { unread_of result ≡ first_failed ((file.Table, T.failed table.new) ∷ []) }
     ensures labels { lacking_of result ≡ None }
@@ -212,7 +212,7 @@ pub fn load_table<T: Source, L: Listener>(
 
 /// The table of a text.
 fn table_of<L: Listener>(alloc: Global, text: &[u8], listener: &mut L) -> Result<Table, Stop>
-    ensures loaded { Gives (held_by file.Table None text.now (read_table_of text.now)) result }
+    ensures loaded { IsLoadedAs (held_by file.Table None text.now (read_table_of text.now)) result }
     ensures stops { IfErr result (λ stop. IsStopOf file.Table stop) }
     ensures unread { unread_of result ≡ None }
     ensures labels { lacking_of result ≡ None }
@@ -232,7 +232,7 @@ fn load_later<X: LaterFile, S: Source, L: Listener>(
     listener: &mut L,
 ) -> Result<X, Stop>
     requires { S.failed source.old ≡ false }
-    ensures loaded { Gives (contents_of X.named (Some table.now) (S.remaining source.old) (X.read_of table.now)) result }
+    ensures loaded { IsLoadedAs (contents_of X.named (Some table.now) (S.remaining source.old) (X.read_of table.now)) result }
     ensures stops { IfErr result (λ stop. IsStopOf X.named stop) }
     ensures device { S.failed source.new ≡ is_unread result }
     ensures heard { HearsFault L.Hears (contents_of X.named (Some table.now) (S.remaining source.old) (X.read_of table.now)) result listener.old listener.new }
@@ -259,7 +259,7 @@ pub fn load_with<X: LaterFile, T: Source, S: Source, L: Listener>(
 ) -> Result<With<X>, Stop>
     requires system { T.failed system.old ≡ false }
     requires second { S.failed second.old ≡ false }
-    ensures loaded { Gives (with_contents taken X.named X.read_of (T.remaining system.old) (S.remaining second.old)) result }
+    ensures loaded { IsLoadedAs (with_contents taken X.named X.read_of (T.remaining system.old) (S.remaining second.old)) result }
     ensures second_waits { (second.new ≡ second.old) ⊎ HasSystem taken (input T.remaining T.failed system.old system.new) }
     ensures unread { unread_of result ≡ first_failed
         ((file.Table, T.failed system.new) ∷ (X.named, S.failed second.new) ∷ []) }
@@ -290,7 +290,7 @@ pub fn load_two<S: Source, T: Source, L: Listener>(
 ) -> Result<Two, Stop>
     requires old { S.failed old.old ≡ false }
     requires new { T.failed new.old ≡ false }
-    ensures loaded { Gives (two_contents taken (S.remaining old.old) (T.remaining new.old)) result }
+    ensures loaded { IsLoadedAs (two_contents taken (S.remaining old.old) (T.remaining new.old)) result }
     ensures new_waits { (new.new ≡ new.old) ⊎ HasSystem taken (input S.remaining S.failed old.old old.new) }
     ensures unread { unread_of result ≡ first_failed
         ((file.Table, S.failed old.new) ∷ (file.New, T.failed new.new) ∷ []) }
@@ -319,7 +319,7 @@ fn load_pair<T: Source, P: Source, L: Listener>(
 ) -> Result<Pair, Stop>
     requires table { T.failed table.old ≡ false }
     requires policy { P.failed policy.old ≡ false }
-    ensures loaded { Gives (pair_contents (T.remaining table.old) (P.remaining policy.old)) result }
+    ensures loaded { IsLoadedAs (pair_contents (T.remaining table.old) (P.remaining policy.old)) result }
     ensures policy_waits { (policy.new ≡ policy.old) ⊎ HasTable (input T.remaining T.failed table.old table.new) }
     ensures unread { unread_of result ≡ first_failed
         ((file.Table, T.failed table.new) ∷ (file.Policy, P.failed policy.new) ∷ []) }
@@ -353,7 +353,7 @@ pub fn load_three<X: LaterFile, T: Source, P: Source, S: Source, L: Listener>(
     requires table { T.failed table.old ≡ false }
     requires policy { P.failed policy.old ≡ false }
     requires third { S.failed third.old ≡ false }
-    ensures loaded { Gives (three_contents X.named X.read_of (T.remaining table.old)
+    ensures loaded { IsLoadedAs (three_contents X.named X.read_of (T.remaining table.old)
         (P.remaining policy.old) (S.remaining third.old)) result }
     ensures policy_waits { (policy.new ≡ policy.old) ⊎ HasTable (input T.remaining T.failed table.old table.new) }
     ensures third_waits { (third.new ≡ third.old)

@@ -4,7 +4,7 @@
 #![tactic(auto)]
 
 ghost use Rattle.std.specs.Prelude.{◌≡◌, ◌≤◌, IfOk, IsErr, OnErr, false};
-ghost use Rattle.{devices.specs.Watched.failed_of, requests.specs.Requests.{IsWithinLimits, OnInTurn}};
+ghost use Rattle.{devices.specs.Watched.failed_of, requests.specs.Requests.{HasFewWorkers, OnInTurn}};
 
 use clap::error::ErrorKind;
 use invocation::{help, read_request};
@@ -40,7 +40,7 @@ where
     O: Fn(&str) -> io::Result<F>,
     W: Write,
     requires opener { O.IsAlwaysCallable opener.now }
-    requires limits { OnInTurn line IsWithinLimits }
+    requires limits { OnInTurn line HasFewWorkers }
     requires out { failed_of out.old ≡ false }
 {
     match line {
@@ -76,7 +76,7 @@ fn words<R: Env + AllocGlobal>(rt: &R) -> io::Result<Vec<String>> {
 
 /// What the words of the command line ask for.
 fn asked<'a>(alloc: Global, words: &'a io::Result<Vec<String>>) -> Result<CommandLine<'a>, Unasked>
-    ensures limits { IfOk result (λ line. OnInTurn line IsWithinLimits) }
+    ensures limits { IfOk result (λ line. OnInTurn line HasFewWorkers) }
     ensures unread { OnErr words.now (IsErr result) }
 {
     match words {

@@ -2,7 +2,7 @@
 use Rattle.std.{specs.Prelude.slice_get, proofs.Common.{[], ℕ, ◌++◌, ◌+◌, ◌<◌, ◌^◌, ◌∙◌, ◌∷◌, ◌≡◌, ◌≤◌, List, None, Some, ap, arith}}
 use Rattle.std.proofs.{Common.{length, refl, subst, sym}, lemmas.List.{length_push, Elements.All-push}}
 use Rattle.machine.specs.{declared.call.{Event.Event, Outcome.Outcome}, Machine.Machine, Step.Step, WellFormed.IsWellFormed}
-use Rattle.kernel.{specs.Legal.{Entry, Leads}, proofs.LegalLemmas.led_further}
+use Rattle.kernel.{specs.Legal.{Entry, IsLogBetween}, proofs.LegalLemmas.led_further}
 use Rattle.cores.specs.{declared.view.{About.About, Hand.Hand, Keeping.Keeping, Noted.Noted, View.View}, History.{IsExactFor, IsLegal}}
 use Rattle.cores.specs.{History.{OnCores, log_of}, Moves.{Shows, after_record, hand_as_guest, recorded, with_guest, without_guest}}
 use Rattle.cores.specs.{Rule.{about, keeper_view}, Seats.{Calls, InOrder, Known, Ticket, history_of, keeping_in, known, seat_view}}
@@ -42,14 +42,14 @@ can_record a kept hand noted view is_host of legal room =
 -- one step more, on the core of the seat that makes it
 
 pub leads_more :
-    (boot last next : Machine) (history : List Noted) (noted : Noted) → Leads boot (log_of history) last
-    → Step last noted.event noted.outcome next → Leads boot (log_of (history ++ noted ∷ [])) next
+    (boot last next : Machine) (history : List Noted) (noted : Noted) → IsLogBetween boot (log_of history) last
+    → Step last noted.event noted.outcome next → IsLogBetween boot (log_of (history ++ noted ∷ [])) next
 leads_more boot last next history noted run step =
-    subst (λ (entries : List Entry). Leads boot entries next) (sym (log_grows history noted))
+    subst (λ (entries : List Entry). IsLogBetween boot entries next) (sym (log_grows history noted))
     (led_further boot last next (log_of history) (noted.event, noted.outcome) run step)
 
 pub legal_more :
-    (boot last next : Machine) (cores : List ℕ) (history : List Noted) (noted : Noted) → Leads boot (log_of history) last
+    (boot last next : Machine) (cores : List ℕ) (history : List Noted) (noted : Noted) → IsLogBetween boot (log_of history) last
     → Step last noted.event noted.outcome next → OnCores cores history → slice_get cores noted.seat ≡ Some noted.event.core
     → IsLegal boot cores (history ++ noted ∷ [])
 legal_more boot last next cores history noted run step on_cores here =
@@ -82,7 +82,7 @@ in_order_more t keeper next log grown capacity room state after noted order belo
       next = order.next;
       view = view ∙ ap given (sym is);
       run =
-          subst (λ (h : List Noted). Leads t.boot (log_of h) after) (sym is)
+          subst (λ (h : List Noted). IsLogBetween t.boot (log_of h) after) (sym is)
           (leads_more t.boot state after (history_of keeper) noted order.run step);
       formed = formed;
       on_cores = subst (OnCores t.cores) (sym is) legal.on_cores;

@@ -2,9 +2,9 @@
 use Rattle.std.proofs.Common.{[], ℕ, ◌++◌, ◌<◌, ◌==◌, ◌∙◌, ◌∷◌, ◌≡◌, ◌≤◌, ◌⊎◌, All, Bool, List, Some, ap, arith, cond, false, inl, inr}
 use Rattle.std.proofs.{Common.{length, map, refl, slice_get, slice_index_or, subst, sym, true}, lemmas.List.Elements.{All-head, All-tail}}
 use Rattle.std.proofs.lemmas.{List.{length-append, length-map}, Option.{get_or_from_slice_get, slice_get-get_or, slice_get_within}}
-use Rattle.{machine.specs.{declared.call.Event.Event, Machine.{Machine, empty_machine}}, kernel.specs.Legal.{Entry, Leads}}
+use Rattle.{machine.specs.{declared.call.Event.Event, Machine.{Machine, empty_machine}}, kernel.specs.Legal.{Entry, IsLogBetween}}
 use Rattle.cores.specs.{declared.view.Noted.Noted, History.{OnCores, log_of, own}, Rule.about, Seats.{AreNew, Closes, IsOf, Known}}
-use Rattle.cores.specs.{Seats.{Looks, Ticket, new_seat, no_table}, SplitRun.{IsSplitRun, on_core}, Workers.{AreAllCores, IsFresh, Worked}}
+use Rattle.cores.specs.{Seats.{Looks, Ticket, new_seat, no_table}, SplitRun.{IsSplitRun, on_core}, Workers.{AreAllCores, IsUnused, Worked}}
 use Rattle.cores.{specs.Workers.events_of, proofs.Counting.{part, parts_most, parts_whole, total, total_less, total_same}}
 use Rattle.base.specs.declared.core_number.TheConstants.CoreNo as CoreNo
 
@@ -21,7 +21,7 @@ dealt_at t seats k d new inside =
     let here : slice_get t.cores k ≡ Some core = slice_get-get_or t.cores k 0 (omega (arith, inside, new.count)) in
     get_or_from_slice_get seats k (new_seat t.table (about t.boot t.cores) t.name k core) d (new.each k core here)
 
-pub all_fresh : (t : Ticket) (seats : List Known) → AreNew t seats → All (IsOf t) seats → All (IsFresh t) seats
+pub all_fresh : (t : Ticket) (seats : List Known) → AreNew t seats → All (IsOf t) seats → All (IsUnused t) seats
 all_fresh t seats new of k d inside =
     record { of = of k d inside; new = ap (λ (s : Known). s.mine) (dealt_at t seats k d new inside) }
 
@@ -149,7 +149,7 @@ module _ (t : Ticket) (events : List Event) (seats worked closed : List Known) (
       let script = parts_whole (λ (e : Event). e.core) events CoreNo.COUNT done.below in
       let same = total_same (part (λ (n : Noted). n.seat) history) (part (λ (e : Event). e.core) events) CoreNo.COUNT same_at in
       record {
-        ran = subst (λ (entries : List Entry). Leads t.boot entries state) (sym logged) done.closes.run;
+        ran = subst (λ (entries : List Entry). IsLogBetween t.boot entries state) (sym logged) done.closes.run;
         each =
             λ core below.
             ap (λ (entries : List Entry). on_core core (map (λ (entry : Entry). entry.0) entries)) logged

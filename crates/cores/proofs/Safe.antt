@@ -1,11 +1,11 @@
 -- Legal histories from a boot state: each of their states is reached by a run, so they are safe.
 use Rattle.{std.{specs.Prelude.map, proofs.Common.{ℕ, List}}, machine.specs.{Boot.IsBoot, Layout.Layout, Machine.Machine}}
-use Rattle.{kernel.specs.Legal.{Entry, Leads}, policy.specs.Policy.allows}
+use Rattle.{kernel.specs.Legal.{Entry, IsLogBetween}, policy.specs.Policy.allows}
 use Rattle.{integrity.specs.Safe.IsReached, verdict.specs.System.{IsAcceptedSystem, System}}
 use Rattle.cores.specs.{declared.view.Noted.Noted, History.{IsLegal, log_of}, Safety.IsSafeHistory}
 
 reached :
-    (t : Layout) (boot : Machine) (before : List Noted) (m : Machine) → IsBoot t boot → Leads boot (log_of before) m → IsReached t m
+    (t : Layout) (boot : Machine) (before : List Noted) (m : Machine) → IsBoot t boot → IsLogBetween boot (log_of before) m → IsReached t m
 reached t boot before m booted led =
     record {
       boot = boot;

@@ -3,7 +3,7 @@ use Rattle.std.{specs.Prelude.{All, slice_get}, proofs.Common.{[], ℕ, ◌++◌
 use Rattle.std.proofs.Common.{◌⊎◌, List, Some, ap, arith, inl, inr, length, refl, slice_index_or, subst, sym}
 use Rattle.std.proofs.{Math.{ListN.get_or-append, Seq.get_or-append_seam}, lemmas.{Bool.cases_order, List.{Elements.All-nil, length_push}}}
 use Rattle.std.proofs.lemmas.Option.{get_or_from_slice_get, same_Some, slice_get-get_or, slice_get_read}
-use Rattle.{machine.specs.{Machine.Machine, WellFormed.IsWellFormed}, kernel.specs.Legal.{Entry, Leads}}
+use Rattle.{machine.specs.{Machine.Machine, WellFormed.IsWellFormed}, kernel.specs.Legal.{Entry, IsLogBetween}}
 use Rattle.cores.specs.{declared.view.{About.About, Noted.Noted, View.View}, History.{IsLegal, log_of}}
 use Rattle.cores.specs.{Moves.newcomer, Rule.{about, keeper_view}, Seats.{AreNew, CanDeal, InOrder, IsOf, IsSeated}}
 use Rattle.cores.specs.{Seats.{Known, Ticket, about_in, history_of, keeping_in, new_seat}, Tokens.{IsAt, Token}}
@@ -75,7 +75,7 @@ in_order_first t keeper log capacity next at deals start formed empty room =
       at = at;
       next = next;
       view = deals.view ∙ ap (λ (a : About). keeper_view a (record { history = []; next = next })) is ∙ ap given (sym none);
-      run = subst (λ (h : List Noted). Leads t.boot (log_of h) t.boot) (sym none) refl;
+      run = subst (λ (h : List Noted). IsLogBetween t.boot (log_of h) t.boot) (sym none) refl;
       formed = formed;
       on_cores = legal.on_cores;
       logged = empty ∙ ap log_of (sym none);

@@ -1,6 +1,6 @@
 -- The history of a kernel that several threads share, and what makes it legal, and exact for one seat (confine's own).
 use Rattle.std.specs.{List.filter, Prelude.{ℕ, ◌==◌, ◌≡◌, All, List, Some, map, slice_get}}
-use Rattle.{machine.specs.Machine.Machine, kernel.specs.Legal.{Entry, Leads}, cores.specs.declared.view.Noted.Noted}
+use Rattle.{machine.specs.Machine.Machine, kernel.specs.Legal.{Entry, IsLogBetween}, cores.specs.declared.view.Noted.Noted}
 
 -- the history without the seats, as a log has it
 abbrev pub log_of : List Noted → List Entry
@@ -17,7 +17,7 @@ OnCores cores = All (λ noted. slice_get cores noted.seat ≡ Some noted.event.c
 -- events and outcomes are a run from this machine, and each event is on the core of its seat
 pub record IsLegal (boot : Machine) (cores : List ℕ) (history : List Noted) : Type 0 where
   pub last : Machine
-  pub run : Leads boot (log_of history) last
+  pub run : IsLogBetween boot (log_of history) last
   pub on_cores : OnCores cores history
 
 -- the history has just these entries of the seat of this number

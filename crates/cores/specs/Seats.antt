@@ -3,7 +3,7 @@ use mathlib.Core.List.{IsPrefix}
 use Rattle.std.specs.{Coded.{Coded, code_by, coded_list, coded_ℕ, coded×}, Prelude.{[], ℕ, ◌++◌, ◌<◌, ◌^◌, ◌∷◌, ◌≡◌, ◌≤◌, List, None, Some}}
 use Rattle.{std.specs.Prelude.{length, refl, slice_get, slice_index_or, unwrap_or}, atomic_table.specs.Seated.{TableId, table_id_coded}}
 use Rattle.machine.specs.{declared.call.{Event.Event, Outcome.Outcome}, Machine.{Machine, empty_machine}, WellFormed.IsWellFormed}
-use Rattle.kernel.specs.Legal.{Entry, Leads}
+use Rattle.kernel.specs.Legal.{Entry, IsLogBetween}
 use Rattle.cores.specs.declared.view.{About.About, Hand.Hand, Keeping.Keeping, Noted.Noted, View.View}
 use Rattle.cores.specs.{History.{IsExactFor, IsLegal, OnCores, log_of, own}, Rule.{about, keeper_view}, Tokens.{IsAt, Token}}
 
@@ -106,7 +106,7 @@ pub record InOrder (t : Ticket) (keeper : Token) (log : List Entry) (capacity : 
   pub at : IsAt t.table keeper
   pub next : ℕ
   pub view : keeper.me.0 ≡ keeper_view (about t.boot t.cores) (record { history = history_of keeper; next = next })
-  pub run : Leads t.boot (log_of (history_of keeper)) state
+  pub run : IsLogBetween t.boot (log_of (history_of keeper)) state
   pub formed : IsWellFormed state
   pub on_cores : OnCores t.cores (history_of keeper)
   pub logged : log ≡ log_of (history_of keeper)
@@ -180,7 +180,7 @@ pub record ComesAfter (first second : Known) (event : Event) (outcome : Outcome)
 -- has seen then
 pub record Closes (t : Ticket) (state : Machine) (log : List Entry) (before after : List Known) : Type 0 where
   pub history : List Noted
-  pub run : Leads t.boot (log_of history) state
+  pub run : IsLogBetween t.boot (log_of history) state
   pub formed : IsWellFormed state
   pub on_cores : OnCores t.cores history
   pub logged : log ≡ log_of history

@@ -11,8 +11,8 @@ abbrev pub IsAt : TableId → Token → Type 0
 IsAt table token = (table.words ≡ 1) × (token.table_id ≡ table) × (token.me.1 ≡ [])
 
 -- two tokens are of the same seat, whatever it knows
-abbrev pub IsSame : Token → Token → Type 0
-IsSame before after = (after.table_id ≡ before.table_id) × (after.id ≡ before.id)
+abbrev pub IsOfOneSeat : Token → Token → Type 0
+IsOfOneSeat before after = (after.table_id ≡ before.table_id) × (after.id ≡ before.id)
 
 -- the keeper may add the entry: it is its guest's, and the history with it is legal
 pub record CanRecord (view : View) (noted : Noted) : Type 0 where

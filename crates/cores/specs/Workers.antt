@@ -10,7 +10,7 @@ pub record AreAllCores (cores : List ℕ) : Type 0 where
   pub each : (number core : ℕ) → slice_get cores number ≡ Some core → core ≡ number
 
 -- the kernel's seat has made no entry
-pub record IsFresh (t : Ticket) (seat : Known) : Type 0 where
+pub record IsUnused (t : Ticket) (seat : Known) : Type 0 where
   pub of : IsOf t seat
   pub new : seat.mine ≡ []
 

@@ -1,7 +1,7 @@
 //! The desk under a kernel's lock: the state and its log, with the keeper of the history.
 ghost use Rattle.std.specs.Prelude.{◌<◌, ◌^◌, ◌↔◌, ◌≡◌, ◌≢◌, ◌≤◌, Bool, length};
 ghost use Rattle.{base.specs.Refusals.plain, machine.specs.{declared.call.Outcome.TheVariants.Refused, WellFormed.IsWellFormed}};
-ghost use Rattle.{kernel.specs.Legal.Leads, cores.specs.{History.{OnCores, log_of}, Seats.{Calls, IsAtTicket, IsOf, Looks}}};
+ghost use Rattle.{kernel.specs.Legal.IsLogBetween, cores.specs.{History.{OnCores, log_of}, Seats.{Calls, IsAtTicket, IsOf, Looks}}};
 
 use crate::board::{Board, Token};
 use crate::naming::Naming;
@@ -112,7 +112,7 @@ impl<J: Naming> Desk<J> {
 
     /// The state and the log, once nobody calls any more.
     pub(crate) fn into_parts(self) -> (State, Log)
-        ensures run { Leads J.ticket.boot (log_of self) result.0 }
+        ensures run { IsLogBetween J.ticket.boot (log_of self) result.0 }
         ensures formed { IsWellFormed result.0 }
         ensures on_cores { OnCores J.ticket.cores self }
         ensures logged { result.1.items ≡ log_of self }

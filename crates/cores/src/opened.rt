@@ -1,7 +1,7 @@
 //! A kernel that was opened, and has no name yet.
 ghost use Rattle.std.specs.Prelude.{[], ◌<◌, ◌^◌, ◌≡◌, ◌≤◌, ◌⊎◌, All, IfErr, IfOk, IsErrOf, length};
 ghost use Rattle.{base.specs.Refusals.plain, machine.specs.{Boot.IsBoot, WellFormed.IsWellFormed}};
-ghost use Rattle.cores.specs.{Rule.about, Seats.{AreFresh, AreNew, CanDeal, IsOf, about_in}, Tokens.{IsAt, IsSame}};
+ghost use Rattle.cores.specs.{Rule.about, Seats.{AreFresh, AreNew, CanDeal, IsOf, about_in}, Tokens.{IsAt, IsOfOneSeat}};
 
 use crate::board::{Board, Key, Token};
 use crate::desk::Desk;

@@ -1,6 +1,6 @@
 //! A seat, by which one thread calls the kernel. It has no lock, and no part of the state.
 ghost use Rattle.std.specs.Prelude.{[], ◌≡◌, Some, slice_get};
-ghost use Rattle.cores.specs.{Moves.after_deal, Seats.{CanSeat, about_in}, Tokens.{IsAt, IsSame}};
+ghost use Rattle.cores.specs.{Moves.after_deal, Seats.{CanSeat, about_in}, Tokens.{IsAt, IsOfOneSeat}};
 
 use crate::board::{Board, Token};
 use crate::word::deal;
@@ -48,7 +48,7 @@ impl Seat {
     ) -> Seat
         requires keeper { IsAt board.now.shared.table_id keeper.old }
         requires next { CanSeat keeper.old.me.0 number core }
-        ensures keeper { IsSame keeper.old keeper.new × (keeper.new.me ≡ (after_deal keeper.old.me.0, [])) }
+        ensures keeper { IsOfOneSeat keeper.old keeper.new × (keeper.new.me ≡ (after_deal keeper.old.me.0, [])) }
         ensures seat { result ≡ record { table = keeper.old.table_id; start = about_in keeper.old.me.0; name = name; number = number; core = core; seen = []; mine = [] } }
     {
         let token = deal(board, keeper);

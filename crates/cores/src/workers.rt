@@ -1,7 +1,7 @@
 //! The workers, one for each core.
 ghost use Rattle.std.specs.Prelude.{[], ℕ, ◌<◌, ◌≡◌, All, IfOk, List, length, slice_index_or};
 ghost use Rattle.machine.specs.declared.call.Event.{Event as Made};
-ghost use Rattle.cores.specs.{Seats.{IsOf, Known}, Workers.{AreBusy, IsFresh, Worked, worker_number}};
+ghost use Rattle.cores.specs.{Seats.{IsOf, Known}, Workers.{AreBusy, IsUnused, Worked, worker_number}};
 
 use crate::{Kernel, Naming, Seat};
 use base::{CoreNo, Misuse, Refusal};
@@ -76,7 +76,7 @@ fn serve<J: Naming, R: Wait, G: Gate>(
     gate: &G,
     seat: Seat,
 ) -> Seat
-    requires fresh { IsFresh J.ticket seat }
+    requires fresh { IsUnused J.ticket seat }
     requires busy { AreBusy events.now busy.now }
     ensures { Worked J.ticket events.now seat result }
 {
@@ -97,7 +97,7 @@ pub(crate) fn all_workers<J: Naming + Send + Sync, R: Threads + Wait + Sync, G: 
     busy: &Busy,
     gate: &G,
 ) -> Result<Vec<Seat>, AllocError>
-    requires fresh { All (IsFresh J.ticket) seats.items }
+    requires fresh { All (IsUnused J.ticket) seats.items }
     requires busy { AreBusy events.now busy.now }
     ensures count { IfOk result (λ worked. length worked.items ≡ length seats.items) }
     ensures worked { IfOk result (λ worked. (i : ℕ) (d : Known) → i < length seats.items
@@ -107,7 +107,7 @@ pub(crate) fn all_workers<J: Naming + Send + Sync, R: Threads + Wait + Sync, G: 
         rt,
         seats,
         &|seat: Seat| -> Seat
-            requires { IsFresh J.ticket seat × AreBusy events.now busy.now }
+            requires { IsUnused J.ticket seat × AreBusy events.now busy.now }
             ensures { Worked J.ticket events.entry.now seat result }
         { serve(rt, kernel, events, busy, gate, seat) },
     )

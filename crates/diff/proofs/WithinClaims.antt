@@ -3,8 +3,8 @@ use Rattle.std.{specs.List.Contains, proofs.Common.{[], ℕ, ◌<◌, ◌==◌, 
 use Rattle.std.proofs.{Common.{subst, sym}, lemmas.{Bool.{eqb-false, false≢true, ne_eqb, or_from, or_parts}, List.{get_or-map, length-map}}}
 use Rattle.{base.specs.declared.kind.Kind.Kind, machine.specs.Layout.Layout, reach.specs.Extents.Limits, flows.proofs.Leading.no_chain}
 use Rattle.claims.specs.declared.claim.{Claim.{Claim, Claim as claim}, Most.{Most, Most as most}, Who.{Who, Who as who}}
-use Rattle.claims.specs.{declared.deciding.Failure.{Failure, Failure as failure}, Claims.is_one_of, Holding.{AreNamed, AreTwo, Bounds}}
-use Rattle.claims.specs.Holding.{Excludes, Fails, FailsOnEdge, FailsOnPair, HasAtMost, Holds, HoldsOnEdges, HoldsOnPairs, IsNamed, most_of}
+use Rattle.claims.specs.{declared.deciding.Failure.{Failure, Failure as failure}, Claims.is_one_of, Holding.{AreLabelNames, AreTwo, Bounds}}
+use Rattle.claims.specs.Holding.{Excludes, ClaimFails, FailsOnEdge, FailsOnPair, HasAtMost, Holds, HoldsOnEdges, HoldsOnPairs, IsNamed, most_of}
 use Rattle.diff.{specs.Within.{AreTwins, LiesWithin, twin_claim, twin_who}, proofs.{WithinChanges.{changes, shrinks}, WithinFlows.leads}}
 
 -- lists of labels and lists of their twins
@@ -40,8 +40,8 @@ module _ (twin : ℕ → ℕ) (inner outer : Limits) (t u : Layout) (lies : Lies
   bounds (claim.Through from to filters) a l is = is
   bounds (claim.Without actor kind object) a l is = is
 
-  are_named : (actor object : Who) (a l : ℕ) → AreNamed t actor object a l
-      → AreNamed u (twin_who twin actor) (twin_who twin object) (twin a) (twin l)
+  are_named : (actor object : Who) (a l : ℕ) → AreLabelNames t actor object a l
+      → AreLabelNames u (twin_who twin actor) (twin_who twin object) (twin a) (twin l)
   are_named (who.One actor) (who.One object) a l is = (ap twin is.0, ap twin is.1)
   are_named (who.One actor) who.Others a l is = (two a l is.0, ap twin is.1)
   are_named who.Others object a l is = (two a l is.0, named object l is.1)
@@ -75,7 +75,7 @@ module _ (twin : ℕ → ℕ) (inner outer : Limits) (t u : Layout) (lies : Lies
   unexcluded claim holds failure.Chain fails = fails
   unexcluded claim holds (failure.Pair breach) fails = fails
 
-  pub unbroken : (claim : Claim) → Holds u outer (twin_claim twin claim) → (told : Failure) → ¬ Fails t inner claim told
+  pub unbroken : (claim : Claim) → Holds u outer (twin_claim twin claim) → (told : Failure) → ¬ ClaimFails t inner claim told
   unbroken (claim.AtMost limit actor object) holds told fails =
       let one = claim.AtMost limit actor object in unbreached one (pairs one refl holds) told fails
   unbroken (claim.Only object actors) holds told fails =

@@ -1,7 +1,7 @@
 -- Flows in a larger system: what labels see, and what flows between them, is so of their twins where their system lies within another.
 use Rattle.std.proofs.Common.{ℕ, ◌≡◌, ap, false, inl, inr, true}
 use Rattle.{base.specs.declared.kind.Kind.Kind, reach.specs.Extents.Limits}
-use Rattle.flows.specs.Flowing.{DependsOn, FilterTest, FlowsBeside, GoesOn, GoesThrough, Leads, Leads.{goes_on, starts}, MayAffect}
+use Rattle.flows.specs.Flowing.{DependsOn, FilterTest, FlowsBeside, GoesOn, GoesThrough, FlowLeads, FlowLeads.{goes_on, starts}, MayAffect}
 use Rattle.flows.specs.Seeing.{IsContested, MayWaitFor, Sees, WayToSee, WayToSee.{awaits, binds, bound, callers}}
 use Rattle.flows.specs.Seeing.WayToSee.{finds, own, reads, receivers, receives, replies, runs, senders, sends, wakes}
 use Rattle.diff.{specs.Within.LiesWithin, proofs.WithinChanges.{acts, answer, changes, edge, shrinks}}
@@ -70,7 +70,7 @@ module _ (twin : ℕ → ℕ) (inner outer : Limits) (lies : LiesWithin twin inn
     on end x (inl same) = inl (ap twin same)
     on end x (inr no_filter) = inr (free x no_filter)
 
-    pub leads : (from : ℕ) {to : ℕ} → Leads inner filters from to → Leads outer others (twin from) (twin to)
+    pub leads : (from : ℕ) {to : ℕ} → FlowLeads inner filters from to → FlowLeads outer others (twin from) (twin to)
     leads from starts = starts
     leads from (goes_on {x} {y} before goes flow) = goes_on (leads from before) (on from x goes) (flows_beside x y flow)
 

@@ -2,8 +2,8 @@
 ghost use Rattle.std.specs.{List.list_any, Prelude.{[], ℕ, ◌<◌, ◌≡◌, List, false, length, true}};
 ghost use Rattle.{base.specs.Labels.is_in, machine.specs.Layout.Layout, table.specs.Rules.IsDraft};
 ghost use Rattle.reach.specs.{Extents.{Limits, MayChangeIn, MayShrinkIn, limits_of}, Reach.{IsTableReach, TableReach}};
-ghost use Rattle.flows.specs.{Flowing.{FilterTest, GoesThrough, Leads}, Seeing.Sees};
-ghost use Rattle.claims.specs.{declared.{claim.Claim.Claim, deciding.Failure.Failure}, Holding.{Fails, Holds}};
+ghost use Rattle.flows.specs.{Flowing.{FilterTest, GoesThrough, FlowLeads}, Seeing.Sees};
+ghost use Rattle.claims.specs.{declared.{claim.Claim.Claim, deciding.Failure.Failure}, Holding.{ClaimFails, Holds}};
 ghost use Rattle.diff.specs.{declared.change.Change.Change, Changes.{AreChanges, adds}};
 ghost use Rattle.diff.specs.{Twins.{AreAllNamed, twin_by_name}, Within.{AreTwins, LiesWithin, twin_claim}};
 
@@ -20,7 +20,7 @@ pub fn lesser_systems_do_no_more()
         → (a l : ℕ) → Sees inner a l → Sees outer (twin a) (twin l) }
     ensures leads { (twin : ℕ → ℕ) (inner outer : Limits) → LiesWithin twin inner outer
         → (filters others : FilterTest) → ((l : ℕ) → filters l ≡ false → others (twin l) ≡ false)
-        → (from to : ℕ) → Leads inner filters from to → Leads outer others (twin from) (twin to) }
+        → (from to : ℕ) → FlowLeads inner filters from to → FlowLeads outer others (twin from) (twin to) }
     ensures apart { (twin : ℕ → ℕ) (inner outer : Limits) → LiesWithin twin inner outer
         → (filters others : FilterTest) → ((l : ℕ) → filters l ≡ false → others (twin l) ≡ false)
         → (from to : ℕ) → GoesThrough outer others (twin from) (twin to) → GoesThrough inner filters from to }
@@ -32,7 +32,7 @@ pub fn lesser_systems_keep_claims()
         → LiesWithin twin inner outer
         → AreTwins t u twin
         → (claim : Claim) → Holds u outer (twin_claim twin claim)
-        → (told : Failure) → ¬ Fails t inner claim told }
+        → (told : Failure) → ¬ ClaimFails t inner claim told }
 {}
 
 /// A law: labels are twins by their names, if each name of the one table is one of the other.
@@ -58,7 +58,7 @@ pub fn systems_that_gain_nothing_lie_within()
     ensures claims { (old new : TableReach) (changed : List Change) → IsTableReach old → IsTableReach new
         → AreChanges old new changed → list_any adds changed ≡ false
         → (claim : Claim) → Holds old.table (limits_of old) (twin_claim (twin_by_name new.table old.table) claim)
-        → (told : Failure) → ¬ Fails new.table (limits_of new) claim told }
+        → (told : Failure) → ¬ ClaimFails new.table (limits_of new) claim told }
 {}
 
 /// A law: no system has a change from itself.

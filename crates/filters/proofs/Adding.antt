@@ -1,7 +1,7 @@
 -- Sets that are added behind those that were there: none, or one.
 use Rattle.std.proofs.Common.{[], ℕ, ◌++◌, ◌+◌, ◌<◌, ◌∷◌, ◌≡◌, ◌≤◌, Bool, List, ap, arith, false, inl, inr, length, refl, subst, sym, true}
 use Rattle.std.proofs.lemmas.{Bool.false≢true, List.{Elements.{All-nil, All-push}, Quantifiers.Any-push, append-nil, length-append}}
-use Rattle.{base.specs.declared.labels.Labels.Labels, filters.specs.{Sets.{IsSame, Precedes}, Stages.{AreAdded, IsTried}}}
+use Rattle.{base.specs.declared.labels.Labels.Labels, filters.specs.{Sets.{HasSameLabels, Precedes}, Stages.{AreAdded, IsTried}}}
 
 -- none is added if no set is of the kind
 pub none_added : (Is : Labels → Type 0) → ((set : Labels) → ¬ Is set) → (old : List Labels) (most : ℕ) → length old ≤ most → AreAdded Is old old most true
@@ -32,7 +32,7 @@ none_fit Is old most full = record {
 }
 
 -- the one set of a kind is added
-pub one_added : (Is : Labels → Type 0) (one : Labels) → Is one → ((set : Labels) → Is set → IsSame one set) → (old new : List Labels) (most : ℕ)
+pub one_added : (Is : Labels → Type 0) (one : Labels) → Is one → ((set : Labels) → Is set → HasSameLabels one set) → (old new : List Labels) (most : ℕ)
     → new ≡ old ++ one ∷ [] → length old < most → AreAdded Is old new most true
 one_added Is one is alone old new most grown room = record {
   more = one ∷ [];
@@ -40,14 +40,14 @@ one_added Is one is alone old new most grown room = record {
   first = record {
     each = All-push Is [] one (All-nil Is) is;
     rise = λ i j d less below. absurd (omega (arith, less, below));
-    rest = λ set other. inl (Any-push (λ s. IsSame s set) [] one (alone set other));
+    rest = λ set other. inl (Any-push (λ s. HasSameLabels s set) [] one (alone set other));
   };
   few = omega (arith, room, ap length grown, length-append old (one ∷ []));
   full = λ some. absurd (false≢true (sym some));
 }
 
 -- the first sets of a kind are added with its one set
-pub one_tried : (Is : Labels → Type 0) (one : Labels) → Is one → ((set : Labels) → Is set → IsSame one set) → (old new : List Labels) (most : ℕ)
+pub one_tried : (Is : Labels → Type 0) (one : Labels) → Is one → ((set : Labels) → Is set → HasSameLabels one set) → (old new : List Labels) (most : ℕ)
     (added : Bool) → IsTried one old new most added → AreAdded Is old new most added
 one_tried Is one is alone old new most true tried =
     one_added Is one is alone old new most (tried.grown refl).0 (tried.grown refl).1

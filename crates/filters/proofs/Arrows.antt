@@ -4,7 +4,7 @@ use Rattle.std.proofs.lemmas.Bool.{and_from, and_parts, cases_lt, eq-eqb, eqb-tr
 use Rattle.std.proofs.lemmas.{Bool.{false≢true, or_cases, or_left, or_right}, List.get_or_past}
 use Rattle.base.{specs.{declared.labels.Labels.Labels, Labels.{is_in, no_labels}}, proofs.LabelParts.in_no_labels}
 use Rattle.{policy.specs.Change.WayToChange.own, reach.specs.Extents.{Limits, MayChangeIn, MayShrinkIn}}
-use Rattle.flows.specs.Flowing.{FilterTest, FlowsBeside, GoesOn, Leads, Leads.{goes_on as leads_on, starts as leads_from}, MayAffect}
+use Rattle.flows.specs.Flowing.{FilterTest, FlowsBeside, GoesOn, FlowLeads, FlowLeads.{goes_on as leads_on, starts as leads_from}, MayAffect}
 use Rattle.filters.specs.Ways.{IsArrow, IsGraph, Way, Way.{goes_on, starts}, programs_beside}
 use Rattle.base.specs.declared.label.TheConstants.Label as Label
 
@@ -114,7 +114,7 @@ module _ (limits : Limits) (rows : List Labels) (graph : IsGraph limits rows) wh
           ∙ and_from (limits.acts l && not (l == x)) (not (l == y)) (and_from (limits.acts l) (not (l == x)) (programs l is) (differs x x_free is))
           (differs y y_free is)))
 
-    pub chain_of : {y : ℕ} → Way rows set from y → set y ≡ false → Leads limits set from y
+    pub chain_of : {y : ℕ} → Way rows set from y → set y ≡ false → FlowLeads limits set from y
     chain_of starts y_free = leads_from
     chain_of (goes_on {x} {y} before goes arrow) y_free =
         let x_free = free x goes in
@@ -122,7 +122,7 @@ module _ (limits : Limits) (rows : List Labels) (graph : IsGraph limits rows) wh
         leads_on (chain_of before x_free) goes
         (record { object = flow.object; flows = flow.flows; beside = object_free x y flow.object x_free y_free flow.beside })
 
-    pub way_of : {y : ℕ} → Leads limits set from y → set y ≡ false → Way rows set from y
+    pub way_of : {y : ℕ} → FlowLeads limits set from y → set y ≡ false → Way rows set from y
     way_of leads_from y_free = starts
     way_of (leads_on {x} {y} before goes flow) y_free =
         by (way_of before (free x goes)) (programs_beside limits x y flow.object) refl where

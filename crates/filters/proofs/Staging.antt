@@ -3,7 +3,7 @@ use Rattle.std.proofs.Common.{ℕ, ◌&&◌, ◌++◌, ◌+◌, ◌-◌, ◌<◌
 use Rattle.std.proofs.Common.{Bool, List, ap, arith, false, inl, inr, not, refl, subst, sym, true}
 use Rattle.std.proofs.lemmas.Bool.{and_from, and_parts, cases_lt, eq-eqb, eqb-true, false≢true, or_cases, or_left, or_right}
 use Rattle.{std.proofs.lemmas.List.append_assoc, base.specs.{declared.labels.Labels.Labels, Labels.is_in}}
-use Rattle.filters.specs.{declared.searching.Stage.Stage, Sets.{IsSame, Precedes, count_below, size_of}}
+use Rattle.filters.specs.{declared.searching.Stage.Stage, Sets.{HasSameLabels, Precedes, count_below, size_of}}
 use Rattle.filters.specs.{Stages.{AreAdded, AreBetween, AreUseful, Completes, IsStage}, Ways.Way}
 use Rattle.filters.proofs.{Counting.{count_none, count_only, count_or, count_part, count_whole}, Ordering.{first_of_both, first_of_fore}}
 use Rattle.base.specs.declared.label.TheConstants.Label as Label
@@ -158,7 +158,7 @@ module _ (rows : List Labels) (from to : ℕ) (stage : Stage) (is : IsStage from
       cuts = are.done nothing;
     }
 
-    pub chosen_alone : stage.room ≡ 0 → (set : Labels) → Completes rows from to stage set → IsSame stage.chosen set
+    pub chosen_alone : stage.room ≡ 0 → (set : Labels) → Completes rows from to stage set → HasSameLabels stage.chosen set
     chosen_alone nothing set completes l = alike (is_in stage.chosen l) (is_in set l) (completes.has l)
         (λ has. count_whole (is_in stage.chosen) (is_in set) completes.has Label.COUNT (omega (arith, completes.size, nothing)) l (few rows from to stage is set completes l has) has)
 

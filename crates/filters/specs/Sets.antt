@@ -13,8 +13,8 @@ abbrev pub size_of : Labels → ℕ
 size_of set = count_below (is_in set) Label.COUNT
 
 -- two sets that have the same labels
-abbrev pub IsSame : Labels → Labels → Type 0
-IsSame one other = (l : ℕ) → is_in one l ≡ is_in other l
+abbrev pub HasSameLabels : Labels → Labels → Type 0
+HasSameLabels one other = (l : ℕ) → is_in one l ≡ is_in other l
 
 -- the one set has the first label in which the two differ
 pub record Precedes (one other : Labels) : Type 0 where
@@ -25,7 +25,7 @@ pub record Precedes (one other : Labels) : Type 0 where
 
 -- a set is one of these
 abbrev pub IsListed : List Labels → Labels → Type 0
-IsListed sets set = Any (λ one. IsSame one set) sets
+IsListed sets set = Any (λ one. HasSameLabels one set) sets
 
 -- the first sets of a kind, in order: all of them, or those that aren't listed come after
 pub record AreFirst (Is : Labels → Type 0) (sets : List Labels) (all : Bool) : Type 0 where

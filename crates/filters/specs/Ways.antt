@@ -1,7 +1,7 @@
 -- Ways in the graph of flows between programs, where a set of programs is left out (vertex cuts, in the words of graph theory).
 use Rattle.std.specs.Prelude.{ℕ, ◌&&◌, ◌<◌, ◌==◌, ◌≡◌, List, not, true}
 use Rattle.{base.specs.{declared.labels.Labels.Labels, Labels.is_in}, reach.specs.Extents.Limits}
-use Rattle.flows.specs.{Flowing.{FilterTest, FlowsBeside, GoesOn}, Rows.{AreRowsOf, row_at}}
+use Rattle.flows.specs.{Flowing.{FilterTest, FlowsBeside, GoesOn}, Rows.{RelateSo, row_at}}
 use Rattle.base.specs.declared.label.TheConstants.Label as Label
 
 -- the row of the one label has the other
@@ -24,7 +24,7 @@ FlowsDirectly limits x y = FlowsBeside limits (programs_beside limits x y) x y
 -- the arrows are these flows
 pub record IsGraph (limits : Limits) (rows : List Labels) : Type 0 where
   pub few : (x : ℕ) → limits.acts x ≡ true → x < Label.COUNT
-  pub arrows : AreRowsOf (FlowsDirectly limits) rows
+  pub arrows : RelateSo (FlowsDirectly limits) rows
 
 -- some of the other labels, without which there is no way from the one end to the other
 pub record Separates (rows : List Labels) (from to : ℕ) (others set : Labels) : Type 0 where

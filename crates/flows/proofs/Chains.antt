@@ -1,7 +1,7 @@
 -- The search for the labels to which a chain of flows leads, label by label.
 use Rattle.std.proofs.Common.{ℕ, ◌&&◌, ◌==◌, ◌||◌, ◌↔◌, ◌∙◌, ◌≡◌, Bool, ap, false, inl, inr, not, refl, subst, sym, true}
 use Rattle.std.proofs.lemmas.Bool.{and_parts, eq-eqb, eqb-true, false≢true, or_cases, or_left, or_right}
-use Rattle.{reach.specs.Extents.Limits, flows.specs.Flowing.{FilterTest, FlowsBeside, GoesOn, Leads, Leads.{goes_on, starts}}}
+use Rattle.{reach.specs.Extents.Limits, flows.specs.Flowing.{FilterTest, FlowsBeside, GoesOn, FlowLeads, FlowLeads.{goes_on, starts}}}
 
 pub was_not : (b : Bool) → not b ≡ true → b ≡ false
 was_not true is = sym is
@@ -27,7 +27,7 @@ module _ (filters : FilterTest) (end : ℕ) where
 -- labels to which a chain leads, with all to which those flow that are done, if a chain goes on from them
 pub record AreReached (limits : Limits) (filters : FilterTest) (from : ℕ) (done reached : ℕ → Bool) : Type 0 where
   pub begins : reached from ≡ true
-  pub led : (l : ℕ) → reached l ≡ true → Leads limits filters from l
+  pub led : (l : ℕ) → reached l ≡ true → FlowLeads limits filters from l
   pub barred : (l : ℕ) → done l ≡ false → GoesOn filters from l
   pub closed : (x l : ℕ) → done x ≡ true → GoesOn filters from x → FlowsBeside limits filters x l → reached l ≡ true
 
@@ -36,7 +36,7 @@ module _ (limits : Limits) (filters : FilterTest) (from : ℕ) where
       → AreReached limits filters from barred one
   first_reached barred one barred_is only = record {
     begins = only from ∙ eq-eqb from from refl;
-    led = λ l is. subst (λ n. Leads limits filters from n) (sym (eqb-true l from (sym (only l) ∙ is))) starts;
+    led = λ l is. subst (λ n. FlowLeads limits filters from n) (sym (eqb-true l from (sym (only l) ∙ is))) starts;
     barred = λ l free. passes filters from l (filters l) refl (sym (barred_is l) ∙ free);
     closed = λ x l done goes flow. absurd (stopped filters from x (sym (barred_is x) ∙ done) goes);
   }
@@ -65,13 +65,13 @@ module _ (limits : Limits) (filters : FilterTest) (from : ℕ) where
       neither false c is = refl
 
     -- a chain leads to no other label once all are done
-    pub all_reached : ((a : ℕ) → (reached a && not (done a)) ≡ false) → (l : ℕ) → (reached l ≡ true) ↔ Leads limits filters from l
+    pub all_reached : ((a : ℕ) → (reached a && not (done a)) ≡ false) → (l : ℕ) → (reached l ≡ true) ↔ FlowLeads limits filters from l
     all_reached all l = (are.led l, to) where
       is_done : (b c : Bool) → (b && not c) ≡ false → b ≡ true → c ≡ true
       is_done true true none is = refl
       is_done true false none is = sym none
       is_done false c none is = absurd (false≢true is)
 
-      to : {l : ℕ} → Leads limits filters from l → reached l ≡ true
+      to : {l : ℕ} → FlowLeads limits filters from l → reached l ≡ true
       to starts = are.begins
       to (goes_on {x} {y} before goes flow) = are.closed x y (is_done (reached x) (done x) (all x) (to before)) goes flow

@@ -2,7 +2,7 @@
 use Rattle.std.proofs.Common.{ℕ, ◌&&◌, ◌<◌, ◌∙◌, ◌≡◌, Bool, List, ap, arith, false, inl, inr, not, refl, subst, sym, true}
 use Rattle.{std.proofs.lemmas.Bool.{and_from, and_parts}, base.specs.{declared.labels.Labels.Labels, Labels.is_in}}
 use Rattle.{policy.proofs.Gathering.{Tells, told_as}, reach.specs.Extents.Limits}
-use Rattle.flows.specs.{Flowing.{DependsOn, FlowsBeside, FlowsBy, FlowsTo, MayAffect}, Rows.{AreFlowRows, Meets, row_at}}
+use Rattle.flows.specs.{Flowing.{DependsOn, FlowsBeside, FlowsBy, FlowsTo, MayAffect}, Rows.{AreFlowRows, MeetsSet, row_at}}
 
 -- what fails where something holds
 was_not : (b : Bool) → not b ≡ true → b ≡ false
@@ -12,9 +12,9 @@ was_not false is = refl
 module _ (limits : Limits) (affected needed : List Labels) (are : AreFlowRows limits affected needed) (few : (y : ℕ) → limits.acts y ≡ true → y < 256)
     (from : ℕ) (below : from < 256) (affected_few : (l : ℕ) → is_in (row_at affected from) l ≡ true → l < 256) (filters rest : Labels)
     (rest_is : (l : ℕ) → is_in rest l ≡ (is_in (row_at affected from) l && not (is_in filters l))) (y : ℕ) (b : Bool) where
-  pub flows_told : Tells b (Meets needed rest y) → Tells b (FlowsBeside limits (is_in filters) from y)
+  pub flows_told : Tells b (MeetsSet needed rest y) → Tells b (FlowsBeside limits (is_in filters) from y)
   flows_told tells = told_as b tells to back where
-    to : Meets needed rest y → FlowsBeside limits (is_in filters) from y
+    to : MeetsSet needed rest y → FlowsBeside limits (is_in filters) from y
     to met =
         let parts = and_parts (is_in (row_at affected from) met.at) (not (is_in filters met.at)) (sym (rest_is met.at) ∙ met.among) in
         record {
@@ -30,7 +30,7 @@ module _ (limits : Limits) (affected needed : List Labels) (are : AreFlowRows li
     at_most l affects (inl same) = subst (λ n. n < 256) same (affected_few l ((are.affects.each from below l).1 affects))
     at_most l affects (inr sees) = few y sees.actor
 
-    back : FlowsBeside limits (is_in filters) from y → Meets needed rest y
+    back : FlowsBeside limits (is_in filters) from y → MeetsSet needed rest y
     back flow =
         let there = at_most flow.object flow.flows.affects flow.flows.depends in
         record {
@@ -45,9 +45,9 @@ module _ (limits : Limits) (affected needed : List Labels) (are : AreFlowRows li
 module _ (limits : Limits) (affected needed : List Labels) (are : AreFlowRows limits affected needed) (few : (x : ℕ) → limits.acts x ≡ true → x < 256)
     (to : ℕ) (below : to < 256) (filters rest : Labels)
     (rest_is : (l : ℕ) → is_in rest l ≡ (is_in (row_at needed to) l && not (is_in filters l))) (x : ℕ) (b : Bool) where
-  pub sources_told : Tells b (Meets affected rest x) → Tells b (FlowsBeside limits (is_in filters) x to)
+  pub sources_told : Tells b (MeetsSet affected rest x) → Tells b (FlowsBeside limits (is_in filters) x to)
   sources_told tells = told_as b tells forth back where
-    forth : Meets affected rest x → FlowsBeside limits (is_in filters) x to
+    forth : MeetsSet affected rest x → FlowsBeside limits (is_in filters) x to
     forth met =
         let parts = and_parts (is_in (row_at needed to) met.at) (not (is_in filters met.at)) (sym (rest_is met.at) ∙ met.among) in
         record {
@@ -63,7 +63,7 @@ module _ (limits : Limits) (affected needed : List Labels) (are : AreFlowRows li
     acts (inl change) = change.actor
     acts (inr shrink) = shrink.actor
 
-    back : FlowsBeside limits (is_in filters) x to → Meets affected rest x
+    back : FlowsBeside limits (is_in filters) x to → MeetsSet affected rest x
     back flow =
         let there = few x (acts flow.flows.affects) in
         record {

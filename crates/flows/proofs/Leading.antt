@@ -2,19 +2,19 @@
 use Rattle.std.proofs.Common.{ℕ, ◌&&◌, ◌==◌, ◌||◌, ◌↔◌, ◌∙◌, ◌≡◌, Bool, ap, false, inl, inr, not, refl, subst, sym, true}
 use Rattle.std.proofs.lemmas.Bool.{and_from, and_parts, eq-eqb, eqb-true, false≢true, or_cases, or_left, or_right}
 use Rattle.{machine.specs.Layout.Layout, integrity.specs.Apart.NeverChanges, reach.specs.Extents.Limits}
-use Rattle.flows.specs.Flowing.{FilterTest, FlowsBeside, GoesOn, GoesThrough, IsClosedOff, IsShielded, Leads}
-use Rattle.flows.{specs.Flowing.{Leads.{goes_on, starts}, MayAffect, NeverDisturbs}, proofs.Chains.{passes, stopped, was_not}}
+use Rattle.flows.specs.Flowing.{FilterTest, FlowsBeside, GoesOn, GoesThrough, IsClosedOff, IsShielded, FlowLeads}
+use Rattle.flows.{specs.Flowing.{FlowLeads.{goes_on, starts}, MayAffect, NeverDisturbs}, proofs.Chains.{passes, stopped, was_not}}
 
 -- labels from which a chain leads, with all that flow to those that are done, if a chain goes on past them
 pub record AreLeading (limits : Limits) (filters : FilterTest) (to : ℕ) (done leading : ℕ → Bool) : Type 0 where
   pub ends : leading to ≡ true
-  pub lead : (l : ℕ) → leading l ≡ true → Leads limits filters l to
+  pub lead : (l : ℕ) → leading l ≡ true → FlowLeads limits filters l to
   pub barred : (l : ℕ) → done l ≡ false → GoesOn filters to l
   pub closed : (x l : ℕ) → done l ≡ true → GoesOn filters to l → FlowsBeside limits filters x l → leading x ≡ true
 
 -- a chain with a flow before it
 pub flows_first : (limits : Limits) (filters : FilterTest) (x y : ℕ) → FlowsBeside limits filters x y → filters y ≡ false → {z : ℕ}
-    → Leads limits filters y z → Leads limits filters x z
+    → FlowLeads limits filters y z → FlowLeads limits filters x z
 flows_first limits filters x y flow free starts = goes_on starts (inl refl) flow
 flows_first limits filters x y flow free (goes_on {x = w} before goes last) =
     goes_on (flows_first limits filters x y flow free before) (inr (unfiltered goes)) last where
@@ -31,11 +31,11 @@ module _ (limits : Limits) (filters : FilterTest) (to : ℕ) where
     barred = λ l free. passes filters to l (filters l) refl (sym (barred_is l) ∙ free);
     closed = λ x l done goes flow. absurd (stopped filters to l (sym (barred_is l) ∙ done) goes);
   } where
-    at : (l : ℕ) → l ≡ to → Leads limits filters l to
-    at l same = let P : ℕ → Type 0 = λ n. Leads limits filters l n in subst P same starts
+    at : (l : ℕ) → l ≡ to → FlowLeads limits filters l to
+    at l same = let P : ℕ → Type 0 = λ n. FlowLeads limits filters l n in subst P same starts
 
   -- a flow to a label from which a chain leads, and past which one goes on
-  pub leads_on : (x a : ℕ) → Leads limits filters a to → GoesOn filters to a → FlowsBeside limits filters x a → Leads limits filters x to
+  pub leads_on : (x a : ℕ) → FlowLeads limits filters a to → GoesOn filters to a → FlowsBeside limits filters x a → FlowLeads limits filters x to
   leads_on x a leads (inl same) flow =
       let P : ℕ → Type 0 = λ n. FlowsBeside limits filters x n in goes_on starts (inl refl) (subst P same flow)
   leads_on x a leads (inr free) flow = flows_first limits filters x a flow free leads
@@ -64,14 +64,14 @@ module _ (limits : Limits) (filters : FilterTest) (to : ℕ) where
       neither false c is = refl
 
     -- a chain leads from no other label once all are done
-    pub all_leading : ((a : ℕ) → (leading a && not (done a)) ≡ false) → (l : ℕ) → (leading l ≡ true) ↔ Leads limits filters l to
+    pub all_leading : ((a : ℕ) → (leading a && not (done a)) ≡ false) → (l : ℕ) → (leading l ≡ true) ↔ FlowLeads limits filters l to
     all_leading all l = (are.lead l, λ leads. back leads are.ends (inl refl)) where
       is_done : (b c : Bool) → (b && not c) ≡ false → b ≡ true → c ≡ true
       is_done true true none is = refl
       is_done true false none is = sym none
       is_done false c none is = absurd (false≢true is)
 
-      back : {z : ℕ} → Leads limits filters l z → leading z ≡ true → GoesOn filters to z → leading l ≡ true
+      back : {z : ℕ} → FlowLeads limits filters l z → leading z ≡ true → GoesOn filters to z → leading l ≡ true
       back starts is goes = is
       back (goes_on {x = w} {y = z} before on flow) is goes =
           let here = are.closed w z (is_done (leading z) (done z) (all z) is) goes flow in
@@ -79,7 +79,7 @@ module _ (limits : Limits) (filters : FilterTest) (to : ℕ) where
 
 module _ (limits : Limits) (filters : FilterTest) where
   -- labels from which no chain leads to one: where the first is among them, they are closed off from it
-  pub closed_off : (from to : ℕ) (leading : ℕ → Bool) → ((l : ℕ) → (leading l ≡ true) ↔ Leads limits filters l to) → leading from ≡ false
+  pub closed_off : (from to : ℕ) (leading : ℕ → Bool) → ((l : ℕ) → (leading l ≡ true) ↔ FlowLeads limits filters l to) → leading from ≡ false
       → IsClosedOff limits filters from to
   closed_off from to leading is lacks = record {
     inside = inside;
@@ -104,7 +104,7 @@ module _ (limits : Limits) (filters : FilterTest) where
         passes filters to y (filters y) refl
         (was_not (filters y && not (y == to)) (and_parts (leading y) (not (filters y && not (y == to))) within).1)
 
-    leads : (y : ℕ) → inside y ≡ true → Leads limits filters y to
+    leads : (y : ℕ) → inside y ≡ true → FlowLeads limits filters y to
     leads y within = (is y).0 (and_parts (leading y) (not (filters y && not (y == to))) within).0
 
     left_out : (b c d : Bool) → (b && not (c && not d)) ≡ false → c ≡ false → b ≡ false
@@ -127,7 +127,7 @@ module _ (limits : Limits) (filters : FilterTest) where
     out y true is never = absurd (never refl)
     out y false is never = is
 
-    stays_out : {y : ℕ} → Leads limits filters from y → off.inside y ≡ false
+    stays_out : {y : ℕ} → FlowLeads limits filters from y → off.inside y ≡ false
     stays_out starts = off.lacks
     stays_out (goes_on {x} {y} before goes flow) =
         out y (off.inside y) refl (λ is. off.closed x y (stays_out before) goes is flow)
@@ -140,7 +140,7 @@ module _ (t : Layout) (limits : Limits) (filters : FilterTest) where
       keeps x l (λ affects. none (record { object = l; flows = record { affects = affects; depends = depends }; beside = beside }))
 
   -- no label from which no chain leads to another disturbs that one, or one from which a chain leads to it
-  pub undisturbed : (to : ℕ) (leading : ℕ → Bool) → ((l : ℕ) → (leading l ≡ true) ↔ Leads limits filters l to)
+  pub undisturbed : (to : ℕ) (leading : ℕ → Bool) → ((l : ℕ) → (leading l ≡ true) ↔ FlowLeads limits filters l to)
       → ((x l : ℕ) → ¬ MayAffect limits x l → NeverChanges t x l) → (x y : ℕ) → leading x ≡ false → leading y ≡ true
       → GoesOn filters to y → NeverDisturbs t limits filters x y
   undisturbed to leading is keeps x y outside within goes =

@@ -1,7 +1,7 @@
 -- Rows of labels, one for each label, made row by row.
 use Rattle.std.proofs.Common.{[], ℕ, ◌++◌, ◌+◌, ◌<◌, ◌↔◌, ◌∙◌, ◌∷◌, ◌≡◌, List, ap, arith, inl, inr, length, subst, sym, true}
 use Rattle.std.proofs.lemmas.{Bool.cases_order, List.{get_or_append_left, get_or_push, length_push}}
-use Rattle.{base.specs.{declared.labels.Labels.Labels, Labels.{is_in, no_labels}}, flows.specs.Rows.{AreRowsOf, row_at}}
+use Rattle.{base.specs.{declared.labels.Labels.Labels, Labels.{is_in, no_labels}}, flows.specs.Rows.{RelateSo, row_at}}
 
 module _ (Related : ℕ → ℕ → Type 0) where
   -- a row has the labels to which a label is related
@@ -27,7 +27,7 @@ module _ (Related : ℕ → ℕ → Type 0) where
   }
 
   -- once all labels have their rows
-  pub all_rows : (rows : List Labels) (n : ℕ) → n ≡ 256 → AreRowsBelow rows n → AreRowsOf Related rows
+  pub all_rows : (rows : List Labels) (n : ℕ) → n ≡ 256 → AreRowsBelow rows n → RelateSo Related rows
   all_rows rows n all are = record {
     count = are.count ∙ all;
     each = λ a below. are.each a (omega (arith, below, all));

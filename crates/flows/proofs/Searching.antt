@@ -3,8 +3,8 @@ use Rattle.std.proofs.Common.{[], ℕ, ◌++◌, ◌+◌, ◌==◌, ◌||◌, �
 use Rattle.std.proofs.{Common.{false, get_or, inl, inr, length, refl, slice_get, subst, sym, true}, lemmas.Bool.cases_order}
 use Rattle.std.proofs.lemmas.{Bool.{eqb-true, false≢true, or_cases, or_left}, List.{get_or_append_left, get_or_push, length_push}}
 use Rattle.{std.proofs.lemmas.Option.{get_or_from_slice_get, slice_get-get_or, slice_get_within}, reach.specs.Extents.Limits}
-use Rattle.flows.specs.{declared.links.Link.Link, Chains.{AreFoundLinks, IsChain, IsChain.{goes_on, starts}, IsFound, IsFoundLink, IsLink}}
-use Rattle.flows.{specs.Flowing.{FilterTest, FlowsBeside, GoesOn, Leads}, proofs.Leading.{AreLeading, leads_on}}
+use Rattle.flows.specs.{declared.links.Link.Link, Chains.{AreFoundLinks, IsChain, IsChain.{goes_on, starts}, IsLinked, IsFoundLink, IsLink}}
+use Rattle.flows.{specs.Flowing.{FilterTest, FlowsBeside, GoesOn, FlowLeads}, proofs.Leading.{AreLeading, leads_on}}
 
 -- no link yet
 
@@ -44,7 +44,7 @@ module _ (links : List Link) (more : Link) where
       ]
 
   module _ (to : ℕ) where
-    still_found : (count longer label : ℕ) → count ≤ longer → IsFound to links count label → IsFound to (links ++ more ∷ []) longer label
+    still_found : (count longer label : ℕ) → count ≤ longer → IsLinked to links count label → IsLinked to (links ++ more ∷ []) longer label
     still_found count longer label fewer (inl end) = inl end
     still_found count longer label fewer (inr (at, link, before, there, begins)) =
         inr (at, link, omega (arith, fewer, before), still_there at link there, begins)
@@ -66,8 +66,8 @@ module _ (links : List Link) (more : Link) where
       }
 
     -- and the label where it begins is found
-    pub found_more : (found : ℕ → Bool) (label : ℕ) → ((l : ℕ) → found l ≡ true → IsFound to links (length links) l)
-        → (found label || (label == more.from)) ≡ true → IsFound to (links ++ more ∷ []) (length (links ++ more ∷ [])) label
+    pub found_more : (found : ℕ → Bool) (label : ℕ) → ((l : ℕ) → found l ≡ true → IsLinked to links (length links) l)
+        → (found label || (label == more.from)) ≡ true → IsLinked to (links ++ more ∷ []) (length (links ++ more ∷ [])) label
     found_more found label before is =
         let longer = length_push links more in
         elim (or_cases (found label) (label == more.from) is) [
@@ -77,13 +77,13 @@ module _ (links : List Link) (more : Link) where
 
 -- a new link to a label that was found
 pub new_link : (limits : Limits) (filters : FilterTest) (to : ℕ) (done found : ℕ → Bool) (links : List Link) (label : ℕ) (link : Link)
-    → AreLeading limits filters to done found → IsFound to links (length links) label → done label ≡ false → IsLink limits filters link
+    → AreLeading limits filters to done found → IsLinked to links (length links) label → done label ≡ false → IsLink limits filters link
     → link.to ≡ label → found link.from ≡ false → IsFoundLink limits filters to links (length links) link
 new_link limits filters to done found links label link are known undone is leads new = record {
   is = is;
   new = λ same. false≢true (sym new ∙ ap found same ∙ are.ends);
   on = subst (GoesOn filters to) (sym leads) (are.barred label undone);
-  found = subst (IsFound to links (length links)) (sym leads) known;
+  found = subst (IsLinked to links (length links)) (sym leads) known;
 }
 
 -- the labels so far from which a chain leads, with one more that flows to one of them
@@ -95,7 +95,7 @@ module _ (limits : Limits) (filters : FilterTest) (to : ℕ) (done leading : ℕ
     lead = λ l is. elim (or_cases (leading l) (l == x) (sym (grown_is l) ∙ is)) [
       | inl before ↦ are.lead l before
       | inr now ↦
-          subst (λ n. Leads limits filters n to) (sym (eqb-true l x now)) (leads_on limits filters to x a (are.lead a has) (are.barred a undone) flow)
+          subst (λ n. FlowLeads limits filters n to) (sym (eqb-true l x now)) (leads_on limits filters to x a (are.lead a has) (are.barred a undone) flow)
     ];
     barred = are.barred;
     closed = λ b l is goes flow. grown_is b ∙ or_left (leading b) (b == x) (are.closed b l is goes flow);
@@ -122,10 +122,10 @@ module _ (limits : Limits) (filters : FilterTest) (from to : ℕ) (links : List 
   -- the label where it is was found by one of the first links, and a chain goes on from there
   pub record IsOnTheWay (chain : List Link) (at left : ℕ) : Type 0 where
     pub chain_is : IsChain limits filters from chain at
-    pub found : IsFound to links left at
+    pub found : IsLinked to links left at
     pub on : (at ≡ from) ⊎ GoesOn filters to at
 
-  pub begun : IsFound to links (length links) from → (chain : List Link) → chain ≡ [] → IsOnTheWay chain from (length links)
+  pub begun : IsLinked to links (length links) from → (chain : List Link) → chain ≡ [] → IsOnTheWay chain from (length links)
   begun found chain none = record {
     chain_is = subst (λ ls. IsChain limits filters from ls from) (sym none) starts;
     found = found;
@@ -152,7 +152,7 @@ module _ (limits : Limits) (filters : FilterTest) (from to : ℕ) (links : List 
 
       pub link_left : link.from ≢ at → IsOnTheWay chain at fewer
       link_left other = record { chain_is = is.chain_is; found = earlier is.found; on = is.on } where
-        earlier : IsFound to links left at → IsFound to links fewer at
+        earlier : IsLinked to links left at → IsLinked to links fewer at
         earlier (inl end) = inl end
         earlier (inr (j, found, before, at_j, begins)) = elim (cases_order j fewer) [
           | inl same ↦
@@ -167,6 +167,6 @@ module _ (limits : Limits) (filters : FilterTest) (from to : ℕ) (links : List 
   -- the way is at the end if no link is left
   pub arrived : (chain : List Link) (at : ℕ) → IsOnTheWay chain at 0 → IsChain limits filters from chain to
   arrived chain at is = by is.found where
-    by : IsFound to links 0 at → IsChain limits filters from chain to
+    by : IsLinked to links 0 at → IsChain limits filters from chain to
     by (inl end) = subst (λ n. IsChain limits filters from chain n) end is.chain_is
     by (inr (j, found, before, there, begins)) = absurd (omega (arith, before))

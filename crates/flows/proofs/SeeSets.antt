@@ -3,8 +3,8 @@ use Rattle.std.{specs.List.list_any, proofs.Common.{ℕ, ◌%◌, ◌/◌, ◌<�
 use Rattle.std.proofs.{Common.{refl, sym, true}, lemmas.{Bool.{cases_lt, false≢true}, List.get_or_past}}
 use Rattle.base.{specs.{declared.labels.Labels.Labels, Labels.{is_in, is_in_part, no_part}}, proofs.LabelParts.in_no_part}
 use Rattle.base.specs.declared.kind.Kind.{Kind, TheVariants.{Await, Call, Context, Control, Notify, Read, Receive, Reply, Runs, Send, Space}}
-use Rattle.policy.{specs.{Change.{ActorTest, MayAnswer}, Domain.EdgeTest}, proofs.{KindNumbers.{each_kind, is_kind}, Stepping.of_kind}}
-use Rattle.flows.specs.{declared.seeing.TheConstants.SEEN, Seeing.{IsBeside, IsContested, WayToSee}}
+use Rattle.policy.{specs.{Change.{ActorTest, IsBeside, MayAnswer}, Domain.EdgeTest}, proofs.{KindNumbers.{each_kind, is_kind}, Stepping.of_kind}}
+use Rattle.flows.specs.{declared.seeing.TheConstants.SEEN, Seeing.{IsContested, WayToSee}}
 use Rattle.flows.specs.Seeing.WayToSee.{awaits, binds, bound, callers, finds, own, reads, receivers, receives, replies, runs, senders, sends, wakes}
 
 -- the kinds whose use depends on the object itself

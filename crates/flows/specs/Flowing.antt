@@ -35,13 +35,13 @@ abbrev pub GoesOn : FilterTest → ℕ → ℕ → Type 0
 GoesOn filters end x = (x ≡ end) ⊎ (filters x ≡ false)
 
 -- a chain of flows from one label to another: no label between them is a filter, and none of the flows is by an object of a filter
-pub data Leads (limits : Limits) (filters : FilterTest) (from : ℕ) : ℕ → Type 0 where
-  starts : Leads limits filters from from
-  goes_on : {x y : ℕ} → Leads limits filters from x → GoesOn filters from x → FlowsBeside limits filters x y → Leads limits filters from y
+pub data FlowLeads (limits : Limits) (filters : FilterTest) (from : ℕ) : ℕ → Type 0 where
+  starts : FlowLeads limits filters from from
+  goes_on : {x y : ℕ} → FlowLeads limits filters from x → GoesOn filters from x → FlowsBeside limits filters x y → FlowLeads limits filters from y
 
 -- there is no chain of flows from the one to the other that passes no filter and uses no object of a filter
 abbrev pub GoesThrough : Limits → FilterTest → ℕ → ℕ → Type 0
-GoesThrough limits filters from to = ¬ Leads limits filters from to
+GoesThrough limits filters from to = ¬ FlowLeads limits filters from to
 
 -- a set of labels that has the second and not the first, and but for the second no filter. From each of its labels a chain leads to the
 -- second. Labels outside it don't flow to labels in it, but for filters, and by objects of filters
@@ -50,7 +50,7 @@ pub record IsClosedOff (limits : Limits) (filters : FilterTest) (from to : ℕ) 
   pub has : inside to ≡ true
   pub lacks : inside from ≡ false
   pub unfiltered : (y : ℕ) → inside y ≡ true → GoesOn filters to y
-  pub leads : (y : ℕ) → inside y ≡ true → Leads limits filters y to
+  pub leads : (y : ℕ) → inside y ≡ true → FlowLeads limits filters y to
   pub closed : (x y : ℕ) → inside x ≡ false → GoesOn filters from x → inside y ≡ true → ¬ FlowsBeside limits filters x y
 
 -- what is kept in every run
@@ -66,5 +66,5 @@ pub record IsShielded (t : Layout) (limits : Limits) (filters : FilterTest) (fro
   pub has : inside to ≡ true
   pub lacks : inside from ≡ false
   pub unfiltered : (y : ℕ) → inside y ≡ true → GoesOn filters to y
-  pub leads : (y : ℕ) → inside y ≡ true → Leads limits filters y to
+  pub leads : (y : ℕ) → inside y ≡ true → FlowLeads limits filters y to
   pub kept : (x y : ℕ) → inside x ≡ false → GoesOn filters from x → inside y ≡ true → NeverDisturbs t limits filters x y

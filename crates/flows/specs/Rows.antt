@@ -9,17 +9,17 @@ abbrev pub row_at : List Labels → ℕ → Labels
 row_at rows label = get_or rows label no_labels
 
 -- a row for each label has the labels to which it is related so
-pub record AreRowsOf (Related : ℕ → ℕ → Type 0) (rows : List Labels) : Type 0 where
+pub record RelateSo (Related : ℕ → ℕ → Type 0) (rows : List Labels) : Type 0 where
   pub count : length rows ≡ Label.COUNT
   pub each : (a : ℕ) → a < Label.COUNT → (l : ℕ) → (is_in (row_at rows a) l ≡ true) ↔ Related a l
 
 -- the rows of what each label affects, and of what it depends on
 pub record AreFlowRows (limits : Limits) (affected needed : List Labels) : Type 0 where
-  pub affects : AreRowsOf (MayAffect limits) affected
-  pub depends : AreRowsOf (DependsOn limits) needed
+  pub affects : RelateSo (MayAffect limits) affected
+  pub depends : RelateSo (DependsOn limits) needed
 
 -- a label's row has a label of the set
-pub record Meets (rows : List Labels) (set : Labels) (label : ℕ) : Type 0 where
+pub record MeetsSet (rows : List Labels) (set : Labels) (label : ℕ) : Type 0 where
   pub there : label < length rows
   pub at : ℕ
   pub has : is_in (row_at rows label) at ≡ true

@@ -51,7 +51,3 @@ pub data WayToSee (test : EdgeTest) (acts : ActorTest) (a l : ℕ) : Type 0 wher
 pub record Sees (limits : Limits) (a l : ℕ) : Type 0 where
   pub actor : limits.acts a ≡ true
   pub way : WayToSee limits.test limits.acts a l
-
--- a has an edge of a kind to l, and one of another kind to some label
-abbrev pub IsBeside : EdgeTest → Kind → Kind → ℕ → ℕ → Type 0
-IsBeside test kind other a l = (test a kind l ≡ true) × ((end : ℕ) × (test a other end ≡ true))

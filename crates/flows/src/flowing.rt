@@ -1,7 +1,7 @@
 //! Flows between labels: to whom what a label does may come, and through whom.
 ghost use Rattle.std.specs.Prelude.{ℕ, ◌↔◌, ◌≡◌, IfOk, IsTrue, false, true};
 ghost use Rattle.{base.specs.Labels.is_in, reach.specs.Extents.limits_of};
-ghost use Rattle.flows.specs.Flowing.{FlowsBeside, FlowsBy, FlowsTo, GoesOn, GoesThrough, IsClosedOff, IsShielded, Leads, NeverDisturbs};
+ghost use Rattle.flows.specs.Flowing.{FlowsBeside, FlowsBy, FlowsTo, GoesOn, GoesThrough, IsClosedOff, IsShielded, FlowLeads, NeverDisturbs};
 
 use crate::meeting::meeting;
 use crate::rows::{affected_rows, labels_are_few, needed_rows};
@@ -86,7 +86,7 @@ impl<'a> Flows<'a> {
     ///
     /// No label between the ends of the chain is a filter, and no flow of it is by an object of a filter.
     pub fn reached_beside(&self, from: Label, filters: Labels) -> Labels
-        ensures { (l : ℕ) → (is_in result l ≡ true) ↔ Leads (limits_of self.now) (is_in filters) from l }
+        ensures { (l : ℕ) → (is_in result l ≡ true) ↔ FlowLeads (limits_of self.now) (is_in filters) from l }
     {
         // `reached` has all labels to which those of `done` flow, unless a chain ends with them.
         let mut done = filters.difference(Labels::only(from));
@@ -106,7 +106,7 @@ impl<'a> Flows<'a> {
     /// The filters among them are those through which something comes. In every run, threads of other
     /// labels never change that on which the label and those that lead to it depend, but for objects of filters.
     pub fn leading_to(&self, to: Label, filters: Labels) -> Labels
-        ensures leads { (l : ℕ) → (is_in result l ≡ true) ↔ Leads (limits_of self.now) (is_in filters) l to }
+        ensures leads { (l : ℕ) → (is_in result l ≡ true) ↔ FlowLeads (limits_of self.now) (is_in filters) l to }
         ensures kept { (x y : ℕ) → is_in result x ≡ false → is_in result y ≡ true → GoesOn (is_in filters) to y
             → NeverDisturbs self.now.table (limits_of self.now) (is_in filters) x y }
     {
@@ -117,7 +117,7 @@ impl<'a> Flows<'a> {
 
     // The labels from which a chain of flows leads to this one, and the label itself.
     fn sources_of(&self, to: Label, filters: Labels) -> Labels
-        ensures { (l : ℕ) → (is_in result l ≡ true) ↔ Leads (limits_of self.now) (is_in filters) l to }
+        ensures { (l : ℕ) → (is_in result l ≡ true) ↔ FlowLeads (limits_of self.now) (is_in filters) l to }
     {
         // `leading` has all labels that flow to those of `done`, unless a chain starts with them.
         let mut done = filters.difference(Labels::only(to));
@@ -136,7 +136,7 @@ impl<'a> Flows<'a> {
     /// It then passes a filter, or uses an object of one.
     pub fn goes_through(&self, from: Label, to: Label, filters: Labels) -> bool
         ensures through { IsTrue result ↔ GoesThrough (limits_of self.now) (is_in filters) from to }
-        ensures leads { result ≡ false → Leads (limits_of self.now) (is_in filters) from to }
+        ensures leads { result ≡ false → FlowLeads (limits_of self.now) (is_in filters) from to }
         ensures closed { IsTrue result → IsClosedOff (limits_of self.now) (is_in filters) from to }
         ensures kept { IsTrue result → IsShielded self.now.table (limits_of self.now) (is_in filters) from to }
     {

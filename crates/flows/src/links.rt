@@ -1,7 +1,7 @@
 //! Shortest chains of flows, link by link.
 ghost use Rattle.std.specs.Prelude.{ℕ, ◌≡◌, IfOk, MatchOption, false, length, true};
 ghost use Rattle.{base.specs.Labels.is_in, reach.specs.Extents.{Limits, limits_of}};
-ghost use Rattle.flows.specs.{Chains.{AreFoundLinks, AreSources, IsChain, IsFound, IsLink}, Flowing.{FilterTest, FlowsBeside, GoesThrough}};
+ghost use Rattle.flows.specs.{Chains.{AreFoundLinks, AreSources, IsChain, IsLinked, IsLink}, Flowing.{FilterTest, FlowsBeside, GoesThrough}};
 
 use crate::flowing::Flows;
 use base::{Label, Labels};
@@ -107,7 +107,7 @@ fn turn_after(turn: Labels, found: Labels, done: Labels) -> Labels {
 // The links that lead from a label to the end of a search: of the last ones, which lead to earlier ones.
 fn links_from(alloc: Global, links: &[Link], from: Label) -> Result<Vec<Link>, AllocError>
     ensures { IfOk result (λ chain. (limits : Limits) (filters : FilterTest) (to : ℕ) → AreFoundLinks limits filters to links.now
-        → IsFound to links.now (length links.now) from → IsChain limits filters from chain.items to) }
+        → IsLinked to links.now (length links.now) from → IsChain limits filters from chain.items to) }
 {
     let mut chain = Vec::new(alloc);
     let mut at = from;

@@ -1,6 +1,6 @@
 //! The labels whose row has a label of a set.
 ghost use Rattle.std.specs.Prelude.{ℕ, ◌↔◌, ◌≡◌, ◌≤◌, length, true};
-ghost use Rattle.{base.specs.Labels.is_in, flows.specs.Rows.Meets};
+ghost use Rattle.{base.specs.Labels.is_in, flows.specs.Rows.MeetsSet};
 ghost use Rattle.base.specs.declared.label.TheConstants.Label as Label;
 
 use base::{Label, Labels};
@@ -8,7 +8,7 @@ use base::{Label, Labels};
 /// Returns the labels whose row has a label of the set.
 pub(crate) fn meeting(rows: &[Labels], set: Labels) -> Labels
     requires { length rows.now ≤ Label.COUNT }
-    ensures { (label : ℕ) → (is_in result label ≡ true) ↔ Meets rows.now set label }
+    ensures { (label : ℕ) → (is_in result label ≡ true) ↔ MeetsSet rows.now set label }
 {
     let mut found = Labels::none();
     for (number, row) in rows.iter().enumerate() {

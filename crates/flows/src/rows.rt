@@ -1,6 +1,6 @@
 //! Rows of labels: for each label, whose objects it may affect and on whose it depends.
 ghost use Rattle.std.specs.Prelude.{ℕ, ◌<◌, ◌↔◌, ◌≡◌, IfOk, true};
-ghost use Rattle.{base.specs.Labels.is_in, reach.specs.Extents.limits_of, flows.specs.{Flowing.{DependsOn, MayAffect}, Rows.AreRowsOf}};
+ghost use Rattle.{base.specs.Labels.is_in, reach.specs.Extents.limits_of, flows.specs.{Flowing.{DependsOn, MayAffect}, Rows.RelateSo}};
 ghost use Rattle.base.specs.declared.label.TheConstants.Label as Label;
 
 use crate::seeing::sees;
@@ -10,7 +10,7 @@ use std::alloc::{AllocError, Global};
 
 /// Returns for each label the labels whose objects it may change or make smaller.
 pub(crate) fn affected_rows(alloc: Global, reach: &Reach<'_>) -> Result<Vec<Labels>, AllocError>
-    ensures { IfOk result (λ rows. AreRowsOf (MayAffect (limits_of reach.now)) rows.items) }
+    ensures { IfOk result (λ rows. RelateSo (MayAffect (limits_of reach.now)) rows.items) }
 {
     let mut rows = Vec::with_capacity(alloc, Label::COUNT as usize)?;
     for number in 0..Label::COUNT {
@@ -23,7 +23,7 @@ pub(crate) fn affected_rows(alloc: Global, reach: &Reach<'_>) -> Result<Vec<Labe
 
 /// Returns for each label the labels on whose objects it depends: itself, and those that it sees.
 pub(crate) fn needed_rows(alloc: Global, reach: &Reach<'_>) -> Result<Vec<Labels>, AllocError>
-    ensures { IfOk result (λ rows. AreRowsOf (DependsOn (limits_of reach.now)) rows.items) }
+    ensures { IfOk result (λ rows. RelateSo (DependsOn (limits_of reach.now)) rows.items) }
 {
     let mut rows = Vec::with_capacity(alloc, Label::COUNT as usize)?;
     for number in 0..Label::COUNT {

@@ -1,7 +1,7 @@
 //! The labels on whose objects the calls of a label's threads depend.
 ghost use Rattle.std.specs.Prelude.{[], ℕ, ◌↔◌, ◌∷◌, ◌≡◌, true};
 ghost use Rattle.{base.specs.Labels.is_in, policy.specs.{Change.{MayAnswer, MayHoldCaller}, Policy.allows, Steps.IsSource}};
-ghost use Rattle.{reach.specs.Extents.{limits_by, limits_of}, flows.specs.Seeing.{IsBeside, IsContested, Sees}};
+ghost use Rattle.{reach.specs.Extents.{limits_by, limits_of}, flows.specs.Seeing.{IsContested, Sees}};
 
 use base::{Kind, Label, Labels};
 use policy::Policy;
@@ -46,8 +46,8 @@ fn seen_by(policy: &Policy, actors: Labels, actor: Label) -> Labels
         .union(waiting(policy, actors, receive, Kind::Send))
         .union(waiting(policy, actors, call, Kind::Receive))
         .union(answered(policy, actors, actor))
-        .union(beside(policy, actor, Kind::Context, Kind::Control))
-        .union(beside(policy, actor, Kind::Control, Kind::Context))
+        .union(policy.row_with(actor, Kind::Context, Kind::Control))
+        .union(policy.row_with(actor, Kind::Control, Kind::Context))
         .union(notify.intersection(contested(policy, actors)))
 }
 
@@ -57,17 +57,6 @@ fn waiting(policy: &Policy, actors: Labels, ends: Labels, kind: Kind) -> Labels
         ↔ (IsSource (allows policy.now) (kind ∷ []) ends label × (is_in actors label ≡ true)) }
 {
     policy.sources(ends, &[kind]).intersection(actors)
-}
-
-// The labels to which the label has an edge of this kind, if it has an edge of the other kind.
-fn beside(policy: &Policy, from: Label, kind: Kind, other: Kind) -> Labels
-    ensures { (to : ℕ) → (is_in result to ≡ true) ↔ IsBeside (allows policy.now) kind other from to }
-{
-    if policy.row(from, other).first().is_some() {
-        policy.row(from, kind)
-    } else {
-        Labels::none()
-    }
 }
 
 // The labels whose calls the label may answer.

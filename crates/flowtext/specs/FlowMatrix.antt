@@ -34,7 +34,7 @@ abbrev pub IsFlowRow : Limits → List ℕ → FlowRow → Type 0
 IsFlowRow limits labels row = AreSizes limits row.label labels row.sizes.items
 
 -- the rows are of these labels, numbered from 1
-pub record AreFlowRows (labels : List ℕ) (limits : Limits) (rows : List FlowRow) : Type 0 where
+pub record AreToldRows (labels : List ℕ) (limits : Limits) (rows : List FlowRow) : Type 0 where
   pub are : map (λ row. row.label) rows ≡ labels
   pub numbers : map (λ row. row.number) rows ≡ range_with_len 1 (length rows)
   pub each : All (IsFlowRow limits labels) rows
@@ -64,5 +64,5 @@ flow_matrix_text t (row ∷ rows) = HEAD.now ++ matrix_text cells t (row ∷ row
 -- a text is the matrix of the flows by a reach, between the labels with a thread
 pub record IsFlowMatrix (reach : TableReach) (text : List ℕ) : Type 0 where
   pub rows : List FlowRow
-  pub are : AreFlowRows (programs_of reach.table) (limits_of reach) rows
+  pub are : AreToldRows (programs_of reach.table) (limits_of reach) rows
   pub is : text ≡ flow_matrix_text reach.table rows

@@ -1,7 +1,7 @@
 //! The rows of the matrix of flows: through how many programs all flows from one program to each other one go.
 ghost use Rattle.std.specs.Prelude.{◌≡◌, IfOk, string_bytes};
 ghost use Rattle.{reach.specs.Extents.limits_of, filters.specs.Sets.size_of, summary.specs.Labelled.programs_of};
-ghost use Rattle.flowtext.specs.FlowMatrix.{AreFlowRows, AreSizes, IsSize, cells, count_text};
+ghost use Rattle.flowtext.specs.FlowMatrix.{AreToldRows, AreSizes, IsSize, cells, count_text};
 ghost use Rattle.flowtext.specs.FlowMatrix.{first_size, size_at, size_of_smallest, size_text};
 
 use crate::lines::members;
@@ -86,7 +86,7 @@ pub(crate) fn flow_rows(
     table: &Table,
     graph: &FlowGraph<'_>,
 ) -> Result<Vec<FlowRow>, AllocError>
-    ensures { IfOk result (λ rows. AreFlowRows (programs_of table.now) (limits_of graph.now) rows.items) }
+    ensures { IfOk result (λ rows. AreToldRows (programs_of table.now) (limits_of graph.now) rows.items) }
 {
     rows_of(alloc, graph, &programs(alloc, table)?)
 }
@@ -97,7 +97,7 @@ fn rows_of(
     graph: &FlowGraph<'_>,
     labels: &[Label],
 ) -> Result<Vec<FlowRow>, AllocError>
-    ensures { IfOk result (λ rows. AreFlowRows labels.now (limits_of graph.now) rows.items) }
+    ensures { IfOk result (λ rows. AreToldRows labels.now (limits_of graph.now) rows.items) }
 {
     let mut rows = Vec::new(alloc);
     for (index, label) in labels.iter().enumerate() {

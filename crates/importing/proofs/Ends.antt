@@ -5,7 +5,7 @@ use Rattle.{base.specs.declared.limits.TheConstants.ADDRESS_END, words.specs.Nam
 use Rattle.machine.specs.declared.{layout.Initial.Initial, object.Object.{Object, Object as o}}
 use Rattle.machine.specs.{Layout.Layout, Objects.{address_of, end_of}}
 use Rattle.table.specs.{Building.{AdmitsObject, has_room, is_free, repeats_control}, Names.object_named, Placement.meets}
-use Rattle.{table.specs.Rules.is_control_of, importing.specs.{Built.{Built, EndBelow}, Objects.IsPlaced}}
+use Rattle.{table.specs.Rules.is_control_of, importing.specs.{Built.{Built, EndBelow}, Objects.FitsFrom}}
 
 misses : (one other : Object) (next : ℕ) → end_of one ≤ next → next ≤ address_of other → meets one other ≡ false
 misses one other next ends above =
@@ -44,7 +44,7 @@ no_control t _ memory = refl
 
 -- a table takes the object
 pub admits : (t : Layout) (name : List ℕ) (label : ℕ) (object : Object) (next : ℕ) → EndBelow t.objects next
-    → is_name name ≡ true → is_some (object_named t name) ≡ false → label < length t.labels → IsPlaced next object
+    → is_name name ≡ true → is_some (object_named t name) ≡ false → label < length t.labels → FitsFrom next object
     → has_room t object ≡ true → end_of object ≤ ADDRESS_END
     → AdmitsObject t name (record { label = label; object = object })
 admits t name label object next ends spelled fresh labelled placed room end =
@@ -63,9 +63,9 @@ admits t name label object next ends spelled fresh labelled placed room end =
 pub admits_built : (built : Built) (t : Layout) (next : ℕ) (name : List ℕ) (label : ℕ) (object : Object)
     → built ≡ record { table = t; next = next } → EndBelow t.objects next
     → is_name name ≡ true → is_some (object_named built.table name) ≡ false → label < length built.table.labels
-    → IsPlaced built.next object → has_room built.table object ≡ true → end_of object ≤ ADDRESS_END
+    → FitsFrom built.next object → has_room built.table object ≡ true → end_of object ≤ ADDRESS_END
     → AdmitsObject t name (record { label = label; object = object })
 admits_built built t next name label object is ends spelled fresh labelled placed room end =
     admits t name label object next ends spelled (subst (λ (b : Built). is_some (object_named b.table name) ≡ false) is fresh)
-    (subst (λ (b : Built). label < length b.table.labels) is labelled) (subst (λ (b : Built). IsPlaced b.next object) is placed)
+    (subst (λ (b : Built). label < length b.table.labels) is labelled) (subst (λ (b : Built). FitsFrom b.next object) is placed)
     (subst (λ (b : Built). has_room b.table object ≡ true) is room) end

@@ -107,7 +107,7 @@ IsSmall None = Unit {0}
 IsSmall (Some bits) = bits ≤ 17
 
 -- an object as a table may take it, from an address on
-pub record IsPlaced (next : ℕ) (object : Object) : Type 0 where
+pub record FitsFrom (next : ℕ) (object : Object) : Type 0 where
   pub blank : IsBlank object
   pub above : next ≤ address_of object
   pub aligned : is_aligned object ≡ true

@@ -6,7 +6,7 @@ ghost use Rattle.{microkit.specs.{LabelView.bytes_of, Names.IsLabelName}, machin
 ghost use Rattle.table.specs.{Building.{AdmitsLabel, has_room, with_label}, Names.object_named};
 ghost use Rattle.importing.specs.Built.{object_added, object_placed, piece_added, piece_label, piece_name};
 ghost use Rattle.importing.specs.Built.{piece_subject, pieces_added, started, version_for, with_object};
-ghost use Rattle.importing.specs.{Groups.{labels_at, name_at}, Objects.{IsPlaced, IsSmall}, PlanView.plan_of};
+ghost use Rattle.importing.specs.{Groups.{labels_at, name_at}, Objects.{FitsFrom, IsSmall}, PlanView.plan_of};
 ghost use Rattle.base.specs.declared.label.TheConstants.Label as LabelLimits;
 
 use crate::groups::leader_of;
@@ -128,7 +128,7 @@ impl Builder {
         label: usize,
         object: Object,
     ) -> Result<(), Fault>
-        requires { IsPlaced self.old.next object }
+        requires { FitsFrom self.old.next object }
         ensures { Reads (λ _. self.new) result (object_added line word.now label object self.old) }
     {
         match name_of(word) {
@@ -140,7 +140,7 @@ impl Builder {
     #[tactic(auto, unfolding(crate::specs::Built::object_placed))]
     fn place(&mut self, line: u64, name: &str, label: usize, object: Object) -> Result<(), Fault>
         requires spelled { is_name name.now ≡ true }
-        requires placed { IsPlaced self.old.next object }
+        requires placed { FitsFrom self.old.next object }
         ensures { Reads (λ _. self.new) result (object_placed line name.now label object self.old) }
     {
         if self.draft.object_named(name).is_some() {
@@ -164,7 +164,7 @@ impl Builder {
         requires spelled { is_name name.now ≡ true }
         requires fresh { is_some (object_named self.old.table name.now) ≡ false }
         requires label { label < length self.old.table.labels }
-        requires placed { IsPlaced self.old.next object }
+        requires placed { FitsFrom self.old.next object }
         requires room { has_room self.old.table object ≡ true }
         requires end { end_of object ≤ ADDRESS_END }
         ensures { OnOk result (self.new ≡ with_object self.old name.now (record { label = label; object = object })) }

@@ -3,7 +3,7 @@ ghost use Rattle.std.specs.{List.list_all, Option.option_map};
 ghost use Rattle.std.specs.Prelude.{◌%◌, ◌<◌, ◌^◌, ◌||◌, ◌≡◌, ◌≤◌, IfSome, None, Some, nat_lt, not, slice_get};
 ghost use Rattle.base.specs.declared.limits.TheConstants.{ADDRESS_END};
 ghost use Rattle.{microkit.specs.View.{description_of, domain_of, machine_of}, table.specs.Rules.{IsAtRest, IsWithinLimits}};
-ghost use Rattle.importing.specs.Objects.{IsPlaced, aligned_up, cnode_of, context_of, domain_share, endpoint_at};
+ghost use Rattle.importing.specs.Objects.{FitsFrom, aligned_up, cnode_of, context_of, domain_share, endpoint_at};
 ghost use Rattle.importing.specs.Objects.{fits_radix, frame_of, machine_share, notification_at, object_of};
 ghost use Rattle.importing.specs.{Objects.{processor_share, radix_of, reply_at, share_of, thread_of}, Pieces.same_piece};
 
@@ -27,7 +27,7 @@ pub(crate) fn object_of(
 ) -> Option<Object>
     requires { next ≤ ADDRESS_END }
     ensures exact { result ≡ object_of (description_of description.now) grants.now piece next }
-    ensures placed { IfSome result (λ object. IsPlaced next object) }
+    ensures placed { IfSome result (λ object. FitsFrom next object) }
 {
     match piece.form {
         Form::Space | Form::GuestSpace => cnode_of(grants, piece, next),
@@ -58,7 +58,7 @@ fn aligned_up(next: u64, bits: u8) -> u64
 fn cnode_of(grants: &[Grant], piece: Piece, next: u64) -> Option<Object>
     requires { next ≤ ADDRESS_END }
     ensures exact { result ≡ cnode_of grants.now piece next }
-    ensures placed { IfSome result (λ object. IsPlaced next object) }
+    ensures placed { IfSome result (λ object. FitsFrom next object) }
 {
     match radix_of(grants, piece) {
         Some(radix) => Some(Object::CNode(CNode {
@@ -108,7 +108,7 @@ fn thread_of(state: RunState, next: u64) -> Object
     requires address { next ≤ ADDRESS_END }
     requires rest { IsAtRest state }
     ensures exact { result ≡ thread_of state next }
-    ensures placed { IsPlaced next result }
+    ensures placed { FitsFrom next result }
 {
     Object::Tcb(Tcb {
         address: aligned_up(next, 10),
@@ -121,7 +121,7 @@ fn thread_of(state: RunState, next: u64) -> Object
 fn notification_at(next: u64) -> Object
     requires { next ≤ ADDRESS_END }
     ensures exact { result ≡ notification_at next }
-    ensures placed { IsPlaced next result }
+    ensures placed { FitsFrom next result }
 {
     Object::Notification(Notification {
         address: aligned_up(next, 5),
@@ -132,7 +132,7 @@ fn notification_at(next: u64) -> Object
 fn reply_at(next: u64) -> Object
     requires { next ≤ ADDRESS_END }
     ensures exact { result ≡ reply_at next }
-    ensures placed { IsPlaced next result }
+    ensures placed { FitsFrom next result }
 {
     Object::Reply(Reply {
         address: aligned_up(next, 5),
@@ -143,7 +143,7 @@ fn reply_at(next: u64) -> Object
 fn endpoint_at(next: u64) -> Object
     requires { next ≤ ADDRESS_END }
     ensures exact { result ≡ endpoint_at next }
-    ensures placed { IsPlaced next result }
+    ensures placed { FitsFrom next result }
 {
     Object::Endpoint(Endpoint {
         address: aligned_up(next, 4),
@@ -153,7 +153,7 @@ fn endpoint_at(next: u64) -> Object
 fn frame_of(next: u64) -> Object
     requires { next ≤ ADDRESS_END }
     ensures exact { result ≡ frame_of next }
-    ensures placed { IsPlaced next result }
+    ensures placed { FitsFrom next result }
 {
     Object::Frame(Frame {
         address: aligned_up(next, 12),
@@ -164,7 +164,7 @@ fn context_of(share: Option<Share>, next: u64) -> Option<Object>
     requires address { next ≤ ADDRESS_END }
     requires share { IfSome share (λ share. IsWithinLimits (Some share)) }
     ensures exact { result ≡ context_of share next }
-    ensures placed { IfSome result (λ object. IsPlaced next object) }
+    ensures placed { IfSome result (λ object. FitsFrom next object) }
 {
     match share {
         Some(share) => Some(Object::Context(Context {

@@ -14,7 +14,7 @@ abbrev pub MayModify : EdgeTest → ℕ → ℕ → Machine → Machine → ObjI
 MayModify allowed caller label m next id = IsFull allowed caller label ⊎ (IsCut allowed caller label × Shrinks m next id)
 
 -- an object changes within a label's authority: the object has a label on which the label has modifying authority
-pub record MayChange (t : Layout) (allowed : EdgeTest) (caller : ℕ) (m next : Machine) (id : ObjId) : Type 0 where
+pub record ChangesWithin (t : Layout) (allowed : EdgeTest) (caller : ℕ) (m next : Machine) (id : ObjId) : Type 0 where
   pub label : ℕ
   pub labelled : IsLabelled t m next id label
   pub may : MayModify allowed caller label m next id
@@ -23,7 +23,7 @@ pub record MayChange (t : Layout) (allowed : EdgeTest) (caller : ℕ) (m next : 
 pub record IsModified (t : Layout) (allowed : EdgeTest) (m next : Machine) (thread id : ObjId) : Type 0 where
   pub caller : ℕ
   pub calls : label_of t m thread ≡ Some caller
-  pub may : MayChange t allowed caller m next id
+  pub may : ChangesWithin t allowed caller m next id
 
 -- an allowed step of a thread: each object is as it was, or changed within the authority of the thread's label
 abbrev pub IsAllowedStep : Layout → EdgeTest → Machine → Event → Machine → Type 0

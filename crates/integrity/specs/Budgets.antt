@@ -14,7 +14,7 @@ configures (call.Configure control context _ _) = Some (control, context)
 configures _ = None
 
 -- a thread finds an object at an address, by a capability of this kind
-pub record Finds (m : Machine) (thread : ObjId) (address : ℕ) (of : ObjectKind) (object : ObjId) : Type 0 where
+pub record FindsOfKind (m : Machine) (thread : ObjId) (address : ℕ) (of : ObjectKind) (object : ObjId) : Type 0 where
   pub slot : SlotRef
   pub left : ℕ
   pub held : Cap
@@ -28,8 +28,8 @@ pub record MayConfigure (t : Layout) (allowed : EdgeTest) (m : Machine) (event :
   pub addresses : ℕ × ℕ
   pub configured : configures event.call ≡ Some addresses
   pub control : ObjId
-  pub finds_control : Finds m event.thread addresses.0 kind.Control control
-  pub finds_context : Finds m event.thread addresses.1 kind.Context context
+  pub finds_control : FindsOfKind m event.thread addresses.0 kind.Control control
+  pub finds_context : FindsOfKind m event.thread addresses.1 kind.Context context
   pub caller_label : ℕ
   pub control_label : ℕ
   pub context_label : ℕ

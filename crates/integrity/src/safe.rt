@@ -6,7 +6,7 @@ ghost use Rattle.{machine.specs.{Layout.Layout, Machine.{Machine, object_of}, St
 ghost use Rattle.policy.specs.{Change.{ActorTest, MayChange}, Closed.IsClosed, Domain.EdgeTest};
 ghost use Rattle.policy.specs.{NarrowTake.MayShrink, Sharp.{IsSharplyClosed, KeeperTest, Told, UsesRise}};
 ghost use Rattle.integrity.specs.Acting.{HoldsOfActors, MayAct, Starts};
-ghost use Rattle.integrity.specs.{Apart.{NeverChanges, OnlyTakes}, Budgets.Finds, Confined.IsConfined};
+ghost use Rattle.integrity.specs.{Apart.{NeverChanges, OnlyTakes}, Budgets.FindsOfKind, Confined.IsConfined};
 ghost use Rattle.integrity.specs.Keeping.{BorrowersMayIdle, HoldsNode, HoldsOfKeepers, IsSharp, KeepersHoldNodes, MayKeep, WaitersMayIdle};
 ghost use Rattle.integrity.specs.{Safe.{IsReached, IsSafe, KeepsNarrowBounds, RefusesOthers}, Shrinks.IsSame};
 ghost use Rattle.machine.specs.declared.object.ObjectKind.TheVariants as kind;
@@ -65,7 +65,7 @@ pub fn keepers_hold_cnode_capabilities()
         → ((boot : Machine) → IsBoot t boot → IsConfined t allowed boot)
         → (m : Machine) (thread : Id) (address : ℕ) (node : Id) (a : ℕ)
         → IsReached t m
-        → Finds m thread address kind.CNode node
+        → FindsOfKind m thread address kind.CNode node
         → label_of t m thread ≡ Some a
         → MayKeep t allowed a }
     ensures none { (t : Layout) (allowed : EdgeTest)

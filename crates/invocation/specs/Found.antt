@@ -5,12 +5,12 @@ use Rattle.clap.specs.{Simple.subcommand_rows_of, Walk.rows_of}
 use Rattle.requests.specs.{declared.{meaning.Words.Words, request.CommandLine.CommandLine}, Meaning.{Name, command_line_of, verb_name}}
 
 -- this word, or none, was found under this id
-abbrev pub IsFound : Found → List ℕ × Option Name → Type 0
-IsFound found (id, word) = option_copied word ≡ first_value found id
+abbrev pub IsArgument : Found → List ℕ × Option Name → Type 0
+IsArgument found (id, word) = option_copied word ≡ first_value found id
 
 -- an option was given, or not, by what was found under this id
-abbrev pub IsGiven : Found → List ℕ × Bool → Type 0
-IsGiven found (id, given) =
+abbrev pub IsOptionGiven : Found → List ℕ × Bool → Type 0
+IsOptionGiven found (id, given) =
     (one_text found id ≡ None → given ≡ false) × (one_text found id ≡ Some (codes "true") → given ≡ true)
     × (one_text found id ≡ Some (codes "false") → given ≡ false)
 
@@ -19,14 +19,14 @@ Each P [] = Unit {0}
 Each P (x ∷ xs) = P x × Each P xs
 
 -- each word and option was found under its id
-abbrev pub AreFound : Found → Words → Type 0
-AreFound found words =
-    Each (IsFound found)
+abbrev pub AreArguments : Found → Words → Type 0
+AreArguments found words =
+    Each (IsArgument found)
     ((codes "system", words.system) ∷ (codes "new", words.newer) ∷ (codes "policy", words.policy) ∷ (codes "certificate", words.certificate)
     ∷ (codes "script", words.script) ∷ (codes "log", words.log) ∷ (codes "claims", words.claims) ∷ (codes "actor", words.actor)
     ∷ (codes "object", words.object) ∷ (codes "workers", words.workers) ∷ (codes "steps", words.steps)
     ∷ (codes "seconds", words.seconds) ∷ (codes "rights", words.rights) ∷ (codes "rules", words.rules) ∷ (codes "format", words.format) ∷ [])
-    × Each (IsGiven found)
+    × Each (IsOptionGiven found)
     ((codes "explain", words.explain) ∷ (codes "quiet", words.quiet) ∷ (codes "cert", words.cert) ∷ (codes "missing", words.missing)
     ∷ (codes "surplus", words.surplus) ∷ (codes "split", words.split) ∷ (codes "all", words.all) ∷ (codes "take", words.take)
     ∷ (codes "reads", words.reads) ∷ (codes "as-claims", words.as_claims) ∷ [])
@@ -37,7 +37,7 @@ pub record IsAskedIn (matches : ArgMatches) (line : CommandLine) : Type 0 where
   pub found : Found
   pub command : subcommand_name_of matches ≡ Some (verb_name words.verb)
   pub rows : option_map (λ rows. rows.1) (subcommand_rows_of matches) ≡ Some (rows_of found)
-  pub read : AreFound found words
+  pub read : AreArguments found words
   pub asks : command_line_of words ≡ Some line
 
 -- a line asks for what a command and words make that the library for command lines found in the words of the line

@@ -1,7 +1,7 @@
 //! Requests as they are read from a command line: the commands, their words and options.
 ghost use Rattle.std.specs.Prelude.{◌≡◌, IfOk, IfSome};
-ghost use Rattle.{clap.specs.Matches.found_of, requests.specs.Requests.{IsWithinLimits, OnInTurn}};
-ghost use Rattle.invocation.specs.Found.{AreFound, IsAskedIn, IsRead};
+ghost use Rattle.{clap.specs.Matches.found_of, requests.specs.Requests.{HasFewWorkers, OnInTurn}};
+ghost use Rattle.invocation.specs.Found.{AreArguments, IsAskedIn, IsRead};
 
 use crate::help;
 use clap::error::ErrorKind;
@@ -17,7 +17,7 @@ use std::fmt;
 /// A message for the user, if the words are no command, or ask for help or for the version.
 pub fn read_request<'a>(alloc: Global, words: &'a [String]) -> Result<CommandLine<'a>, Error>
     ensures asked { IfOk result IsRead }
-    ensures limits { IfOk result (λ line. OnInTurn line IsWithinLimits) }
+    ensures limits { IfOk result (λ line. OnInTurn line HasFewWorkers) }
 {
     let mut command = command(alloc)?;
     read_by(alloc, &mut command, words)
@@ -30,7 +30,7 @@ fn read_by<'a>(
     words: &'a [String],
 ) -> Result<CommandLine<'a>, Error>
     ensures asked { IfOk result IsRead }
-    ensures limits { IfOk result (λ line. OnInTurn line IsWithinLimits) }
+    ensures limits { IfOk result (λ line. OnInTurn line HasFewWorkers) }
 {
     let matches = command.try_get_matches_from_mut(words)?;
     let line = line_of(&matches);
@@ -217,7 +217,7 @@ fn has_format(name: &str, found: &ArgMatches<'_>) -> bool {
 // The command line that the subcommand and its words make.
 fn line_of<'a>(matches: &ArgMatches<'a>) -> Option<CommandLine<'a>>
     ensures meaning { IfSome result (λ line. IsAskedIn matches.now line) }
-    ensures limits { IfSome result (λ line. OnInTurn line IsWithinLimits) }
+    ensures limits { IfSome result (λ line. OnInTurn line HasFewWorkers) }
 {
     let (name, found) = matches.subcommand()?;
     if Unneeded::of(name, found).is_some() || inputs(found) > 1 {
@@ -229,7 +229,7 @@ fn line_of<'a>(matches: &ArgMatches<'a>) -> Option<CommandLine<'a>>
 // The words of a command, each by its id.
 fn words_of<'a>(verb: Verb, found: &ArgMatches<'a>) -> Words<'a>
     ensures command { result.verb ≡ verb }
-    ensures found { AreFound (found_of found.now) result }
+    ensures found { AreArguments (found_of found.now) result }
 {
     Words {
         verb,

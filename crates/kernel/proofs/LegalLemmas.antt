@@ -8,7 +8,7 @@ use Rattle.base.{specs.Refusals.{out_of_memory, refusal_of}, proofs.CauseLemmas.
 use Rattle.machine.specs.{declared.call.{Event.Event, Made.Made, Outcome.{Outcome, TheVariants.Refused}}, Machine.Machine}
 use Rattle.machine.specs.{Outcomes.IsRefused, Run.Run, Step.{LacksMemory, Step, Step.{ends, lacks}, made_by, step_of, takes_memory}}
 use Rattle.{steps.proofs.Steps.{Ended, refused_changes_nothing, refused_steps, runs_end, steps_agree}, untyped.specs.Making.refusal_in}
-use Rattle.kernel.specs.Legal.{Entry, Follows, IsLack, IsLeftAt, IsReachedIn, LacksMemoryIn, Leads, StopsAt, next_of}
+use Rattle.kernel.specs.Legal.{Entry, Follows, IsLack, IsLeftAt, IsReachedIn, LacksMemoryIn, IsLogBetween, StopsAt, next_of}
 use Rattle.kernel.{specs.Refusals.lasting_refusal, proofs.RunLemmas.run_further}
 
 -- a call that takes memory is refused in any case as its row says
@@ -114,8 +114,8 @@ one_next m event outcome next after one other = by (steps_agree m event outcome 
 
 -- each entry of a run at the beginning is a step from where those before it lead
 step_within :
-    (first last mid : Machine) (entries : List Entry) (at most : ℕ) (entry : Entry) → Leads first (take most entries) last
-    → slice_get entries at ≡ Some entry → at < most → Leads first (take at entries) mid
+    (first last mid : Machine) (entries : List Entry) (at most : ℕ) (entry : Entry) → IsLogBetween first (take most entries) last
+    → slice_get entries at ≡ Some entry → at < most → IsLogBetween first (take at entries) mid
     → (next : Machine) × Step mid entry.0 entry.1 next
 step_within first last mid [] at most entry ran here below led = cc
 step_within first last mid (e ∷ es) at zero entry ran here below led = absurd (omega (arith, below))
@@ -125,19 +125,19 @@ step_within first last mid (e ∷ es) zero (suc most) entry ran here below led =
     (ran.0, subst (λ (m : Machine). Step m entry.0 entry.1 ran.0) led step)
 step_within first last mid (e ∷ es) (suc at) (suc most) entry ran here below led =
     let one : ran.0 ≡ led.0 = one_next first e.0 e.1 ran.0 led.0 ran.1 led.1 in
-    step_within led.0 last mid es at most entry (subst (λ (m : Machine). Leads m (take most es) last) one ran.2) here (omega (arith, below)) led.2
+    step_within led.0 last mid es at most entry (subst (λ (m : Machine). IsLogBetween m (take most es) last) one ran.2) here (omega (arith, below)) led.2
 
 pub no_run :
-    (first last : Machine) (entries : List Entry) (at : ℕ) → StopsAt first entries at → ¬ (Leads first entries last)
+    (first last : Machine) (entries : List Entry) (at : ℕ) → StopsAt first entries at → ¬ (IsLogBetween first entries last)
 no_run first last entries at stops ran =
-    let all : Leads first (take (length entries) entries) last = subst (λ (es : List Entry). Leads first es last) (sym (take-length entries)) ran in
+    let all : IsLogBetween first (take (length entries) entries) last = subst (λ (es : List Entry). IsLogBetween first es last) (sym (take-length entries)) ran in
     let step = step_within first last stops.last entries at (length entries) stops.entry all stops.here (slice_get_within entries at stops.entry stops.here) stops.led in
     stops.stuck step.0 step.1
 
 -- entries that lead somewhere, and one more entry
 pub led_further :
-    (first last next : Machine) (entries : List Entry) (entry : Entry) → Leads first entries last → Step last entry.0 entry.1 next
-    → Leads first (entries ++ entry ∷ []) next
+    (first last next : Machine) (entries : List Entry) (entry : Entry) → IsLogBetween first entries last → Step last entry.0 entry.1 next
+    → IsLogBetween first (entries ++ entry ∷ []) next
 led_further first last next entries entry ran step =
     let further = run_further first (map (λ (e : Entry). e.0) entries) (map (λ (e : Entry). e.1) entries) last entry.0 entry.1 next ran step in
     rw (map_push (λ (e : Entry). e.0) entries entry, map_push (λ (e : Entry). e.1) entries entry) further
@@ -163,7 +163,7 @@ zipped : (entries : List Entry) → zip (map (λ entry. entry.0) entries) (map (
 zipped [] = refl
 zipped (entry ∷ entries) = ap (λ (rest : List Entry). entry ∷ rest) (zipped entries)
 
-pub legal_ends : (first last : Machine) (entries : List Entry) → Leads first entries last → All Ended entries
+pub legal_ends : (first last : Machine) (entries : List Entry) → IsLogBetween first entries last → All Ended entries
 legal_ends first last entries ran =
     subst (All Ended) (zipped entries)
     (runs_end first (map (λ (e : Entry). e.0) entries) (map (λ (e : Entry). e.1) entries) last ran)
@@ -173,7 +173,7 @@ legal_ends first last entries ran =
 -- an event that isn't the step that its entry claims ended otherwise
 pub stops :
     (first last next : Machine) (entries : List Entry) (at : ℕ) (entry : Entry) → slice_get entries at ≡ Some entry
-    → Leads first (take at entries) last → Follows last entry.0 entry.1 next Bool.false
+    → IsLogBetween first (take at entries) last → Follows last entry.0 entry.1 next Bool.false
     → (stop : StopsAt first entries at) × (next ≡ next_of stop.last stop.entry.0)
 stops first last next entries at entry here led follows =
     (record { entry = entry; here = here; last = last; led = led; stuck = follows.0 }, follows.1)
@@ -185,7 +185,7 @@ makes_next m event next is = subst (λ (after : Machine). Step m event (step_of 
 -- the events before an entry, and its own
 reached_by_one :
     (first last next : Machine) (entries : List Entry) (at : ℕ) (entry : Entry) (came : Outcome) → slice_get entries at ≡ Some entry
-    → Leads first (take at entries) last → Step last entry.0 came next → IsReachedIn first entries next
+    → IsLogBetween first (take at entries) last → Step last entry.0 came next → IsReachedIn first entries next
 reached_by_one first last next entries at entry came here led step =
     let within : at < length entries = slice_get_within entries at entry here in
     let more : take (at + 1) entries ≡ take at entries ++ entry ∷ [] =
@@ -222,5 +222,5 @@ left_is_reached first last entries (Err _) left =
       count = lack.at;
       within = omega (arith, within);
       outcomes = map (λ (e : Entry). e.1) (take lack.at entries);
-      ran = subst (λ (m : Machine). Leads first (take lack.at entries) m) (sym left.1) lack.led;
+      ran = subst (λ (m : Machine). IsLogBetween first (take lack.at entries) m) (sym left.1) lack.led;
     }

@@ -8,15 +8,15 @@ abbrev pub Entry : Type 0
 Entry = Event × Outcome
 
 -- the entries lead from one machine to another: their events and outcomes are a run
-abbrev pub Leads : Machine → List Entry → Machine → Type 0
-Leads first entries last = Run first (map (λ entry. entry.0) entries) (map (λ entry. entry.1) entries) last
+abbrev pub IsLogBetween : Machine → List Entry → Machine → Type 0
+IsLogBetween first entries last = Run first (map (λ entry. entry.0) entries) (map (λ entry. entry.1) entries) last
 
 -- the entries are a run up to one that no step makes
 pub record StopsAt (first : Machine) (entries : List Entry) (at : ℕ) : Type 0 where
   pub entry : Entry
   pub here : slice_get entries at ≡ Some entry
   pub last : Machine
-  pub led : Leads first (take at entries) last
+  pub led : IsLogBetween first (take at entries) last
   pub stuck : (next : Machine) → ¬ (Step last entry.0 entry.1 next)
 
 -- the machine after an event, if there is memory
@@ -43,13 +43,13 @@ pub record LacksMemoryIn (first : Machine) (entries : List Entry) : Type 0 where
   pub entry : Entry
   pub here : slice_get entries at ≡ Some entry
   pub last : Machine
-  pub led : Leads first (take at entries) last
+  pub led : IsLogBetween first (take at entries) last
   pub lack : MayLack last entry.0 entry.1
 
 -- the machine that a replay leaves: where all entries lead; after the event of an entry that is no step, which ended otherwise; or before
 -- an entry that lacks memory
 abbrev pub IsLeftAt : Machine → List Entry → Machine → Result (Option ℕ) Refusal → Type 0
-IsLeftAt first entries last (Ok None) = Leads first entries last
+IsLeftAt first entries last (Ok None) = IsLogBetween first entries last
 IsLeftAt first entries last (Ok (Some at)) = (stop : StopsAt first entries at) × (last ≡ next_of stop.last stop.entry.0)
 IsLeftAt first entries last (Err _) = (lack : LacksMemoryIn first entries) × (last ≡ lack.last)
 

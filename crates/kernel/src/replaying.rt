@@ -3,7 +3,7 @@ ghost use Rattle.std.specs.Prelude.{ℕ, ◌≡◌, All, Bool, Decides, IfErr, I
 ghost use Rattle.base.specs.Refusals.{out_of_memory};
 ghost use Rattle.machine.specs.{declared.call.Outcome.TheVariants.Refused, Machine.Machine};
 ghost use Rattle.machine.specs.{Step.{MayEnd, takes_memory}, WellFormed.IsWellFormed};
-ghost use Rattle.kernel.specs.Legal.{Entry, Follows, IsLack, IsLeftAt, IsReachedIn, LacksMemoryIn, Leads, MayLack, StopsAt};
+ghost use Rattle.kernel.specs.Legal.{Entry, Follows, IsLack, IsLeftAt, IsReachedIn, LacksMemoryIn, IsLogBetween, MayLack, StopsAt};
 
 use crate::calls::{retype_refusal, step};
 use base::Refusal;
@@ -26,7 +26,7 @@ use steps::calls_are_refused_by_conditions;
 pub fn replay(state: &mut State, entries: &[(Event, Outcome)]) -> Result<Option<usize>, Refusal>
     requires { IsWellFormed state.old }
     ensures found { IfOk result
-        (λ stop. MatchOption stop (Leads state.old entries.now state.new) (StopsAt state.old entries.now)) }
+        (λ stop. MatchOption stop (IsLogBetween state.old entries.now state.new) (StopsAt state.old entries.now)) }
     ensures ends { IfOk result (λ stop. MatchOption stop (All (λ entry. MayEnd entry.0 entry.1) entries.now)
         (λ at. All (λ entry. MayEnd entry.0 entry.1) (take at entries.now))) }
     ensures left { IsLeftAt state.old entries.now state.new result }
@@ -84,7 +84,7 @@ fn could_lack(state: &State, event: &Event) -> bool
 /// A law: a log that stops at an entry isn't legal, and stops at that entry alone.
 pub fn logs_stop_where_they_are_no_run()
     ensures illegal { (first last : Machine) (entries : List Entry) (at : ℕ) → StopsAt first entries at
-        → ¬ (Leads first entries last) }
+        → ¬ (IsLogBetween first entries last) }
     ensures once { (first : Machine) (entries : List Entry) (at other : ℕ) → StopsAt first entries at
         → StopsAt first entries other → at ≡ other }
 {}

@@ -10,7 +10,7 @@ use Rattle.integrity.specs.{Acting.{HoldsOfActors, MayAct}, Keeping.IsSharp, Saf
 use Rattle.{integrity.proofs.{Aparts.never_changes, Runs.safe_from, Shrinking.same_tcb, Starting.starts_kept}, fixed.specs.Fixed.IsFixed}
 use Rattle.{reach.specs.Reach.HasBootAuthority, flows.specs.Flowing.{DependsOn, FilterTest, IsClosedOff, MayAffect}}
 use Rattle.noninterference.specs.{Alike.KeepsAlike, Sets.{AreAlikeTo, AreBeside, DifferBeside, EndAlike, FiltersShowAlike}}
-use Rattle.noninterference.specs.Sets.{IsClosedBeside, IsClosedSet, IsOfFilter, IsOfSet, IsPosition, RunsBeside, SetTest}
+use Rattle.noninterference.specs.Sets.{IsClosedBeside, FlowsOnlyWithin, IsOfFilter, IsOfSet, IsPosition, RunsBeside, SetTest}
 use Rattle.noninterference.proofs.{Both.limits, Carries.same_around, Closed.{alike_at, alike_to}, Kept.{kept_of, sound_of}}
 use Rattle.noninterference.proofs.{Looking.looks_alike, Reaching.{boot_reached, labels_alike, reached_next}}
 
@@ -228,7 +228,7 @@ abbrev no_filters : FilterTest
 no_filters label = false
 
 closed_beside_none :
-    (allowed : EdgeTest) (acts : ActorTest) (inside : SetTest) → IsClosedSet (limits allowed acts) inside
+    (allowed : EdgeTest) (acts : ActorTest) (inside : SetTest) → FlowsOnlyWithin (limits allowed acts) inside
     → IsClosedBeside (limits allowed acts) no_filters inside
 closed_beside_none allowed acts inside closed x y within flows = inl (closed x y within (flows.object, flows.flows))
 
@@ -279,7 +279,7 @@ closed_off_beside allowed acts filters from to off x y within flows = by_tests (
 -- nothing flows to it from without if there are no filters
 pub closed_off_set :
     (allowed : EdgeTest) (acts : ActorTest) (filters : FilterTest) (from to : ℕ) (off : IsClosedOff (limits allowed acts) filters from to)
-    → ((label : ℕ) → filters label ≡ false) → IsClosedSet (limits allowed acts) off.inside
+    → ((label : ℕ) → filters label ≡ false) → FlowsOnlyWithin (limits allowed acts) off.inside
 closed_off_set allowed acts filters from to off none x y within flows =
     by_set
     (closed_off_beside allowed acts filters from to off x y within
@@ -294,7 +294,7 @@ pub no_difference :
     (t : Layout) (allowed : EdgeTest) (acts : ActorTest) (inside : SetTest) (boot m n : Machine) (events others : List Event)
     (outcomes ends : List Outcome)
     → ((boot : Machine) → IsLawful t → IsBoot t boot → IsWellFormed boot) → IsLawful t → IsFixed t → IsSharp t allowed
-    → HasBootAuthority t allowed → HoldsOfActors t allowed acts → IsClosedSet (limits allowed acts) inside → IsBoot t boot
+    → HasBootAuthority t allowed → HoldsOfActors t allowed acts → FlowsOnlyWithin (limits allowed acts) inside → IsBoot t boot
     → DifferBeside (IsOfSet t boot inside) events others → Run boot events outcomes m → Run boot others ends n
     → EndAlike (IsOfSet t boot inside) events outcomes ends × AreAlikeTo t (limits allowed acts) inside m n
 no_difference t allowed acts inside boot m n events others outcomes ends formed lawful fixed sharp boots actors closed booted differ ran also =

@@ -12,8 +12,8 @@ abbrev pub SetTest : Type 0
 SetTest = ℕ → Bool
 
 -- only labels of the set flow to labels of the set
-abbrev pub IsClosedSet : Limits → SetTest → Type 0
-IsClosedSet limits inside = (x y : ℕ) → inside y ≡ true → FlowsTo limits x y → inside x ≡ true
+abbrev pub FlowsOnlyWithin : Limits → SetTest → Type 0
+FlowsOnlyWithin limits inside = (x y : ℕ) → inside y ≡ true → FlowsTo limits x y → inside x ≡ true
 
 -- only labels of the set and filters flow to it, apart from flows by objects of filters
 abbrev pub IsClosedBeside : Limits → FilterTest → SetTest → Type 0

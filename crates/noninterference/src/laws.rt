@@ -7,7 +7,7 @@ ghost use Rattle.{integrity.specs.{Acting.HoldsOfActors, Keeping.IsSharp, Safe.I
 ghost use Rattle.reach.specs.{Extents.limits_of, Reach.{HasBootAuthority, IsTableReach, TableReach}};
 ghost use Rattle.flows.specs.Flowing.{FilterTest, IsClosedOff};
 ghost use Rattle.noninterference.specs.{Alike.{IsAlikeTo, KeepsAlike}, Sets.{AreAlikeTo, DifferBeside}};
-ghost use Rattle.noninterference.specs.Sets.{EndAlike, IsClosedBeside, IsClosedSet, IsOfSet, RunsBeside, SetTest};
+ghost use Rattle.noninterference.specs.Sets.{EndAlike, IsClosedBeside, FlowsOnlyWithin, IsOfSet, RunsBeside, SetTest};
 
 use table::boot_states_are_well_formed;
 
@@ -55,7 +55,7 @@ pub fn others_make_no_difference()
         → IsSharp t allowed
         → HasBootAuthority t allowed
         → HoldsOfActors t allowed acts
-        → IsClosedSet (record { test = allowed; acts = acts }) inside
+        → FlowsOnlyWithin (record { test = allowed; acts = acts }) inside
         → IsBoot t boot
         → DifferBeside (IsOfSet t boot inside) events others
         → Run boot events outcomes m

@@ -82,6 +82,10 @@ pub data WayToChange (test : EdgeTest) (acts : ActorTest) (a l : ℕ) : Type 0 w
   -- threads that called, and are held by a reply that it uses
   replies : MayAnswer test acts a l → WayToChange test acts a l
 
+-- a has an edge of a kind to l, and one of another kind to some label
+abbrev pub IsBeside : EdgeTest → Kind → Kind → ℕ → ℕ → Type 0
+IsBeside test kind other a l = (test a kind l ≡ true) × ((end : ℕ) × (test a other end ≡ true))
+
 -- a may change objects of l: a acts, and there is a way
 pub record MayChange (test : EdgeTest) (acts : ActorTest) (a l : ℕ) : Type 0 where
   pub actor : acts a ≡ true

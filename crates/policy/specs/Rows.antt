@@ -45,7 +45,7 @@ abbrev pub RowsJoin : ℕ → List Labels → Type 0
 RowsJoin number rows = (from : ℕ) (kind : Kind) (to : ℕ) → is_in (row_of rows from kind) to ≡ true → (from < number) × (to < number)
 
 -- what a policy keeps: at most a row for each label and kind, its last edge, and a number above the labels that edges join
-pub record IsKept (rows : List Labels) (last : Option Edge) (span : ℕ) : Type 0 where
+pub record KeepsRows (rows : List Labels) (last : Option Edge) (span : ℕ) : Type 0 where
   pub count : length rows ≤ row_count
   pub few : span ≤ Label.COUNT
   pub labels : RowsJoin span rows

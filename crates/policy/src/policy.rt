@@ -1,9 +1,9 @@
 //! Policies as sets of edges.
-ghost use Rattle.std.specs.Prelude.{[], ℕ, ◌++◌, ◌+◌, ◌<◌, ◌||◌, ◌∷◌, ◌≡◌, ◌≤◌, IfErr, IfOk, IsOk, List, OnErr, OnOk};
+ghost use Rattle.std.specs.Prelude.{[], ℕ, ◌++◌, ◌+◌, ◌<◌, ◌||◌, ◌↔◌, ◌∷◌, ◌≡◌, ◌≤◌, IfErr, IfOk, IsOk, List, OnErr, OnOk};
 ghost use Rattle.std.specs.Prelude.{SomeIff, max, true, vec_len};
 ghost use Rattle.base.specs.{declared.{edge.Edge.Edge, kind.Kind.Kind}, Labels.is_in, Refusals.out_of_memory};
 ghost use Rattle.base.specs.declared.label.TheConstants.Label as Label;
-ghost use Rattle.policy.specs.Policy.{IsAboveLast, IsRising, JoinsBelow, JoinsLabels, allows, is_edge, last_edge};
+ghost use Rattle.policy.specs.{Change.IsBeside, Policy.{IsAboveLast, IsRising, JoinsBelow, JoinsLabels, allows, is_edge, last_edge}};
 ghost use Rattle.policy.specs.{Rows.{edge_at, edge_count, last_with, row_number, row_of}, Settling.Joins};
 
 use base::{Edge, Kind, Label, Labels, Refusal};
@@ -29,13 +29,13 @@ pub struct Policy {
 impl Model for Policy {
     ghost use Rattle.std.specs.Prelude.{List};
     ghost use Rattle.base.specs.declared.edge.Edge.{Edge};
-    ghost use Rattle.policy.specs.Rows.{IsKept, edges_of_rows};
+    ghost use Rattle.policy.specs.Rows.{KeepsRows, edges_of_rows};
 
     ghost Value = { List Edge };
 
     ghost view = { λ policy. edges_of_rows policy.rows.items };
 
-    ghost invariant = { λ policy. IsKept policy.rows.items policy.last policy.span };
+    ghost invariant = { λ policy. KeepsRows policy.rows.items policy.last policy.span };
 }
 
 impl Policy {
@@ -146,6 +146,17 @@ impl Policy {
         match self.rows.get(number_of(from, kind)) {
             Some(row) => *row,
             None => Labels::none(),
+        }
+    }
+
+    /// Returns the labels to which the label has an edge of this kind, if it has an edge of the other kind.
+    pub fn row_with(&self, from: Label, kind: Kind, other: Kind) -> Labels
+        ensures { (to : ℕ) → (is_in result to ≡ true) ↔ IsBeside (allows self.now) kind other from to }
+    {
+        if self.row(from, other).first().is_some() {
+            self.row(from, kind)
+        } else {
+            Labels::none()
         }
     }
 

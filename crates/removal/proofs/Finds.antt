@@ -6,7 +6,7 @@ use Rattle.machine.{specs.WellFormed.{IsWellFormed, child, further}, proofs.{Exc
 use Rattle.{steps.proofs.BelowLemmas.below_decided, objects.specs.Pairs.AreFilled}
 use Rattle.derivation.specs.Removing.{HasParents, HaveLeft, parent_without}
 use Rattle.derivation.proofs.{Leavings.{left_alike, left_alone, node_left}, Thinnings.{thinned_alike, thinned_at_first, thinned_where_left}}
-use Rattle.removal.specs.{Sweeping.IsFound, UnderWay.{AreEmptied, AreGoing}}
+use Rattle.removal.specs.{Sweeping.IsSwept, UnderWay.{AreEmptied, AreGoing}}
 
 -- a machine with the tree of another
 abbrev with_tree : Machine → Machine → Machine
@@ -18,7 +18,7 @@ tree_of m now q = refl
 
 pub finds :
     (m : Machine) (chosen : SlotRef → Bool) (now : Machine) → IsWellFormed m → AreEmptied m chosen now → AreGoing now
-    → HaveLeft m (with_tree m now) chosen → IsFound m chosen now
+    → HaveLeft m (with_tree m now) chosen → IsSwept m chosen now
 finds m chosen now formed emptied going left =
     let tree : Machine = with_tree m now in
     record {
@@ -59,7 +59,7 @@ same_turned a b = by_ties (same_slot a b) (same_slot b a) refl refl where
 
 pub one_found :
     (m : Machine) (slot : SlotRef) (now : Machine) → IsWellFormed m → AreEmptied m (same_slot slot) now → AreGoing now
-    → ((q : SlotRef) → parent_of now q ≡ parent_without m slot q) → IsFound m (same_slot slot) now
+    → ((q : SlotRef) → parent_of now q ≡ parent_without m slot q) → IsSwept m (same_slot slot) now
 one_found m slot now formed emptied going parents =
     let has : HasParents m (with_tree m now) (parent_without m slot) =
     record { rest = refl; parents = λ q. tree_of m now q ∙ parents q } in
@@ -71,7 +71,7 @@ one_found m slot now formed emptied going parents =
 
 pub below_found :
     (m : Machine) (above : SlotRef) (now : Machine) → IsWellFormed m → AreEmptied m (is_below m above) now → AreGoing now
-    → ((q : SlotRef) → parent_of now q ≡ (if is_below m above q then None else parent_of m q)) → IsFound m (is_below m above) now
+    → ((q : SlotRef) → parent_of now q ≡ (if is_below m above q then None else parent_of m q)) → IsSwept m (is_below m above) now
 below_found m above now formed emptied going parents =
     finds m (is_below m above) now formed emptied going
     (record {

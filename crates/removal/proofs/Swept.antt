@@ -9,7 +9,7 @@ use Rattle.machine.proofs.{Ids.itself, LookUps.{one_id, same_machine}, RemovalLo
 use Rattle.machine.proofs.RemovalLooks.{next-removed, object_of-removed, parent_of-removed, queue_of-removed, words_of-removed}
 use Rattle.derivation.{specs.{OwnSlots.is_going_slot, Removing.HaveLeft}, proofs.Leavings.{alone_where_left, left_alone}}
 use Rattle.{derivation.proofs.TreeAfter.{any_listed, listed_any, there_or_alone, tree_after}, finalising.specs.Pass.IsFinalised}
-use Rattle.removal.{specs.{Dropping.{IsCutOff, dropped}, Sweeping.IsFound}, proofs.Dropped.{IsWithout, dropped_looks}}
+use Rattle.removal.{specs.{Dropping.{IsCutOff, dropped}, Sweeping.IsSwept}, proofs.Dropped.{IsWithout, dropped_looks}}
 use Rattle.std.specs.FinMap as map
 
 -- links between objects agree whatever the capabilities and the tree
@@ -37,7 +37,7 @@ same_test false true there back = absurd (false≢true (back refl))
 same_test false false there back = refl
 
 module _
-    (m : Machine) (chosen : SlotRef → Bool) (now : Machine) (found : IsFound m chosen now)
+    (m : Machine) (chosen : SlotRef → Bool) (now : Machine) (found : IsSwept m chosen now)
     (below : (slot parent : SlotRef) → parent_of now slot ≡ Some parent → IsTrue (has_slot now slot))
     (above : (slot parent : SlotRef) → parent_of now slot ≡ Some parent → IsTrue (has_slot now parent)) where
   abbrev vanished : ObjId → Bool

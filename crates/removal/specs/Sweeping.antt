@@ -6,7 +6,7 @@ use Rattle.{derivation.specs.Thinning.IsThinned, removal.specs.UnderWay.{AreEmpt
 
 -- each slot that goes with the chosen ones has been emptied, from a well-formed machine on; the chosen ones are in no pair of the tree, in
 -- which each slot that stays has the nearest ancestor that stays which it had
-pub record IsFound (m : Machine) (chosen : SlotRef → Bool) (now : Machine) : Type 0 where
+pub record IsSwept (m : Machine) (chosen : SlotRef → Bool) (now : Machine) : Type 0 where
   pub formed : IsWellFormed m
   pub emptied : AreEmptied m chosen now
   pub going : AreGoing now

@@ -1,7 +1,7 @@
 //! The end of a removal, once its slots are empty.
 ghost use Rattle.std.specs.Prelude.{◌≡◌, Bool};
 ghost use Rattle.base.specs.declared.ids.SlotRef.{SlotRef as Slot};
-ghost use Rattle.{machine.specs.{Machine.Machine, Removal.removed}, removal.specs.Sweeping.IsFound};
+ghost use Rattle.{machine.specs.{Machine.Machine, Removal.removed}, removal.specs.Sweeping.IsSwept};
 
 use crate::dropping::drop_going;
 use derivation::leave_tree;
@@ -11,8 +11,8 @@ use objects::State;
 /// Ends a removal whose slots are all empty. What still is in the derivation tree leaves it. Threads that
 /// waited for objects that are going are released, and these objects are removed.
 pub(crate) fn sweep(state: &mut State)
-    requires { (m : Machine) × (chosen : Slot → Bool) × IsFound m chosen state.old }
-    ensures { (m : Machine) (chosen : Slot → Bool) → IsFound m chosen state.old → state.new ≡ removed m chosen }
+    requires { (m : Machine) × (chosen : Slot → Bool) × IsSwept m chosen state.old }
+    ensures { (m : Machine) (chosen : Slot → Bool) → IsSwept m chosen state.old → state.new ≡ removed m chosen }
 {
     state.keeps_a_forest();
     leave_tree(state);

@@ -4,10 +4,10 @@ use Rattle.{std.proofs.{Common.{length, refl, sym, true}, lemmas.Bool.or_cases},
 use Rattle.{machine.specs.Layout.Layout, policy.{specs.Policy.allows, proofs.{RowEdges.{of_parts, same_parts}, Sharpness.closed_sharply}}}
 use Rattle.{labels.proofs.EdgeLists.allows-append, integrity.specs.Keeping.MayKeep}
 use Rattle.{reach.proofs.Among.{all_closed, among, joined, joins}, verdict.specs.declared.rules.Rules.{Rules, Rules as rules}}
-use Rattle.{captext.specs.PolicyText.IsEdgeOf, report.specs.Closings.{IsLeastBy, Obeys}}
+use Rattle.{captext.specs.PolicyText.IsEdgeOf, report.specs.Closings.{IsLeastBy, ObeysSet}}
 
 -- the policy with every edge between labels below a number obeys each set of rules
-all_obeyed : (n : ℕ) (set : Rules) (t : Layout) → Obeys set t (among n)
+all_obeyed : (n : ℕ) (set : Rules) (t : Layout) → ObeysSet set t (among n)
 all_obeyed n rules.Closed t = all_closed n
 all_obeyed n rules.Sharp t = closed_sharply (among n) (MayKeep t (among n)) (all_closed n)
 

@@ -6,13 +6,13 @@ use Rattle.policy.specs.{Closing.IsWithin, Policy.{IsRising, allows}}
 use Rattle.{labels.proofs.EdgeLists.{allows-append, allows_after, allows_before}, integrity.specs.Confined.IsConfined}
 use Rattle.verdict.specs.{declared.rules.Rules.{Rules, Rules as rules}, ByRules.IsAcceptedBy}
 use Rattle.{captext.specs.{Policies.read_policy_of, PolicyText.{IsEdgeOf, edge_lines, policy_text}}, reptext.proofs.OneText.same_answer}
-use Rattle.commands.specs.{declared.{answer.Answer.Answer, choices.OnClose.OnClose as on_close}, Commands.{IsBare, IsPlain}}
-use Rattle.report.specs.Closings.{Closes, IsAuthorityOf, IsClosing, IsInEachPolicyFor, IsLeastBy, Obeys, missing_edges, missing_status}
+use Rattle.commands.specs.{declared.{answer.Answer.Answer, choices.OnClose.OnClose as on_close}, Commands.{HasTextAlone, IsPlain}}
+use Rattle.report.specs.Closings.{AnswersClosing, IsAuthorityOf, IsClosing, IsInEachPolicyFor, IsLeastBy, ObeysSet, missing_edges, missing_status}
 use Rattle.report.proofs.ClosedLabels.{either_within, least_within, listed_within, within_listed}
 use Rattle.report.proofs.Missing.{none_if_within, within_if_none}
 
 abbrev pub AcceptedAs : Rules → Layout → List Edge → Type 0
-AcceptedAs set t p = IsAcceptedBy set t (allows p) ↔ (Obeys set t (allows p) × ((m : Machine) → IsBoot t m → IsConfined t (allows p) m))
+AcceptedAs set t p = IsAcceptedBy set t (allows p) ↔ (ObeysSet set t (allows p) × ((m : Machine) → IsBoot t m → IsConfined t (allows p) m))
 
 pub accepted_as : (set : Rules) (t : Layout) (p : List Edge) → AcceptedAs rules.Closed t p → AcceptedAs rules.Sharp t p → AcceptedAs set t p
 accepted_as rules.Closed t p closed sharp = closed
@@ -52,7 +52,7 @@ module _ (set : Rules) (t : Layout) (boot : Machine) (booted : IsBoot t boot) wh
       → ((from : ℕ) (kind : Kind) (to : ℕ) → HasAuthority t boot from kind to → (from < length t.labels) × (to < length t.labels))
       → IsClosing set t edges policy
       → (text : List ℕ) → text ≡ policy_text t policy → (AllByRecursion (IsEdgeOf t) policy → read_policy_of t text ≡ Ok policy)
-      → (answer : Answer) → IsPlain text 0 answer → Closes set on_close.Policy t edges answer
+      → (answer : Answer) → IsPlain text 0 answer → AnswersClosing set on_close.Policy t edges answer
   policy_told edges policy joins closing text told read answer plain = record {
     policy = policy;
     closing = closing;
@@ -82,7 +82,7 @@ module _ (set : Rules) (t : Layout) (boot : Machine) (booted : IsBoot t boot) wh
       {E : Type 0} (result : Result Answer E) (edges policy : List Edge) → IsClosing set t edges policy
       → IfOk result (λ answer. answer.text.items ≡ edge_lines t (missing_edges edges policy))
       → IfOk result (λ answer. answer.status ≡ missing_status (missing_edges edges policy))
-      → IfOk result IsBare → AcceptedAs set t edges → IfOk result (Closes set on_close.Missing t edges)
+      → IfOk result HasTextAlone → AcceptedAs set t edges → IfOk result (AnswersClosing set on_close.Missing t edges)
   missing_told (Ok answer) edges policy closing text status bare accepted = record {
     policy = policy;
     closing = closing;
@@ -110,7 +110,7 @@ module _ (set : Rules) (t : Layout) (boot : Machine) (booted : IsBoot t boot) wh
       {E : Type 0} (result : Result Answer E) (edges least : List Edge) → IsClosing set t [] least
       → IfOk result (λ answer. answer.text.items ≡ edge_lines t (missing_edges least edges))
       → IfOk result (λ answer. answer.status ≡ missing_status (missing_edges least edges))
-      → IfOk result IsBare → ((p : List Edge) → AcceptedAs set t p) → IfOk result (Closes set on_close.Surplus t edges)
+      → IfOk result HasTextAlone → ((p : List Edge) → AcceptedAs set t p) → IfOk result (AnswersClosing set on_close.Surplus t edges)
   surplus_told (Ok answer) edges least alone text status bare accepted = record {
     policy = least;
     closing = alone;

@@ -3,7 +3,7 @@ use Rattle.std.{specs.List.zip, proofs.Common.{[], ℕ, ◌+◌, ◌∙◌, ◌�
 use Rattle.{std.proofs.lemmas.List.Elements.{All-head, All-tail}, base.specs.declared.edge.Edge.Edge}
 use Rattle.machine.specs.{declared.call.{Event.Event, Outcome.Outcome}, Boot.IsBoot, Layout.Layout, Machine.Machine, Run.Run}
 use Rattle.{machine.specs.{Step.LacksMemory, WellFormed.kind_of}, steps.proofs.Steps.steps_agree, table.proofs.BootState.boot_one}
-use Rattle.kernel.{specs.Legal.{Entry, IsLack, Leads, StopsAt}, proofs.LegalLemmas.{no_run, one_next, one_stop}}
+use Rattle.kernel.{specs.Legal.{Entry, IsLack, IsLogBetween, StopsAt}, proofs.LegalLemmas.{no_run, one_next, one_stop}}
 use Rattle.{policy.specs.{Places.{ComesBefore, IsLeast}, Policy.allows}, integrity.specs.Confined.IsConfined}
 use Rattle.verdict.specs.{declared.{denial.Denial.Denial, rules.Rules.Rules}, Rules.{Exceeds, Excess, excess_place}}
 use Rattle.verdict.specs.{Sources.of_machine, Verdict.{excess_of, place_of, rule_name}}
@@ -50,11 +50,11 @@ log_once t events a b is also =
 pub run_told_once : (set : Rules) → JudgesOnce (RunsInMemory set)
 run_told_once set t edges events = verdict_once set t edges (IsLogInMemory t events) (log_once t events)
 
-led_once : (entries : List Entry) (m last after : Machine) → Leads m entries last → Leads m entries after → last ≡ after
+led_once : (entries : List Entry) (m last after : Machine) → IsLogBetween m entries last → IsLogBetween m entries after → last ≡ after
 led_once [] m last after ran again = sym ran ∙ again
 led_once (e ∷ es) m last after ran again =
     led_once es again.0 last after
-    (subst (λ (n : Machine). Leads n es last) (one_next m e.0 e.1 ran.0 again.0 ran.1 again.1) ran.2) again.2
+    (subst (λ (n : Machine). IsLogBetween n es last) (one_next m e.0 e.1 ran.0 again.0 ran.1 again.1) ran.2) again.2
 
 module _ (t : Layout) (edges : List Edge) (entries : List Entry) where
   -- a denial says where a machine's authority lies outside the policy
@@ -78,7 +78,7 @@ module _ (t : Layout) (edges : List Edge) (entries : List Entry) where
 
   one_last : (m n : Machine) → IsReplayedTo t entries m → IsReplayedTo t entries n → m ≡ n
   one_last m n one two =
-      led_once entries two.0 m n (subst (λ (b : Machine). Leads b entries m) (boot_one t one.0 two.0 one.1 two.1) one.2) two.2
+      led_once entries two.0 m n (subst (λ (b : Machine). IsLogBetween b entries m) (boot_one t one.0 two.0 one.1 two.1) one.2) two.2
 
   not_outside : (m n : Machine) (d : Denial) → IsReplayedTo t entries m → IsReplayedTo t entries n → IsConfined t (allows edges) m
       → IsFirstOutside t edges n d → ⊥
@@ -89,7 +89,7 @@ module _ (t : Layout) (edges : List Edge) (entries : List Entry) where
   not_illegal : (m : Machine) (boot : Machine) (at : ℕ) → IsReplayedTo t entries m → IsBoot t boot → StopsAt boot entries at → ⊥
   not_illegal m boot at one booted stops =
       no_run boot m entries at stops
-      (subst (λ (b : Machine). Leads b entries m) (boot_one t one.0 boot one.1 booted) one.2)
+      (subst (λ (b : Machine). IsLogBetween b entries m) (boot_one t one.0 boot one.1 booted) one.2)
 
   abbrev told_outside : Machine → Denial → List ℕ
   told_outside m d = line_of (outside_data (length entries) (rule_name d) (place_names_by (kind_of m) t d))

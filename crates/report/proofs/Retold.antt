@@ -1,12 +1,12 @@
 -- Answers whose text is that of another answer.
 use Rattle.std.proofs.Common.{ℕ, ◌∙◌, ◌≡◌, ◌≤◌, List, arith}
-use Rattle.commands.specs.{declared.{answer.Answer.Answer, listener.Finding.Finding}, Commands.{Finds, IsPlain, Says}}
+use Rattle.commands.specs.{declared.{answer.Answer.Answer, listener.Finding.Finding}, Commands.{TellsFinding, IsPlain, Says}}
 
 pub plain_retold : {told other : List ℕ} {exit : ℕ} {answer : Answer} → told ≡ other → IsPlain told exit answer → IsPlain other exit answer
 plain_retold same plain = record { text = plain.text ∙ same; status = plain.status; bare = plain.bare }
 
 pub finding_retold :
-    {told other : List ℕ} {IsFinding : Finding → Type 0} {answer : Answer} → told ≡ other → Finds told IsFinding answer → Finds other IsFinding answer
+    {told other : List ℕ} {IsFinding : Finding → Type 0} {answer : Answer} → told ≡ other → TellsFinding told IsFinding answer → TellsFinding other IsFinding answer
 finding_retold same finds = record {
   text = finds.text ∙ same;
   status = finds.status;

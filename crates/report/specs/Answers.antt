@@ -75,8 +75,8 @@ abbrev pub Runs : Rules → Layout → List Edge → List Event → Answer → T
 Runs set t edges events = AnswersVerdict set t edges (IsLogOfRun t events)
 
 -- the answer to a script whose calls are split among the cores, by the rules of closed policies
-abbrev pub RunsSplit : Layout → List Edge → List Event → Answer → Type 0
-RunsSplit t edges events = AnswersVerdict rules.Closed t edges (IsLogOfSplit t events)
+abbrev pub AnswersSplitRun : Layout → List Edge → List Event → Answer → Type 0
+AnswersSplitRun t edges events = AnswersVerdict rules.Closed t edges (IsLogOfSplit t events)
 
 abbrev pub IsChecked : {T P O : Type 0} → Rules → OnAccept → Input T → Input P → Output O → End → Type 0
 IsChecked set written = IsDoneWith taken.Table file.Policy read_policy_of (λ t. None) (Checks set written)
@@ -90,4 +90,4 @@ IsRun set = IsDoneOnThree file.Script (λ t. read_script_of) (Runs set)
 
 -- a script was run on a table and a policy by a worker for each core, if they are accepted
 abbrev pub IsRunSplit : {T P S O : Type 0} → Input T → Input P → Input S → Output O → End → Type 0
-IsRunSplit = IsDoneOnThree file.Script (λ t. read_script_of) RunsSplit
+IsRunSplit = IsDoneOnThree file.Script (λ t. read_script_of) AnswersSplitRun

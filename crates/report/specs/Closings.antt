@@ -6,7 +6,7 @@ use Rattle.machine.specs.{Authority.HasAuthority, Boot.IsBoot, Layout.Layout, Ma
 use Rattle.policy.specs.{Closed.IsClosed, Closing.IsWithin, Domain.EdgeTest, Policy.{IsRising, allows}}
 use Rattle.{integrity.specs.Keeping.IsSharp, verdict.specs.{declared.rules.Rules.{Rules, Rules as rules}, ByRules.IsAcceptedBy}}
 use Rattle.captext.specs.{Policies.read_policy_of, PolicyText.{IsPolicyOf, edge_lines, policy_text}}
-use Rattle.commands.specs.{declared.{answer.Answer.Answer, choices.OnClose.{OnClose, OnClose as on_close}}, Commands.IsBare}
+use Rattle.commands.specs.{declared.{answer.Answer.Answer, choices.OnClose.{OnClose, OnClose as on_close}}, Commands.HasTextAlone}
 
 -- these edges are the authority of the table's boot state
 abbrev pub IsAuthorityOf : Layout → List Edge → Type 0
@@ -15,15 +15,15 @@ IsAuthorityOf t edges =
     → allows edges from kind to ≡ true ↔ HasAuthority t boot from kind to
 
 -- a policy obeys a set of rules: it is closed; or sharply closed, with the table's labels that may keep capabilities for CNodes as keepers
-abbrev pub Obeys : Rules → Layout → EdgeTest → Type 0
-Obeys rules.Closed t = IsClosed
-Obeys rules.Sharp t = IsSharp t
+abbrev pub ObeysSet : Rules → Layout → EdgeTest → Type 0
+ObeysSet rules.Closed t = IsClosed
+ObeysSet rules.Sharp t = IsSharp t
 
 -- the least policy with the edges that obeys the set
 pub record IsLeastBy (set : Rules) (t : Layout) (edges policy : List Edge) : Type 0 where
-  pub obeys : Obeys set t (allows policy)
+  pub obeys : ObeysSet set t (allows policy)
   pub has : IsWithin (allows edges) (allows policy)
-  pub least : (other : EdgeTest) → Obeys set t other → IsWithin (allows edges) other → IsWithin (allows policy) other
+  pub least : (other : EdgeTest) → ObeysSet set t other → IsWithin (allows edges) other → IsWithin (allows policy) other
 
 -- the least policy by the set that has these edges and all authority of the table's boot state, in the order of edges; the table keeps to
 -- it
@@ -67,8 +67,8 @@ TellsClosing set on_close.Surplus t edges policy text status =
     × ((status ≡ 0) ↔ IsInEachPolicyFor set t edges)
 
 -- the answer to a table and a policy that is closed over it, or to a table alone, for which the policy has no edges
-pub record Closes (set : Rules) (written : OnClose) (t : Layout) (edges : List Edge) (answer : Answer) : Type 0 where
+pub record AnswersClosing (set : Rules) (written : OnClose) (t : Layout) (edges : List Edge) (answer : Answer) : Type 0 where
   pub policy : List Edge
   pub closing : IsClosing set t (kept_edges written edges) policy
   pub told : TellsClosing set written t edges policy answer.text.items answer.status
-  pub bare : IsBare answer
+  pub bare : HasTextAlone answer

@@ -4,13 +4,13 @@ use Rattle.{base.specs.declared.edge.Edge.Edge, words.specs.declared.faults.Faul
 use Rattle.{forms.specs.declared.file.File.{File, File as file}, machine.specs.{declared.call.Event.Event, Layout.Layout}}
 use Rattle.{kernel.specs.Legal.IsLack, verdict.specs.declared.rules.Rules.Rules, captext.specs.Policies.read_policy_of}
 use Rattle.commands.specs.declared.{answer.Answer.Answer, choices.Taken.Taken as taken, load.{Three.Three, With.With}}
-use Rattle.commands.specs.{Commands.IsAnswer, Files.{Contents, three_contents, with_contents}, Given.layout_of}
+use Rattle.commands.specs.{Commands.IsAnswerTo, Files.{Contents, three_contents, with_contents}, Given.layout_of}
 use Rattle.report.specs.Answers.{AnswersVerdict, IsLogOfRun}
 
 -- two answers to the same files have the same text and status
 abbrev pub IsAnsweredOnce : {X : Type 0} → (X → Answer → Type 0) → Contents X → Type 0
 IsAnsweredOnce judges contents =
-    (text other : List ℕ) (status another : ℕ) → IsAnswer judges contents text status → IsAnswer judges contents other another
+    (text other : List ℕ) (status another : ℕ) → IsAnswerTo judges contents text status → IsAnswerTo judges contents other another
     → (text ≡ other) × (status ≡ another)
 
 -- the files of a command have one answer, whatever bytes they hold

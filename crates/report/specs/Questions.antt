@@ -21,14 +21,14 @@ abbrev pub unlabelled : Layout → List ℕ → List ℕ → Option Asked
 unlabelled t actor object = first_absent (label_named t actor) (label_named t object)
 
 -- no step of any run goes further with objects of a label than the limits say
-abbrev pub AreKept : Layout → Limits → Type 0
-AreKept t limits = (a l : ℕ) (far : Extent) → GoesTo limits a l far → KeepsTo t a l far
+abbrev pub ReachIsKept : Layout → Limits → Type 0
+ReachIsKept t limits = (a l : ℕ) (far : Extent) → GoesTo limits a l far → KeepsTo t a l far
 
 -- a fact holds within the limits of a table's reach, which every run keeps
 pub record IsSoByReach (t : Layout) (Is : Limits → Type 0) : Type 0 where
   pub reach : TableReach
   pub is_reach : IsReachOf t reach
-  pub kept : AreKept t (limits_of reach)
+  pub kept : ReachIsKept t (limits_of reach)
   pub so : Is (limits_of reach)
 
 -- the limits of a policy alone, in which threads of each label make calls

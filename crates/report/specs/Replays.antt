@@ -2,15 +2,15 @@
 use Rattle.std.specs.Prelude.{ℕ, ◌+◌, ◌≡◌, ◌⊎◌, List, None, Option, Some, length, slice_get, take}
 use Rattle.{base.specs.declared.edge.Edge.Edge, forms.specs.declared.file.File.File as file}
 use Rattle.machine.specs.{declared.call.Outcome.Outcome, Boot.IsBoot, Layout.Layout, Machine.Machine, Step.Step, WellFormed.kind_of}
-use Rattle.{kernel.specs.Legal.{Entry, Leads, StopsAt}, policy.specs.Policy.allows, integrity.specs.Confined.IsConfined}
+use Rattle.{kernel.specs.Legal.{Entry, IsLogBetween, StopsAt}, policy.specs.Policy.allows, integrity.specs.Confined.IsConfined}
 use Rattle.verdict.specs.{declared.denial.Denial.Denial, Rules.Excess, Verdict.{IsOutside, excess_of, rule_name}}
 use Rattle.{evtext.specs.Log.read_log_of, reptext.specs.{Places.place_names_by, Reports.{illegal_data, line_of, outside_data, within_data}}}
 use Rattle.commands.specs.declared.{answer.Answer.Answer, end.End.End, listener.Finding.Finding as finding}
-use Rattle.commands.specs.Commands.{Finds, Input, IsDoneOnThree, IsPlain, Output}
+use Rattle.commands.specs.Commands.{TellsFinding, Input, IsDoneOnThree, IsPlain, Output}
 
 -- the log is a run from the table's boot state, which leads to its last state
 abbrev pub IsReplayedTo : Layout → List Entry → Machine → Type 0
-IsReplayedTo t entries last = (boot : Machine) × IsBoot t boot × Leads boot entries last
+IsReplayedTo t entries last = (boot : Machine) × IsBoot t boot × IsLogBetween boot entries last
 
 -- the entries before are a run from the table's boot state, and the event of the entry can have this outcome next
 pub record IsAnsweredAt (t : Layout) (entries : List Entry) (at : ℕ) (came : Outcome) : Type 0 where
@@ -37,10 +37,10 @@ pub data Replays (t : Layout) (edges : List Edge) (entries : List Entry) (answer
   within : (last : Machine) → IsReplayedTo t entries last → IsConfined t (allows edges) last
       → IsPlain (line_of (within_data (length entries))) 0 answer → Replays t edges entries answer
   outside : (last : Machine) (denial : Denial) → IsReplayedTo t entries last → IsFirstOutside t edges last denial
-      → Finds (line_of (outside_data (length entries) (rule_name denial) (place_names_by (kind_of last) t denial)))
+      → TellsFinding (line_of (outside_data (length entries) (rule_name denial) (place_names_by (kind_of last) t denial)))
       (λ told. told ≡ finding.Outside denial) answer → Replays t edges entries answer
   illegal : (boot : Machine) (at : ℕ) → IsBoot t boot → StopsAt boot entries at
-      → Finds (line_of (illegal_data (at + 1))) (λ told. told ≡ finding.Illegal (at + 1)) answer → Replays t edges entries answer
+      → TellsFinding (line_of (illegal_data (at + 1))) (λ told. told ≡ finding.Illegal (at + 1)) answer → Replays t edges entries answer
 
 -- a log was replayed on a table and a policy, accepted or not
 abbrev pub IsReplayed : {T P S O : Type 0} → Input T → Input P → Input S → Output O → End → Type 0

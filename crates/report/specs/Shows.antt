@@ -3,7 +3,7 @@
 use Rattle.std.specs.{declared.alloc.Global.Global, Prelude.{ℕ, ◌≡◌, ◌≤◌, List, None, Some, Vec, if◌then◌else◌}}
 use Rattle.{machine.specs.{declared.call.Event.Event, Layout.Layout}, table.specs.Names.label_named}
 use Rattle.reach.specs.{declared.extent.Extent.{Extent, Extent as extent}, Extents.{GoesTo, KeepsTo, limits_of}}
-use Rattle.{reach.specs.Reach.{IsReachOf, TableReach}, runs.specs.{declared.question.Question.Question, Shown.Answers}}
+use Rattle.{reach.specs.Reach.{IsReachOf, TableReach}, runs.specs.{declared.question.Question.Question, Shown.AnswersQuestion}}
 use Rattle.{evtext.specs.Script.script_text, reptext.specs.Reports.{impossible_data, line_of, unfound_data}}
 use Rattle.commands.specs.{declared.{answer.Answer.Answer, choices.Search.Search}, Commands.IsPlain}
 
@@ -17,7 +17,7 @@ most_calls sought extent.Full = sought.steps
 most_calls sought extent.Take = if sought.takes then sought.steps else 0
 most_calls sought extent.Nothing = 0
 
-pub record IsScript (script : List Event) (answer : Answer) : Type 0 where
+pub record TellsScript (script : List Event) (answer : Answer) : Type 0 where
   pub text : answer.text.items ≡ script_text script
   pub status : answer.status ≡ 0
   pub finding : answer.finding ≡ None
@@ -29,7 +29,7 @@ pub record IsScript (script : List Event) (answer : Answer) : Type 0 where
 -- a script whose last call is as the question asks, with status 0; or none was found after this number of calls, with status 1, how far the
 -- one label goes with the other, and the number of calls
 pub data TellsFound (t : Layout) (question : Question) (bound : Extent) (most : ℕ) (answer : Answer) : Type 0 where
-  shown : (script : List Event) → Answers t question script → IsScript script answer → TellsFound t question bound most answer
+  shown : (script : List Event) → AnswersQuestion t question script → TellsScript script answer → TellsFound t question bound most answer
   unfound : (steps : ℕ) → steps ≤ most → IsPlain (line_of (unfound_data bound steps)) 1 answer → TellsFound t question bound most answer
 
 -- a run that is searched for; or that there can't be one, with status 1, exactly if the reach excludes that the one label does anything to
@@ -49,7 +49,7 @@ pub record ShowsRun (sought : Search) (t : Layout) (a l : ℕ) (answer : Answer)
   pub told : TellsRun t (question_of sought a l) bound (most_calls sought bound) answer
 
 -- the answer to a request for a run of the labels of these names
-pub record Shows (sought : Search) (actor object : List ℕ) (t : Layout) (answer : Answer) : Type 0 where
+pub record AnswersSearch (sought : Search) (actor object : List ℕ) (t : Layout) (answer : Answer) : Type 0 where
   pub of_actor : ℕ
   pub of_object : ℕ
   pub actor_named : label_named t actor ≡ Some of_actor

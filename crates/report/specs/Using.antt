@@ -2,7 +2,7 @@
 use Rattle.std.specs.Prelude.{ℕ, ◌≡◌, List, None, Option, Some}
 use Rattle.{machine.specs.Layout.Layout, table.specs.Names.label_named, reach.specs.{Extents.limits_of, Reach.{IsReachOf, TableReach}}}
 use Rattle.usertext.specs.UsersText.{IsChangersText, IsReadersText}
-use Rattle.{commands.specs.declared.{choices.Use.{Use, Use as usage}, end.Asked.{Asked, Asked as asked}}, report.specs.Questions.AreKept}
+use Rattle.{commands.specs.declared.{choices.Use.{Use, Use as usage}, end.Asked.{Asked, Asked as asked}}, report.specs.Questions.ReachIsKept}
 
 -- the name asked about, if it is no label
 abbrev pub absent_object : Option ℕ → Option Asked
@@ -23,5 +23,5 @@ pub record TellsUsers (usage : Use) (object : List ℕ) (t : Layout) (text : Lis
   pub object_named : label_named t object ≡ Some of_object
   pub reach : TableReach
   pub is_reach : IsReachOf t reach
-  pub kept : AreKept t (limits_of reach)
+  pub kept : ReachIsKept t (limits_of reach)
   pub told : IsUsersText usage reach of_object text

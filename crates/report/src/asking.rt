@@ -4,7 +4,7 @@ ghost use Rattle.{base.specs.Refusals.out_of_memory, reach.specs.Extents.limits_
 ghost use Rattle.commands.specs.Commands.{IsDoneWith, IsJudgedSo, Says, SystemIsJudged, WithIsJudged, input, output};
 ghost use Rattle.commands.specs.Hearing.{SystemIsHeard, WithIsHeard};
 ghost use Rattle.report.specs.{Summaries.{IsSummaryIn, TellsSummary}, Systems.{AnswersPolicy, AnswersSystem}};
-ghost use Rattle.report.specs.Systems.{IsAsked, IsAskedOfPolicy, PolicyIsHeard, lacking, lacking_of_policy};
+ghost use Rattle.report.specs.Systems.{IsAskedOfSystem, IsAskedOfPolicy, PolicyIsHeard, lacking, lacking_of_policy};
 ghost use Rattle.report.specs.Questions as questions;
 
 use crate::claiming::strongest_text;
@@ -44,7 +44,7 @@ where
     O: Sink,
     requires system { T.failed system.old ≡ false }
     requires out { O.failed out.old ≡ false }
-    ensures asked { IsAsked asked.entry taken (input T.remaining T.failed system.old system.new)
+    ensures asked { IsAskedOfSystem asked.entry taken (input T.remaining T.failed system.old system.new)
         (output O.contents O.failed O.is_flushed out.old out.new) result }
     ensures heard { SystemIsHeard L.Hears taken (lacking asked.entry) (AnswersSystem asked.entry) (T.remaining system.old)
         listener.old listener.new

@@ -2,7 +2,7 @@
 ghost use Rattle.std.specs.Prelude.{[], ◌++◌, ◌≡◌, ◌≤◌, IfOk, List};
 ghost use Rattle.{base.specs.declared.edge.Edge.Edge, machine.specs.Layout.Layout};
 ghost use Rattle.{reach.specs.Reach.IsReach, captext.specs.PolicyText.{edge_lines, policy_text}};
-ghost use Rattle.commands.specs.{declared.answer.Answer.Answer as AnswerOf, Commands.IsBare};
+ghost use Rattle.commands.specs.{declared.answer.Answer.Answer as AnswerOf, Commands.HasTextAlone};
 ghost use Rattle.report.specs.Closings as closings;
 
 use crate::{OnClose, Rules};
@@ -31,7 +31,7 @@ pub(crate) fn closed(
     on_close: OnClose,
 ) -> Result<Answer, Refusal>
     ensures right { IfOk result
-        (closings.Closes rules on_close table.now policy.now) }
+        (closings.AnswersClosing rules on_close table.now policy.now) }
     ensures exit { IfOk result (λ answer. answer.status ≤ 2) }
 {
     match on_close {
@@ -77,7 +77,7 @@ fn whole_answer(
     policy: &Policy,
 ) -> Result<Answer, Refusal>
     ensures right { IfOk result
-        (closings.Closes rules OnClose.Policy table.now policy.now) }
+        (closings.AnswersClosing rules OnClose.Policy table.now policy.now) }
     ensures exit { IfOk result (λ answer. answer.status ≤ 2) }
 {
     // Laws about tables and their boot states.
@@ -96,7 +96,7 @@ fn missing_answer(
     policy: &Policy,
 ) -> Result<Answer, Refusal>
     ensures right { IfOk result
-        (closings.Closes rules OnClose.Missing table.now policy.now) }
+        (closings.AnswersClosing rules OnClose.Missing table.now policy.now) }
     ensures exit { IfOk result (λ answer. answer.status ≤ 2) }
 {
     // Laws about tables, their boot states, and verdicts on these.
@@ -116,7 +116,7 @@ fn surplus_answer(
     policy: &Policy,
 ) -> Result<Answer, Refusal>
     ensures right { IfOk result
-        (closings.Closes rules OnClose.Surplus table.now policy.now) }
+        (closings.AnswersClosing rules OnClose.Surplus table.now policy.now) }
     ensures exit { IfOk result (λ answer. answer.status ≤ 2) }
 {
     // Laws about tables, their boot states, and verdicts on these.
@@ -138,7 +138,7 @@ fn lacked_answer(
         ≡ edge_lines table.now (closings.missing_edges policy.now other.now)) }
     ensures status { IfOk result (λ answer. answer.status
         ≡ closings.missing_status (closings.missing_edges policy.now other.now)) }
-    ensures bare { IfOk result IsBare }
+    ensures bare { IfOk result HasTextAlone }
     ensures exit { IfOk result (λ answer. answer.status ≤ 2) }
 {
     let missing = missing_edges(alloc, policy, other)?;
@@ -159,6 +159,6 @@ fn missing_edges(alloc: Global, policy: &Policy, other: &Policy) -> Result<Vec<E
 /// its text.
 pub fn the_sharp_policy_for_a_table_is_its_reach()
     ensures { (t : Layout) (answer : AnswerOf)
-        → closings.Closes Rules.Sharp OnClose.Policy t [] answer
+        → closings.AnswersClosing Rules.Sharp OnClose.Policy t [] answer
         → (reach : List Edge) × IsReach t reach × (answer.text.items ≡ policy_text t reach) }
 {}

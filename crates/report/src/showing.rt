@@ -24,7 +24,7 @@ pub(crate) fn shown(
     object: &str,
 ) -> Result<Answer, Stop>
     ensures { IsJudgedSo (unlabelled table.now actor.now object.now)
-        (shows.Shows sought actor.now object.now table.now) result }
+        (shows.AnswersSearch sought actor.now object.now table.now) result }
 {
     let Some(actor) = table.label_named(actor) else {
         return Err(Stop::NoLabel(Asked::Actor));

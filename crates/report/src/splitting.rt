@@ -47,7 +47,7 @@ where
     ensures done { answers.IsRunSplit (input T.remaining T.failed table.old table.new)
         (input P.remaining P.failed policy.old policy.new) (input S.remaining S.failed script.old script.new)
         (output O.contents O.failed O.is_flushed out.old out.new) result }
-    ensures heard { ThreeIsHeard L.Hears held.script file.Script (λ t. read_script_of) answers.RunsSplit
+    ensures heard { ThreeIsHeard L.Hears held.script file.Script (λ t. read_script_of) answers.AnswersSplitRun
         (T.remaining table.old) (P.remaining policy.old) (S.remaining script.old) listener.old listener.new
         (output O.contents O.failed O.is_flushed out.old out.new) result }
 {
@@ -63,7 +63,7 @@ fn ran_split<R: Threads + Wait + Sync, G: Gate + Sync>(
     loaded: &Result<Three<Script>, Stop>,
     gate: &G,
 ) -> Result<Answer, Stop>
-    ensures { ThreeIsJudged answers.RunsSplit loaded.now result }
+    ensures { ThreeIsJudged answers.AnswersSplitRun loaded.now result }
 {
     let Three {
         table,

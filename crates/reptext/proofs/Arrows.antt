@@ -10,7 +10,7 @@ use Rattle.policy.specs.Change.WayToChange.{grants, links, modifies, notifies, o
 use Rattle.policy.specs.NarrowTake.{TakesByControl.{drops, releases, removes, wakes}, WayToShrink}
 use Rattle.policy.specs.{NarrowTake.WayToShrink.{controls, ends, frees, halts, stops, unbinds}, Places.IsLeast, Reasons.reason_place}
 use Rattle.reach.specs.Extents.{Limits, MayChangeIn, MayShrinkIn}
-use Rattle.reptext.specs.Drawing.{AddsArrows, Draws, IsArrow, IsArrow.{dashed, itself, nothing, solid}, arrow_line, pairs_with}
+use Rattle.reptext.specs.Drawing.{AddsArrows, Draws, IsDrawnArrow, IsDrawnArrow.{dashed, itself, nothing, solid}, arrow_line, pairs_with}
 
 -- one more piece, for the next value
 pub piece_more : {X Y : Type 0} (f : X → List Y) (xs : List X) (i : ℕ) (d : X) (before text longer : List Y) → i < length xs
@@ -109,7 +109,7 @@ module _ (limits : Limits) (t : Layout) where
     more ∙ ap (λ text. text ++ second) is ∙ append_assoc old first second,
   )
 
-  adds_one : (a l : ℕ) (old new arrow : List ℕ) → IsArrow limits t a l arrow → new ≡ old ++ arrow
+  adds_one : (a l : ℕ) (old new arrow : List ℕ) → IsDrawnArrow limits t a l arrow → new ≡ old ++ arrow
       → AddsArrows limits t ((a, l) ∷ []) old new
   adds_one a l old new arrow is grown = (arrow, (arrow, [], is, refl, sym (append-nil arrow)), grown)
 

@@ -17,23 +17,23 @@ arrow_line t a l style edge =
     ++ (label_name t edge.from ++ (codes " " ++ (kind_name edge.kind ++ (codes " " ++ (label_name t edge.to ++ codes "\"]\n")))))))))))
 
 -- the drawing from one label to another: an arrow with the first edge of its reason, or nothing
-pub data IsArrow (limits : Limits) (t : Layout) (a l : ℕ) (text : List ℕ) : Type 0 where
+pub data IsDrawnArrow (limits : Limits) (t : Layout) (a l : ℕ) (text : List ℕ) : Type 0 where
   -- none from a label to itself
-  itself : a ≡ l → text ≡ [] → IsArrow limits t a l text
+  itself : a ≡ l → text ≡ [] → IsDrawnArrow limits t a l text
   -- solid, if the label may change the other's objects
   solid : a ≢ l → (edge : Edge) (more : List Edge) → IsLeast reason_place (IsChangeBy limits.test limits.acts a l) (edge ∷ more)
-      → text ≡ arrow_line t a l [] edge → IsArrow limits t a l text
+      → text ≡ arrow_line t a l [] edge → IsDrawnArrow limits t a l text
   -- dashed, if it may only make them smaller
   dashed : a ≢ l → ¬ MayChangeIn limits a l → (edge : Edge) (more : List Edge) → IsLeast reason_place (IsShrinkBy limits.test limits.acts a l) (edge ∷ more)
-      → text ≡ arrow_line t a l (codes "style=dashed, ") edge → IsArrow limits t a l text
+      → text ≡ arrow_line t a l (codes "style=dashed, ") edge → IsDrawnArrow limits t a l text
   -- none, if it may do neither
-  nothing : a ≢ l → ¬ MayChangeIn limits a l → ¬ MayShrinkIn limits a l → text ≡ [] → IsArrow limits t a l text
+  nothing : a ≢ l → ¬ MayChangeIn limits a l → ¬ MayShrinkIn limits a l → text ≡ [] → IsDrawnArrow limits t a l text
 
 -- the drawing of pairs of labels, one after another
 abbrev pub Draws : Limits → Layout → List (ℕ × ℕ) → List ℕ → Type 0
 Draws limits t [] text = text ≡ []
 Draws limits t (pair ∷ pairs) text =
-    (arrow : List ℕ) × (rest : List ℕ) × IsArrow limits t pair.0 pair.1 arrow × Draws limits t pairs rest × (text ≡ arrow ++ rest)
+    (arrow : List ℕ) × (rest : List ℕ) × IsDrawnArrow limits t pair.0 pair.1 arrow × Draws limits t pairs rest × (text ≡ arrow ++ rest)
 
 -- the drawing of pairs of labels is added to a text
 abbrev pub AddsArrows : Limits → Layout → List (ℕ × ℕ) → List ℕ → List ℕ → Type 0

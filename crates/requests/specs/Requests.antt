@@ -7,14 +7,14 @@ use Rattle.requests.specs.declared.request.{CommandLine.{CommandLine, TheVariant
 use Rattle.requests.specs.declared.request.{Request.{Request, Request as request}, SplitRun.SplitRun}
 
 -- a check has 1 to 16 workers
-abbrev pub IsWithinLimits : {N : Type 0} → Request N → Type 0
-IsWithinLimits (request.OfDescription asked description) = Unit {0}
-IsWithinLimits (request.OfSystem asked taken system) = Unit {0}
-IsWithinLimits (request.OfPolicy asked taken system policy) = Unit {0}
-IsWithinLimits (request.OfClaims taken system claims) = Unit {0}
-IsWithinLimits (request.OfTwo form taken old new) = Unit {0}
-IsWithinLimits (request.Check asked table policy) = (1 ≤ asked.workers) × (asked.workers ≤ 16)
-IsWithinLimits (request.OfThree asked table policy third) = Unit {0}
+abbrev pub HasFewWorkers : {N : Type 0} → Request N → Type 0
+HasFewWorkers (request.OfDescription asked description) = Unit {0}
+HasFewWorkers (request.OfSystem asked taken system) = Unit {0}
+HasFewWorkers (request.OfPolicy asked taken system policy) = Unit {0}
+HasFewWorkers (request.OfClaims taken system claims) = Unit {0}
+HasFewWorkers (request.OfTwo form taken old new) = Unit {0}
+HasFewWorkers (request.Check asked table policy) = (1 ≤ asked.workers) × (asked.workers ≤ 16)
+HasFewWorkers (request.OfThree asked table policy third) = Unit {0}
 
 -- two requests ask the same, and their files correspond one by one
 abbrev pub OnEach : {N M : Type 0} → (N → M → Type 0) → Request N → Request M → Type 0

@@ -1,6 +1,6 @@
 //! The request that the words of a command line make.
 ghost use Rattle.std.specs.Prelude.{◌≡◌, ◌≢◌, ◌≤◌, IfNone, IfSome};
-ghost use Rattle.requests.specs.Requests.{IsWithinLimits, OnInTurn};
+ghost use Rattle.requests.specs.Requests.{HasFewWorkers, OnInTurn};
 ghost use Rattle.requests.specs.Meaning.{closing_of, command_line_of, diff_of, drawing_of, flows_of, form_of, format_beside, format_for, format_of};
 ghost use Rattle.requests.specs.Meaning.{imported_of, in_turn, manner_of, minting_of, number_in, of_policy, of_system, of_three};
 ghost use Rattle.requests.specs.Meaning.{on_accept_of, on_close_of, on_import_of, picture_of, rights_of, rules_of, search_of};
@@ -106,7 +106,7 @@ impl<'a> Words<'a> {
     /// number within the limits of its option, or one of the option's words.
     pub fn line(self) -> Option<CommandLine<'a>>
         ensures meaning { result ≡ command_line_of self.entry }
-        ensures limits { IfSome result (λ line. OnInTurn line IsWithinLimits) }
+        ensures limits { IfSome result (λ line. OnInTurn line HasFewWorkers) }
     {
         match self.verb {
             Verb::Import => self.in_turn(Request::OfDescription(self.on_import()?, self.system?)),
@@ -153,7 +153,7 @@ impl<'a> Words<'a> {
     // A request that waits for nothing.
     fn in_turn(self, request: Request<'a, &'a str>) -> Option<CommandLine<'a>>
         ensures meaning { result ≡ in_turn self.entry request.entry }
-        ensures limits { IsWithinLimits request.entry → IfSome result (λ line. OnInTurn line IsWithinLimits) }
+        ensures limits { HasFewWorkers request.entry → IfSome result (λ line. OnInTurn line HasFewWorkers) }
     {
         Some(CommandLine::InTurn(Invocation {
             request,
@@ -197,7 +197,7 @@ impl<'a> Words<'a> {
     // A policy is closed, if there is one; else a policy is made for the table.
     fn close(self, rules: Rules) -> Option<CommandLine<'a>>
         ensures meaning { result ≡ closing_of self.entry rules }
-        ensures limits { IfSome result (λ line. OnInTurn line IsWithinLimits) }
+        ensures limits { IfSome result (λ line. OnInTurn line HasFewWorkers) }
     {
         match self.policy {
             Some(_) => self.of_policy(OfPolicy::Close(rules, self.on_close())),
@@ -208,7 +208,7 @@ impl<'a> Words<'a> {
     // The authority of a label over another, or of all labels over it.
     fn why(self, form: Form, actor: &'a str, object: &'a str) -> Option<CommandLine<'a>>
         ensures meaning { result ≡ why_of self.entry form actor.entry object.entry }
-        ensures limits { IfSome result (λ line. OnInTurn line IsWithinLimits) }
+        ensures limits { IfSome result (λ line. OnInTurn line HasFewWorkers) }
     {
         if actor == "*" {
             self.users(form, object)
@@ -222,7 +222,7 @@ impl<'a> Words<'a> {
     // The labels that use another, in runs of the table.
     fn users(self, form: Form, object: &'a str) -> Option<CommandLine<'a>>
         ensures meaning { result ≡ users_of self.entry form object.entry }
-        ensures limits { IfSome result (λ line. OnInTurn line IsWithinLimits) }
+        ensures limits { IfSome result (λ line. OnInTurn line HasFewWorkers) }
     {
         match (form, self.policy) {
             (Form::Text, None) => {
@@ -243,7 +243,7 @@ impl<'a> Words<'a> {
     // The authority of a label over another: by a policy if there is one, else in runs of the table.
     fn why_one(self, form: Form, actor: &'a str, object: &'a str) -> Option<CommandLine<'a>>
         ensures meaning { result ≡ why_one self.entry form actor.entry object.entry }
-        ensures limits { IfSome result (λ line. OnInTurn line IsWithinLimits) }
+        ensures limits { IfSome result (λ line. OnInTurn line HasFewWorkers) }
     {
         match self.policy {
             Some(_) => self.of_policy(OfPolicy::Why {
@@ -262,7 +262,7 @@ impl<'a> Words<'a> {
     // The drawing of a table or of a policy.
     fn draw(self) -> Option<CommandLine<'a>>
         ensures meaning { result ≡ drawing_of self.entry }
-        ensures limits { IfSome result (λ line. OnInTurn line IsWithinLimits) }
+        ensures limits { IfSome result (λ line. OnInTurn line HasFewWorkers) }
     {
         match self.policy {
             Some(_) => self.of_policy(OfPolicy::Draw(self.picture())),
@@ -273,7 +273,7 @@ impl<'a> Words<'a> {
     // The flows from one label to another, or between all programs.
     fn flows(self) -> Option<CommandLine<'a>>
         ensures meaning { result ≡ flows_of self.entry }
-        ensures limits { IfSome result (λ line. OnInTurn line IsWithinLimits) }
+        ensures limits { IfSome result (λ line. OnInTurn line HasFewWorkers) }
     {
         match (self.actor, self.object) {
             (Some(from), Some(to)) => self.of_system(OfSystem::Flows { from, to }),
@@ -285,7 +285,7 @@ impl<'a> Words<'a> {
     // The changes from one system to another.
     fn diff(self) -> Option<CommandLine<'a>>
         ensures meaning { result ≡ diff_of self.entry }
-        ensures limits { IfSome result (λ line. OnInTurn line IsWithinLimits) }
+        ensures limits { IfSome result (λ line. OnInTurn line HasFewWorkers) }
     {
         self.in_turn(Request::OfTwo(
             self.form()?,
@@ -298,7 +298,7 @@ impl<'a> Words<'a> {
     // A command on a system alone.
     fn of_system(self, asked: OfSystem<'a>) -> Option<CommandLine<'a>>
         ensures meaning { result ≡ of_system self.entry asked.entry }
-        ensures limits { IfSome result (λ line. OnInTurn line IsWithinLimits) }
+        ensures limits { IfSome result (λ line. OnInTurn line HasFewWorkers) }
     {
         self.in_turn(Request::OfSystem(asked, self.taken()?, self.system?))
     }
@@ -306,7 +306,7 @@ impl<'a> Words<'a> {
     // A command on a system and a policy.
     fn of_policy(self, asked: OfPolicy<'a>) -> Option<CommandLine<'a>>
         ensures meaning { result ≡ of_policy self.entry asked.entry }
-        ensures limits { IfSome result (λ line. OnInTurn line IsWithinLimits) }
+        ensures limits { IfSome result (λ line. OnInTurn line HasFewWorkers) }
     {
         self.in_turn(Request::OfPolicy(asked, self.taken()?, self.system?, self.policy?))
     }
@@ -314,7 +314,7 @@ impl<'a> Words<'a> {
     // A command on a table, a policy and a third file.
     fn of_three(self, asked: OfThree, third: Option<&'a str>) -> Option<CommandLine<'a>>
         ensures meaning { result ≡ of_three self.entry asked third.entry }
-        ensures limits { IfSome result (λ line. OnInTurn line IsWithinLimits) }
+        ensures limits { IfSome result (λ line. OnInTurn line HasFewWorkers) }
     {
         self.in_turn(Request::OfThree(asked, self.system?, self.policy?, third?))
     }
@@ -342,7 +342,7 @@ impl<'a> Words<'a> {
     // A run by workers.
     fn split_run(self) -> Option<CommandLine<'a>>
         ensures meaning { result ≡ split_of self.entry }
-        ensures limits { IfSome result (λ line. OnInTurn line IsWithinLimits) }
+        ensures limits { IfSome result (λ line. OnInTurn line HasFewWorkers) }
     {
         Some(CommandLine::Split(SplitRun {
             table: self.system?,

@@ -5,7 +5,7 @@ use Rattle.{integrity.specs.Shrinks.{IsPart, Lessens, LosesLink, Stops}, runs.sp
 use Rattle.machine.specs.declared.object.ReplyState.TheVariants as reply
 
 -- the parts of two sights are the same
-pub record IsAlike (was is : Sight) : Type 0 where
+pub record IsSameSight (was is : Sight) : Type 0 where
   pub content : is.content ≡ was.content
   pub queue : is.queue.items ≡ was.queue.items
   pub words : is.words.items ≡ was.words.items
@@ -14,7 +14,7 @@ pub record IsAlike (was is : Sight) : Type 0 where
 -- two sights are the same, or nothing was there before and after
 abbrev pub AreAlike : Option Sight → Option Sight → Type 0
 AreAlike None None = Unit {0}
-AreAlike (Some was) (Some is) = IsAlike was is
+AreAlike (Some was) (Some is) = IsSameSight was is
 AreAlike _ _ = ⊥
 
 -- each slot holds what it held, or nothing

@@ -22,5 +22,5 @@ pub record LeavesAt (t : Layout) (allowed : EdgeTest) (script : List Event) (d :
   pub outside : IsOutsideAt t allowed m d
 
 -- a short script leaves the policy at some place
-abbrev pub Leaves : Layout → EdgeTest → List Event → Type 0
-Leaves t allowed script = (d : Denial) × LeavesAt t allowed script d
+abbrev pub LeavesPolicy : Layout → EdgeTest → List Event → Type 0
+LeavesPolicy t allowed script = (d : Denial) × LeavesAt t allowed script d

@@ -77,15 +77,15 @@ GoesSo Bool.true m next id = Shrinks m next id
 GoesSo Bool.false m next id = ¬ (Shrinks m next id)
 
 -- an event is of the kind that a question asks for
-abbrev pub IsAsked : Layout → Question → Machine → Event → Machine → ObjId → Type 0
-IsAsked t question m event next id = by question.taking where
+abbrev pub IsSought : Layout → Question → Machine → Event → Machine → ObjId → Type 0
+IsSought t question m event next id = by question.taking where
   by : Bool → Type 0
   by Bool.true = IsLoss t m event next question.actor question.object id
   by Bool.false = IsGain t m event next question.actor question.object id
 
 -- a script answers a question: it shows that one label changes objects of the other, or takes from them
-abbrev pub Answers : Layout → Question → List Event → Type 0
-Answers t question script = by question.taking where
+abbrev pub AnswersQuestion : Layout → Question → List Event → Type 0
+AnswersQuestion t question script = by question.taking where
   by : Bool → Type 0
   by Bool.true = IsTaken t script question.actor question.object
   by Bool.false = IsShown t script question.actor question.object

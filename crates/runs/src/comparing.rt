@@ -2,7 +2,7 @@
 ghost use Rattle.std.specs.Prelude.{◌↔◌, ◌∷◌, ◌≡◌, ◌⊎◌, IsTrue, List, None};
 ghost use Rattle.{base.specs.declared.ids.ObjId.ObjId as Id, machine.specs.Machine.Machine};
 ghost use Rattle.integrity.specs.Shrinks.{IsPart, IsSame, Shrinks};
-ghost use Rattle.runs.specs.{Comparing.{AreAlike, HaveLess, IsAlike, IsLess, LoseCaps}, Sights.{IsSeen, held_at}};
+ghost use Rattle.runs.specs.{Comparing.{AreAlike, HaveLess, IsSameSight, IsLess, LoseCaps}, Sights.{IsSeen, held_at}};
 
 use crate::lessening::{lessens, same_content};
 use crate::sight::Sight;
@@ -40,7 +40,7 @@ fn are_alike(was: &Option<Sight>, is: &Option<Sight>) -> bool
 }
 
 fn is_alike(was: &Sight, is: &Sight) -> bool
-    ensures { IsTrue result ↔ IsAlike was.now is.now }
+    ensures { IsTrue result ↔ IsSameSight was.now is.now }
 {
     same_content(&was.content, &is.content)
         && same_threads(&was.queue, &is.queue)

@@ -1,6 +1,6 @@
 //! The test whether a script leads out of a policy, to a state whose authority lies outside it.
 ghost use Rattle.std.specs.Prelude.{◌≡◌, IfErr, IfOk, IfSome, IsTrue};
-ghost use Rattle.{base.specs.Refusals.plain, policy.specs.Policy.allows, runs.specs.Escapes.{IsAnywhereOutside, Leaves, LeavesAt}};
+ghost use Rattle.{base.specs.Refusals.plain, policy.specs.Policy.allows, runs.specs.Escapes.{IsAnywhereOutside, LeavesPolicy, LeavesAt}};
 
 use crate::reaching::reach;
 use base::Refusal;
@@ -51,7 +51,7 @@ pub fn leaves(
     policy: &Policy,
     script: &[Event],
 ) -> Result<bool, Refusal>
-    ensures left { IfOk result (λ left. IsTrue left → Leaves table.now (allows policy.now) script.now) }
+    ensures left { IfOk result (λ left. IsTrue left → LeavesPolicy table.now (allows policy.now) script.now) }
     ensures refused { IfErr result (λ refusal. refusal ≡ plain 40) }
 {
     if script.len() > MOST_CALLS {

@@ -3,7 +3,7 @@ ghost use Rattle.std.specs.Prelude.{[], ◌++◌, ◌↔◌, ◌∷◌, ◌≡�
 ghost use Rattle.base.specs.Refusals.{plain};
 ghost use Rattle.machine.specs.{declared.call.Outcome.Outcome as Ended, Authority.label_of};
 ghost use Rattle.machine.specs.{Machine.{Machine, object_of}, Step.Step, WellFormed.IsWellFormed};
-ghost use Rattle.{integrity.specs.{Allowed.IsLabelled, Shrinks.IsSame}, runs.specs.Shown.{Answers, GoesSo, IsAsked, IsMade}};
+ghost use Rattle.{integrity.specs.{Allowed.IsLabelled, Shrinks.IsSame}, runs.specs.Shown.{AnswersQuestion, GoesSo, IsSought, IsMade}};
 
 use crate::comparing::{differs, shrinks};
 use crate::question::Question;
@@ -33,7 +33,7 @@ pub fn shows(
     question: &Question,
     id: ObjId,
 ) -> Result<bool, Refusal>
-    ensures shown { IfOk result (λ shown. IsTrue shown → Answers table.now question.now (before.now ++ last ∷ [])) }
+    ensures shown { IfOk result (λ shown. IsTrue shown → AnswersQuestion table.now question.now (before.now ++ last ∷ [])) }
     ensures refused { IfErr result (λ refusal. refusal ≡ plain 40) }
 {
     // A law, so that both states are one.
@@ -61,7 +61,7 @@ fn is_asked(
     requires formed { IsWellFormed old }
     requires same { new ≡ old }
     ensures asked { IfOk result (λ asked. IsTrue asked
-        → (next : Machine) × IsAsked table.now question.now old last next id) }
+        → (next : Machine) × IsSought table.now question.now old last next id) }
     ensures refused { IfErr result (λ refusal. refusal ≡ plain 40) }
 {
     let mut new = new;

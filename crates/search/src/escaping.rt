@@ -1,6 +1,6 @@
 //! The search for a run that leaves a policy, which is one that ends in a state whose authority lies outside the policy.
 ghost use Rattle.std.specs.Prelude.{◌≡◌, ◌≤◌, IfErr, IfOk, IfSome};
-ghost use Rattle.{base.specs.Refusals.plain, machine.specs.WellFormed.IsWellFormed, policy.specs.Policy.allows, runs.specs.Escapes.Leaves};
+ghost use Rattle.{base.specs.Refusals.plain, machine.specs.WellFormed.IsWellFormed, policy.specs.Policy.allows, runs.specs.Escapes.LeavesPolicy};
 
 use crate::atoms::{Known, News};
 use crate::finding::{Found, copied, longer, unfound};
@@ -37,7 +37,7 @@ pub fn find_escape(
     steps: u64,
 ) -> Result<Found, Refusal>
     ensures found { IfOk result (λ found. IfSome found.script
-        (λ script. Leaves table.now (allows policy.now) script.items)) }
+        (λ script. LeavesPolicy table.now (allows policy.now) script.items)) }
     ensures bounded { IfOk result (λ found. found.steps ≤ steps) }
     ensures refused { IfErr result (λ refusal. refusal ≡ plain 40) }
 {
@@ -100,7 +100,7 @@ fn try_after(
     queue: &mut Queue<'_>,
 ) -> Result<Found, Refusal>
     ensures found { IfOk result (λ found. IfSome found.script
-        (λ script. Leaves table.now (allows policy.now) script.items)) }
+        (λ script. LeavesPolicy table.now (allows policy.now) script.items)) }
     ensures bounded { IfOk result (λ found. found.steps ≤ most) }
     ensures refused { IfErr result (λ refusal. refusal ≡ plain 40) }
 {
@@ -139,7 +139,7 @@ fn try_all(
     queue: &mut Queue<'_>,
 ) -> Result<Found, Refusal>
     ensures found { IfOk result (λ found. IfSome found.script
-        (λ script. Leaves table.now (allows policy.now) script.items)) }
+        (λ script. LeavesPolicy table.now (allows policy.now) script.items)) }
     ensures bounded { IfOk result (λ found. found.steps ≤ most) }
     ensures refused { IfErr result (λ refusal. refusal ≡ plain 40) }
 {
@@ -179,7 +179,7 @@ fn try_one(
 ) -> Result<Option<Vec<Event>>, Refusal>
     requires { IsWellFormed ground.old }
     ensures found { IfOk result (λ found. IfSome found
-        (λ script. Leaves table.now (allows policy.now) script.items)) }
+        (λ script. LeavesPolicy table.now (allows policy.now) script.items)) }
     ensures well_formed { IsWellFormed ground.new }
     ensures refused { IfErr result (λ refusal. refusal ≡ plain 40) }
 {
@@ -211,7 +211,7 @@ fn judge(
     queue: &mut Queue<'_>,
 ) -> Result<Option<Vec<Event>>, Refusal>
     ensures found { IfOk result (λ found. IfSome found
-        (λ script. Leaves table.now (allows policy.now) script.items)) }
+        (λ script. LeavesPolicy table.now (allows policy.now) script.items)) }
     ensures refused { IfErr result (λ refusal. refusal ≡ plain 40) }
 {
     let longer = longer(alloc, origin.script, last)?;

@@ -1,6 +1,6 @@
 //! The search for a script that answers a question.
 ghost use Rattle.std.specs.Prelude.{[], ◌++◌, ◌<◌, ◌∷◌, ◌≡◌, ◌≤◌, IfErr, IfOk, IfSome, None};
-ghost use Rattle.{base.specs.Refusals.plain, machine.specs.WellFormed.IsWellFormed, runs.specs.Shown.Answers};
+ghost use Rattle.{base.specs.Refusals.plain, machine.specs.WellFormed.IsWellFormed, runs.specs.Shown.AnswersQuestion};
 
 use crate::atoms::{Known, News};
 use crate::origin::{Origin, settle};
@@ -68,7 +68,7 @@ pub fn find(
     reason: &[Edge],
     steps: u64,
 ) -> Result<Found, Refusal>
-    ensures found { IfOk result (λ found. IfSome found.script (λ script. Answers table.now question.now script.items)) }
+    ensures found { IfOk result (λ found. IfSome found.script (λ script. AnswersQuestion table.now question.now script.items)) }
     ensures bounded { IfOk result (λ found. found.steps ≤ steps) }
     ensures refused { IfErr result (λ refusal. refusal ≡ plain 40) }
 {
@@ -91,7 +91,7 @@ fn find_unnamed(
     question: &Question,
     steps: u64,
 ) -> Result<Found, Refusal>
-    ensures found { IfOk result (λ found. IfSome found.script (λ script. Answers table.now question.now script.items)) }
+    ensures found { IfOk result (λ found. IfSome found.script (λ script. AnswersQuestion table.now question.now script.items)) }
     ensures bounded { IfOk result (λ found. found.steps ≤ steps) }
     ensures refused { IfErr result (λ refusal. refusal ≡ plain 40) }
 {
@@ -140,7 +140,7 @@ fn pass(
     reason: &[Edge],
     steps: u64,
 ) -> Result<Found, Refusal>
-    ensures found { IfOk result (λ found. IfSome found.script (λ script. Answers table.now question.now script.items)) }
+    ensures found { IfOk result (λ found. IfSome found.script (λ script. AnswersQuestion table.now question.now script.items)) }
     ensures bounded { IfOk result (λ found. found.steps ≤ steps) }
     ensures refused { IfErr result (λ refusal. refusal ≡ plain 40) }
 {
@@ -298,7 +298,7 @@ fn follow(
     most: u64,
     front: &mut Front<'_>,
 ) -> Result<Found, Refusal>
-    ensures found { IfOk result (λ found. IfSome found.script (λ script. Answers table.now question.now script.items)) }
+    ensures found { IfOk result (λ found. IfSome found.script (λ script. AnswersQuestion table.now question.now script.items)) }
     ensures bounded { IfOk result (λ found. found.steps ≤ most) }
     ensures refused { IfErr result (λ refusal. refusal ≡ plain 40) }
 {
@@ -332,7 +332,7 @@ fn try_all(
     most: u64,
     front: &mut Front<'_>,
 ) -> Result<Found, Refusal>
-    ensures found { IfOk result (λ found. IfSome found.script (λ script. Answers table.now question.now script.items)) }
+    ensures found { IfOk result (λ found. IfSome found.script (λ script. AnswersQuestion table.now question.now script.items)) }
     ensures bounded { IfOk result (λ found. found.steps ≤ most) }
     ensures refused { IfErr result (λ refusal. refusal ≡ plain 40) }
 {
@@ -371,7 +371,7 @@ fn try_one(
     front: &mut Front<'_>,
 ) -> Result<Option<Vec<Event>>, Refusal>
     requires { IsWellFormed ground.old }
-    ensures found { IfOk result (λ answer. IfSome answer (λ script. Answers table.now question.now script.items)) }
+    ensures found { IfOk result (λ answer. IfSome answer (λ script. AnswersQuestion table.now question.now script.items)) }
     ensures well_formed { IsWellFormed ground.new }
     ensures refused { IfErr result (λ refusal. refusal ≡ plain 40) }
 {
@@ -404,7 +404,7 @@ fn judge(
     last: Event,
     front: &mut Front<'_>,
 ) -> Result<Option<Vec<Event>>, Refusal>
-    ensures found { IfOk result (λ answer. IfSome answer (λ script. Answers table.now question.now script.items)) }
+    ensures found { IfOk result (λ answer. IfSome answer (λ script. AnswersQuestion table.now question.now script.items)) }
     ensures refused { IfErr result (λ refusal. refusal ≡ plain 40) }
 {
     let from = origin.state;

@@ -4,7 +4,7 @@ use Rattle.devices.specs.{declared.{opened.Unopened.Unopened, watched.Watched.Wa
 use Rattle.devices.specs.Watched.{failed_of, is_flushed_of}
 use Rattle.commands.specs.{declared.end.End.End, Commands.{Input, IsDoneOnTwo, Output, input, output}, Ends.status_of}
 use Rattle.report.specs.{Answers.{IsChecked, IsRun, IsRunSplit, IsVerifiedWith}, Claimed.AreJudged, Compared.Compares, Imports.IsImported}
-use Rattle.report.specs.{Replays.IsReplayed, Systems.{IsAsked, IsAskedOfPolicy}}
+use Rattle.report.specs.{Replays.IsReplayed, Systems.{IsAskedOfSystem, IsAskedOfPolicy}}
 use Rattle.requests.specs.declared.request.OfThree.{OfThree, TheVariants.{Replay, Run, Verify}}
 use Rattle.requests.specs.{declared.request.Request.{Request, Request as request}, Requests.OnEach}
 use Rattle.either.specs.declared.Either.{Either}
@@ -46,7 +46,7 @@ abbrev pub Serves : {F O : Type 0} → (F → Option (List ℕ)) → Output O �
 Serves remaining out (request.OfDescription asked description) (request.OfDescription also d) end =
     IsImported asked (read remaining description d) out end
 Serves remaining out (request.OfSystem asked taken system) (request.OfSystem also how s) end =
-    IsAsked asked taken (read remaining system s) out end
+    IsAskedOfSystem asked taken (read remaining system s) out end
 Serves remaining out (request.OfPolicy asked taken system policy) (request.OfPolicy also how s p) end =
     IsAskedOfPolicy asked taken (read remaining system s) (read remaining policy p) out end
 Serves remaining out (request.OfClaims taken system claims) (request.OfClaims how s c) end =
@@ -66,7 +66,7 @@ RunsSplit remaining out (request.OfThree asked table policy third) (request.OfTh
 RunsSplit remaining out _ _ end = ⊥
 
 -- a request's files were opened by their names, the request was done on them, and this is the exit status of its end
-pub record IsServed
+pub record IsAnswered
     {F : Type 0} (opens : List ℕ → Result F Error → Type 0) (does : Request (Opened F) → Request (Opened F) → End → Type 0)
     (names : Request (Bor (List ℕ))) (left : Request (Opened F)) (status : ℕ) : Type 0 where
   pub files : Request (Opened F)

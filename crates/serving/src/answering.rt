@@ -1,8 +1,8 @@
 //! The answer to a request: files are opened by their names, an engine does the request, and its end is reported.
 ghost use Rattle.std.specs.{Fn.FnReturnsAt, Prelude.{◌≡◌, ◌≤◌, false}};
 ghost use Rattle.{devices.specs.Watched.failed_of, commands.specs.Ends.status_of};
-ghost use Rattle.requests.specs.Requests.{HaveArrived, IsWithinLimits, names_of};
-ghost use Rattle.serving.specs.Opening.{IsServed, IsServedInShort, RunsSplit, Serves, written};
+ghost use Rattle.requests.specs.Requests.{HaveArrived, HasFewWorkers, names_of};
+ghost use Rattle.serving.specs.Opening.{IsAnswered, IsServedInShort, RunsSplit, Serves, written};
 
 use crate::engines::serve;
 use crate::explaining::Explainer;
@@ -33,9 +33,9 @@ where
     G: Gate + Sync,
     W: Write,
     requires opener { O.IsAlwaysCallable opener.now }
-    requires limits { IsWithinLimits invocation.request }
+    requires limits { HasFewWorkers invocation.request }
     requires out { failed_of out.old ≡ false }
-    ensures served { IsServed (FnReturnsAt O.Fn opener.now)
+    ensures served { IsAnswered (FnReturnsAt O.Fn opener.now)
         (Serves F.remaining (written W.contents out.old out.new)) invocation.entry.request result.1 result.0 }
     ensures exit { result.0 ≤ 2 }
     ensures arrived { result.0 ≡ 0 → HaveArrived (G.HasArrived gate.now) invocation.entry.request }
@@ -64,7 +64,7 @@ where
     G: Gate + Sync,
     W: Write,
     requires opener { O.IsAlwaysCallable opener.now }
-    requires limits { IsWithinLimits invocation.request }
+    requires limits { HasFewWorkers invocation.request }
     requires out { failed_of out.old ≡ false }
     ensures served { IsServedInShort (FnReturnsAt O.Fn opener.now) (Serves F.remaining)
         invocation.entry.request result.1 result.0 }
@@ -98,7 +98,7 @@ where
     W: Write,
     requires opener { O.IsAlwaysCallable opener.now }
     requires out { failed_of out.old ≡ false }
-    ensures served { IsServed (FnReturnsAt O.Fn opener.now)
+    ensures served { IsAnswered (FnReturnsAt O.Fn opener.now)
         (RunsSplit F.remaining (written W.contents out.old out.new)) (names_of run.entry) result.1 result.0 }
     ensures exit { result.0 ≤ 2 }
 {

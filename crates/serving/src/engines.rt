@@ -1,7 +1,7 @@
 //! The call of the engine that does a request, on files that are open.
 ghost use Rattle.std.specs.Prelude.{◌≡◌, ◌≤◌, false};
 ghost use Rattle.{devices.specs.Watched.failed_of, commands.specs.{Commands.{input, output}, Ends.status_of}};
-ghost use Rattle.{requests.specs.Requests.{HaveArrived, IsWithinLimits}, serving.specs.Opening.{AreSound, Serves, ServesThree, written}};
+ghost use Rattle.{requests.specs.Requests.{HaveArrived, HasFewWorkers}, serving.specs.Opening.{AreSound, Serves, ServesThree, written}};
 
 use crate::opening::Opened;
 use report::{
@@ -27,7 +27,7 @@ where
     L: Listener,
     W: Write,
     requires files { AreSound files }
-    requires limits { IsWithinLimits files }
+    requires limits { HasFewWorkers files }
     requires out { failed_of out.old ≡ false }
     ensures served { Serves F.remaining (written W.contents out.old out.new) files.entry result.1 result.0 }
     ensures exit { status_of result.0 ≤ 2 }

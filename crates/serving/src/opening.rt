@@ -1,6 +1,6 @@
 //! The opening of a request's files.
 ghost use Rattle.std.specs.{Fn.FnReturnsAt, Prelude.{◌≡◌, IfOk, Some, false}};
-ghost use Rattle.{devices.specs.{Bounded.bytes_allowed, Watched.failed_of}, requests.specs.Requests.IsWithinLimits};
+ghost use Rattle.{devices.specs.{Bounded.bytes_allowed, Watched.failed_of}, requests.specs.Requests.HasFewWorkers};
 ghost use Rattle.serving.specs.{declared.opening.TheConstants.MOST_BYTES, Opening.{AreOpenedBy, AreSound, IsOpenedBy}};
 
 use devices::Bounded;
@@ -57,7 +57,7 @@ pub(crate) fn open_all<'a, F, O: Fn(&str) -> io::Result<F>>(
     requires { O.IsAlwaysCallable opener.now }
     ensures opened { AreOpenedBy (FnReturnsAt O.Fn opener.now) request.entry result }
     ensures sound { AreSound result }
-    ensures limits { IsWithinLimits request.entry → IsWithinLimits result }
+    ensures limits { HasFewWorkers request.entry → HasFewWorkers result }
 {
     match request {
         Request::OfDescription(asked, description) => {

@@ -4,7 +4,7 @@ use Rattle.std.proofs.lemmas.Bool.{and_parts, false≢true}
 use Rattle.base.specs.{declared.{kind.Kind.TheVariants.{Control, Space}, labels.Labels.Labels}, Labels.is_in}
 use Rattle.policy.specs.{Closing.IsWithin, Domain.EdgeTest, Sharp.{KeeperTest, Told}}
 use Rattle.policy.proofs.{Gathering.{either, source_tells, target_tells, told_as}, RuleSets.{IsDifference, IsReached, IsReaching, IsUnion}}
-use Rattle.sharp.specs.Keeping.{FindsThere, IsBeside, IsHanded, KeepsFrom, KeepsFrom.{finds, handed, held}}
+use Rattle.sharp.specs.Keeping.{FindsThere, KeepsNext, IsHanded, KeepsFrom, KeepsFrom.{finds, handed, held}}
 
 -- a keeper of a policy is a keeper of every greater policy
 pub keeps_grow :
@@ -25,7 +25,7 @@ remains a b has missing = rw (has, missing) refl
 pub beside_told :
     (test : EdgeTest) (keeping finding reached joined more : Labels) → IsReaching test Space keeping finding
     → IsReached test keeping Control reached → IsUnion finding reached joined → IsDifference joined keeping more
-    → (a : ℕ) → (is_in more a ≡ true) ↔ IsBeside test (is_in keeping) a
+    → (a : ℕ) → (is_in more a ≡ true) ↔ KeepsNext test (is_in keeping) a
 beside_told test keeping finding reached joined more in_finding in_reached both differ a = (forth, back) where
   keeps : (b : ℕ) → (is_in keeping b ≡ true) ↔ Told (is_in keeping) b
   keeps b = (λ e. e, λ e. e)
@@ -41,25 +41,25 @@ beside_told test keeping finding reached joined more in_finding in_reached both 
   one_of : (is_in joined a ≡ true) ↔ (FindsThere test (is_in keeping) a ⊎ IsHanded test (is_in keeping) a)
   one_of = either (is_in joined a) (is_in finding a) (is_in reached a) found controlled (both a)
 
-  forth : is_in more a ≡ true → IsBeside test (is_in keeping) a
+  forth : is_in more a ≡ true → KeepsNext test (is_in keeping) a
   forth is =
       let parts = lacking (is_in joined a) (is_in keeping a) (sym (differ a) ∙ is) in
       record { joined = one_of.0 parts.0; missing = parts.1 }
 
-  back : IsBeside test (is_in keeping) a → is_in more a ≡ true
+  back : KeepsNext test (is_in keeping) a → is_in more a ≡ true
   back h = differ a ∙ remains (is_in joined a) (is_in keeping a) (one_of.1 h.joined) h.missing
 
 -- labels that keep by one step from keepers are keepers
 pub beside_keeps :
     (test : EdgeTest) (holds keeps : KeeperTest) → ((a : ℕ) → keeps a ≡ true → KeepsFrom test holds a) → (a : ℕ)
-    → IsBeside test keeps a → KeepsFrom test holds a
+    → KeepsNext test keeps a → KeepsFrom test holds a
 beside_keeps test holds keeps are a h = by h.joined where
   by : FindsThere test keeps a ⊎ IsHanded test keeps a → KeepsFrom test holds a
   by (inl one) = finds (are one.keeper one.is_keeper) one.finds
   by (inr one) = handed (are one.keeper one.is_keeper) one.controls
 
 -- all keepers are found if no step leads on
-module _ (test : EdgeTest) (holds keeps : KeeperTest) (has : (a : ℕ) → holds a ≡ true → keeps a ≡ true) (none : (a : ℕ) → IsBeside test keeps a → ⊥) where
+module _ (test : EdgeTest) (holds keeps : KeeperTest) (has : (a : ℕ) → holds a ≡ true → keeps a ≡ true) (none : (a : ℕ) → KeepsNext test keeps a → ⊥) where
   there : (a : ℕ) → FindsThere test keeps a ⊎ IsHanded test keeps a → (b : Bool) → keeps a ≡ b → keeps a ≡ true
   there a step true is = is
   there a step false is = absurd (none a (record { joined = step; missing = is }))

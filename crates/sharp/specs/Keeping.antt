@@ -21,6 +21,6 @@ pub record IsHanded (test : EdgeTest) (keeps : KeeperTest) (a : ℕ) : Type 0 wh
   pub controls : test keeper Control a ≡ true
 
 -- a label that doesn't keep by the test, but does by one step from those that do
-pub record IsBeside (test : EdgeTest) (keeps : KeeperTest) (a : ℕ) : Type 0 where
+pub record KeepsNext (test : EdgeTest) (keeps : KeeperTest) (a : ℕ) : Type 0 where
   pub joined : FindsThere test keeps a ⊎ IsHanded test keeps a
   pub missing : keeps a ≡ false

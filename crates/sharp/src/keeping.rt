@@ -1,6 +1,6 @@
 //! The search for the labels that keep capabilities for CNodes.
 ghost use Rattle.std.specs.Prelude.{ℕ, ◌↔◌, ◌≡◌, true};
-ghost use Rattle.{base.specs.Labels.is_in, policy.specs.Policy.allows, sharp.specs.Keeping.{IsBeside, KeepsFrom}};
+ghost use Rattle.{base.specs.Labels.is_in, policy.specs.Policy.allows, sharp.specs.Keeping.{KeepsNext, KeepsFrom}};
 
 use base::{Kind, Labels};
 use policy::Policy;
@@ -25,7 +25,7 @@ pub fn keepers(policy: &Policy, held: Labels) -> Labels
 
 // The labels that keep by one step from these, without these.
 fn beside(policy: &Policy, keeping: Labels) -> Labels
-    ensures { (a : ℕ) → (is_in result a ≡ true) ↔ IsBeside (allows policy.now) (is_in keeping) a }
+    ensures { (a : ℕ) → (is_in result a ≡ true) ↔ KeepsNext (allows policy.now) (is_in keeping) a }
 {
     let finding = policy.sources(keeping, &[Kind::Space]);
     let handed = policy.targets(keeping, &[Kind::Control]);

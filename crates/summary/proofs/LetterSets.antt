@@ -2,10 +2,10 @@
 use Rattle.std.proofs.Common.{ℕ, ◌≡◌, ◌⊎◌, inl, inr, refl, sym, true}
 use Rattle.base.specs.declared.kind.Kind.{Kind, TheVariants.{Await, Call, Context, Control, Grant, Notify, Receive, Reply, Runs}}
 use Rattle.base.specs.declared.kind.Kind.TheVariants.{SchedControl, Send, Write}
-use Rattle.policy.specs.Change.{ActorTest, MayAnswer, MayBorrow, MayLend, WayToChange, is_changing, MayChangeContext.{binds, configures, lends}}
+use Rattle.policy.specs.Change.{ActorTest, IsBeside, MayAnswer, MayBorrow, MayLend, WayToChange, is_changing, MayChangeContext.{binds, configures, lends}}
 use Rattle.policy.specs.Change.{MayChangeContext.returns as returns_it, WayToChange.{grants, links, modifies, notifies, own, receives}}
 use Rattle.policy.{specs.{Change.WayToChange.{replies, sends, shares}, Domain.EdgeTest}, proofs.ChangeSets.{IsCallee, Meets}}
-use Rattle.summary.specs.{Letters.{Letter, by_answer, by_call, by_other, by_signal, letter_of, unlettered, way_letter}, Ways.IsBeside}
+use Rattle.summary.specs.{Letters.{Letter, by_answer, by_call, by_other, by_signal, letter_of, unlettered, way_letter}}
 use mathlib.Core.Bool.{false≢true}
 
 lettered_kind : (kind : Kind) → letter_of kind ≡ unlettered → ⊥

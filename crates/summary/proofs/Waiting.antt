@@ -7,12 +7,6 @@ use Rattle.policy.specs.{Change.{ActorTest, MayAnswer}, Policy.{JoinsLabels, all
 use Rattle.policy.proofs.{Gathering.{Tells, told_as}, Stepping.{only_kind, source_by}}
 use Rattle.summary.specs.{Sources.{IsJoint, IsSources, SourcesOf, row_at}, Ways.{IsCallers, IsHeldBy}}
 
--- two booleans are equal if each is true whenever the other is
-pub same_truth : (b c : Bool) → (b ≡ true → c ≡ true) → (c ≡ true → b ≡ true) → b ≡ c
-same_truth true c to from = sym (to refl)
-same_truth false true to from = from refl
-same_truth false false to from = refl
-
 -- the sources are those of the policy and the kind that they were made of
 pub of_kind : (edges : List Edge) (kind : Kind) (s : SourcesOf) → s ≡ record { edges = edges; kind = kind } → (ends actors found : Labels)
     → ((from : ℕ) → Tells (is_in found from) (IsSource (allows s.edges) (s.kind ∷ []) ends from × (is_in actors from ≡ true)))

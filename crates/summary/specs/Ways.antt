@@ -30,7 +30,3 @@ pub record IsWays (edges : List Edge) (actors : Labels) (sending receiving waiti
   pub callers : IsCallers (allows edges) (is_in actors) rows
   pub lenders : (a : ℕ) → (is_in lending a ≡ true) ↔ MayLend (allows edges) (is_in actors) a
   pub borrowers : (b : ℕ) → (is_in borrowing b ≡ true) ↔ MayBorrow (allows edges) b
-
--- a label has an edge of a kind to another, and an edge of another kind to some label
-abbrev pub IsBeside : EdgeTest → Kind → Kind → ℕ → ℕ → Type 0
-IsBeside test kind other a l = (test a kind l ≡ true) × ((end : ℕ) × (test a other end ≡ true))

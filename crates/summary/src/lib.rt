@@ -5,7 +5,6 @@
 #![tactic(auto)]
 
 mod cells;
-mod edges;
 mod labelled;
 mod laws;
 mod regions;

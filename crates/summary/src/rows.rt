@@ -3,7 +3,6 @@ ghost use Rattle.std.specs.Prelude.{ℕ, ◌≡◌, IfOk};
 ghost use Rattle.{base.specs.Labels.is_in, policy.specs.Policy.allows, reach.specs.Extents.limits_by};
 ghost use Rattle.summary.specs.{Rows.{AreRowsOf, IsRowOf}, Sharing.{IsShared, reads_of}};
 
-use crate::edges::row;
 use crate::labelled::programs;
 use crate::sharing::{shared_by, sharers};
 use crate::ways::Ways;
@@ -59,9 +58,9 @@ pub fn rows_of(
 fn read_by(policy: &Policy, label: Label) -> Labels
     ensures { (l : ℕ) → is_in result l ≡ reads_of (allows policy.now) label l }
 {
-    let read = row(policy, label, Kind::Read);
-    let receive = row(policy, label, Kind::Receive);
-    let poll = row(policy, label, Kind::Await);
+    let read = policy.row(label, Kind::Read);
+    let receive = policy.row(label, Kind::Receive);
+    let poll = policy.row(label, Kind::Await);
     let taken = read.union(receive);
     taken.union(poll)
 }

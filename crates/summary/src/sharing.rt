@@ -3,7 +3,6 @@ ghost use Rattle.std.specs.Prelude.{ℕ, ◌↔◌, ◌≡◌, IfOk, true};
 ghost use Rattle.{base.specs.Labels.is_in, policy.specs.Policy.allows};
 ghost use Rattle.summary.specs.{Labelled.has_memory, Sharing.{HasMemoryOf, IsShared, SharesMemory}};
 
-use crate::edges::row;
 use crate::labelled::with_memory;
 use crate::sources::{join, sources_of};
 use base::{Kind, Label, Labels};
@@ -49,6 +48,6 @@ pub(crate) fn shared_by(table: &Table, policy: &Policy, sharers: &[Labels], acto
     ensures { (l : ℕ) → (is_in result l ≡ true) ↔ SharesMemory table.now (allows policy.now) actor l }
 {
     policy.edges_rise();
-    let written = row(policy, actor, Kind::Write);
+    let written = policy.row(actor, Kind::Write);
     join(sharers, written)
 }

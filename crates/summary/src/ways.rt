@@ -1,10 +1,9 @@
 //! The ways in which threads of a label may change objects of others: a set of labels for each letter.
 ghost use Rattle.std.specs.Prelude.{ℕ, ◌↔◌, ◌≡◌, ◌⊎◌, IfOk, true};
-ghost use Rattle.{base.specs.Labels.is_in, policy.specs.{Change.MayHoldCaller, Policy.allows}, reach.specs.Extents.limits_by};
-ghost use Rattle.summary.specs.{Letters.{HasLetter, by_answer, by_call, by_other, by_signal}, Ways.{IsBeside, IsCallers, IsHeldBy}};
+ghost use Rattle.{base.specs.Labels.is_in, policy.specs.{Change.{IsBeside, MayHoldCaller}, Policy.allows}, reach.specs.Extents.limits_by};
+ghost use Rattle.summary.specs.{Letters.{HasLetter, by_answer, by_call, by_other, by_signal}, Ways.{IsCallers, IsHeldBy}};
 ghost use Rattle.base.specs.declared.kind.Kind.TheVariants as authority;
 
-use crate::edges::{beside, row, row_among};
 use crate::sources::{Sources, join, waiting};
 use base::{Kind, Label, Labels};
 use policy::Policy;
@@ -71,8 +70,8 @@ impl<'a> Ways<'a> {
         if !self.actors.has(actor) {
             return Labels::none();
         }
-        let send = row(self.policy, actor, Kind::Send);
-        let call = row(self.policy, actor, Kind::Call);
+        let send = self.policy.row(actor, Kind::Send);
+        let call = self.policy.row(actor, Kind::Call);
         let answerable = send.intersection(call);
         let callees = waiting(&self.receivers, answerable, self.actors);
         let reached = waiting(&self.receivers, send, self.actors);
@@ -89,8 +88,8 @@ impl<'a> Ways<'a> {
         if !self.actors.has(actor) {
             return Labels::none();
         }
-        let receive = row(self.policy, actor, Kind::Receive);
-        let reply = row(self.policy, actor, Kind::Reply);
+        let receive = self.policy.row(actor, Kind::Receive);
+        let reply = self.policy.row(actor, Kind::Reply);
         let reached = waiting(&self.senders, receive, self.actors);
         let returned = row_among(self.policy, self.borrowers, actor, Kind::Runs);
         let answered = self.answered(reply);
@@ -108,7 +107,7 @@ impl<'a> Ways<'a> {
         if !self.actors.has(actor) {
             return Labels::none();
         }
-        let notify = row(self.policy, actor, Kind::Notify);
+        let notify = self.policy.row(actor, Kind::Notify);
         let woken = waiting(&self.waiters, notify, self.actors);
         notify.union(woken)
     }
@@ -121,10 +120,10 @@ impl<'a> Ways<'a> {
         if !self.actors.has(actor) {
             return Labels::none();
         }
-        let control = row(self.policy, actor, Kind::Control);
-        let poll = row(self.policy, actor, Kind::Await);
-        let write = row(self.policy, actor, Kind::Write);
-        let grant = row(self.policy, actor, Kind::Grant);
+        let control = self.policy.row(actor, Kind::Control);
+        let poll = self.policy.row(actor, Kind::Await);
+        let write = self.policy.row(actor, Kind::Write);
+        let grant = self.policy.row(actor, Kind::Grant);
         let takers = waiting(&self.receivers, grant, self.actors);
         let granted = self.policy.targets(takers, &[Kind::Control]);
         let taken = control.union(poll);
@@ -151,8 +150,8 @@ fn contexts(policy: &Policy, actor: Label) -> Labels
         ↔ (IsBeside (allows policy.now) authority.Context authority.SchedControl actor l
         ⊎ IsBeside (allows policy.now) authority.Context authority.Control actor l) }
 {
-    let configured = beside(policy, actor, Kind::Context, Kind::SchedControl);
-    let bound = beside(policy, actor, Kind::Context, Kind::Control);
+    let configured = policy.row_with(actor, Kind::Context, Kind::SchedControl);
+    let bound = policy.row_with(actor, Kind::Context, Kind::Control);
     configured.union(bound)
 }
 
@@ -191,6 +190,18 @@ fn callers_of(
     let servers = waiting(namers, itself, actors);
     let endpoints = policy.targets(servers, &[Kind::Receive]);
     let calling = waiting(callers, endpoints, actors);
-    let held = row(policy, reply, Kind::Holds);
+    let held = policy.row(reply, Kind::Holds);
     calling.intersection(held)
+}
+
+/// Returns the labels to which a label has an edge of a kind, if the label is in a set.
+fn row_among(policy: &Policy, among: Labels, from: Label, kind: Kind) -> Labels
+    ensures { (to : ℕ) → (is_in result to ≡ true)
+        ↔ ((allows policy.now from kind to ≡ true) × (is_in among from ≡ true)) }
+{
+    if among.has(from) {
+        policy.row(from, kind)
+    } else {
+        Labels::none()
+    }
 }

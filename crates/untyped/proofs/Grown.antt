@@ -9,7 +9,7 @@ use Rattle.machine.proofs.{GoneLemmas.id_itself, LookUps.{cap_of-with_new, objec
 use Rattle.machine.proofs.LookUps.{object_of-with_new, object_of-with_parent, one_id, parent_of-with_new}
 use Rattle.untyped.specs.declared.{filling.Window.Window, making.Making.Making}
 use Rattle.untyped.specs.{Batch.{new_objects, with_batch, with_caps}, Making.{CanBeMade, with_making}, Shown.source_shown}
-use Rattle.untyped.{specs.Windows.{AreThere, IsFree, slots_of}, proofs.Batches.made_at_once}
+use Rattle.untyped.{specs.Windows.{AreThere, IsFreeWindow, slots_of}, proofs.Batches.made_at_once}
 
 number_after : (m : Machine) (object : Object) → (with_new m object).next ≡ m.next + 1
 unfolding with_new
@@ -47,7 +47,7 @@ alone_past_news m objects q alone =
     }
 
 pub free_past_news :
-    (m : Machine) (objects : List Object) (at : Window) → at.node.0 < m.next → IsFree m at → IsFree (fold with_new m objects) at
+    (m : Machine) (objects : List Object) (at : Window) → at.node.0 < m.next → IsFreeWindow m at → IsFreeWindow (fold with_new m objects) at
 free_past_news m objects at below free index low high =
     let was = free index low high in (
       rw (object_past_news m objects at.node below) was.0,

@@ -4,7 +4,7 @@ use Rattle.base.specs.declared.{limits.TheConstants.{ADDRESS_END, MAX_MADE, OBJE
 use Rattle.base.specs.Refusals.{refusal_of}
 use Rattle.machine.specs.declared.{call.{Answer.TheVariants.Count, Made.{Made, TheVariants.Done}}, object.Object.Object as o}
 use Rattle.machine.specs.{Machine.{Machine, cap_of, object_of}, Memory.with_all_made, Step.Retype.sized}
-use Rattle.untyped.specs.{declared.making.Making.Making, Shown.source_shown, Windows.{IsFree, slots_of}}
+use Rattle.untyped.specs.{declared.making.Making.Making, Shown.source_shown, Windows.{IsFreeWindow, slots_of}}
 
 -- the machine with the objects and their capabilities
 abbrev pub with_making : Machine → Making → Machine
@@ -23,7 +23,7 @@ pub record CanBeMade (m : Machine) (making : Making) : Type 0 where
   pub held : IsSome (cap_of m making.source.slot)
   pub node : making.window.node.0 < m.next
   pub ends : making.window.offset + making.window.count < 2 ^ 64
-  pub free : IsFree m making.window
+  pub free : IsFreeWindow m making.window
 
 -- the result of a call with this plan, or this cause to refuse
 abbrev pub planned : Machine → Result Making Cause → Result (Made × Machine) Cause

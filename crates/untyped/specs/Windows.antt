@@ -12,8 +12,8 @@ abbrev pub AreThere : Machine → ℕ → ℕ → Type 0
 AreThere m first count = (number : ℕ) → first ≤ number → number < first + count → IsSome (object_of m (record { 0 = number }))
 
 -- each slot of the window exists, is empty, and is in no pair of the derivation tree
-abbrev pub IsFree : Machine → Window → Type 0
-IsFree m at =
+abbrev pub IsFreeWindow : Machine → Window → Type 0
+IsFreeWindow m at =
     (index : ℕ) → at.offset ≤ index → index < at.offset + at.count
     → IsTrue (has_slot m (record { holder = at.node; index = index })) × (cap_of m (record { holder = at.node; index = index }) ≡ None)
     × IsAlone m (record { holder = at.node; index = index })

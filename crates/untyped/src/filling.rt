@@ -2,7 +2,7 @@
 ghost use Rattle.std.specs.Prelude.{◌+◌, ◌<◌, ◌^◌, ◌≡◌, ◌≤◌, IsSome, IsTrue, None};
 ghost use Rattle.base.specs.declared.limits.TheConstants.{OBJECT_NUMBERS};
 ghost use Rattle.machine.specs.{Machine.{cap_of, has_slot, object_of, with_cap, with_parent}, Tree.IsAlone};
-ghost use Rattle.untyped.specs.{Batch.with_caps, Windows.{AreThere, IsFree, slots_of}};
+ghost use Rattle.untyped.specs.{Batch.with_caps, Windows.{AreThere, IsFreeWindow, slots_of}};
 
 use crate::making::new_cap;
 use base::{ObjId, SlotRef};
@@ -38,7 +38,7 @@ fn fill_below(state: &mut State, slot: SlotRef, cap: Cap, parent: SlotRef)
 pub fn fill(state: &mut State, window: Window, first: u64, kind: MemoryKind, parent: SlotRef)
     requires ends { window.offset + window.count < 2 ^ 64 }
     requires numbers { first + window.count ≤ OBJECT_NUMBERS }
-    requires free { IsFree state.old window }
+    requires free { IsFreeWindow state.old window }
     requires made { AreThere state.old first window.count }
     requires above { IsSome (cap_of state.old parent) }
     ensures { state.new ≡ with_caps state.old first kind (slots_of window) parent }

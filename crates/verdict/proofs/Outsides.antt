@@ -6,7 +6,7 @@ use Rattle.machine.specs.declared.{object.Object.{Object, Object as o}, thread.{
 use Rattle.machine.specs.Authority.{HasAuthority, HasAuthority.{by_cap, by_link, by_pair, by_root}, label_of, links, state_links}
 use Rattle.machine.{specs.{Layout.Layout, Machine.{Machine, object_of}}, proofs.RunsLinks.{runs_bound, runs_by, runs_lent}}
 use Rattle.{policy.specs.Domain.EdgeTest, integrity.specs.Confined.IsConfined}
-use Rattle.verdict.specs.Rules.{Exceeds, Excess, IsThere, binding, capability, ends_at, holding, pair, recorded, root}
+use Rattle.verdict.specs.Rules.{Exceeds, Excess, LiesThere, binding, capability, ends_at, holding, pair, recorded, root}
 use Rattle.verdict.specs.Sources.{Sources, holds_in, keeps_in, lent_context_in, of_machine, own_context_in}
 
 either : (b : Bool) → (b ≡ false → b ≡ true) → b ≡ true
@@ -20,7 +20,7 @@ module _ (t : Layout) (allowed : EdgeTest) (m : Machine) where
   -- an edge is given by what lies at a place
   record IsGiven (from : ℕ) (k : Kind) (to : ℕ) : Type 0 where
     place : Excess
-    there : IsThere held_by place
+    there : LiesThere held_by place
     source : (ends_at held_by place).from ≡ Some from
     kind : (ends_at held_by place).kind ≡ k
     target : (ends_at held_by place).to ≡ Some to
@@ -108,7 +108,7 @@ module _ (t : Layout) (allowed : EdgeTest) (m : Machine) where
 
   -- each place gives its edge
   gives_edge :
-      (place : Excess) (from to : ℕ) → IsThere held_by place → (ends_at held_by place).from ≡ Some from
+      (place : Excess) (from to : ℕ) → LiesThere held_by place → (ends_at held_by place).from ≡ Some from
       → (ends_at held_by place).to ≡ Some to → HasAuthority t m from (ends_at held_by place).kind to
   gives_edge (capability slot k label) from to at source target = by_cap slot at.0 at.1 at.2 at.4 source (at.3 ∙ target)
   gives_edge (root slot label) from to at source target = by_root slot at.0 at.1 at.2 source (at.3 ∙ target)

@@ -46,22 +46,22 @@ pub data Excess : Type 0 where
   recorded : ObjId → Kind → ℕ → Excess
 
 -- a place where something lies that gives an edge of authority
-abbrev pub IsThere : Sources → Excess → Type 0
+abbrev pub LiesThere : Sources → Excess → Type 0
 -- a capability in a slot of a CNode gives each of its kinds
-IsThere s (capability slot kind label) =
+LiesThere s (capability slot kind label) =
     (held : Cap) × (s.cap slot ≡ Some held) × (s.kind slot.holder ≡ Some object.CNode) × (s.label held.object ≡ Some label)
     × (gives held.detail kind ≡ true)
 -- a capability in a thread's root slot gives only space
-IsThere s (root slot label) =
+LiesThere s (root slot label) =
     (held : Cap) × (s.cap slot ≡ Some held) × (s.kind slot.holder ≡ Some object.Tcb) × (s.label held.object ≡ Some label)
 -- a pair of the derivation tree gives derive
-IsThere s (pair child parent) = s.parent child ≡ Some parent
+LiesThere s (pair child parent) = s.parent child ≡ Some parent
 -- a thread that is bound to a context, or lent it, has runs
-IsThere s (binding thread context) = (s.context thread ≡ Some context) ⊎ (s.lent thread ≡ Some context)
+LiesThere s (binding thread context) = (s.context thread ≡ Some context) ⊎ (s.lent thread ≡ Some context)
 -- a reply that holds a thread has holds
-IsThere s (holding reply thread) = s.holds reply thread ≡ true
+LiesThere s (holding reply thread) = s.holds reply thread ≡ true
 -- a blocked thread has each kind that it keeps
-IsThere s (recorded thread kind label) = (end : ObjId) × (s.keeps thread kind end ≡ true) × (s.label end ≡ Some label)
+LiesThere s (recorded thread kind label) = (end : ObjId) × (s.keeps thread kind end ≡ true) × (s.label end ≡ Some label)
 
 -- an edge of authority whose objects may lack labels
 pub record Ends : Type 0 where
@@ -82,7 +82,7 @@ ends_at s (recorded thread kind label) = record { from = s.label thread; kind = 
 pub record Exceeds (s : Sources) (allowed : EdgeTest) (place : Excess) : Type 0 where
   pub from : ℕ
   pub to : ℕ
-  pub there : IsThere s place
+  pub there : LiesThere s place
   pub source : (ends_at s place).from ≡ Some from
   pub target : (ends_at s place).to ≡ Some to
   pub missing : allowed from (ends_at s place).kind to ≡ false

@@ -1,7 +1,7 @@
 -- A claim holds if no failure is told of it.
 use Rattle.{std.proofs.Common.subst, machine.specs.Layout.Layout, table.specs.Names.AreLabelsOf}
 use Rattle.{policy.specs.Policy.allows, reach.specs.Extents.{Limits, limits_of}}
-use Rattle.claims.specs.{Holding.{Holds, HoldsOnEdges, HoldsOnPairs}, Rows.AreRows}
+use Rattle.claims.specs.{Holding.{Holds, HoldsOnEdges, HoldsOnPairs}, Rows.AreRowsByLabel}
 use Rattle.claims.proofs.Promised.{ends_hold, if_none, only_holds, readers_hold, within_holds, without_holds}
 use Rattle.claims.proofs.deciding.failure_of.Goals as goal
 
@@ -11,7 +11,7 @@ returns-in-AtMost-clause-none c =
     let its = limits_of c.args.reach.now in
     let claim = c.args.claim.now in
     if_none c.pair_failure.result
-    ((t : Layout) (limits : Limits) → AreLabelsOf t c.args.labels → AreRows limits c.args.rows.now → HoldsOnPairs t limits claim)
+    ((t : Layout) (limits : Limits) → AreLabelsOf t c.args.labels → AreRowsByLabel limits c.args.rows.now → HoldsOnPairs t limits claim)
     (Holds table its claim) (λ holds. ends_hold table its claim _ _ _ c.in-AtMost.is (holds table its c.requires.labels c.requires.rows))
     c.pair_failure.ensures.none
 
@@ -21,7 +21,7 @@ returns-in-Only-clause-none c =
     let its = limits_of c.args.reach.now in
     let claim = c.args.claim.now in
     if_none c.pair_failure-in-Only.result
-    ((t : Layout) (limits : Limits) → AreLabelsOf t c.args.labels → AreRows limits c.args.rows.now → HoldsOnPairs t limits claim)
+    ((t : Layout) (limits : Limits) → AreLabelsOf t c.args.labels → AreRowsByLabel limits c.args.rows.now → HoldsOnPairs t limits claim)
     (Holds table its claim) (λ holds. only_holds table its claim _ _ c.in-Only.is (holds table its c.requires.labels c.requires.rows))
     c.pair_failure-in-Only.ensures.none
 
@@ -31,7 +31,7 @@ returns-in-Within-clause-none c =
     let its = limits_of c.args.reach.now in
     let claim = c.args.claim.now in
     if_none c.pair_failure-in-Within.result
-    ((t : Layout) (limits : Limits) → AreLabelsOf t c.args.labels → AreRows limits c.args.rows.now → HoldsOnPairs t limits claim)
+    ((t : Layout) (limits : Limits) → AreLabelsOf t c.args.labels → AreRowsByLabel limits c.args.rows.now → HoldsOnPairs t limits claim)
     (Holds table its claim) (λ holds. within_holds table its claim _ _ c.in-Within.is (holds table its c.requires.labels c.requires.rows))
     c.pair_failure-in-Within.ensures.none
 

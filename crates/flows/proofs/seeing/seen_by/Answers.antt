@@ -33,12 +33,12 @@ returns c l =
     (row_tells test Notify actor c.row-notify.result c.row-notify.ensures l) (c.contested.ensures l) (c.intersection.ensures l) in
     told_as (is_in c.union-7.result l)
     (either (is_in c.union-7.result l) (is_in c.union-6.result l) (is_in c.intersection.result l)
-    (either (is_in c.union-6.result l) (is_in c.union-5.result l) (is_in c.beside-2.result l)
-    (either (is_in c.union-5.result l) (is_in c.union-4.result l) (is_in c.beside.result l)
+    (either (is_in c.union-6.result l) (is_in c.union-5.result l) (is_in c.row_with-2.result l)
+    (either (is_in c.union-5.result l) (is_in c.union-4.result l) (is_in c.row_with.result l)
     (either (is_in c.union-4.result l) (is_in c.union-3.result l) (is_in c.answered.result l)
     (either (is_in c.union-3.result l) (is_in c.union-2.result l) (is_in c.waiting-2.result l)
     (either (is_in c.union-2.result l) (is_in c.union.result l) (is_in c.waiting.result l)
     (either (is_in c.union.result l) (is_in c.only.result l) (is_in c.row_of_kinds.result l) own used (c.union.ensures l)) senders
-    (c.union-2.ensures l)) receivers (c.union-3.ensures l)) (c.answered.ensures l) (c.union-4.ensures l)) (c.beside.ensures l)
-    (c.union-5.ensures l)) (c.beside-2.ensures l) (c.union-6.ensures l)) woken (c.union-7.ensures l))
+    (c.union-2.ensures l)) receivers (c.union-3.ensures l)) (c.answered.ensures l) (c.union-4.ensures l)) (c.row_with.ensures l)
+    (c.union-5.ensures l)) (c.row_with-2.ensures l) (c.union-6.ensures l)) woken (c.union-7.ensures l))
     (λ w. record { actor = is_actor; way = see_to test acts actor l w }) (λ sees. see_from test acts actor l sees.way)

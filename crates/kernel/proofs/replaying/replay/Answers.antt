@@ -2,7 +2,7 @@ use Rattle.std.proofs.Common.{[], ◌++◌, ◌+◌, ◌∙◌, ◌∷◌, ◌�
 use Rattle.std.proofs.Math.Seq.{take-length}
 use Rattle.std.proofs.lemmas.{List.take_more, Option.slice_get_read, Result.err_from_is_err_and}
 use Rattle.machine.specs.Step.{Step}
-use Rattle.kernel.{specs.Legal.{Entry, Follows, IsLeftAt, LacksMemoryIn, Leads}, proofs.LegalLemmas.{led_further, left_is_reached, legal_ends, stops}}
+use Rattle.kernel.{specs.Legal.{Entry, Follows, IsLeftAt, LacksMemoryIn, IsLogBetween}, proofs.LegalLemmas.{led_further, left_is_reached, legal_ends, stops}}
 use Rattle.kernel.proofs.replaying.replay.Goals as goal
 
 -- the entry is no step from where those before it lead
@@ -75,7 +75,7 @@ returns-clause-left c =
     let entries : List Entry = c.args.entries.now in
     let whole : take c.loop-index.index entries ≡ entries =
     ap (λ n. take n entries) (omega (arith, c.loop-index-test.false, c.loop-index.auto.index-end)) ∙ take-length entries in
-    subst (λ (es : List Entry). Leads c.args.state.now es c.loop-index.state) whole c.loop-index.invariant.led
+    subst (λ (es : List Entry). IsLogBetween c.args.state.now es c.loop-index.state) whole c.loop-index.invariant.led
 
 pub returns-clause-reached : goal.returns-clause-reached
 returns-clause-reached c = left_is_reached c.args.state.now c.loop-index.state c.args.entries.now (Ok None) (returns-clause-left c)

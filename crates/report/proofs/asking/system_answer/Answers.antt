@@ -1,12 +1,12 @@
 -- That each question is answered as it asks.
-use Rattle.{std.proofs.Common.subst, report.{specs.Closings.Closes, proofs.Retold.said}}
+use Rattle.{std.proofs.Common.subst, report.{specs.Closings.AnswersClosing, proofs.Retold.said}}
 use Rattle.report.proofs.asking.system_answer.Goals as goal
 
 pub returns-in_ok-closed-in-Start : goal.returns-in_ok-closed-in-Start
 returns-in_ok-closed-in-Start c =
     let answer = c.in_ok-closed-in-Start in
     rw c.in-Start.is
-    (subst (λ edges. Closes c.in-Start.rules c.in-Start.on_close c.args.table.now edges answer.field-0) c.new.ensures answer.ensures.right, answer.ensures.exit)
+    (subst (λ edges. AnswersClosing c.in-Start.rules c.in-Start.on_close c.args.table.now edges answer.field-0) c.new.ensures answer.ensures.right, answer.ensures.exit)
 
 pub returns-in_ok-write_objects-in-List : goal.returns-in_ok-write_objects-in-List
 returns-in_ok-write_objects-in-List c = rw c.in-List.is (said c.in_ok-write_objects-in-List.ensures c.plain.ensures.plain)

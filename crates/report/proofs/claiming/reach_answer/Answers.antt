@@ -4,7 +4,7 @@ use Rattle.std.proofs.{Common.{Option, ap, arith, false, length, refl, subst, su
 use Rattle.{machine.specs.Layout.Layout, reach.specs.{Extents.limits_of, Reach.{IsReachOf, IsTableReach, TableReach}}}
 use Rattle.claims.specs.{declared.{claim.Claim.Claim, deciding.Broken.Broken, keeping.Kept.Kept}, Holding.{AreBroken, Holds}}
 use Rattle.{claims.specs.Learning.IsKeptSo, reptext.specs.{Breaches.breaches_data, Reports.{hold_data, line_of}}}
-use Rattle.commands.specs.{declared.{answer.Answer.Answer, listener.Finding.Finding as finding}, Commands.Finds}
+use Rattle.commands.specs.{declared.{answer.Answer.Answer, listener.Finding.Finding as finding}, Commands.TellsFinding}
 use Rattle.report.proofs.Retold.{finding_retold, plain_retold}
 use Rattle.claims.specs.declared.lines.TheConstants.ClaimLines as ClaimLines
 use Rattle.report.proofs.claiming.reach_answer.Goals as goal
@@ -12,8 +12,8 @@ use Rattle.report.specs.Claimed as claimed
 
 some : (t : Layout) (lines : List (Option Claim)) (reach : TableReach) → IsReachOf t reach → (v : Vec Broken Global) → (all : List Broken)
     → v.items ≡ all → AreBroken t (limits_of reach) ClaimLines.FIRST lines all → (all ≡ [] → ⊥)
-    → (kept : Kept) → claimed.AreKept t (limits_of reach) (Holds t (limits_of reach)) kept
-    → (answer : Answer) → Finds (line_of (breaches_data t lines all kept)) (λ told. told ≡ finding.Broken v) answer
+    → (kept : Kept) → claimed.ClaimsAreKept t (limits_of reach) (Holds t (limits_of reach)) kept
+    → (answer : Answer) → TellsFinding (line_of (breaches_data t lines all kept)) (λ told. told ≡ finding.Broken v) answer
     → claimed.Judges t lines answer
 some t lines reach is_reach v [] same are has kept keeps answer finds = absurd (has refl)
 some t lines reach is_reach v (first ∷ more) same are has kept keeps answer finds =

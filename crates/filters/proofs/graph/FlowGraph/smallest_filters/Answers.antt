@@ -1,14 +1,14 @@
 -- The sets that leave no way in the graph are those through which all flows go.
 use Rattle.std.{specs.Result.IfOk, proofs.{Common.{◌&&◌, ◌==◌, ◌||◌, ◌∙◌, ◌≡◌, List, ap, arith, not, subst}, lemmas.Result.IfOk-weaker}}
 use Rattle.base.specs.{declared.labels.Labels.Labels, Labels.is_in}
-use Rattle.{reach.specs.{Extents.limits_of, Reach.TableReach}, flows.specs.Flowing.{Leads, Leads.starts}}
+use Rattle.{reach.specs.{Extents.limits_of, Reach.TableReach}, flows.specs.Flowing.{FlowLeads, FlowLeads.starts}}
 use Rattle.filters.{specs.{Smallest.{IsFilterSet, IsSmallest}, Ways.Separates}, proofs.Fewest.{separates_flows, smallest_alike}}
 use Rattle.filters.proofs.graph.FlowGraph.smallest_filters.Goals as goal
 
 pub returns-then-number : goal.returns-then-number
 returns-then-number c set filters =
     let same : c.args.from ≡ c.args.to = omega arith in
-    filters.through (subst (λ n. Leads (limits_of c.args.self.now) (is_in set) c.args.from n) same starts)
+    filters.through (subst (λ n. FlowLeads (limits_of c.args.self.now) (is_in set) c.args.from n) same starts)
 
 pub returns : goal.returns
 returns c =

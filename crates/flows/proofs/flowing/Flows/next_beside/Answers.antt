@@ -2,7 +2,7 @@
 use Rattle.std.proofs.{Common.{ℕ, ◌&&◌, ◌<◌, ◌∙◌, ◌≡◌, List, ap, arith, get_or, length, not, subst, true}, lemmas.List.get_or_default}
 use Rattle.base.specs.{declared.labels.Labels.Labels, Labels.{is_in, no_labels}}
 use Rattle.{policy.proofs.Gathering.Tells, reach.specs.{Extents.limits_of, Reach.TableReach}}
-use Rattle.flows.{specs.{Flowing.FlowsBeside, Rows.{Meets, row_at}}, proofs.FlowSets.flows_told}
+use Rattle.flows.{specs.{Flowing.FlowsBeside, Rows.{MeetsSet, row_at}}, proofs.FlowSets.flows_told}
 use Rattle.flows.proofs.flowing.Flows.next_beside.Goals as goal
 
 pub returns : goal.returns
@@ -21,4 +21,4 @@ returns c y =
     subst (λ (r : TableReach). Tells (is_in c.meeting.result y) (FlowsBeside (limits_of r) (is_in filters) c.args.from y)) c.self.view_is
     (flows_told (limits_of reach) affected needed c.self.invariant few c.args.from (omega (arith, c.number.ensures.below, c.number.ensures.value)) row_few filters
     c.difference.result (λ l. c.difference.ensures l ∙ ap (λ r. is_in r l && not (is_in filters l)) row_is) y (is_in c.meeting.result y)
-    (subst (λ (rows : List Labels). Tells (is_in c.meeting.result y) (Meets rows c.difference.result y)) c.deref.ensures.value (c.meeting.ensures y)))
+    (subst (λ (rows : List Labels). Tells (is_in c.meeting.result y) (MeetsSet rows c.difference.result y)) c.deref.ensures.value (c.meeting.ensures y)))

@@ -2,7 +2,7 @@
 use Rattle.std.proofs.{Common.{ℕ, ◌&&◌, ◌<◌, ◌∙◌, ◌≡◌, List, ap, arith, get_or, length, not, subst, true}, lemmas.List.get_or_default}
 use Rattle.base.specs.{declared.labels.Labels.Labels, Labels.{is_in, no_labels}}
 use Rattle.{policy.proofs.Gathering.Tells, reach.specs.{Extents.limits_of, Reach.TableReach}}
-use Rattle.flows.{specs.{Flowing.FlowsBeside, Rows.{Meets, row_at}}, proofs.FlowSets.sources_told}
+use Rattle.flows.{specs.{Flowing.FlowsBeside, Rows.{MeetsSet, row_at}}, proofs.FlowSets.sources_told}
 use Rattle.flows.proofs.flowing.Flows.previous_beside.Goals as goal
 
 pub returns : goal.returns
@@ -20,4 +20,4 @@ returns c x =
     subst (λ (r : TableReach). Tells (is_in c.meeting.result x) (FlowsBeside (limits_of r) (is_in filters) x c.args.to)) c.self.view_is
     (sources_told (limits_of reach) affected needed c.self.invariant few c.args.to (omega (arith, c.number.ensures.below, c.number.ensures.value)) filters
     c.difference.result (λ l. c.difference.ensures l ∙ ap (λ r. is_in r l && not (is_in filters l)) row_is) x (is_in c.meeting.result x)
-    (subst (λ (rows : List Labels). Tells (is_in c.meeting.result x) (Meets rows c.difference.result x)) c.deref.ensures.value (c.meeting.ensures x)))
+    (subst (λ (rows : List Labels). Tells (is_in c.meeting.result x) (MeetsSet rows c.difference.result x)) c.deref.ensures.value (c.meeting.ensures x)))

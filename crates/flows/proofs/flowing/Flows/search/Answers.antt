@@ -2,7 +2,7 @@
 use Rattle.std.proofs.Common.{[], ℕ, ◌&&◌, ◌++◌, ◌+◌, ◌<◌, ◌||◌, ◌∙◌, ◌∷◌, ◌≡◌, ap, arith, inl, length, not, refl, subst, sym}
 use Rattle.std.proofs.lemmas.{Bool.{and_parts, eq-eqb, eqb-true, or_left, or_right}, Grind.common_steps}
 use Rattle.{base.specs.Labels.is_in, sharp.proofs.Missing.{fewer_missing, missing_below}, reach.specs.Extents.limits_of}
-use Rattle.flows.{specs.{Chains.{AreFoundLinks, IsFound}, Flowing.{FlowsBeside, FlowsBy}}, proofs.{Chains.was_not, Leading.all_leading}}
+use Rattle.flows.{specs.{Chains.{AreFoundLinks, IsLinked}, Flowing.{FlowsBeside, FlowsBy}}, proofs.{Chains.was_not, Leading.all_leading}}
 use Rattle.flows.proofs.{Leading.first_leading, Searching.{found_more, links_more, new_link, none_found, one_done, one_leading}}
 use Rattle.flows.proofs.flowing.Flows.search.Goals as goal
 
@@ -53,7 +53,7 @@ loop-label-preserved-in-Continue-1 c =
       one_leading limits filters to (is_in done) (is_in labels) so_far.0 label link.from (is_in c.union-labels.result) parts.0 undone flow
           (λ l. c.union-labels.ensures l ∙ ap (λ b. is_in labels l || b) (c.only-in-Some-link_to.ensures l)),
       λ l has.
-          subst (λ ls. IsFound to ls (length ls) l) (sym grown)
+          subst (λ ls. IsLinked to ls (length ls) l) (sym grown)
           (found_more links link to (is_in labels) l so_far.1
           (ap (λ b. is_in labels l || b) (sym (c.only-in-Some-link_to.ensures l)) ∙ sym (c.union-labels.ensures l) ∙ has)),
       subst (AreFoundLinks limits filters to) (sym grown) (links_more links link to limits filters so_far.2 more),
