@@ -1,3 +1,4 @@
 mod NothingLost
 pub mod OneFolded
 mod Rows
+mod PairArrows

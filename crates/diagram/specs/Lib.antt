@@ -1,3 +1,4 @@
 pub mod Programs
 pub mod Regions
 pub mod Folded
+pub mod Drawing

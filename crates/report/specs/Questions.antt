@@ -5,7 +5,7 @@ use Rattle.{base.specs.declared.edge.Edge.Edge, machine.specs.Layout.Layout, tab
 use Rattle.policy.specs.{declared.why.Why.{Why, Why as why}, ActorReasons.IsWhyAmong, Policy.allows}
 use Rattle.reach.specs.{declared.extent.Extent.Extent, Extents.{GoesTo, KeepsTo, Limits, limits_of}, Reach.{IsReachOf, TableReach}}
 use Rattle.{captext.specs.PolicyText.edge_lines, diagram.specs.Folded.IsFoldedDrawing}
-use Rattle.reptext.specs.{Drawing.IsDrawing, Reasons.why_data, Reports.line_of}
+use Rattle.{diagram.specs.Drawing.IsDrawing, reptext.specs.{Reasons.why_data, Reports.line_of}}
 use Rattle.commands.specs.declared.choices.{Form.{Form, Form as form}, Picture.{Picture, Picture as picture}}
 use Rattle.commands.specs.declared.end.Asked.{Asked, Asked as asked}
 use Rattle.base.specs.declared.label.TheConstants.Label as Label

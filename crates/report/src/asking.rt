@@ -19,10 +19,10 @@ use captext::{PolicyDraft, write_edges};
 use commands::{
     Answer, Given, OfPolicy, OfSystem, PolicyFile, Stop, Taken, With, load_given, load_with, tell,
 };
-use diagram::write_programs;
+use diagram::{write_drawing, write_programs};
 use policy::{Policy, Why};
 use reach::Reach;
-use reptext::{summary_report, why_report, write_drawing, write_objects};
+use reptext::{summary_report, why_report, write_objects};
 use std::alloc::{AllocError, Global};
 use table::Table;
 

@@ -3,6 +3,6 @@ mod Names
 pub mod OneText
 mod Upgraded
 mod Numbered
-mod Arrows
+mod Pieces
 pub mod ChangeValues
 pub mod Fractions

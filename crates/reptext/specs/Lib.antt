@@ -2,7 +2,6 @@ pub mod Places
 pub mod Relations
 pub mod Reports
 pub mod Objects
-pub mod Drawing
 pub mod Breaches
 pub mod Differences
 pub mod Reasons

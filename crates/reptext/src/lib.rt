@@ -1,13 +1,12 @@
 //! The texts that the program writes besides tables, policies, certificates and logs: reports, each
-//! one JSON object on a line, and the names at the place that it tells; the summary, and what a label
-//! may do, and what changes from one system to another, as JSON; the list of a table's objects; and the drawing of who may change or take from whom.
+//! one JSON object on a line, and the names at the place that it tells; the summary, what a label may
+//! do, and what changes from one system to another, as JSON; and the list of a table's objects.
 //!
 //! The crate knows no device, and no code of the kernel's calls.
 #![tactic(auto)]
 
 mod breaches;
 mod differences;
-mod drawing;
 mod laws;
 mod listing;
 mod places;
@@ -18,7 +17,6 @@ mod summaries;
 
 pub use breaches::breaches_report;
 pub use differences::changes_report;
-pub use drawing::write_drawing;
 pub use forms::File;
 pub use laws::upgraded_tables_are_reported_alike;
 pub use listing::write_objects;

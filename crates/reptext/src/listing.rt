@@ -1,6 +1,6 @@
 //! The list of a table's objects.
 ghost use Rattle.std.specs.Prelude.{◌++◌, ◌≡◌, IfOk, OnOk, string_bytes};
-ghost use Rattle.words.specs.Text.line_text;
+ghost use Rattle.words.specs.Text.{line_text};
 ghost use Rattle.{captext.specs.TableText.object_name, reptext.specs.Objects.{entry_words, objects_text}};
 
 use base::ObjId;

@@ -55,7 +55,7 @@ fn cells(alloc: Global, table: &Table, rows: &[Row]) -> Result<Vec<Value>, Alloc
 }
 
 // Adds the cells of a row that have an entry.
-#[tactic(auto, using(crate::proofs::Arrows::piece_more))]
+#[tactic(auto, using(crate::proofs::Pieces::piece_more))]
 fn push_cells(
     alloc: Global,
     table: &Table,

@@ -1,6 +1,6 @@
 use Rattle.std.{specs.List.flat_map, proofs.Common.{◌++◌, ◌≡◌, string_bytes, take}}
-use Rattle.reptext.specs.Drawing.{label_line}
-use Rattle.reptext.proofs.drawing.write_labels.Given as goal
+use Rattle.diagram.specs.Drawing.{label_line}
+use Rattle.diagram.proofs.pairs.write_labels.Given as goal
 
 -- the lines of the labels so far are written
 abbrev pub invariant-loop-number : goal.invariant-loop-number

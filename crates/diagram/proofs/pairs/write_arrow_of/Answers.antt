@@ -3,8 +3,8 @@ use Rattle.std.proofs.Common.{◌<◌, ◌∙◌, List, length, string_bytes, su
 use Rattle.base.specs.declared.edge.Edge.{Edge}
 use Rattle.policy.specs.{ActorReasons.{IsChangeBy, IsShrinkBy, IsWhyAmong}, Places.IsLeast, Reasons.reason_place}
 use Rattle.reach.specs.Extents.{limits_by}
-use Rattle.reptext.proofs.Arrows.{adds_dashed, adds_itself, adds_nothing, adds_solid, differ, change_reason_there, shrink_reason_there}
-use Rattle.reptext.proofs.drawing.write_arrow_of.Goals as goal
+use Rattle.diagram.proofs.PairArrows.{adds_dashed, adds_itself, adds_nothing, adds_solid, differ, change_reason_there, shrink_reason_there}
+use Rattle.diagram.proofs.pairs.write_arrow_of.Goals as goal
 use mathlib.Core.Bool.{false≢true}
 
 pub returns-then-eq : goal.returns-then-eq

@@ -1,31 +1,16 @@
 -- Drawings that grow label by label and pair by pair; and that an authority of a label on another has a reason with a first edge.
 use mathlib.Core.Bool.{false≢true}
 use Rattle.std.{specs.{List.{flat_map, range_with_len}, Prelude.{IfSome, IsSome, codes}}, proofs.Common.{[], ℕ, ◌++◌, ◌+◌, ◌<◌, ◌==◌}}
-use Rattle.std.proofs.Common.{◌∙◌, ◌∷◌, ◌≡◌, ◌≢◌, List, None, Option, Some, ap, append_assoc, arith, false, get_or, length, refl, subst}
-use Rattle.std.proofs.{Common.{sym, take, true}, lemmas.{Bool.Decides.nat_tests, List.{FromFn.map-range_with_len_more, append-nil}}}
-use Rattle.{std.proofs.lemmas.List.{flat_map_more, map-id, take_more}, base.specs.declared.edge.Edge.Edge, machine.specs.Layout.Layout}
+use Rattle.std.proofs.Common.{◌∙◌, ◌∷◌, ◌≡◌, ◌≢◌, List, None, Option, Some, ap, append_assoc, arith, false, length, refl, subst}
+use Rattle.std.proofs.{Common.{sym, true}, lemmas.{Bool.Decides.nat_tests, List.{FromFn.map-range_with_len_more, append-nil}}}
+use Rattle.{std.proofs.lemmas.List.flat_map_more, base.specs.declared.edge.Edge.Edge, machine.specs.Layout.Layout}
 use Rattle.policy.specs.ActorReasons.{IsChangeBy, IsShrinkBy, change_edges, shrink_edges}
 use Rattle.policy.specs.Change.{MayChangeContext.{binds, configures, lends, returns as returns_it}, WayToChange}
 use Rattle.policy.specs.Change.WayToChange.{grants, links, modifies, notifies, own, receives, replies, sends, shares}
 use Rattle.policy.specs.NarrowTake.{TakesByControl.{drops, releases, removes, wakes}, WayToShrink}
 use Rattle.policy.specs.{NarrowTake.WayToShrink.{controls, ends, frees, halts, stops, unbinds}, Places.IsLeast, Reasons.reason_place}
-use Rattle.reach.specs.Extents.{Limits, MayChangeIn, MayShrinkIn}
-use Rattle.reptext.specs.Drawing.{AddsArrows, Draws, IsDrawnArrow, IsDrawnArrow.{dashed, itself, nothing, solid}, arrow_line, pairs_with}
-
--- one more piece, for the next value
-pub piece_more : {X Y : Type 0} (f : X → List Y) (xs : List X) (i : ℕ) (d : X) (before text longer : List Y) → i < length xs
-    → text ≡ before ++ flat_map f (take i xs) → longer ≡ text ++ f (get_or xs i d) → longer ≡ before ++ flat_map f (take (i + 1) xs)
-piece_more f xs i d before text longer within so_far grown =
-    grown
-    ∙ ap (λ bytes. bytes ++ f (get_or xs i d)) so_far
-    ∙ flat_map_more f before (take i xs) (get_or xs i d)
-    ∙ ap (λ front. before ++ flat_map f front) (sym (take_more xs i d within))
-
-range_more : (n : ℕ) → range_with_len 0 (n + 1) ≡ range_with_len 0 n ++ n ∷ []
-range_more n =
-    sym (map-id (range_with_len 0 (n + 1)))
-    ∙ map-range_with_len_more (λ (k : ℕ). k) 0 n n (omega arith)
-    ∙ ap (λ front. front ++ n ∷ []) (map-id (range_with_len 0 n))
+use Rattle.{reach.specs.Extents.{Limits, MayChangeIn, MayShrinkIn}, matrix.proofs.Pieces.range_more}
+use Rattle.diagram.specs.Drawing.{AddsArrows, Draws, IsDrawnArrow, IsDrawnArrow.{dashed, itself, nothing, solid}, arrow_line, pairs_with}
 
 with_more : (a n : ℕ) → pairs_with (n + 1) a ≡ pairs_with n a ++ (a, n) ∷ []
 with_more a n = map-range_with_len_more (λ (l : ℕ). (a, l)) 0 n n (omega arith)

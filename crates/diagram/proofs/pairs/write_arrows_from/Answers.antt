@@ -1,8 +1,8 @@
 use Rattle.std.proofs.Common.{[], ◌∷◌, arith, string_bytes, subst, sym}
 use Rattle.reach.specs.Extents.{limits_by}
-use Rattle.reptext.{specs.Drawing.AddsArrows, proofs.Arrows.{adds_pair, label_is, label_there}}
-use Rattle.reptext.proofs.drawing.write_arrows_from.Goals.{in-Some+in_ok-write_arrow_of, in_default}
-use Rattle.reptext.proofs.drawing.write_arrows_from.Goals as goal
+use Rattle.diagram.{specs.Drawing.AddsArrows, proofs.PairArrows.{adds_pair, label_is, label_there}}
+use Rattle.diagram.proofs.pairs.write_arrows_from.Goals.{in-Some+in_ok-write_arrow_of, in_default}
+use Rattle.diagram.proofs.pairs.write_arrows_from.Goals as goal
 
 -- the arrow to the next label comes after those before
 pub loop-number-preserved : goal.loop-number-preserved

@@ -1,5 +1,5 @@
-use Rattle.{std.proofs.Common.string_bytes, reach.specs.Extents.limits_by, reptext.specs.Drawing.{AddsArrows, pairs_with}}
-use Rattle.reptext.proofs.drawing.write_arrows_from.Given as goal
+use Rattle.{std.proofs.Common.string_bytes, reach.specs.Extents.limits_by, diagram.specs.Drawing.{AddsArrows, pairs_with}}
+use Rattle.diagram.proofs.pairs.write_arrows_from.Given as goal
 
 -- the arrows to the labels so far are written
 abbrev pub invariant-loop-number : goal.invariant-loop-number

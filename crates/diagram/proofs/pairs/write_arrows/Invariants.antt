@@ -1,6 +1,6 @@
 use Rattle.std.{specs.List.{flat_map, range_with_len}, proofs.Common.{length, string_bytes}}
-use Rattle.{reach.specs.Extents.limits_by, reptext.specs.Drawing.{AddsArrows, pairs_with}}
-use Rattle.reptext.proofs.drawing.write_arrows.Given as goal
+use Rattle.{reach.specs.Extents.limits_by, diagram.specs.Drawing.{AddsArrows, pairs_with}}
+use Rattle.diagram.proofs.pairs.write_arrows.Given as goal
 
 -- the arrows from the labels so far are written
 abbrev pub invariant-loop-number : goal.invariant-loop-number

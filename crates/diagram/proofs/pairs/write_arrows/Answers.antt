@@ -1,8 +1,8 @@
 -- That the arrows from the next label are written after those from the labels before.
 use Rattle.{std.proofs.Common.{arith, length, string_bytes, subst, sym}, reach.specs.Extents.limits_by}
-use Rattle.reptext.{specs.Drawing.{AddsArrows, pairs_with}, proofs.Arrows.{adds_label, label_is, label_there}}
-use Rattle.reptext.proofs.drawing.write_arrows.Goals.{in-Some+in_ok-write_arrows_from, in_default}
-use Rattle.reptext.proofs.drawing.write_arrows.Goals as goal
+use Rattle.diagram.{specs.Drawing.{AddsArrows, pairs_with}, proofs.PairArrows.{adds_label, label_is, label_there}}
+use Rattle.diagram.proofs.pairs.write_arrows.Goals.{in-Some+in_ok-write_arrows_from, in_default}
+use Rattle.diagram.proofs.pairs.write_arrows.Goals as goal
 
 pub loop-number-preserved : goal.loop-number-preserved
 loop-number-preserved c =

@@ -1,8 +1,8 @@
 //! The drawing of who may change or take from whom, for Graphviz.
 ghost use Rattle.std.specs.{List.flat_map, Prelude.{[], ◌++◌, ◌<◌, ◌∷◌, ◌≡◌, IfOk, List, OnErr, OnOk, length, string_bytes}};
 ghost use Rattle.reach.specs.Extents.{limits_by};
-ghost use Rattle.reptext.specs.Drawing.{AddsArrows, IsDrawing, arrow_line, label_line, pairs_of, pairs_with};
-ghost use Rattle.base.specs.declared.edge.Edge.Edge as EdgeOf;
+ghost use Rattle.diagram.specs.Drawing.{AddsArrows, IsDrawing, arrow_line, label_line, pairs_of, pairs_with};
+ghost use Rattle.base.specs.declared.edge.Edge.{Edge as EdgeOf};
 
 use base::{Edge, Label, Labels};
 use captext::label_name;
@@ -31,7 +31,7 @@ pub fn write_drawing(
     Ok(text.into_bytes())
 }
 
-#[tactic(auto, using(crate::proofs::Arrows::piece_more))]
+#[tactic(auto, using(matrix::proofs::Pieces::piece_more))]
 fn write_labels(text: &mut String, table: &Table) -> Result<(), AllocError>
     ensures { OnOk result (string_bytes text.new ≡ string_bytes text.old ++ flat_map label_line table.now.labels) }
 {
