@@ -1,4 +1,5 @@
 //! The systems of these tests, as texts.
+use fixtures::{ONE_LABEL_POLICY, TWO_CORES_POLICY, TWO_CORES_TABLE};
 
 /// The texts of a system.
 #[derive(Clone, Copy)]
@@ -32,41 +33,6 @@ pub const THREE_CORES: System = System {
     table: THREE_CORES_TABLE,
     policy: ONE_LABEL_POLICY,
 };
-
-const TWO_CORES_TABLE: &str = "\
-confine-table 1
-label a
-label b
-cnode ca a 0x1000 1
-cnode cb b 0x1040 1
-tcb ta a 0x2000 ready
-tcb tb b 0x2400 ready
-notification n b 0x3000
-context xa a 0x4000 1 10 10
-context xb b 0x4100 0 10 10
-cap ca.0 n w 4
-cap cb.0 n r 0
-cap ta.root ca 63 0x0
-cap tb.root cb 63 0x0
-bind ta xa
-bind tb xb
-end
-";
-
-const TWO_CORES_POLICY: &str = "\
-confine-policy 1
-edge a reset b
-edge a notify b
-edge a space a
-edge a derive a
-edge a runs a
-edge b reset b
-edge b await b
-edge b space b
-edge b derive b
-edge b runs b
-end
-";
 
 const EIGHT_CORES_TABLE: &str = "\
 confine-table 1
@@ -157,26 +123,5 @@ cap t2.root c 63 0x0
 bind t0 x0
 bind t1 x1
 bind t2 x2
-end
-";
-
-const ONE_LABEL_POLICY: &str = "\
-confine-policy 1
-edge a control a
-edge a reset a
-edge a send a
-edge a receive a
-edge a grant a
-edge a call a
-edge a notify a
-edge a await a
-edge a read a
-edge a write a
-edge a reply a
-edge a context a
-edge a space a
-edge a derive a
-edge a runs a
-edge a holds a
 end
 ";

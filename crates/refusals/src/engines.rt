@@ -1,38 +1,17 @@
 //! Engines of the program, each on its way to an answer, a denial, another end or a fault.
-ghost use Rattle.std.specs.Prelude.{◌≡◌, false};
-
 use crate::bell::{CERTIFICATE, LOG, POLICY, SCRIPT, TABLE};
 use crate::memory::{Stopped, Wrong, are, holds, prepared, spend};
 use crate::retypes::{self, LOG_WITHOUT_MEMORY};
+use fixtures::{
+    DESCRIPTION, Engine, OBJECTS_OF_DESCRIPTION, ONE_LABEL_POLICY, TABLE_OF_DESCRIPTION, carry_out,
+    taken_of,
+};
 use report::{
-    End, Form, Imported, Minting, OfPolicy, OfSystem, OnAccept, OnClose, OnImport, Open, Picture,
-    Rules, Search, Silence, Sink, Source, Taken, Use, Watched, ask, ask_policy, check,
-    check_claims, compare, import, replay, run, run_split, verify,
+    End, Form, Imported, OfPolicy, OfSystem, OnAccept, OnClose, Picture, Rules, Search, Use,
+    Watched,
 };
 use std::sync::Wait;
 use std::thread::Threads;
-
-/// The engine that is asked.
-#[derive(Clone, Copy)]
-pub enum Engine {
-    Run,
-    /// A run that is split among workers. All calls are one core's, so there is one log.
-    Split,
-    Check(OnAccept),
-    /// A check by the sharp rules.
-    Sharp,
-    Verify,
-    Replay,
-    /// A question on a system alone: a table, or a description with the least rights.
-    Asked(OfSystem<'static>),
-    /// A question on a table and a policy.
-    AskedOfPolicy(OfPolicy<'static>),
-    Claims,
-    /// The changes from the table to the third text.
-    Changes(Form),
-    /// An import of a description, with the least rights.
-    Import(Imported),
-}
 
 /// A call of an engine: the question, the texts that it reads, empty if it reads none, and its answer.
 #[derive(Clone, Copy)]
@@ -63,7 +42,7 @@ pub const CALLS: [EngineCall; 41] = [
         name: "engine_log_retype",
         engine: Engine::Run,
         table: retypes::TABLE,
-        policy: retypes::POLICY,
+        policy: ONE_LABEL_POLICY,
         third: retypes::SCRIPT,
         status: 0,
         text: retypes::LOG,
@@ -193,7 +172,7 @@ pub const CALLS: [EngineCall; 41] = [
             usage: Use::Reads,
             object: "r",
         }),
-        table: OF_A_DESCRIPTION,
+        table: TABLE_OF_DESCRIPTION,
         policy: "",
         third: "",
         status: 0,
@@ -318,7 +297,7 @@ pub const CALLS: [EngineCall; 41] = [
         policy: "",
         third: "",
         status: 0,
-        text: LIST_OF_A_DESCRIPTION,
+        text: OBJECTS_OF_DESCRIPTION,
     },
     EngineCall {
         name: "engine_import",
@@ -327,7 +306,7 @@ pub const CALLS: [EngineCall; 41] = [
         policy: "",
         third: DESCRIPTION,
         status: 0,
-        text: OF_A_DESCRIPTION,
+        text: TABLE_OF_DESCRIPTION,
     },
     EngineCall {
         name: "engine_intended",
@@ -588,46 +567,6 @@ const BREACHES: &str =
     {\"authority\":\"full\",\"claim\":\"take a b\",\"line\":3},\
     {\"claim\":\"without a notify b\",\"line\":5}],\"kept\":\"calls\",\"verdict\":\"broken\"}\n";
 
-/// A description of one protection domain, which reads one region.
-const DESCRIPTION: &str = "\
-<system>
-<memory_region name='r' size='0x1000'/>
-<protection_domain name='a'>
-<program_image path='a.elf'/>
-<map mr='r' vaddr='0x1000' perms='r'/>
-</protection_domain>
-</system>
-";
-
-/// The table that it becomes.
-const OF_A_DESCRIPTION: &str = "\
-confine-table 1
-label a
-label r
-cnode a_space a 0x4000 9
-tcb a_main a 0x8000 ready
-notification a_bell a 0x8400
-reply a_answer a 0x8420
-context a_time0 a 0x8500 0 1000 1000
-frame r_frame r 0x9000
-cap a_space.1 a_bell r 0
-cap a_space.4 a_answer
-cap a_space.458 r_frame r
-cap a_main.root a_space 55 0x0
-bind a_main a_time0
-end
-";
-
-/// The objects of that table.
-const LIST_OF_A_DESCRIPTION: &str = "\
-0 cnode a_space a
-1 tcb a_main a
-2 notification a_bell a
-3 reply a_answer a
-4 context a_time0 a
-5 frame r_frame r
-";
-
 /// A text whose second line is no line of a table.
 const FAULTY_TABLE: &str = "confine-table 1\nlabel\nend\n";
 
@@ -639,78 +578,6 @@ const OF_A_CHANGE: Search = Search {
     takes: false,
     steps: 100,
 };
-
-/// An import with the least rights.
-fn with_least(imported: Imported) -> OnImport {
-    OnImport {
-        minting: Minting::Least,
-        writes: imported,
-    }
-}
-
-/// Carries out an engine over these devices.
-fn carry_out<R, T, P, S, O>(
-    rt: &R,
-    engine: Engine,
-    taken: Taken,
-    table: &mut T,
-    policy: &mut P,
-    third: &mut S,
-    out: &mut O,
-) -> End
-where
-    R: AllocGlobal + Threads + Wait + Sync,
-    T: Source,
-    P: Source,
-    S: Source,
-    O: Sink,
-    requires table { T.failed table.old ≡ false }
-    requires policy { P.failed policy.old ≡ false }
-    requires third { S.failed third.old ≡ false }
-    requires out { O.failed out.old ≡ false }
-{
-    let alloc = rt.alloc();
-    let silence = &mut Silence;
-    let rules = Rules::Closed;
-    let either = Taken::Either(None);
-    match engine {
-        Engine::Run => run(rt, alloc, rules, table, policy, third, silence, out),
-        Engine::Split => run_split(rt, alloc, table, policy, third, &Open, silence, out),
-        Engine::Check(on_accept) => check(
-            rt, alloc, rules, table, policy, on_accept, 1, &Open, silence, out,
-        ),
-        Engine::Sharp => check(
-            rt,
-            alloc,
-            Rules::Sharp,
-            table,
-            policy,
-            OnAccept::Report,
-            1,
-            &Open,
-            silence,
-            out,
-        ),
-        Engine::Verify => verify(rt, alloc, rules, table, policy, third, silence, out),
-        Engine::Replay => replay(alloc, table, policy, third, silence, out),
-        Engine::Asked(asked) => ask(alloc, asked, taken, table, silence, out),
-        Engine::AskedOfPolicy(asked) => ask_policy(
-            alloc, asked, taken, table, policy, silence, out,
-        ),
-        Engine::Claims => check_claims(alloc, taken, table, third, silence, out),
-        Engine::Changes(form) => compare(alloc, form, either, table, third, silence, out),
-        Engine::Import(imported) => import(alloc, with_least(imported), third, silence, out),
-    }
-}
-
-/// The file as which the first text of a call is read.
-fn taken_of(text: &str) -> Taken {
-    if text.starts_with('<') {
-        Taken::System(Some(Minting::Least))
-    } else {
-        Taken::System(None)
-    }
-}
 
 /// Carries out an engine over the texts of a call, onto a page.
 fn carry_out_onto<R: AllocGlobal + Threads + Wait + Sync>(

@@ -378,28 +378,6 @@ pub fn tried<R: AllocGlobal>(rt: &R, count: u64, trial: Trial) -> Result<(), Sto
     }
 }
 
-/// A policy of an engine that makes an object.
-pub const POLICY: &str = "\
-confine-policy 1
-edge a control a
-edge a reset a
-edge a send a
-edge a receive a
-edge a grant a
-edge a call a
-edge a notify a
-edge a await a
-edge a read a
-edge a write a
-edge a reply a
-edge a context a
-edge a space a
-edge a derive a
-edge a runs a
-edge a holds a
-end
-";
-
 /// A script that makes an object, and tries to make another in the same slot.
 pub const SCRIPT: &str = "\
 confine-script 1

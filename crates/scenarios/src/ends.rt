@@ -1,48 +1,17 @@
-//! The ends of commands whose devices fail: their messages, their status, and what they have written by then.
+//! The ends of engines whose devices fail: their messages, their status, and what they have written by then.
 use crate::failing::{Given, Page};
-use crate::session::{Command, Ending, Files, ending_of};
-use report::{File, Form, Imported, OfSystem, OnAccept, Picture, Search};
+use crate::session::{Ending, Files, ending_of};
+use fixtures::{
+    DESCRIPTION, Engine, OBJECTS_OF_DESCRIPTION, TABLE_OF_DESCRIPTION, TWO_CORES_POLICY,
+    TWO_CORES_TABLE,
+};
+use report::{File, Form, Imported, OfPolicy, OfSystem, OnAccept, OnClose, Picture, Rules, Search};
 use std::alloc::Global;
 use std::io::ErrorKind;
 use std::process::Abort;
 use std::sync::Wait;
 use std::test::Fail;
 use std::thread::Threads;
-
-pub(crate) const TABLE: &str = "\
-confine-table 1
-label a
-label b
-cnode ca a 0x1000 1
-cnode cb b 0x1040 1
-tcb ta a 0x2000 ready
-tcb tb b 0x2400 ready
-notification n b 0x3000
-context xa a 0x4000 1 10 10
-context xb b 0x4100 0 10 10
-cap ca.0 n w 4
-cap cb.0 n r 0
-cap ta.root ca 63 0x0
-cap tb.root cb 63 0x0
-bind ta xa
-bind tb xb
-end
-";
-
-const POLICY: &str = "\
-confine-policy 1
-edge a reset b
-edge a notify b
-edge a space a
-edge a derive a
-edge a runs a
-edge b reset b
-edge b await b
-edge b space b
-edge b derive b
-edge b runs b
-end
-";
 
 const SCRIPT: &str = "\
 confine-script 1
@@ -141,46 +110,6 @@ const LIST: &str = "\
 6 context xb b
 ";
 
-/// A description of one protection domain, which reads one region.
-const DESCRIPTION: &str = "\
-<system>
-<memory_region name='r' size='0x1000'/>
-<protection_domain name='a'>
-<program_image path='a.elf'/>
-<map mr='r' vaddr='0x1000' perms='r'/>
-</protection_domain>
-</system>
-";
-
-/// The table of the description.
-const OF_A_DESCRIPTION: &str = "\
-confine-table 1
-label a
-label r
-cnode a_space a 0x4000 9
-tcb a_main a 0x8000 ready
-notification a_bell a 0x8400
-reply a_answer a 0x8420
-context a_time0 a 0x8500 0 1000 1000
-frame r_frame r 0x9000
-cap a_space.1 a_bell r 0
-cap a_space.4 a_answer
-cap a_space.458 r_frame r
-cap a_main.root a_space 55 0x0
-bind a_main a_time0
-end
-";
-
-/// The objects of the description's table.
-const LIST_OF_A_DESCRIPTION: &str = "\
-0 cnode a_space a
-1 tcb a_main a
-2 notification a_bell a
-3 reply a_answer a
-4 context a_time0 a
-5 frame r_frame r
-";
-
 /// The claims that the description makes.
 const INTENDED: &str = "confine-claims 2\nnone a r\nend\n";
 
@@ -227,16 +156,21 @@ const NO_CLAIMS: &str = "confine: cannot read claims";
 
 const NO_DESCRIPTION: &str = "confine: cannot read description";
 
-const WHY: Command = Command::Asked(OfSystem::Why {
+const CLOSE: Engine = Engine::AskedOfPolicy(OfPolicy::Close(Rules::Closed, OnClose::Policy));
+
+/// The changes from one table to another.
+const DIFF: Engine = Engine::Changes(Form::Text);
+
+const WHY: Engine = Engine::Asked(OfSystem::Why {
     form: Form::Text,
     actor: "a",
     object: "b",
 });
 
-const SUMMARY: Command = Command::Asked(OfSystem::Summary(Form::Text));
+const SUMMARY: Engine = Engine::Asked(OfSystem::Summary(Form::Text));
 
 /// A search for a change, of few calls.
-const SHOW: Command = Command::Asked(OfSystem::Show {
+const SHOW: Engine = Engine::Asked(OfSystem::Show {
     search: Search {
         takes: false,
         steps: 100,
@@ -245,79 +179,77 @@ const SHOW: Command = Command::Asked(OfSystem::Show {
     object: "b",
 });
 
-const FOLDED: Command = Command::Asked(OfSystem::Draw(Picture::Programs));
+const FOLDED: Engine = Engine::Asked(OfSystem::Draw(Picture::Programs));
 
-const DRAWN: Command = Command::Asked(OfSystem::Draw(Picture::Labels));
+const DRAWN: Engine = Engine::Asked(OfSystem::Draw(Picture::Labels));
 
-const LIST_OF_OBJECTS: Command = Command::Asked(OfSystem::List);
-
-const LIST_OF_DESCRIPTION: Command = Command::AskedOfDescription(OfSystem::List);
+const LIST_OF_OBJECTS: Engine = Engine::Asked(OfSystem::List);
 
 /// The strongest claims.
-const ALL_CLAIMS: Command = Command::Asked(OfSystem::Strongest);
+const ALL_CLAIMS: Engine = Engine::Asked(OfSystem::Strongest);
 
-/// The files that each command reads, with the message if one can't be read.
-const MESSAGES: [(Command, File, &str); 31] = [
-    (Command::Check(OnAccept::Report), File::Table, NO_TABLE),
-    (Command::Check(OnAccept::Report), File::Policy, NO_POLICY),
-    (Command::Check(OnAccept::Certificate), File::Table, NO_TABLE),
+/// The files that each engine reads, with the message if one can't be read.
+const MESSAGES: [(Engine, File, &str); 31] = [
+    (Engine::Check(OnAccept::Report), File::Table, NO_TABLE),
+    (Engine::Check(OnAccept::Report), File::Policy, NO_POLICY),
+    (Engine::Check(OnAccept::Certificate), File::Table, NO_TABLE),
     (
-        Command::Check(OnAccept::Certificate),
+        Engine::Check(OnAccept::Certificate),
         File::Policy,
         NO_POLICY,
     ),
-    (Command::Verify, File::Table, NO_TABLE),
-    (Command::Verify, File::Policy, NO_POLICY),
-    (Command::Verify, File::Certificate, NO_CERTIFICATE),
-    (Command::Split, File::Table, NO_TABLE),
-    (Command::Split, File::Policy, NO_POLICY),
-    (Command::Split, File::Script, NO_SCRIPT),
-    (Command::Run, File::Table, NO_TABLE),
-    (Command::Run, File::Policy, NO_POLICY),
-    (Command::Run, File::Script, NO_SCRIPT),
-    (Command::Replay, File::Table, NO_TABLE),
-    (Command::Replay, File::Policy, NO_POLICY),
-    (Command::Replay, File::Log, NO_LOG),
-    (Command::Close, File::Table, NO_TABLE),
-    (Command::Close, File::Policy, NO_POLICY),
+    (Engine::Verify, File::Table, NO_TABLE),
+    (Engine::Verify, File::Policy, NO_POLICY),
+    (Engine::Verify, File::Certificate, NO_CERTIFICATE),
+    (Engine::Split, File::Table, NO_TABLE),
+    (Engine::Split, File::Policy, NO_POLICY),
+    (Engine::Split, File::Script, NO_SCRIPT),
+    (Engine::Run, File::Table, NO_TABLE),
+    (Engine::Run, File::Policy, NO_POLICY),
+    (Engine::Run, File::Script, NO_SCRIPT),
+    (Engine::Replay, File::Table, NO_TABLE),
+    (Engine::Replay, File::Policy, NO_POLICY),
+    (Engine::Replay, File::Log, NO_LOG),
+    (CLOSE, File::Table, NO_TABLE),
+    (CLOSE, File::Policy, NO_POLICY),
     (WHY, File::Table, NO_TABLE),
     (SUMMARY, File::Table, NO_TABLE),
     (SHOW, File::Table, NO_TABLE),
     (FOLDED, File::Table, NO_TABLE),
     (DRAWN, File::Table, NO_TABLE),
     (LIST_OF_OBJECTS, File::Table, NO_TABLE),
-    (Command::Claims, File::Table, NO_TABLE),
-    (Command::Claims, File::Claims, NO_CLAIMS),
+    (Engine::Claims, File::Table, NO_TABLE),
+    (Engine::Claims, File::Claims, NO_CLAIMS),
     (ALL_CLAIMS, File::Table, NO_TABLE),
-    (Command::Diff, File::Table, NO_TABLE),
-    (Command::Diff, File::New, NO_NEW),
+    (DIFF, File::Table, NO_TABLE),
+    (DIFF, File::New, NO_NEW),
     (
-        Command::Import(Imported::Table),
+        Engine::Import(Imported::Table),
         File::Description,
         NO_DESCRIPTION,
     ),
     (
-        Command::Import(Imported::Claims),
+        Engine::Import(Imported::Claims),
         File::Description,
         NO_DESCRIPTION,
     ),
 ];
 
 /// The files of a system that is accepted: a notification from one label to another, on two cores.
-fn files_for(command: Command) -> Files<'static> {
-    let third = match command {
-        Command::Replay => LOG,
-        Command::Verify => CERTIFICATE,
-        Command::Split => POLLS,
-        Command::Claims => CLAIMS,
-        Command::Diff => LABELS,
-        Command::Import(_) => DESCRIPTION,
+fn files_for(engine: Engine) -> Files<'static> {
+    let third = match engine {
+        Engine::Replay => LOG,
+        Engine::Verify => CERTIFICATE,
+        Engine::Split => POLLS,
+        Engine::Claims => CLAIMS,
+        Engine::Changes(_) => LABELS,
+        Engine::Import(_) => DESCRIPTION,
         _ => SCRIPT,
     };
     Files {
-        command,
-        table: Given::text(TABLE),
-        policy: Given::text(POLICY),
+        engine,
+        table: Given::text(TWO_CORES_TABLE),
+        policy: Given::text(TWO_CORES_POLICY),
         third: Given::text(third),
     }
 }
@@ -341,18 +273,18 @@ fn to_close() -> Files<'static> {
     Files {
         table: Given::text("confine-table 1\nlabel a\nend\n"),
         policy: Given::text("confine-policy 1\nedge a context a\nend\n"),
-        ..files_for(Command::Close)
+        ..files_for(CLOSE)
     }
 }
 
-/// A command's files, with the status and the answer.
+/// An engine's files, with the status and the answer.
 type Answered = (Files<'static>, u8, &'static str);
 
 /// The files for each kind of answer of `check` and `verify`.
 fn answers_of_checks() -> [Answered; 8] {
-    let report = files_for(Command::Check(OnAccept::Report));
-    let certificate = files_for(Command::Check(OnAccept::Certificate));
-    let to_verify = files_for(Command::Verify);
+    let report = files_for(Engine::Check(OnAccept::Report));
+    let certificate = files_for(Engine::Check(OnAccept::Certificate));
+    let to_verify = files_for(Engine::Verify);
     let other = Given::text("confine-cert 1\nend\n");
     [
         (report, 0, REPORT),
@@ -376,7 +308,7 @@ fn answers_of_checks() -> [Answered; 8] {
 
 /// The files for each kind of answer of `run`.
 fn answers_of_runs() -> [Answered; 5] {
-    let files = files_for(Command::Run);
+    let files = files_for(Engine::Run);
     [
         (files, 0, LOG),
         (files.with(File::Policy, empty_policy()), 1, DENIAL),
@@ -388,7 +320,7 @@ fn answers_of_runs() -> [Answered; 5] {
 
 /// The files for each kind of answer of `run --split`.
 fn answers_of_splits() -> [Answered; 3] {
-    let files = files_for(Command::Split);
+    let files = files_for(Engine::Split);
     [
         (files, 0, LOG_OF_POLLS),
         (files.with(File::Policy, empty_policy()), 1, DENIAL),
@@ -397,15 +329,15 @@ fn answers_of_splits() -> [Answered; 3] {
 }
 
 /// The files with labels only, without threads and edges.
-fn labels_for(command: Command) -> Files<'static> {
+fn labels_for(engine: Engine) -> Files<'static> {
     Files {
         table: Given::text(LABELS),
         policy: empty_policy(),
-        ..files_for(command)
+        ..files_for(engine)
     }
 }
 
-/// The files for each kind of answer of the commands on who may change whom.
+/// The files for each kind of answer of the questions on who may change whom.
 fn answers_on_changes() -> [Answered; 7] {
     let to_draw = files_for(DRAWN);
     let to_fold = labels_for(FOLDED);
@@ -422,10 +354,10 @@ fn answers_on_changes() -> [Answered; 7] {
 
 /// The files for each kind of answer of `import`.
 fn answers_of_imports() -> [Answered; 3] {
-    let files = files_for(Command::Import(Imported::Table));
+    let files = files_for(Engine::Import(Imported::Table));
     [
-        (files, 0, OF_A_DESCRIPTION),
-        (files_for(Command::Import(Imported::Claims)), 0, INTENDED),
+        (files, 0, TABLE_OF_DESCRIPTION),
+        (files_for(Engine::Import(Imported::Claims)), 0, INTENDED),
         (
             files.with(File::Description, faulty()),
             2,
@@ -434,9 +366,9 @@ fn answers_of_imports() -> [Answered; 3] {
     ]
 }
 
-/// The files for each kind of answer of the other commands.
+/// The files for each kind of answer of the other engines.
 fn answers_of_others() -> [Answered; 6] {
-    let to_replay = files_for(Command::Replay);
+    let to_replay = files_for(Engine::Replay);
     let to_list = files_for(LIST_OF_OBJECTS);
     [
         (to_close(), 0, LEAST),
@@ -450,7 +382,7 @@ fn answers_of_others() -> [Answered; 6] {
 
 /// The files for each kind of answer of `claims`.
 fn answers_of_claims() -> [Answered; 4] {
-    let files = files_for(Command::Claims);
+    let files = files_for(Engine::Claims);
     [
         (files, 0, HOLD),
         (files.with(File::Claims, Given::text(BROADER)), 1, BREACHES),
@@ -461,8 +393,8 @@ fn answers_of_claims() -> [Answered; 4] {
 
 /// The files for each kind of answer of `diff`.
 fn answers_of_diffs() -> [Answered; 4] {
-    let files = files_for(Command::Diff);
-    let turned = labels_for(Command::Diff).with(File::New, Given::text(TABLE));
+    let files = files_for(DIFF);
+    let turned = labels_for(DIFF).with(File::New, Given::text(TWO_CORES_TABLE));
     [
         (files, 0, REMOVED),
         (turned, 1, ADDED),
@@ -473,12 +405,12 @@ fn answers_of_diffs() -> [Answered; 4] {
 
 /// The files for each kind of answer if a description is given in place of a table.
 fn answers_of_descriptions() -> [Answered; 2] {
-    let files = files_for(LIST_OF_DESCRIPTION);
+    let files = files_for(LIST_OF_OBJECTS);
     [
         (
             files.with(File::Table, Given::text(DESCRIPTION)),
             0,
-            LIST_OF_A_DESCRIPTION,
+            OBJECTS_OF_DESCRIPTION,
         ),
         (
             files.with(File::Table, Given::text("<")),
@@ -488,7 +420,7 @@ fn answers_of_descriptions() -> [Answered; 2] {
     ]
 }
 
-/// Asserts what the command says on standard error, its status and the text that it wrote, when a
+/// Asserts what the engine says on standard error, its status and the text that it wrote, when a
 /// device failed, or was interrupted, after a number of bytes.
 fn ends<R: Abort>(
     rt: &R,
@@ -501,8 +433,8 @@ fn ends<R: Abort>(
     assert_eq!(rt; ending.end.status(), status, "after {after} bytes");
 }
 
-/// Does the command on the files, and asserts its end.
-fn command_ends<R: Abort + AllocGlobal + Threads + Wait + Sync>(
+/// Carries out the engine on the files, and asserts its end.
+fn engine_ends<R: Abort + AllocGlobal + Threads + Wait + Sync>(
     rt: &R,
     files: Files<'_>,
     end: (Option<&str>, u8, &str),
@@ -514,7 +446,7 @@ fn command_ends<R: Abort + AllocGlobal + Threads + Wait + Sync>(
 
 #[test]
 fn each_file_is_parsed_before_the_next_is_read(rt: HostRuntime) -> Result<(), Fail> {
-    let files = files_for(Command::Run);
+    let files = files_for(Engine::Run);
     for (table, policy, third, message, written) in &[
         (missing(), files.policy, files.third, Some(NO_TABLE), ""),
         (missing(), faulty(), faulty(), Some(NO_TABLE), ""),
@@ -534,12 +466,12 @@ fn each_file_is_parsed_before_the_next_is_read(rt: HostRuntime) -> Result<(), Fa
             third: *third,
             ..files
         };
-        command_ends(&rt, files, (*message, 2, *written))?;
+        engine_ends(&rt, files, (*message, 2, *written))?;
     }
     Ok(())
 }
 
-/// The files that a command asks for bytes if this one can't be read.
+/// The files that an engine asks for bytes if this one can't be read.
 fn read_up_to(file: File) -> [bool; 3] {
     match file {
         File::Table => [true, false, false],
@@ -555,11 +487,11 @@ fn read_up_to(file: File) -> [bool; 3] {
 /// Asserts that a file that fails after a number of bytes can't be read, and that files after it aren't asked.
 fn fails_after<R: Abort + AllocGlobal + Threads + Wait + Sync>(
     rt: &R,
-    (command, file, message): (Command, File, &str),
+    (engine, file, message): (Engine, File, &str),
     given: Given<'_>,
     after: usize,
 ) -> Result<(), Fail> {
-    let files = files_for(command).with(file, given.failing(after, ErrorKind::Other));
+    let files = files_for(engine).with(file, given.failing(after, ErrorKind::Other));
     let ending = ending_of(rt, files, Page::new(rt.alloc()))?;
     ends(rt, &ending, (Some(message), 2, ""), after);
     assert!(rt; ending.reads == read_up_to(file), "after {after} bytes");
@@ -569,9 +501,9 @@ fn fails_after<R: Abort + AllocGlobal + Threads + Wait + Sync>(
 #[test]
 fn a_file_that_fails_at_any_byte_cannot_be_read(rt: HostRuntime) -> Result<(), Fail> {
     for row in &MESSAGES {
-        let (command, file, _) = *row;
+        let (engine, file, _) = *row;
         for most in &[usize::MAX, 1] {
-            let given = files_for(command).file(file).at_most(*most);
+            let given = files_for(engine).file(file).at_most(*most);
             for after in 0..given.text.len() {
                 fails_after(&rt, *row, given, after)?;
             }
@@ -589,12 +521,12 @@ fn a_read_that_fails_is_no_end_of_file(rt: HostRuntime) -> Result<(), Fail> {
         ErrorKind::InvalidData,
         ErrorKind::Other,
     ] {
-        for (command, file, message) in &MESSAGES {
-            let files = files_for(*command);
+        for (engine, file, message) in &MESSAGES {
+            let files = files_for(*engine);
             // A fault in what was read isn't reported either.
             for given in &[files.file(*file), faulty()] {
                 let files = files.with(*file, given.at_end(*kind));
-                command_ends(&rt, files, (Some(*message), 2, ""))?;
+                engine_ends(&rt, files, (Some(*message), 2, ""))?;
             }
         }
     }
@@ -603,14 +535,14 @@ fn a_read_that_fails_is_no_end_of_file(rt: HostRuntime) -> Result<(), Fail> {
 
 #[test]
 fn a_read_that_is_interrupted_is_asked_again(rt: HostRuntime) -> Result<(), Fail> {
-    for after in 0..TABLE.len() {
-        let mut files = files_for(Command::Run);
+    for after in 0..TWO_CORES_TABLE.len() {
+        let mut files = files_for(Engine::Run);
         for file in &[File::Table, File::Policy, File::Script] {
             let given = files.file(*file);
             let after = after.min(given.text.len());
             files = files.with(*file, given.failing(after, ErrorKind::Interrupted));
         }
-        command_ends(&rt, files, (None, 0, LOG))?;
+        engine_ends(&rt, files, (None, 0, LOG))?;
     }
     Ok(())
 }
@@ -618,9 +550,9 @@ fn a_read_that_is_interrupted_is_asked_again(rt: HostRuntime) -> Result<(), Fail
 #[test]
 fn a_read_without_memory_blames_no_file(rt: HostRuntime) -> Result<(), Fail> {
     let starved = Given::text("").failing(0, ErrorKind::OutOfMemory);
-    for (command, file, _) in &MESSAGES {
-        let files = files_for(*command).with(*file, starved);
-        command_ends(&rt, files, (Some("confine: no memory"), 2, ""))?;
+    for (engine, file, _) in &MESSAGES {
+        let files = files_for(*engine).with(*file, starved);
+        engine_ends(&rt, files, (Some("confine: no memory"), 2, ""))?;
     }
     Ok(())
 }
@@ -644,7 +576,7 @@ fn overflows<R: Abort + AllocGlobal + Threads + Wait + Sync>(
     Ok(())
 }
 
-/// Asserts that the command can't write to a page without room for the whole answer.
+/// Asserts that the engine can't write to a page without room for the whole answer.
 fn none_is_written<R: Abort + AllocGlobal + Threads + Wait + Sync>(
     rt: &R,
     answers: &[Answered],
@@ -719,7 +651,7 @@ const AMOUNTS: [(usize, usize); 9] = [
     (usize::MAX, 7),
 ];
 
-/// Asserts these answers of commands, however many bytes the devices move at a time.
+/// Asserts these answers of engines, however many bytes the devices move at a time.
 fn all_are_given<R: Abort + AllocGlobal + Threads + Wait + Sync>(
     rt: &R,
     answers: &[Answered],

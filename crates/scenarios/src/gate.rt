@@ -2,9 +2,10 @@
 use base::Refusal;
 use captext::{read_policy, read_table};
 use checker::{CheckError, Gate, Open};
+use fixtures::{TWO_CORES_POLICY, TWO_CORES_TABLE};
 use policy::Policy;
 use report::{End, OnAccept, Rules, Silence, Watched};
-use std::alloc::{AllocError, Global};
+use std::alloc::Global;
 use std::process::Abort;
 use std::sync::Wait;
 use std::sync::atomic::{AtomicU64, Ordering};
@@ -126,48 +127,14 @@ fn gate_check(rt: HostRuntime) {
     assert_eq!(rt; end, End::Status(0));
 }
 
-// Two threads, each on a core of its own; the cores of their contexts follow.
-const TWO_THREADS: &str = "\
-confine-table 1
-label a
-label b
-cnode ca a 0x1000 1
-cnode cb b 0x1040 1
-tcb ta a 0x2000 ready
-tcb tb b 0x2400 ready
-notification n b 0x3000
-";
-
-// The capabilities of the threads, and their bindings.
-const CAPS_AND_BINDINGS: &str = "\
-cap ca.0 n w 4
-cap cb.0 n r 0
-cap ta.root ca 63 0x0
-cap tb.root cb 63 0x0
-bind ta xa
-bind tb xb
-end
-";
-
-const FROM_A_TO_B: &str = "\
-confine-policy 1
-edge a reset b
-edge a notify b
-edge a space a
-edge a derive a
-edge a runs a
-edge b reset b
-edge b await b
-edge b space b
-edge b derive b
-edge b runs b
-end
-";
+/// The contexts of the table of two cores, which name the cores.
+const CONTEXTS: &str = "context xa a 0x4000 1 10 10\ncontext xb b 0x4100 0 10 10\n";
 
 /// A system of two threads on two cores, and a script in which the first signals and the other polls twice.
-fn texts_on(alloc: Global, signals: u64, polls: u64) -> Result<(String, String), AllocError> {
+fn texts_on(alloc: Global, signals: u64, polls: u64) -> Result<(String, String), Fail> {
+    let (before, after) = TWO_CORES_TABLE.split_once(CONTEXTS).ok_or("no contexts")?;
     let table = format!(in alloc;
-        "{TWO_THREADS}context xa a 0x4000 {signals} 10 10\ncontext xb b 0x4100 {polls} 10 10\n{CAPS_AND_BINDINGS}"
+        "{before}context xa a 0x4000 {signals} 10 10\ncontext xb b 0x4100 {polls} 10 10\n{after}"
     )?;
     let script = format!(in alloc;
         "confine-script 1\n{signals} 2 signal 0\n{polls} 3 poll 0\n{polls} 3 poll 0\nend\n"
@@ -185,7 +152,7 @@ fn gate_split_on<R: Abort + AllocGlobal + Threads + Wait + Sync>(
     let meeting = Meeting::new();
     let (table, script) = texts_on(rt.alloc(), signals, polls)?;
     let mut table = Watched::new(table.as_bytes());
-    let mut policy = Watched::new(FROM_A_TO_B.as_bytes());
+    let mut policy = Watched::new(TWO_CORES_POLICY.as_bytes());
     let mut script = Watched::new(script.as_bytes());
     let mut out = Watched::new(Vec::new(rt.alloc()));
     let end = report::run_split(

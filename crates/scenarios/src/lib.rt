@@ -1,9 +1,11 @@
-//! Devices that fail or move few bytes at a time, commands over such devices, and workers that
-//! share work: what no text can say, so that it is no case.
+//! Devices that fail or move few bytes at a time, engines over such devices, workers that share work, and elements of
+//! documents: what no text can say, so that it is no case.
 //!
 //! The crate has only tests. It knows no command line, and no words of `--explain`.
 #![tactic(auto)]
 
+#[cfg(test)]
+mod documents;
 #[cfg(test)]
 mod ends;
 #[cfg(test)]

@@ -1,4 +1,4 @@
-//! Documents that are read, the first faults of others, and the limits.
+//! Documents of XML: the elements that are read, the first faults of others, and the limits.
 use std::alloc::{AllocError, Global};
 use std::test::*;
 use words::Fault;
@@ -82,11 +82,7 @@ fn first_faults(rt: HostRuntime) -> Result<(), Fail> {
 }
 
 // A document of so many levels, with so many elements beside the innermost one.
-fn nested(
-    alloc: std::alloc::Global,
-    levels: usize,
-    others: usize,
-) -> Result<Vec<u8>, std::alloc::AllocError> {
+fn nested(alloc: Global, levels: usize, others: usize) -> Result<Vec<u8>, AllocError> {
     let mut text = Vec::new(alloc);
     for _ in 0..levels {
         text.extend_from_slice(b"<a>\n")?;
