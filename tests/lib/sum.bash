@@ -1,15 +1,8 @@
-# What .ci/run, tests/quick and tests/refuse-memory share, each of which reads it in by `source`: a sum of what passed and what
-# failed, and a folder for the files of a run.
+# What .ci/run reads in by `source`: a sum of what passed and what failed, and a folder for the files of a run.
 passed=0 failed=0
 room=$(mktemp -d)
 
-# Ends what still runs beside, if the script is broken off, and removes the folder.
-clean() {
-  local job
-  for job in $(jobs -rp); do kill "$job" 2>/dev/null || true; done
-  rm -rf -- "$room"
-}
-trap clean EXIT
+trap 'rm -rf -- "$room"' EXIT
 trap 'exit 130' INT
 
 # Runs a command whose last line is 'N passed, M failed', and adds these; one that doesn't end so has failed, and so has
