@@ -1,9 +1,14 @@
 //! Atoms, which are single facts of a state: a search finds by them what is new.
-use base::{ObjId, SlotRef};
+ghost use Rattle.std.specs.Prelude.{◌≡◌, IfErr};
+ghost use Rattle.base.specs.Refusals.{plain};
+
+use crate::listing::Listing;
+use base::{ObjId, Refusal, SlotRef};
 use bitflags::Flags;
 use labels::label_of;
 use machine::{Cap, Detail, Inbox, Object, ObjectKind, ReplyState, RunState, Tcb};
 use objects::State;
+use runs::reach;
 use std::alloc::{AllocError, Global};
 use std::collections::{BTreeMap, BTreeSet};
 use table::Table;
@@ -12,7 +17,7 @@ use table::Table;
 const MOST_TWOS: usize = 1_000_000;
 
 /// The kind of an atom.
-#[derive(Clone, Copy, PartialEq, Eq, PartialOrd, Ord, Debug)]
+#[derive(Clone, Copy, PartialEq, Eq, PartialOrd, Ord)]
 enum Aspect {
     /// A CNode holds a capability.
     Holds,
@@ -56,7 +61,7 @@ enum Aspect {
 }
 
 /// An object as atoms name it.
-#[derive(Clone, Copy, PartialEq, Eq, PartialOrd, Ord, Debug)]
+#[derive(Clone, Copy, PartialEq, Eq, PartialOrd, Ord)]
 enum Name {
     /// No object.
     Nothing,
@@ -67,7 +72,7 @@ enum Name {
 }
 
 /// A single fact of a state, on one or two objects and with rights.
-#[derive(Clone, Copy, PartialEq, Eq, PartialOrd, Ord, Debug)]
+#[derive(Clone, Copy, PartialEq, Eq, PartialOrd, Ord)]
 struct Atom {
     aspect: Aspect,
     of: Name,
@@ -76,15 +81,8 @@ struct Atom {
     number: u64,
 }
 
-/// Two atoms of one state, by their numbers.
-#[derive(Clone, Copy, PartialEq, Eq, PartialOrd, Ord, Debug)]
-struct Two {
-    one: usize,
-    other: usize,
-}
-
 /// The atoms that a state must have to be new.
-#[derive(Clone, Copy, PartialEq, Eq, Debug)]
+#[derive(Clone, Copy)]
 pub enum News {
     /// An atom that no earlier state had.
     Atom,
@@ -103,34 +101,52 @@ pub struct Known<'a> {
     atoms: BTreeMap<Atom, usize>,
     /// The number of atoms of the boot state.
     first: usize,
-    twos: BTreeSet<Two>,
+    /// The pairs of atoms of one state, by their numbers: the smaller number comes first.
+    twos: BTreeSet<(usize, usize)>,
 }
 
 impl<'a> Known<'a> {
-    /// Returns the atoms of the boot state.
-    pub fn new(
-        alloc: Global,
-        table: &'a Table,
-        news: News,
-        boot: &State,
-    ) -> Result<Known<'a>, AllocError> {
-        let mut known = Known {
+    /// Returns what is known before the boot state is noted: nothing.
+    pub fn new(alloc: Global, table: &'a Table, news: News) -> Known<'a> {
+        Known {
             table,
             news,
-            count: boot.next_id(),
+            count: 0,
             atoms: BTreeMap::new(alloc),
             first: 0,
             twos: BTreeSet::new(alloc),
-        };
-        let mut found = Vec::new(alloc);
-        for number in 0..boot.next_id() {
-            known.list(boot, ObjId(number), &mut found)?;
         }
-        for atom in &found {
-            let _ = known.number(atom)?;
+    }
+
+    /// Notes the boot state, if the table has one. It must be the first state that is noted.
+    ///
+    /// # Errors
+    ///
+    /// 40 where memory is refused.
+    pub fn note_boot(&mut self, alloc: Global) -> Result<(), Refusal>
+        ensures { IfErr result (λ refusal. refusal ≡ plain 40) }
+    {
+        match reach(alloc, self.table, &[]) {
+            Ok(Some(boot)) => self.note_first(alloc, &boot),
+            Ok(None) => Ok(()),
+            Err(refusal) => Err(refusal),
         }
-        known.first = known.atoms.len();
-        Ok(known)
+    }
+
+    // Notes the first state.
+    fn note_first(&mut self, alloc: Global, boot: &State) -> Result<(), Refusal>
+        ensures { IfErr result (λ refusal. refusal ≡ plain 40) }
+    {
+        self.count = boot.next_id();
+        let mut found = Listing::new(alloc);
+        for number in 0..self.count {
+            self.list(boot, ObjId(number), &mut found);
+        }
+        for atom in &found.finish()? {
+            let _ = self.number(atom)?;
+        }
+        self.first = self.atoms.len();
+        Ok(())
     }
 
     /// Notes the atoms of the objects that a call changed, and returns whether the state is new.
@@ -146,7 +162,7 @@ impl<'a> Known<'a> {
         let before = self.atoms.len();
         let numbers = self.numbers(alloc, state, changes)?;
         let is_new = self.atoms.len() != before;
-        if self.news == News::Atom || self.twos.len() >= MOST_TWOS {
+        if matches!(self.news, News::Atom) || self.twos.len() >= MOST_TWOS {
             return Ok(is_new);
         }
         let others = self.numbers(alloc, state, earlier)?;
@@ -175,69 +191,59 @@ impl<'a> Known<'a> {
         state: &State,
         ids: &[ObjId],
     ) -> Result<Vec<usize>, AllocError> {
-        let mut found = Vec::new(alloc);
+        let mut found = Listing::new(alloc);
         for id in ids {
-            self.list(state, *id, &mut found)?;
+            self.list(state, *id, &mut found);
         }
-        let mut numbers = Vec::new(alloc);
-        for atom in &found {
+        let mut numbers = Listing::new(alloc);
+        for atom in &found.finish()? {
             let number = self.number(atom)?;
             if number >= self.first {
-                numbers.push(number)?;
+                numbers.push(number);
             }
         }
-        Ok(numbers)
+        numbers.finish()
     }
 
     // Notes each pair of an atom of some numbers and one of others.
     fn note_twos(&mut self, numbers: &[usize], others: &[usize]) -> Result<(), AllocError> {
         for one in numbers {
             for other in others {
-                let two = Two {
-                    one: (*one).min(*other),
-                    other: (*one).max(*other),
-                };
-                self.twos.insert(two)?;
+                let pair = ((*one).min(*other), (*one).max(*other));
+                self.twos.insert(pair)?;
             }
         }
         Ok(())
     }
 
     // Lists the atoms of an object.
-    fn list(&self, state: &State, id: ObjId, found: &mut Vec<Atom>) -> Result<(), AllocError> {
+    fn list(&self, state: &State, id: ObjId, found: &mut Listing<Atom>) {
         let of = self.name(state, id);
         let Some(object) = state.object(id) else {
-            return push(found, Aspect::Gone, &of, &Name::Nothing, 0);
+            push(found, Aspect::Gone, &of, &Name::Nothing, 0);
+            return;
         };
         let (aspect, at) = content_of(object);
         let place = self.name_if(state, at);
-        push(found, aspect, &of, &place, 0)?;
+        push(found, aspect, &of, &place, 0);
         if let Object::Tcb(thread) = object {
-            self.list_thread(state, thread, &of, found)?;
+            self.list_thread(state, thread, &of, found);
         }
         for index in 0..object.slot_count() {
             let slot = SlotRef { holder: id, index };
-            self.list_slot(state, slot, object, &of, found)?;
+            self.list_slot(state, slot, object, &of, found);
         }
-        match only_gap(state, id, object) {
-            Some(index) => push(found, Aspect::Gap, &of, &Name::Nothing, index),
-            None => Ok(()),
+        if let Some(index) = only_gap(state, id, object) {
+            push(found, Aspect::Gap, &of, &Name::Nothing, index);
         }
     }
 
     // Lists the atoms that only threads have.
-    fn list_thread(
-        &self,
-        state: &State,
-        thread: &Tcb,
-        of: &Name,
-        found: &mut Vec<Atom>,
-    ) -> Result<(), AllocError> {
+    fn list_thread(&self, state: &State, thread: &Tcb, of: &Name, found: &mut Listing<Atom>) {
         let context = self.name_if(state, thread.context);
-        push(found, Aspect::Bound, of, &context, 0)?;
-        match given(&thread.inbox) {
-            Some(aspect) => push(found, aspect, of, &Name::Nothing, 0),
-            None => Ok(()),
+        push(found, Aspect::Bound, of, &context, 0);
+        if let Some(aspect) = given(&thread.inbox) {
+            push(found, aspect, of, &Name::Nothing, 0);
         }
     }
 
@@ -248,22 +254,22 @@ impl<'a> Known<'a> {
         slot: SlotRef,
         object: &Object,
         of: &Name,
-        found: &mut Vec<Atom>,
-    ) -> Result<(), AllocError> {
+        found: &mut Listing<Atom>,
+    ) {
         let Some(cap) = state.held(slot) else {
-            return Ok(());
+            return;
         };
         let aspect = match object {
             Object::Tcb(_) => Aspect::Root,
             _ => Aspect::Holds,
         };
         let held = self.name(state, cap.object);
-        push(found, aspect, of, &held, rights(cap))?;
+        push(found, aspect, of, &held, rights(cap));
         let Some(parent) = state.parent(slot) else {
-            return Ok(());
+            return;
         };
         let from = self.name(state, parent.holder);
-        push(found, Aspect::Pair, of, &from, 0)
+        push(found, Aspect::Pair, of, &from, 0);
     }
 
     // The name of an object in atoms.
@@ -292,20 +298,13 @@ impl<'a> Known<'a> {
 }
 
 // Adds an atom to a list.
-fn push(
-    found: &mut Vec<Atom>,
-    aspect: Aspect,
-    of: &Name,
-    to: &Name,
-    number: u64,
-) -> Result<(), AllocError> {
+fn push(found: &mut Listing<Atom>, aspect: Aspect, of: &Name, to: &Name, number: u64) {
     found.push(Atom {
         aspect,
         of: *of,
         to: *to,
         number,
-    })?;
-    Ok(())
+    });
 }
 
 // The only empty slot of an object, if all others are filled.

@@ -1,19 +1,26 @@
 //! The search for a run that leaves a policy, which is one that ends in a state whose authority lies outside the policy.
-ghost use Rattle.std.specs.Prelude.{◌≡◌, ◌≤◌, IfErr, IfOk, IfSome};
+ghost use Rattle.std.specs.Prelude.{[], ◌++◌, ◌∷◌, ◌≡◌, ◌≤◌, IfErr, IfOk, IfSome, IsTrue};
 ghost use Rattle.{base.specs.Refusals.plain, machine.specs.WellFormed.IsWellFormed, policy.specs.Policy.allows, runs.specs.Escapes.LeavesPolicy};
 
 use crate::atoms::{Known, News};
 use crate::finding::{Found, copied, longer, unfound};
-use crate::origin::{Origin, settle};
-use crate::touching::{changes, touched};
+use crate::origin::{Origin, apply, settle};
 use crate::trying::{Breadth, Callers, Choice, calls_in};
 use base::{ObjId, Refusal};
 use machine::Event;
 use objects::State;
 use policy::Policy;
 use runs::{MOST_CALLS, leaves, lies_outside, makes, reach};
-use std::alloc::{AllocError, Global};
+use std::alloc::Global;
 use table::Table;
+
+/// What is searched for, and where.
+#[derive(Clone, Copy)]
+struct Task<'a> {
+    alloc: Global,
+    table: &'a Table,
+    policy: &'a Policy,
+}
 
 /// The scripts after which calls are tried, in this order, and what was seen so far.
 #[derive(Drop)]
@@ -41,124 +48,124 @@ pub fn find_escape(
     ensures bounded { IfOk result (λ found. found.steps ≤ steps) }
     ensures refused { IfErr result (λ refusal. refusal ≡ plain 40) }
 {
-    let mut spent = 0;
-    let Some(mut queue) = begin(alloc, table)? else {
-        return Ok(unfound(0));
+    let task = Task {
+        alloc,
+        table,
+        policy,
     };
+    let mut queue = Queue {
+        known: Known::new(alloc, table, News::Atom),
+        scripts: Vec::new(alloc),
+    };
+    search_from(&task, steps, &mut queue)
+}
+
+// Searches from the boot state, with at most a number of calls.
+fn search_from(task: &Task<'_>, steps: u64, queue: &mut Queue<'_>) -> Result<Found, Refusal>
+    ensures found { IfOk result (λ found. IfSome found.script
+        (λ script. LeavesPolicy task.now.table.now (allows task.now.policy.now) script.items)) }
+    ensures bounded { IfOk result (λ found. found.steps ≤ steps) }
+    ensures refused { IfErr result (λ refusal. refusal ≡ plain 40) }
+{
+    queue.known.note_boot(task.alloc)?;
+    queue.scripts.push(Vec::new(task.alloc))?;
+    let mut spent = 0;
     for number in 0..usize::MAX {
-        let Some(script) = script_at(alloc, &queue.scripts, number)? else {
+        let Some(script) = queue.scripts.get(number) else {
             break;
         };
-        let found = try_after(alloc, table, policy, &script, steps - spent, &mut queue)?;
+        let script = copied(task.alloc, script)?;
+        let found = try_after(task, &script, steps - spent, queue)?;
         spent += found.steps;
-        if let Some(script) = found.script {
+        if found.script.is_some() || spent == steps {
             return Ok(Found {
-                script: Some(script),
+                script: found.script,
                 steps: spent,
             });
-        }
-        if spent == steps {
-            break;
         }
     }
     Ok(unfound(spent))
 }
 
-// A search that has tried nothing.
-fn begin<'a>(alloc: Global, table: &'a Table) -> Result<Option<Queue<'a>>, Refusal>
-    ensures refused { IfErr result (λ refusal. refusal ≡ plain 40) }
-{
-    let Some(boot) = reach(alloc, table, &[])? else {
-        return Ok(None);
-    };
-    let known = Known::new(alloc, table, News::Atom, &boot)?;
-    let mut scripts = Vec::new(alloc);
-    scripts.push(Vec::new(alloc))?;
-    Ok(Some(Queue { known, scripts }))
-}
-
-// The script of that number, if there is one.
-fn script_at(
-    alloc: Global,
-    scripts: &[Vec<Event>],
-    number: usize,
-) -> Result<Option<Vec<Event>>, AllocError> {
-    match scripts.get(number) {
-        Some(script) => Ok(Some(copied(alloc, script)?)),
-        None => Ok(None),
-    }
-}
-
 // Tries calls of all threads after a script, at most `most` of them, and keeps the scripts that
 // lead to something new.
 fn try_after(
-    alloc: Global,
-    table: &Table,
-    policy: &Policy,
+    task: &Task<'_>,
     script: &[Event],
     most: u64,
     queue: &mut Queue<'_>,
 ) -> Result<Found, Refusal>
     ensures found { IfOk result (λ found. IfSome found.script
-        (λ script. LeavesPolicy table.now (allows policy.now) script.items)) }
+        (λ script. LeavesPolicy task.now.table.now (allows task.now.policy.now) script.items)) }
     ensures bounded { IfOk result (λ found. found.steps ≤ most) }
     ensures refused { IfErr result (λ refusal. refusal ≡ plain 40) }
 {
-    let Some(from) = reach(alloc, table, script)? else {
-        return Ok(unfound(0));
-    };
+    match reach(task.alloc, task.table, script) {
+        Ok(Some(state)) => {
+            let origin = Origin {
+                script,
+                changed: &[],
+                state: &state,
+            };
+            try_calls(task, &origin, most, queue)
+        }
+        Ok(None) => Ok(unfound(0)),
+        Err(refusal) => Err(refusal),
+    }
+}
+
+// Tries calls of all threads in the origin's state, at most `most` of them.
+fn try_calls(
+    task: &Task<'_>,
+    origin: &Origin<'_>,
+    most: u64,
+    queue: &mut Queue<'_>,
+) -> Result<Found, Refusal>
+    ensures found { IfOk result (λ found. IfSome found.script
+        (λ script. LeavesPolicy task.now.table.now (allows task.now.policy.now) script.items)) }
+    ensures bounded { IfOk result (λ found. found.steps ≤ most) }
+    ensures refused { IfErr result (λ refusal. refusal ≡ plain 40) }
+{
     let choice = Choice {
         callers: Callers::All,
         breadth: Breadth::Narrow,
         reason: &[],
     };
-    let calls = calls_in(alloc, table, &from, &choice)?;
-    try_all(
-        alloc,
-        table,
-        policy,
-        &Origin {
-            script,
-            changed: &[],
-            state: &from,
-        },
-        &calls,
-        most,
-        queue,
-    )
-}
-
-// Tries calls after a script, at most `most` of them.
-fn try_all(
-    alloc: Global,
-    table: &Table,
-    policy: &Policy,
-    origin: &Origin<'_>,
-    calls: &[Event],
-    most: u64,
-    queue: &mut Queue<'_>,
-) -> Result<Found, Refusal>
-    ensures found { IfOk result (λ found. IfSome found.script
-        (λ script. LeavesPolicy table.now (allows policy.now) script.items)) }
-    ensures bounded { IfOk result (λ found. found.steps ≤ most) }
-    ensures refused { IfErr result (λ refusal. refusal ≡ plain 40) }
-{
+    let calls = calls_in(task.alloc, task.table, origin.state, &choice)?;
     if calls.is_empty() {
         return Ok(unfound(0));
     }
-    let Some(mut ground) = reach(alloc, table, origin.script)? else {
-        return Ok(unfound(0));
-    };
+    match reach(task.alloc, task.table, origin.script) {
+        Ok(Some(mut ground)) => try_all(task, origin, &calls, most, &mut ground, queue),
+        Ok(None) => Ok(unfound(0)),
+        Err(refusal) => Err(refusal),
+    }
+}
+
+// Tries calls in a copy of the origin's state, at most `most` of them.
+fn try_all(
+    task: &Task<'_>,
+    origin: &Origin<'_>,
+    calls: &[Event],
+    most: u64,
+    ground: &mut State,
+    queue: &mut Queue<'_>,
+) -> Result<Found, Refusal>
+    requires { IsWellFormed ground.old }
+    ensures found { IfOk result (λ found. IfSome found.script
+        (λ script. LeavesPolicy task.now.table.now (allows task.now.policy.now) script.items)) }
+    ensures bounded { IfOk result (λ found. found.steps ≤ most) }
+    ensures refused { IfErr result (λ refusal. refusal ≡ plain 40) }
+{
     let mut tried = 0;
     for call in calls {
         if tried == most {
             break;
         }
         tried += 1;
-        let answer = try_one(alloc, table, policy, origin, *call, &mut ground, queue)?;
-        if let Some(script) = answer {
+        if try_one(task, origin, call, ground, queue)? {
             return Ok(Found {
-                script: Some(script),
+                script: Some(longer(task.alloc, origin.script, call)?),
                 steps: tried,
             });
         }
@@ -166,61 +173,61 @@ fn try_all(
     Ok(unfound(tried))
 }
 
-// Tries a call in a copy of the origin's state, which is restored afterwards. Returns the script with the call, if
-// it leaves the policy. The script is kept if it leads to something new and may have a further call.
+// Tries a call in a copy of the origin's state, which is restored afterwards. Returns whether the script with the
+// call leaves the policy. The script is kept if it leads to something new and may have a further call.
 fn try_one(
-    alloc: Global,
-    table: &Table,
-    policy: &Policy,
+    task: &Task<'_>,
     origin: &Origin<'_>,
-    call: Event,
+    call: &Event,
     ground: &mut State,
     queue: &mut Queue<'_>,
-) -> Result<Option<Vec<Event>>, Refusal>
+) -> Result<bool, Refusal>
     requires { IsWellFormed ground.old }
-    ensures found { IfOk result (λ found. IfSome found
-        (λ script. LeavesPolicy table.now (allows policy.now) script.items)) }
+    ensures found { IfOk result (λ found. IsTrue found
+        → LeavesPolicy task.now.table.now (allows task.now.policy.now) (origin.now.script.now ++ call.now ∷ [])) }
     ensures well_formed { IsWellFormed ground.new }
     ensures refused { IfErr result (λ refusal. refusal ≡ plain 40) }
 {
-    if !makes(ground, call) {
-        return Ok(None);
+    let Some(effect) = apply(task.alloc, origin, call, ground)? else {
+        return Ok(false);
+    };
+    if judge(task, origin, ground, &effect.changes, call, queue)? {
+        return Ok(true);
     }
-    let touched = touched(alloc, origin.state, ground, &call)?;
-    let changes = changes(alloc, origin.state, ground, &touched)?;
-    if changes.is_empty() {
-        return Ok(None);
-    }
-    let found = judge(alloc, table, policy, origin, ground, &changes, call, queue)?;
-    if found.is_none() {
-        settle(alloc, table, origin, call, &touched, ground)?;
-    }
-    Ok(found)
+    settle(
+        task.alloc,
+        task.table,
+        origin,
+        call,
+        &effect.touched,
+        ground,
+    )?;
+    Ok(false)
 }
 
-// Judges a call that leads from the origin's state to another. Returns the script with the call, if it leaves the
+// Judges a call that leads from the origin's state to another. Returns whether the script with the call leaves the
 // policy. The script is kept if it leads to something new and may have a further call.
 fn judge(
-    alloc: Global,
-    table: &Table,
-    policy: &Policy,
+    task: &Task<'_>,
     origin: &Origin<'_>,
     to: &State,
     changes: &[ObjId],
-    last: Event,
+    last: &Event,
     queue: &mut Queue<'_>,
-) -> Result<Option<Vec<Event>>, Refusal>
-    ensures found { IfOk result (λ found. IfSome found
-        (λ script. LeavesPolicy table.now (allows policy.now) script.items)) }
+) -> Result<bool, Refusal>
+    ensures found { IfOk result (λ found. IsTrue found
+        → LeavesPolicy task.now.table.now (allows task.now.policy.now) (origin.now.script.now ++ last.now ∷ [])) }
     ensures refused { IfErr result (λ refusal. refusal ≡ plain 40) }
 {
-    let longer = longer(alloc, origin.script, last)?;
+    let longer = longer(task.alloc, origin.script, last)?;
     // The state is only a first look: the whole script decides.
-    if lies_outside(table, policy, to) && leaves(alloc, table, policy, &longer)? {
-        return Ok(Some(longer));
+    if lies_outside(task.table, task.policy, to)
+        && leaves(task.alloc, task.table, task.policy, &longer)?
+    {
+        return Ok(true);
     }
-    if longer.len() < MOST_CALLS && queue.known.note(alloc, to, changes, &[])? {
+    if longer.len() < MOST_CALLS && queue.known.note(task.alloc, to, changes, &[])? {
         queue.scripts.push(longer)?;
     }
-    Ok(None)
+    Ok(false)
 }

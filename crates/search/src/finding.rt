@@ -1,10 +1,9 @@
 //! The search for a script that answers a question.
-ghost use Rattle.std.specs.Prelude.{[], ◌++◌, ◌<◌, ◌∷◌, ◌≡◌, ◌≤◌, IfErr, IfOk, IfSome, None};
+ghost use Rattle.std.specs.Prelude.{[], ◌++◌, ◌<◌, ◌∷◌, ◌≡◌, ◌≤◌, IfErr, IfOk, IfSome, IsTrue, None};
 ghost use Rattle.{base.specs.Refusals.plain, machine.specs.WellFormed.IsWellFormed, runs.specs.Shown.AnswersQuestion};
 
 use crate::atoms::{Known, News};
-use crate::origin::{Origin, settle};
-use crate::touching::{changes, touched};
+use crate::origin::{Origin, apply, settle};
 use crate::trying::{Breadth, Callers, Choice, calls_in};
 use base::{Edge, Label, ObjId, Refusal};
 use machine::Event;
@@ -26,6 +25,14 @@ pub struct Found {
     pub script: Option<Vec<Event>>,
     /// The number of calls that were tried.
     pub steps: u64,
+}
+
+/// What is searched for, and where.
+#[derive(Clone, Copy)]
+struct Task<'a> {
+    alloc: Global,
+    table: &'a Table,
+    question: &'a Question,
 }
 
 /// The scripts that lead to states from which a search continues, and what was seen so far.
@@ -72,12 +79,17 @@ pub fn find(
     ensures bounded { IfOk result (λ found. found.steps ≤ steps) }
     ensures refused { IfErr result (λ refusal. refusal ≡ plain 40) }
 {
+    let task = Task {
+        alloc,
+        table,
+        question,
+    };
     let most = steps.min(MOST_NAMED);
-    let named = pass(alloc, table, question, Breadth::Named, reason, most)?;
+    let named = pass(&task, Breadth::Named, reason, most)?;
     if named.script.is_some() {
         return Ok(named);
     }
-    let found = find_unnamed(alloc, table, question, steps - named.steps)?;
+    let found = find_unnamed(&task, steps - named.steps)?;
     Ok(Found {
         script: found.script,
         steps: named.steps + found.steps,
@@ -85,35 +97,17 @@ pub fn find(
 }
 
 // Searches with at most a number of calls, without a reason.
-fn find_unnamed(
-    alloc: Global,
-    table: &Table,
-    question: &Question,
-    steps: u64,
-) -> Result<Found, Refusal>
-    ensures found { IfOk result (λ found. IfSome found.script (λ script. AnswersQuestion table.now question.now script.items)) }
+fn find_unnamed(task: &Task<'_>, steps: u64) -> Result<Found, Refusal>
+    ensures found { IfOk result (λ found. IfSome found.script
+        (λ script. AnswersQuestion task.now.table.now task.now.question.now script.items)) }
     ensures bounded { IfOk result (λ found. found.steps ≤ steps) }
     ensures refused { IfErr result (λ refusal. refusal ≡ plain 40) }
 {
-    let first = pass(
-        alloc,
-        table,
-        question,
-        Breadth::Narrow,
-        &[],
-        steps - steps / 3,
-    )?;
+    let first = pass(task, Breadth::Narrow, &[], steps - steps / 3)?;
     if first.script.is_some() {
         return Ok(first);
     }
-    let second = pass(
-        alloc,
-        table,
-        question,
-        Breadth::Wide,
-        &[],
-        steps - first.steps,
-    )?;
+    let second = pass(task, Breadth::Wide, &[], steps - first.steps)?;
     Ok(Found {
         script: second.script,
         steps: first.steps + second.steps,
@@ -132,52 +126,20 @@ pub fn unfound(steps: u64) -> Found
 }
 
 // Searches with at most a number of calls of one breadth.
-fn pass(
-    alloc: Global,
-    table: &Table,
-    question: &Question,
-    breadth: Breadth,
-    reason: &[Edge],
-    steps: u64,
-) -> Result<Found, Refusal>
-    ensures found { IfOk result (λ found. IfSome found.script (λ script. AnswersQuestion table.now question.now script.items)) }
+fn pass(task: &Task<'_>, breadth: Breadth, reason: &[Edge], steps: u64) -> Result<Found, Refusal>
+    ensures found { IfOk result (λ found. IfSome found.script
+        (λ script. AnswersQuestion task.now.table.now task.now.question.now script.items)) }
     ensures bounded { IfOk result (λ found. found.steps ≤ steps) }
     ensures refused { IfErr result (λ refusal. refusal ≡ plain 40) }
 {
-    let mut spent = 0;
-    let Some(mut front) = begin(alloc, table, news_of(breadth))? else {
-        return Ok(unfound(0));
+    let mut front = Front {
+        known: Known::new(task.alloc, task.table, news_of(breadth)),
+        kept: Vec::new(task.alloc),
+        own: 0,
+        others: 0,
+        near: 0,
     };
-    for turn in 0..usize::MAX {
-        let Some((number, own)) = next(&mut front, turn) else {
-            break;
-        };
-        let choice = Choice {
-            callers: callers(question.actor, own),
-            breadth,
-            reason,
-        };
-        let found = follow(
-            alloc,
-            table,
-            question,
-            &choice,
-            number,
-            steps - spent,
-            &mut front,
-        )?;
-        spent += found.steps;
-        if let Some(script) = found.script {
-            return Ok(Found {
-                script: Some(script),
-                steps: spent,
-            });
-        }
-        if spent == steps {
-            break;
-        }
-    }
-    Ok(unfound(spent))
+    search_from(task, breadth, reason, steps, &mut front)
 }
 
 // The news that a search of this breadth looks for.
@@ -188,6 +150,56 @@ fn news_of(breadth: Breadth) -> News {
     }
 }
 
+// Searches from the boot state, with at most a number of calls.
+fn search_from(
+    task: &Task<'_>,
+    breadth: Breadth,
+    reason: &[Edge],
+    steps: u64,
+    front: &mut Front<'_>,
+) -> Result<Found, Refusal>
+    ensures found { IfOk result (λ found. IfSome found.script
+        (λ script. AnswersQuestion task.now.table.now task.now.question.now script.items)) }
+    ensures bounded { IfOk result (λ found. found.steps ≤ steps) }
+    ensures refused { IfErr result (λ refusal. refusal ≡ plain 40) }
+{
+    begin(task.alloc, front)?;
+    let mut spent = 0;
+    for turn in 0..usize::MAX {
+        let Some((number, own)) = next(front, turn) else {
+            break;
+        };
+        let choice = Choice {
+            callers: callers(task.question.actor, own),
+            breadth,
+            reason,
+        };
+        let found = follow(task, &choice, number, steps - spent, front)?;
+        spent += found.steps;
+        if found.script.is_some() || spent == steps {
+            return Ok(Found {
+                script: found.script,
+                steps: spent,
+            });
+        }
+    }
+    Ok(unfound(spent))
+}
+
+// Keeps the empty script, which leads to the boot state.
+fn begin(alloc: Global, front: &mut Front<'_>) -> Result<(), Refusal>
+    ensures refused { IfErr result (λ refusal. refusal ≡ plain 40) }
+{
+    front.known.note_boot(alloc)?;
+    front.kept.push(Kept {
+        script: Vec::new(alloc),
+        changed: Vec::new(alloc),
+        is_near: true,
+        is_done: false,
+    })?;
+    Ok(())
+}
+
 // The threads of a label, or all others.
 fn callers(actor: Label, own: bool) -> Callers {
     if own {
@@ -195,30 +207,6 @@ fn callers(actor: Label, own: bool) -> Callers {
     } else {
         Callers::NotOf(actor)
     }
-}
-
-// A search that has only the boot state to continue from.
-fn begin<'a>(alloc: Global, table: &'a Table, news: News) -> Result<Option<Front<'a>>, Refusal>
-    ensures refused { IfErr result (λ refusal. refusal ≡ plain 40) }
-{
-    let Some(boot) = reach(alloc, table, &[])? else {
-        return Ok(None);
-    };
-    let known = Known::new(alloc, table, news, &boot)?;
-    let mut kept = Vec::new(alloc);
-    kept.push(Kept {
-        script: Vec::new(alloc),
-        changed: Vec::new(alloc),
-        is_near: true,
-        is_done: false,
-    })?;
-    Ok(Some(Front {
-        known,
-        kept,
-        own: 0,
-        others: 0,
-        near: 0,
-    }))
 }
 
 // The number of the script to continue from, and whether the actor's calls are tried after it. The actor's calls have
@@ -290,68 +278,80 @@ pub fn copied(alloc: Global, script: &[Event]) -> Result<Vec<Event>, AllocError>
 // Tries the calls after the kept script of a number, at most `most` of them, and keeps the scripts
 // that lead to something new.
 fn follow(
-    alloc: Global,
-    table: &Table,
-    question: &Question,
+    task: &Task<'_>,
     choice: &Choice<'_>,
     number: usize,
     most: u64,
     front: &mut Front<'_>,
 ) -> Result<Found, Refusal>
-    ensures found { IfOk result (λ found. IfSome found.script (λ script. AnswersQuestion table.now question.now script.items)) }
+    ensures found { IfOk result (λ found. IfSome found.script
+        (λ script. AnswersQuestion task.now.table.now task.now.question.now script.items)) }
     ensures bounded { IfOk result (λ found. found.steps ≤ most) }
     ensures refused { IfErr result (λ refusal. refusal ≡ plain 40) }
 {
-    let (script, changed) = kept_at(alloc, &front.kept, number)?;
-    let Some(from) = reach(alloc, table, &script)? else {
-        return Ok(unfound(0));
-    };
-    let calls = calls_in(alloc, table, &from, choice)?;
-    try_all(
-        alloc,
-        table,
-        question,
-        &Origin {
-            script: &script,
-            changed: &changed,
-            state: &from,
-        },
-        &calls,
-        most,
-        front,
-    )
+    let (script, changed) = kept_at(task.alloc, &front.kept, number)?;
+    match reach(task.alloc, task.table, &script) {
+        Ok(Some(state)) => {
+            let origin = Origin {
+                script: &script,
+                changed: &changed,
+                state: &state,
+            };
+            try_calls(task, choice, &origin, most, front)
+        }
+        Ok(None) => Ok(unfound(0)),
+        Err(refusal) => Err(refusal),
+    }
 }
 
-// Tries calls after a script, at most `most` of them.
-fn try_all(
-    alloc: Global,
-    table: &Table,
-    question: &Question,
+// Tries the chosen calls after a script, at most `most` of them.
+fn try_calls(
+    task: &Task<'_>,
+    choice: &Choice<'_>,
     origin: &Origin<'_>,
-    calls: &[Event],
     most: u64,
     front: &mut Front<'_>,
 ) -> Result<Found, Refusal>
-    ensures found { IfOk result (λ found. IfSome found.script (λ script. AnswersQuestion table.now question.now script.items)) }
+    ensures found { IfOk result (λ found. IfSome found.script
+        (λ script. AnswersQuestion task.now.table.now task.now.question.now script.items)) }
     ensures bounded { IfOk result (λ found. found.steps ≤ most) }
     ensures refused { IfErr result (λ refusal. refusal ≡ plain 40) }
 {
+    let calls = calls_in(task.alloc, task.table, origin.state, choice)?;
     if calls.is_empty() {
         return Ok(unfound(0));
     }
-    let Some(mut ground) = reach(alloc, table, origin.script)? else {
-        return Ok(unfound(0));
-    };
+    match reach(task.alloc, task.table, origin.script) {
+        Ok(Some(mut ground)) => try_all(task, origin, &calls, most, &mut ground, front),
+        Ok(None) => Ok(unfound(0)),
+        Err(refusal) => Err(refusal),
+    }
+}
+
+// Tries calls in a copy of the origin's state, at most `most` of them.
+fn try_all(
+    task: &Task<'_>,
+    origin: &Origin<'_>,
+    calls: &[Event],
+    most: u64,
+    ground: &mut State,
+    front: &mut Front<'_>,
+) -> Result<Found, Refusal>
+    requires { IsWellFormed ground.old }
+    ensures found { IfOk result (λ found. IfSome found.script
+        (λ script. AnswersQuestion task.now.table.now task.now.question.now script.items)) }
+    ensures bounded { IfOk result (λ found. found.steps ≤ most) }
+    ensures refused { IfErr result (λ refusal. refusal ≡ plain 40) }
+{
     let mut tried = 0;
     for call in calls {
         if tried == most {
             break;
         }
         tried += 1;
-        let answer = try_one(alloc, table, question, origin, *call, &mut ground, front)?;
-        if let Some(script) = answer {
+        if try_one(task, origin, call, ground, front)? {
             return Ok(Found {
-                script: Some(script),
+                script: Some(longer(task.alloc, origin.script, call)?),
                 steps: tried,
             });
         }
@@ -359,69 +359,103 @@ fn try_all(
     Ok(unfound(tried))
 }
 
-// Tries a call in a copy of the origin's state, which is restored afterwards. Returns the script
-// with the call, if it answers the question. The script is kept if it leads to something new.
+// Tries a call in a copy of the origin's state, which is restored afterwards. Returns whether the
+// script with the call answers the question. The script is kept if it leads to something new.
 fn try_one(
-    alloc: Global,
-    table: &Table,
-    question: &Question,
+    task: &Task<'_>,
     origin: &Origin<'_>,
-    call: Event,
+    call: &Event,
     ground: &mut State,
     front: &mut Front<'_>,
-) -> Result<Option<Vec<Event>>, Refusal>
+) -> Result<bool, Refusal>
     requires { IsWellFormed ground.old }
-    ensures found { IfOk result (λ answer. IfSome answer (λ script. AnswersQuestion table.now question.now script.items)) }
+    ensures found { IfOk result (λ found. IsTrue found
+        → AnswersQuestion task.now.table.now task.now.question.now (origin.now.script.now ++ call.now ∷ [])) }
     ensures well_formed { IsWellFormed ground.new }
     ensures refused { IfErr result (λ refusal. refusal ≡ plain 40) }
 {
-    if !makes(ground, call) {
-        return Ok(None);
+    let Some(effect) = apply(task.alloc, origin, call, ground)? else {
+        return Ok(false);
+    };
+    if judge(task, origin, ground, &effect.changes, call, front)? {
+        return Ok(true);
     }
-    let touched = touched(alloc, origin.state, ground, &call)?;
-    let changes = changes(alloc, origin.state, ground, &touched)?;
-    if changes.is_empty() {
-        return Ok(None);
-    }
-    let answer = judge(
-        alloc, table, question, origin, ground, &changes, call, front,
+    settle(
+        task.alloc,
+        task.table,
+        origin,
+        call,
+        &effect.touched,
+        ground,
     )?;
-    if answer.is_none() {
-        settle(alloc, table, origin, call, &touched, ground)?;
-    }
-    Ok(answer)
+    Ok(false)
 }
 
-// Judges a call that leads from the origin's state to another. Returns the script with the call, if
-// it answers the question. The script is kept if it leads to something new.
+// Judges a call that leads from the origin's state to another. Returns whether the script with the
+// call answers the question. The script is kept if it leads to something new.
 fn judge(
-    alloc: Global,
-    table: &Table,
-    question: &Question,
+    task: &Task<'_>,
     origin: &Origin<'_>,
     to: &State,
     changes: &[ObjId],
-    last: Event,
+    last: &Event,
     front: &mut Front<'_>,
-) -> Result<Option<Vec<Event>>, Refusal>
-    ensures found { IfOk result (λ answer. IfSome answer (λ script. AnswersQuestion table.now question.now script.items)) }
+) -> Result<bool, Refusal>
+    ensures found { IfOk result (λ found. IsTrue found
+        → AnswersQuestion task.now.table.now task.now.question.now (origin.now.script.now ++ last.now ∷ [])) }
     ensures refused { IfErr result (λ refusal. refusal ≡ plain 40) }
 {
-    let from = origin.state;
-    if let Some(id) = answering(table, from, to, changes, last.thread, question) {
-        if shows(alloc, table, origin.script, last, question, id)? {
-            return Ok(Some(longer(alloc, origin.script, last)?));
-        }
+    if answers(task, origin, to, changes, last)? {
+        return Ok(true);
     }
-    if front.known.note(alloc, to, changes, origin.changed)? && front.kept.len() < MOST_KEPT {
-        front.kept.push(Kept {
-            script: longer(alloc, origin.script, last)?,
-            changed: joined(alloc, origin.changed, changes)?,
-            is_near: is_near(table, from, to, changes, question),
-            is_done: false,
-        })?;
+    if front.known.note(task.alloc, to, changes, origin.changed)? && front.kept.len() < MOST_KEPT {
+        keep(task, origin, to, changes, last, front)?;
     }
-    Ok(None)
+    Ok(false)
+}
+
+// Whether a script with a call answers the question. The call leads from the origin's state to another.
+fn answers(
+    task: &Task<'_>,
+    origin: &Origin<'_>,
+    to: &State,
+    changes: &[ObjId],
+    last: &Event,
+) -> Result<bool, Refusal>
+    ensures shown { IfOk result (λ shown. IsTrue shown
+        → AnswersQuestion task.now.table.now task.now.question.now (origin.now.script.now ++ last.now ∷ [])) }
+    ensures refused { IfErr result (λ refusal. refusal ≡ plain 40) }
+{
+    let thread = last.thread;
+    let Some(id) = answering(task.table, origin.state, to, changes, thread, task.question) else {
+        return Ok(false);
+    };
+    shows(
+        task.alloc,
+        task.table,
+        origin.script,
+        *last,
+        task.question,
+        id,
+    )
+}
+
+// Keeps a script with a call.
+fn keep(
+    task: &Task<'_>,
+    origin: &Origin<'_>,
+    to: &State,
+    changes: &[ObjId],
+    last: &Event,
+    front: &mut Front<'_>,
+) -> Result<(), AllocError> {
+    front.kept.push(Kept {
+        script: longer(task.alloc, origin.script, last)?,
+        changed: joined(task.alloc, origin.changed, changes)?,
+        is_near: is_near(task.table, origin.state, to, changes, task.question),
+        is_done: false,
+    })?;
+    Ok(())
 }
 
 // The objects of two lists, each once.
@@ -437,11 +471,11 @@ fn joined(alloc: Global, ids: &[ObjId], others: &[ObjId]) -> Result<Vec<ObjId>, 
 }
 
 /// Returns a script with one more event.
-pub fn longer(alloc: Global, script: &[Event], last: Event) -> Result<Vec<Event>, AllocError>
-    ensures { IfOk result (λ longer. longer.items ≡ script.now ++ last ∷ []) }
+pub fn longer(alloc: Global, script: &[Event], last: &Event) -> Result<Vec<Event>, AllocError>
+    ensures { IfOk result (λ longer. longer.items ≡ script.now ++ last.now ∷ []) }
 {
     let mut events = Vec::new(alloc);
     events.extend_from_slice(script)?;
-    events.push(last)?;
+    events.push(*last)?;
     Ok(events)
 }

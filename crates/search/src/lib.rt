@@ -11,6 +11,7 @@ mod atoms;
 mod escaping;
 mod finding;
 mod guided;
+mod listing;
 mod origin;
 mod spaces;
 mod touching;

@@ -1,4 +1,5 @@
 //! The capability space of a thread: what it finds there, and by which addresses.
+use crate::listing::Listing;
 use base::{ObjId, SlotRef};
 use machine::{CNode, Cap, Detail, Guard, Object, SlotAddress};
 use objects::State;
@@ -8,14 +9,14 @@ use std::alloc::{AllocError, Global};
 const MOST_NODES: usize = 64;
 
 /// A capability that a thread finds at an address.
-#[derive(Clone, Copy, PartialEq, Eq, Debug)]
+#[derive(Clone, Copy)]
 pub struct Entry {
     pub address: u64,
     pub cap: Cap,
 }
 
 /// A filled slot, as a thread's calls name it.
-#[derive(Clone, Copy, PartialEq, Eq, Debug)]
+#[derive(Clone, Copy)]
 pub struct Place {
     pub slot: SlotAddress,
     pub at: SlotRef,
@@ -23,7 +24,7 @@ pub struct Place {
 }
 
 /// An empty slot, the lowest of its CNode, as a thread's calls name it.
-#[derive(Clone, Copy, PartialEq, Eq, Debug)]
+#[derive(Clone, Copy)]
 pub struct Gap {
     pub slot: SlotAddress,
     pub at: SlotRef,
@@ -39,7 +40,7 @@ pub struct Space {
 }
 
 /// A CNode to which the first bits of an address lead.
-#[derive(Clone, Copy, PartialEq, Eq, Debug)]
+#[derive(Clone, Copy)]
 struct Way {
     node: ObjId,
     guard: Guard,
@@ -50,50 +51,52 @@ struct Way {
 
 /// Returns what a thread finds in its capability space.
 pub fn space_of(alloc: Global, state: &State, thread: ObjId) -> Result<Space, AllocError> {
-    let mut space = Space {
-        entries: Vec::new(alloc),
-        places: Vec::new(alloc),
-        gaps: Vec::new(alloc),
-    };
-    let mut ways = Vec::new(alloc);
+    let entries = entries_of(alloc, state, thread)?;
+    let mut places = Listing::new(alloc);
+    let mut gaps = Listing::new(alloc);
+    for entry in &entries {
+        list_slots(state, entry, &mut places, &mut gaps);
+    }
+    Ok(Space {
+        entries,
+        places: places.finish()?,
+        gaps: gaps.finish()?,
+    })
+}
+
+// The capabilities that a thread finds.
+fn entries_of(alloc: Global, state: &State, thread: ObjId) -> Result<Vec<Entry>, AllocError> {
+    let mut entries = Listing::new(alloc);
+    let mut ways = Listing::new(alloc);
     if let Some(cap) = state.root(thread) {
         if let Detail::CNode(guard) = cap.detail {
-            let first = Way {
+            ways.push(Way {
                 node: cap.object,
                 guard,
                 prefix: 0,
                 left: 64,
-            };
-            ways.push(first)?;
+            });
         }
     }
     for number in 0..MOST_NODES {
-        let Some(&way) = ways.get(number) else {
+        let Some(&way) = ways.items.get(number) else {
             break;
         };
-        visit(state, &way, &mut ways, &mut space)?;
+        visit(state, &way, &mut ways, &mut entries);
     }
-    for number in 0..space.entries.len() {
-        if let Some(&entry) = space.entries.get(number) {
-            list_slots(state, &entry, &mut space)?;
-        }
-    }
-    Ok(space)
+    // Without all ways, entries are missing.
+    let _ = ways.finish()?;
+    entries.finish()
 }
 
 // Visits the slots of a CNode on a path.
-fn visit(
-    state: &State,
-    way: &Way,
-    ways: &mut Vec<Way>,
-    space: &mut Space,
-) -> Result<(), AllocError> {
-    let Some(&Object::CNode(node)) = state.object(way.node) else {
-        return Ok(());
+fn visit(state: &State, way: &Way, ways: &mut Listing<Way>, entries: &mut Listing<Entry>) {
+    let Some(Object::CNode(node)) = state.object(way.node) else {
+        return;
     };
     let bits = u32::from(way.guard.size) + u32::from(node.radix.bits());
     let Some(left) = way.left.checked_sub(bits) else {
-        return Ok(());
+        return;
     };
     let stem = joined(
         joined(way.prefix, u32::from(way.guard.size), way.guard.value),
@@ -105,39 +108,27 @@ fn visit(
             holder: way.node,
             index,
         };
-        if let Some(cap) = state.cap(slot) {
-            pass(&cap, stem | index, left, ways, space)?;
+        if let Some(cap) = state.held(slot) {
+            pass(cap, stem | index, left, ways, entries);
         }
     }
-    Ok(())
 }
 
 // Notes the capability in a slot on a path, or the CNode to which it leads.
-fn pass(
-    cap: &Cap,
-    address: u64,
-    left: u32,
-    ways: &mut Vec<Way>,
-    space: &mut Space,
-) -> Result<(), AllocError> {
+fn pass(cap: &Cap, address: u64, left: u32, ways: &mut Listing<Way>, entries: &mut Listing<Entry>) {
     match cap.detail {
         Detail::CNode(guard) if left > 0 => ways.push(Way {
             node: cap.object,
             guard,
             prefix: address,
             left,
-        })?,
-        _ => {
-            let entry = Entry {
-                address: joined(address, left, 0),
-                cap: *cap,
-            };
-            if !is_listed(&space.entries, cap) {
-                space.entries.push(entry)?;
-            }
-        }
+        }),
+        _ if is_listed(&entries.items, cap) => {}
+        _ => entries.push(Entry {
+            address: joined(address, left, 0),
+            cap: *cap,
+        }),
     }
-    Ok(())
 }
 
 // Whether a capability for the same object with the same rights is listed.
@@ -151,12 +142,12 @@ fn is_listed(entries: &[Entry], cap: &Cap) -> bool {
 }
 
 // Lists the slots of the CNode that an entry is for.
-fn list_slots(state: &State, entry: &Entry, space: &mut Space) -> Result<(), AllocError> {
+fn list_slots(state: &State, entry: &Entry, places: &mut Listing<Place>, gaps: &mut Listing<Gap>) {
     let Detail::CNode(guard) = entry.cap.detail else {
-        return Ok(());
+        return;
     };
-    let Some(&Object::CNode(node)) = state.object(entry.cap.object) else {
-        return Ok(());
+    let Some(Object::CNode(node)) = state.object(entry.cap.object) else {
+        return;
     };
     let mut full = true;
     for index in 0..node.radix.slots() {
@@ -164,24 +155,23 @@ fn list_slots(state: &State, entry: &Entry, space: &mut Space) -> Result<(), All
             holder: entry.cap.object,
             index,
         };
-        let named = name_of(entry, guard, &node, index);
-        match state.cap(slot) {
-            Some(cap) => space.places.push(Place {
+        let named = name_of(entry, guard, node, index);
+        match state.held(slot) {
+            Some(cap) => places.push(Place {
                 slot: named,
                 at: slot,
-                cap,
-            })?,
+                cap: *cap,
+            }),
             None if full => {
                 full = false;
-                space.gaps.push(Gap {
+                gaps.push(Gap {
                     slot: named,
                     at: slot,
-                })?;
+                });
             }
             None => {}
         }
     }
-    Ok(())
 }
 
 // A slot of a CNode as calls name it, through the capability at an address.

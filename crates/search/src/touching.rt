@@ -1,5 +1,6 @@
 //! The objects that a call can change, so that only these are compared; what it seems to have
 //! changed; and the call that undoes it.
+use crate::listing::Listing;
 use base::{ObjId, SlotRef};
 use cspace::find_cap;
 use machine::{Call, Event, Object, ReplyState, RunState, SlotAddress};
@@ -19,21 +20,21 @@ pub fn touched(
     new: &State,
     event: &Event,
 ) -> Result<Vec<ObjId>, AllocError> {
-    let mut ids = Vec::new(alloc);
+    let mut ids = Listing::new(alloc);
     if let Call::Delete { .. } | Call::Revoke { .. } | Call::ClearSpace { .. } = event.call {
-        push_from(&mut ids, 0, new)?;
-        return Ok(ids);
+        push_from(&mut ids, 0, new);
+        return ids.finish();
     }
-    push(&mut ids, event.thread)?;
-    push_named(&mut ids, old, event)?;
+    push(&mut ids, event.thread);
+    push_named(&mut ids, old, event);
     for number in 0..MOST_FOLLOWED {
-        let Some(&id) = ids.get(number) else {
+        let Some(&id) = ids.items.get(number) else {
             break;
         };
-        push_linked(&mut ids, old, id)?;
+        push_linked(&mut ids, old, id);
     }
-    push_from(&mut ids, old.next_id(), new)?;
-    Ok(ids)
+    push_from(&mut ids, old.next_id(), new);
+    ids.finish()
 }
 
 /// Returns the objects of a list that seem to differ between two states, and those at which threads of the list wait.
@@ -43,27 +44,26 @@ pub fn changes(
     new: &State,
     among: &[ObjId],
 ) -> Result<Vec<ObjId>, AllocError> {
-    let mut ids = Vec::new(alloc);
+    let mut ids = Listing::new(alloc);
     for id in among {
         if seems_changed(old, new, *id) {
-            ids.push(*id)?;
+            ids.push(*id);
             if let Some(Object::Tcb(tcb)) = new.object(*id) {
-                push_place(&mut ids, &tcb.state)?;
+                push_place(&mut ids, &tcb.state);
             }
         }
     }
-    Ok(ids)
+    ids.finish()
 }
 
 // Adds the object at which a thread waits in a queue.
-fn push_place(ids: &mut Vec<ObjId>, waits: &RunState) -> Result<(), AllocError> {
+fn push_place(ids: &mut Listing<ObjId>, waits: &RunState) {
     match waits {
-        RunState::Sending(sending) => ids.push(sending.endpoint)?,
-        RunState::Receiving(receiving) => ids.push(receiving.endpoint)?,
-        RunState::Waiting(notification) => ids.push(*notification)?,
+        RunState::Sending(sending) => ids.push(sending.endpoint),
+        RunState::Receiving(receiving) => ids.push(receiving.endpoint),
+        RunState::Waiting(notification) => ids.push(*notification),
         _ => {}
     }
-    Ok(())
 }
 
 // Whether an object differs in its content, in who waits first at it, in its first word or in its slots.
@@ -133,53 +133,43 @@ fn object_at(state: &State, thread: ObjId, address: u64) -> Option<ObjId> {
 }
 
 // Adds an object, if it isn't there.
-fn push(ids: &mut Vec<ObjId>, id: ObjId) -> Result<(), AllocError> {
-    if !ids.contains(&id) {
-        ids.push(id)?;
+fn push(ids: &mut Listing<ObjId>, id: ObjId) {
+    if !ids.items.contains(&id) {
+        ids.push(id);
     }
-    Ok(())
 }
 
-fn push_if(ids: &mut Vec<ObjId>, id: Option<ObjId>) -> Result<(), AllocError> {
-    match id {
-        Some(id) => push(ids, id),
-        None => Ok(()),
+fn push_if(ids: &mut Listing<ObjId>, id: Option<ObjId>) {
+    if let Some(id) = id {
+        push(ids, id);
     }
 }
 
 // Adds all objects of a state from a number on.
-fn push_from(ids: &mut Vec<ObjId>, first: u64, state: &State) -> Result<(), AllocError> {
+fn push_from(ids: &mut Listing<ObjId>, first: u64, state: &State) {
     for number in first..state.next_id() {
-        ids.push(ObjId(number))?;
+        ids.push(ObjId(number));
     }
-    Ok(())
 }
 
 // Adds the objects that the addresses of a call lead to.
-fn push_named(ids: &mut Vec<ObjId>, state: &State, event: &Event) -> Result<(), AllocError> {
+fn push_named(ids: &mut Listing<ObjId>, state: &State, event: &Event) {
     let (one, other) = addresses(&event.call);
     if let Some(address) = one {
-        push_if(ids, object_at(state, event.thread, address))?;
+        push_if(ids, object_at(state, event.thread, address));
     }
     if let Some(address) = other {
-        push_if(ids, object_at(state, event.thread, address))?;
+        push_if(ids, object_at(state, event.thread, address));
     }
-    match event.call {
-        Call::Receive { slot, .. } => push_node(ids, state, event.thread, slot),
-        _ => Ok(()),
+    if let Call::Receive { slot, .. } = event.call {
+        push_node(ids, state, event.thread, slot);
     }
 }
 
 // Adds the CNode of a slot that a thread names.
-fn push_node(
-    ids: &mut Vec<ObjId>,
-    state: &State,
-    thread: ObjId,
-    slot: Option<SlotAddress>,
-) -> Result<(), AllocError> {
-    match slot {
-        Some(slot) => push_if(ids, object_at(state, thread, slot.root)),
-        None => Ok(()),
+fn push_node(ids: &mut Listing<ObjId>, state: &State, thread: ObjId, slot: Option<SlotAddress>) {
+    if let Some(slot) = slot {
+        push_if(ids, object_at(state, thread, slot.root));
     }
 }
 
@@ -216,48 +206,40 @@ fn addresses(call: &Call) -> (Option<u64>, Option<u64>) {
 }
 
 // Adds the objects that an object names, and the thread that waits first at it.
-fn push_linked(ids: &mut Vec<ObjId>, state: &State, id: ObjId) -> Result<(), AllocError> {
+fn push_linked(ids: &mut Listing<ObjId>, state: &State, id: ObjId) {
     match state.object(id) {
         Some(Object::Tcb(tcb)) => {
-            push_if(ids, tcb.context)?;
-            push_waits(ids, state, id, &tcb.state)
+            push_if(ids, tcb.context);
+            push_waits(ids, state, id, &tcb.state);
         }
         Some(Object::Endpoint(_)) | Some(Object::Notification(_)) => {
             push_if(ids, state.first_waiting(id))
         }
         Some(Object::Reply(reply)) => match reply.state {
-            ReplyState::Free => Ok(()),
+            ReplyState::Free => {}
             ReplyState::Waiting(thread) | ReplyState::Called(thread) => push(ids, thread),
         },
         Some(Object::Context(context)) => push_if(ids, context.thread),
-        _ => Ok(()),
+        _ => {}
     }
 }
 
 // Adds the objects that a thread waits at, or through.
-fn push_waits(
-    ids: &mut Vec<ObjId>,
-    state: &State,
-    thread: ObjId,
-    waits: &RunState,
-) -> Result<(), AllocError> {
+fn push_waits(ids: &mut Listing<ObjId>, state: &State, thread: ObjId, waits: &RunState) {
     match waits {
-        RunState::Inactive | RunState::Ready => Ok(()),
+        RunState::Inactive | RunState::Ready => {}
         RunState::Sending(sending) => push(ids, sending.endpoint),
         RunState::Receiving(receiving) => {
-            push(ids, receiving.endpoint)?;
-            push_if(ids, receiving.reply)?;
-            push_node(ids, state, thread, receiving.slot)
+            push(ids, receiving.endpoint);
+            push_if(ids, receiving.reply);
+            push_node(ids, state, thread, receiving.slot);
         }
         RunState::Waiting(notification) => push(ids, *notification),
         RunState::Called(calling) => {
-            push(ids, calling.reply)?;
-            match calling.lent {
-                Some(lent) => {
-                    push(ids, lent.context)?;
-                    push(ids, lent.borrower)
-                }
-                None => Ok(()),
+            push(ids, calling.reply);
+            if let Some(lent) = calling.lent {
+                push(ids, lent.context);
+                push(ids, lent.borrower);
             }
         }
     }

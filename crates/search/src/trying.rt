@@ -1,11 +1,12 @@
 //! The calls that a search tries in a state: one row for each kind of call.
 use crate::guided::{has, is_of, joins, names};
+use crate::listing::Listing;
 use crate::spaces::{Entry, Gap, Place, Space, space_of};
 use base::{CoreNo, Edge, Kind, Label, ObjId, Rights, SlotRef};
 use bitflags::Flags;
 use labels::label_of;
 use machine::{
-    Badged, Call, CapData, Detail, Event, MemoryKind, Object, ObjectKind, ReplyState, RunState,
+    Call, CapData, Detail, Event, MemoryKind, Object, ObjectKind, ReplyState, RunState, Tcb,
 };
 use objects::State;
 use std::alloc::{AllocError, Global};
@@ -27,7 +28,7 @@ const MAKINGS: [(MemoryKind, ObjectKind, u64); 8] = [
 ];
 
 /// The threads whose calls are tried.
-#[derive(Clone, Copy, PartialEq, Eq, Debug)]
+#[derive(Clone, Copy)]
 pub enum Callers {
     All,
     /// Those of a label.
@@ -37,7 +38,7 @@ pub enum Callers {
 }
 
 /// The calls of a thread that are tried.
-#[derive(Clone, Copy, PartialEq, Eq, Debug)]
+#[derive(Clone, Copy)]
 pub enum Breadth {
     /// Those at objects that the edges of a reason name.
     Named,
@@ -58,16 +59,16 @@ pub struct Choice<'a> {
 
 /// A state in which calls of a thread are tried.
 #[derive(Clone, Copy)]
-struct Scene<'t, 's, 'r> {
-    table: &'t Table,
-    state: &'s State,
+struct Scene<'a> {
+    table: &'a Table,
+    state: &'a State,
     breadth: Breadth,
-    reason: &'r [Edge],
+    reason: &'a [Edge],
     /// The label of the thread.
     caller: Option<Label>,
 }
 
-impl Scene<'_, '_, '_> {
+impl Scene<'_> {
     // Whether calls are tried that need authority of a kind over an object.
     fn allows(&self, kind: Kind, object: ObjId) -> bool {
         match self.breadth {
@@ -78,7 +79,10 @@ impl Scene<'_, '_, '_> {
 
     // Whether capabilities are sent with messages.
     fn passes_caps(&self) -> bool {
-        self.breadth != Breadth::Named || has(self.reason, Kind::Grant)
+        match self.breadth {
+            Breadth::Named => has(self.reason, Kind::Grant),
+            _ => true,
+        }
     }
 
     // Whether calls are tried that empty a slot.
@@ -91,7 +95,7 @@ impl Scene<'_, '_, '_> {
     }
 
     fn is_wide(&self) -> bool {
-        self.breadth == Breadth::Wide
+        matches!(self.breadth, Breadth::Wide)
     }
 
     fn label(&self, object: ObjId) -> Option<Label> {
@@ -106,7 +110,7 @@ pub fn calls_in(
     state: &State,
     choice: &Choice<'_>,
 ) -> Result<Vec<Event>, AllocError> {
-    let mut events = Vec::new(alloc);
+    let mut events = Listing::new(alloc);
     for number in 0..state.next_id() {
         let thread = ObjId(number);
         if let Some(core) = core_of(state, thread) {
@@ -122,12 +126,12 @@ pub fn calls_in(
             }
         }
     }
-    Ok(events)
+    events.finish()
 }
 
 // Whether calls of threads of a label are tried.
 fn is_caller(choice: &Choice<'_>, caller: Option<Label>) -> bool {
-    if choice.breadth == Breadth::Named && !is_of(choice.reason, caller) {
+    if matches!(choice.breadth, Breadth::Named) && !is_of(choice.reason, caller) {
         return false;
     }
     match choice.callers {
@@ -140,78 +144,67 @@ fn is_caller(choice: &Choice<'_>, caller: Option<Label>) -> bool {
 // Lists the events of a thread that runs.
 fn list_events(
     alloc: Global,
-    scene: &Scene<'_, '_, '_>,
+    scene: &Scene<'_>,
     thread: ObjId,
     core: CoreNo,
-    events: &mut Vec<Event>,
+    events: &mut Listing<Event>,
 ) -> Result<(), AllocError> {
-    let calls = list_calls(alloc, scene, thread)?;
-    for call in &calls {
+    let space = space_of(alloc, scene.state, thread)?;
+    let mut calls = Listing::new(alloc);
+    list_calls(scene, &space, &mut calls);
+    for call in &calls.finish()? {
         events.push(Event {
             core,
             thread,
             call: *call,
-        })?;
+        });
     }
     Ok(())
 }
 
 // The core on which a thread runs, if it is ready and runs.
 fn core_of(state: &State, thread: ObjId) -> Option<CoreNo> {
-    let Some(Object::Tcb(tcb)) = state.object(thread) else {
+    let Some(
+        Object::Tcb(
+            Tcb {
+                state: RunState::Ready,
+                context: Some(id),
+                ..
+            },
+        ),
+    ) = state.object(thread)
+    else {
         return None;
     };
-    if tcb.state != RunState::Ready {
-        return None;
-    }
-    let Some(Object::Context(context)) = state.object(tcb.context?) else {
+    let Some(Object::Context(context)) = state.object(*id) else {
         return None;
     };
     Some(context.share?.core)
 }
 
-// Lists the calls of a thread.
-fn list_calls(
-    alloc: Global,
-    scene: &Scene<'_, '_, '_>,
-    thread: ObjId,
-) -> Result<Vec<Call>, AllocError> {
-    let mut calls = Vec::new(alloc);
-    let space = space_of(alloc, scene.state, thread)?;
+// Lists the calls of a thread that has this capability space.
+fn list_calls(scene: &Scene<'_>, space: &Space, calls: &mut Listing<Call>) {
     for entry in &space.entries {
-        list_uses(scene, &space, entry, &mut calls)?;
+        list_uses(scene, space, entry, calls);
     }
-    list_removals(scene, &space, true, &mut calls)?;
+    list_removals(scene, space, true, calls);
     for gap in &space.gaps {
-        list_fillings(scene, gap, &space.places, &mut calls)?;
+        list_fillings(scene, gap, &space.places, calls);
     }
-    list_removals(scene, &space, false, &mut calls)?;
-    add(&mut calls, Call::Fetch)?;
-    Ok(calls)
-}
-
-// Adds a call to a list.
-fn add(calls: &mut Vec<Call>, call: Call) -> Result<(), AllocError> {
-    calls.push(call)?;
-    Ok(())
+    list_removals(scene, space, false, calls);
+    calls.push(Call::Fetch);
 }
 
 // Lists the calls that empty slots: of CNodes that are full, or of all others.
-fn list_removals(
-    scene: &Scene<'_, '_, '_>,
-    space: &Space,
-    full: bool,
-    calls: &mut Vec<Call>,
-) -> Result<(), AllocError> {
+fn list_removals(scene: &Scene<'_>, space: &Space, full: bool, calls: &mut Listing<Call>) {
     for place in &space.places {
         if has_gap(space, place.at.holder) != full && scene.empties(place) {
-            add(calls, Call::Delete { slot: place.slot })?;
+            calls.push(Call::Delete { slot: place.slot });
             if scene.state.first_child(place.at).is_some() {
-                add(calls, Call::Revoke { slot: place.slot })?;
+                calls.push(Call::Revoke { slot: place.slot });
             }
         }
     }
-    Ok(())
 }
 
 // Whether a CNode has an empty slot.
@@ -225,23 +218,17 @@ fn has_gap(space: &Space, node: ObjId) -> bool {
 }
 
 // Lists the calls that fill a gap, each with a capability of which the CNode has none yet.
-fn list_fillings(
-    scene: &Scene<'_, '_, '_>,
-    gap: &Gap,
-    places: &[Place],
-    calls: &mut Vec<Call>,
-) -> Result<(), AllocError> {
+fn list_fillings(scene: &Scene<'_>, gap: &Gap, places: &[Place], calls: &mut Listing<Call>) {
     if !scene.allows(Kind::Control, gap.at.holder) {
-        return Ok(());
+        return;
     }
     for place in places {
         if scene.is_wide() {
-            list_copies(gap, place, calls)?;
+            list_copies(gap, place, calls);
         } else if !holds(scene.state, gap.at.holder, place) {
-            list_copy(gap, place, Rights::all(), calls)?;
+            list_copy(gap, place, Rights::all(), calls);
         }
     }
-    Ok(())
 }
 
 // Whether a CNode holds a capability like the one in a slot.
@@ -264,17 +251,12 @@ fn holds(state: &State, node: ObjId, place: &Place) -> bool {
 }
 
 // Lists the calls that use a capability.
-fn list_uses(
-    scene: &Scene<'_, '_, '_>,
-    space: &Space,
-    entry: &Entry,
-    calls: &mut Vec<Call>,
-) -> Result<(), AllocError> {
+fn list_uses(scene: &Scene<'_>, space: &Space, entry: &Entry, calls: &mut Listing<Call>) {
     let address = entry.address;
     let object = entry.cap.object;
     match entry.cap.detail {
-        Detail::Notification(end) => list_signals(scene, entry, end, calls),
-        Detail::Endpoint(end) => list_messages(scene, space, entry, end, calls),
+        Detail::Notification(end) => list_signals(scene, entry, end.rights, calls),
+        Detail::Endpoint(end) => list_messages(scene, space, entry, end.rights, calls),
         Detail::Reply if scene.allows(Kind::Reply, object) => {
             list_answers(scene.state, entry, calls)
         }
@@ -293,79 +275,60 @@ fn list_uses(
         Detail::Untyped if scene.allows(Kind::Control, object) => {
             list_makings(scene, space, entry, calls)
         }
-        _ => Ok(()),
+        _ => {}
     }
 }
 
 // Lists the calls at a notification.
-fn list_signals(
-    scene: &Scene<'_, '_, '_>,
-    entry: &Entry,
-    end: Badged,
-    calls: &mut Vec<Call>,
-) -> Result<(), AllocError> {
+fn list_signals(scene: &Scene<'_>, entry: &Entry, rights: Rights, calls: &mut Listing<Call>) {
     let address = entry.address;
     let object = entry.cap.object;
-    if end.rights.contains(Rights::WRITE) && scene.allows(Kind::Notify, object) {
-        add(calls, Call::Signal { address })?;
+    if rights.contains(Rights::WRITE) && scene.allows(Kind::Notify, object) {
+        calls.push(Call::Signal { address });
     }
-    if end.rights.contains(Rights::READ) && scene.allows(Kind::Await, object) {
-        add(calls, Call::Poll { address })?;
-        add(calls, Call::Wait { address })?;
+    if rights.contains(Rights::READ) && scene.allows(Kind::Await, object) {
+        calls.push(Call::Poll { address });
+        calls.push(Call::Wait { address });
     }
-    Ok(())
 }
 
 // Lists the call that writes a frame.
-fn list_writes(address: u64, rights: Rights, calls: &mut Vec<Call>) -> Result<(), AllocError> {
+fn list_writes(address: u64, rights: Rights, calls: &mut Listing<Call>) {
     if rights.contains(Rights::WRITE) {
-        add(
-            calls,
-            Call::Write {
-                address,
-                index: 0,
-                word: 1,
-            },
-        )?;
+        calls.push(Call::Write {
+            address,
+            index: 0,
+            word: 1,
+        });
     }
-    Ok(())
 }
 
 // Lists the call that answers through a reply.
-fn list_answers(state: &State, entry: &Entry, calls: &mut Vec<Call>) -> Result<(), AllocError> {
+fn list_answers(state: &State, entry: &Entry, calls: &mut Listing<Call>) {
     let Some(Object::Reply(reply)) = state.object(entry.cap.object) else {
-        return Ok(());
+        return;
     };
-    match reply.state {
-        ReplyState::Called(_) => add(
-            calls,
-            Call::Reply {
-                address: entry.address,
-                words: WORDS,
-            },
-        ),
-        _ => Ok(()),
+    if let ReplyState::Called(_) = reply.state {
+        calls.push(Call::Reply {
+            address: entry.address,
+            words: WORDS,
+        });
     }
 }
 
 // Lists the calls that bind a context, or unbind it.
-fn list_bindings(
-    state: &State,
-    space: &Space,
-    entry: &Entry,
-    calls: &mut Vec<Call>,
-) -> Result<(), AllocError> {
+fn list_bindings(state: &State, space: &Space, entry: &Entry, calls: &mut Listing<Call>) {
     let context = entry.address;
     if is_bound(state, entry.cap.object) {
-        return add(calls, Call::Unbind { context });
+        calls.push(Call::Unbind { context });
+        return;
     }
     for other in &space.entries {
         if let Detail::Tcb = other.cap.detail {
             let thread = other.address;
-            add(calls, Call::Bind { context, thread })?;
+            calls.push(Call::Bind { context, thread });
         }
     }
-    Ok(())
 }
 
 // Whether a thread runs on a context.
@@ -377,54 +340,49 @@ fn is_bound(state: &State, context: ObjId) -> bool {
 }
 
 // Lists the calls that configure a context.
-fn list_shares(space: &Space, control: u64, calls: &mut Vec<Call>) -> Result<(), AllocError> {
+fn list_shares(space: &Space, control: u64, calls: &mut Listing<Call>) {
     for other in &space.entries {
         if let Detail::Context = other.cap.detail {
-            add(
-                calls,
-                Call::Configure {
-                    control,
-                    context: other.address,
-                    budget: 1,
-                    period: 1,
-                },
-            )?;
+            calls.push(Call::Configure {
+                control,
+                context: other.address,
+                budget: 1,
+                period: 1,
+            });
         }
     }
-    Ok(())
 }
 
 // Lists the calls at an endpoint.
 fn list_messages(
-    scene: &Scene<'_, '_, '_>,
+    scene: &Scene<'_>,
     space: &Space,
     entry: &Entry,
-    end: Badged,
-    calls: &mut Vec<Call>,
-) -> Result<(), AllocError> {
+    rights: Rights,
+    calls: &mut Listing<Call>,
+) {
     let address = entry.address;
     let object = entry.cap.object;
     let sends = scene.allows(Kind::Send, object)
         || scene.allows(Kind::Call, object)
         || scene.allows(Kind::Grant, object);
-    if end.rights.contains(Rights::WRITE) && sends {
-        list_sends(address, None, calls)?;
-        if scene.passes_caps() && takes_caps(scene.state, object) {
+    let passes_caps = scene.passes_caps();
+    if rights.contains(Rights::WRITE) && sends {
+        list_sends(address, None, calls);
+        if passes_caps && takes_caps(scene.state, object) {
             for other in &space.entries {
-                list_sends(address, Some(other.address), calls)?;
+                list_sends(address, Some(other.address), calls);
             }
         }
     }
-    if end.rights.contains(Rights::READ) && scene.allows(Kind::Receive, object) {
-        let slots = scene.passes_caps();
-        list_receives(space, address, None, slots, calls)?;
+    if rights.contains(Rights::READ) && scene.allows(Kind::Receive, object) {
+        list_receives(space, address, None, passes_caps, calls);
         for other in &space.entries {
             if let Detail::Reply = other.cap.detail {
-                list_receives(space, address, Some(other.address), slots, calls)?;
+                list_receives(space, address, Some(other.address), passes_caps, calls);
             }
         }
     }
-    Ok(())
 }
 
 // Whether a thread waits at an endpoint with a slot for a capability.
@@ -433,7 +391,7 @@ fn takes_caps(state: &State, endpoint: ObjId) -> bool {
         return false;
     };
     match state.object(thread) {
-        Some(Object::Tcb(tcb)) => match tcb.state {
+        Some(Object::Tcb(tcb)) => match &tcb.state {
             RunState::Receiving(receiving) => receiving.slot.is_some(),
             _ => false,
         },
@@ -442,27 +400,17 @@ fn takes_caps(state: &State, endpoint: ObjId) -> bool {
 }
 
 // Lists the sends and calls at an address.
-fn list_sends(
-    address: u64,
-    capability: Option<u64>,
-    calls: &mut Vec<Call>,
-) -> Result<(), AllocError> {
-    add(
-        calls,
-        Call::Send {
-            address,
-            words: WORDS,
-            capability,
-        },
-    )?;
-    add(
-        calls,
-        Call::Call {
-            address,
-            words: WORDS,
-            capability,
-        },
-    )
+fn list_sends(address: u64, capability: Option<u64>, calls: &mut Listing<Call>) {
+    calls.push(Call::Send {
+        address,
+        words: WORDS,
+        capability,
+    });
+    calls.push(Call::Call {
+        address,
+        words: WORDS,
+        capability,
+    });
 }
 
 // Lists the receives at an address, with a reply or none, and with slots for a capability or none.
@@ -471,65 +419,50 @@ fn list_receives(
     address: u64,
     reply: Option<u64>,
     slots: bool,
-    calls: &mut Vec<Call>,
-) -> Result<(), AllocError> {
-    add(
-        calls,
-        Call::Receive {
-            address,
-            reply,
-            slot: None,
-        },
-    )?;
+    calls: &mut Listing<Call>,
+) {
+    calls.push(Call::Receive {
+        address,
+        reply,
+        slot: None,
+    });
     if !slots {
-        return Ok(());
+        return;
     }
     for gap in &space.gaps {
-        add(
-            calls,
-            Call::Receive {
-                address,
-                reply,
-                slot: Some(gap.slot),
-            },
-        )?;
+        calls.push(Call::Receive {
+            address,
+            reply,
+            slot: Some(gap.slot),
+        });
     }
-    Ok(())
 }
 
 // Lists the calls that control a thread.
-fn list_controls(
-    state: &State,
-    space: &Space,
-    entry: &Entry,
-    calls: &mut Vec<Call>,
-) -> Result<(), AllocError> {
+fn list_controls(state: &State, space: &Space, entry: &Entry, calls: &mut Listing<Call>) {
     let thread = entry.address;
-    if is_inactive(state, entry.cap.object) {
-        add(calls, Call::Resume { thread })?;
-    } else {
-        add(calls, Call::Suspend { thread })?;
-        add(calls, Call::Resume { thread })?;
+    if !is_inactive(state, entry.cap.object) {
+        calls.push(Call::Suspend { thread });
     }
+    calls.push(Call::Resume { thread });
     let root = root_of(state, entry.cap.object);
     if root.is_some() {
-        add(calls, Call::ClearSpace { thread })?;
+        calls.push(Call::ClearSpace { thread });
     }
     for other in &space.entries {
         if let Detail::CNode(_) = other.cap.detail {
             if root != Some(other.cap.object) {
                 let space = other.address;
-                add(calls, Call::SetSpace { thread, space })?;
+                calls.push(Call::SetSpace { thread, space });
             }
         }
     }
-    Ok(())
 }
 
 // Whether a thread was stopped, or hasn't been started.
 fn is_inactive(state: &State, thread: ObjId) -> bool {
     match state.object(thread) {
-        Some(Object::Tcb(tcb)) => tcb.state == RunState::Inactive,
+        Some(Object::Tcb(tcb)) => matches!(tcb.state, RunState::Inactive),
         _ => false,
     }
 }
@@ -543,30 +476,32 @@ fn root_of(state: &State, thread: ObjId) -> Option<ObjId> {
 }
 
 // Lists the calls that make an object of untyped memory.
-fn list_makings(
-    scene: &Scene<'_, '_, '_>,
-    space: &Space,
-    entry: &Entry,
-    calls: &mut Vec<Call>,
-) -> Result<(), AllocError> {
+fn list_makings(scene: &Scene<'_>, space: &Space, entry: &Entry, calls: &mut Listing<Call>) {
     for (kind, made, bits) in &MAKINGS {
         if scene.is_wide() || (leads_further(*made) && !is_made(scene, entry.cap.object, *made)) {
-            for gap in &space.gaps {
-                add(
-                    calls,
-                    Call::Retype {
-                        untyped: entry.address,
-                        kind: *kind,
-                        bits: *bits,
-                        to: gap.slot.root,
-                        offset: gap.at.index,
-                        count: 1,
-                    },
-                )?;
-            }
+            list_retypes(space, entry.address, *kind, *bits, calls);
         }
     }
-    Ok(())
+}
+
+// Lists the calls that make an object of a kind for each gap.
+fn list_retypes(
+    space: &Space,
+    untyped: u64,
+    kind: MemoryKind,
+    bits: u64,
+    calls: &mut Listing<Call>,
+) {
+    for gap in &space.gaps {
+        calls.push(Call::Retype {
+            untyped,
+            kind,
+            bits,
+            to: gap.slot.root,
+            offset: gap.at.index,
+            count: 1,
+        });
+    }
 }
 
 // Whether a new object of a kind often leads further.
@@ -578,7 +513,7 @@ fn leads_further(kind: ObjectKind) -> bool {
 }
 
 // Whether an object of a kind was made already, with the label of a piece of untyped memory.
-fn is_made(scene: &Scene<'_, '_, '_>, memory: ObjId, kind: ObjectKind) -> bool {
+fn is_made(scene: &Scene<'_>, memory: ObjId, kind: ObjectKind) -> bool {
     let label = scene.label(memory);
     let declared = scene.table.objects().len() as u64;
     for number in declared..scene.state.next_id() {
@@ -593,42 +528,31 @@ fn is_made(scene: &Scene<'_, '_, '_>, memory: ObjId, kind: ObjectKind) -> bool {
 }
 
 // Lists the calls that fill a gap from a slot, with all rights and with fewer.
-fn list_copies(gap: &Gap, place: &Place, calls: &mut Vec<Call>) -> Result<(), AllocError> {
+fn list_copies(gap: &Gap, place: &Place, calls: &mut Listing<Call>) {
     let to = gap.slot;
     let from = place.slot;
-    list_copy(gap, place, Rights::all(), calls)?;
-    add(calls, Call::Move { to, from })?;
+    list_copy(gap, place, Rights::all(), calls);
+    calls.push(Call::Move { to, from });
     match place.cap.detail {
         Detail::Endpoint(_) | Detail::Notification(_) => {
-            list_copy(gap, place, Rights::READ, calls)?;
-            add(
-                calls,
-                Call::Mint {
-                    to,
-                    from,
-                    rights: Rights::all(),
-                    given: CapData::Badge(1),
-                },
-            )
+            list_copy(gap, place, Rights::READ, calls);
+            calls.push(Call::Mint {
+                to,
+                from,
+                rights: Rights::all(),
+                given: CapData::Badge(1),
+            });
         }
         Detail::Frame(_) => list_copy(gap, place, Rights::READ, calls),
-        _ => Ok(()),
+        _ => {}
     }
 }
 
 // Lists the copy of a slot to a gap.
-fn list_copy(
-    gap: &Gap,
-    place: &Place,
-    rights: Rights,
-    calls: &mut Vec<Call>,
-) -> Result<(), AllocError> {
-    add(
-        calls,
-        Call::Copy {
-            to: gap.slot,
-            from: place.slot,
-            rights,
-        },
-    )
+fn list_copy(gap: &Gap, place: &Place, rights: Rights, calls: &mut Listing<Call>) {
+    calls.push(Call::Copy {
+        to: gap.slot,
+        from: place.slot,
+        rights,
+    });
 }
