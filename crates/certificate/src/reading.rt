@@ -1,33 +1,30 @@
 //! The reading of a certificate's text.
 ghost use Rattle.std.specs.Prelude.{ℕ, ◌≡◌, ◌≢◌, Err, IfErr, IfOk, List, Ok};
 ghost use Rattle.words.specs.{declared.faults.Wrong.Wrong, Fault.{fault_at, no_memory}, FirstFault.{IsFirstFault, TellsFirst}};
-ghost use Rattle.{words.specs.{Reading.Reads, Text.lines_of}, captext.specs.Tables.named};
+ghost use Rattle.words.specs.{Name.name_at, Parts.in_turn, Reading.{Gives, Reads, bind, ended_at}, Text.lines_of};
 ghost use Rattle.certificate.specs.{declared.line.Line.Line as LineOf, Certificate.{IsCertificateOf, certificate_text}};
 ghost use Rattle.certificate.specs.Reading as reading;
 
 use crate::kinds::kinds;
 use crate::line::{Certificate, Line};
-use base::{Label, ObjId, SlotRef};
+use base::{Kinds, Label, ObjId, SlotRef};
 use captext::{Place, fits_holder, is_thread_and_context, slot, slot_in};
 use machine::ObjectKind;
 use std::alloc::Global;
 use table::Table;
 use words::{Fault, LineError, Reader, Words, Wrong, read_text};
 
-/// The object of a name.
-fn named(table: &Table, name: &str) -> Result<ObjId, Wrong>
-    ensures { result ≡ named table.now name.now }
-{
-    table.object_named(name).ok_or(Wrong::UnknownName)
-}
-
 /// The labels of these names.
 #[tactic(auto, unfolding(crate::specs::Reading::labels_named, words::specs::Reading::bind))]
 fn labels_named(table: &Table, from: &str, to: &str) -> Result<(Label, Label), Wrong>
     ensures { result ≡ reading.labels_named table.now from.now to.now }
 {
-    let from = table.label_named(from).ok_or(Wrong::UnknownName)?;
-    let to = table.label_named(to).ok_or(Wrong::UnknownName)?;
+    let Some(from) = table.label_named(from) else {
+        return Err(Wrong::UnknownName);
+    };
+    let Some(to) = table.label_named(to) else {
+        return Err(Wrong::UnknownName);
+    };
     Ok((from, to))
 }
 
@@ -57,22 +54,38 @@ fn declared(table: &Table, holder: ObjId, place: Place) -> Result<SlotRef, Wrong
     }
 }
 
-/// Reads `SLOT LABEL KINDS LABEL`, after the word `cap`.
-#[tactic(auto, unfolding(crate::specs::Reading::cap_at, crate::specs::Reading::line_by, crate::specs::Reading::line_named, words::specs::Parts::in_turn, words::specs::Parts::read_as, words::specs::Reading::bind))]
-fn cap_line(table: &Table, words: &mut Words<'_>) -> Result<Line, Wrong>
-    ensures { result ≡ reading.line_by reading.cap_at table.now words.old }
+/// Takes the last two words of a line as the names of labels.
+#[tactic(auto, unfolding(words::specs::Parts::in_turn, words::specs::Reading::bind))]
+fn last_names<'a>(words: &mut Words<'a>) -> Result<(&'a str, &'a str), Wrong>
+    ensures { Gives (λ names. (names.0.now, names.1.now)) result
+        (bind (in_turn name_at name_at words.old) (λ names. bind (ended_at names.1) (λ _. Ok names.0))) }
 {
-    let (holder, place) = slot(words)?;
     let from = words.name()?;
-    let kinds = kinds(words)?;
     let to = words.name()?;
     words.end()?;
-    let holder = named(table, holder)?;
+    Ok((from, to))
+}
+
+/// The line of a capability in a slot of a CNode, by the names in it.
+#[tactic(auto, unfolding(crate::specs::Reading::line_named, words::specs::Reading::bind))]
+fn named_cap(
+    table: &Table,
+    slot: (&str, Place),
+    kinds: Kinds,
+    from: &str,
+    to: &str,
+) -> Result<Line, Wrong>
+    ensures { result ≡ reading.line_named table.now
+        (reading.NamedCap ((slot.entry.0.now, slot.entry.1), (from.now, (kinds, to.now)))) }
+{
+    let Some(holder) = table.object_named(slot.0) else {
+        return Err(Wrong::UnknownName);
+    };
     let (from, to) = labels_named(table, from, to)?;
-    if !is_in_cnode(table.kind(holder), place) {
+    if !is_in_cnode(table.kind(holder), slot.1) {
         return Err(Wrong::WrongKind);
     }
-    let slot = declared(table, holder, place)?;
+    let slot = declared(table, holder, slot.1)?;
     Ok(Line::Cap {
         slot,
         from,
@@ -81,43 +94,71 @@ fn cap_line(table: &Table, words: &mut Words<'_>) -> Result<Line, Wrong>
     })
 }
 
-/// Reads `SLOT LABEL LABEL`, after the word `space`.
-#[tactic(auto, unfolding(crate::specs::Reading::space_at, crate::specs::Reading::line_by, crate::specs::Reading::line_named, words::specs::Parts::in_turn, words::specs::Parts::read_as, words::specs::Reading::bind))]
-fn space_line(table: &Table, words: &mut Words<'_>) -> Result<Line, Wrong>
-    ensures { result ≡ reading.line_by reading.space_at table.now words.old }
+/// Reads `SLOT LABEL KINDS LABEL`, after the word `cap`.
+#[tactic(auto, unfolding(crate::specs::Reading::cap_at, crate::specs::Reading::line_by, words::specs::Parts::in_turn, words::specs::Parts::read_as, words::specs::Reading::bind))]
+fn cap_line(table: &Table, words: &mut Words<'_>) -> Result<Line, Wrong>
+    ensures { result ≡ reading.line_by reading.cap_at table.now words.old }
 {
-    let (holder, place) = slot(words)?;
+    let slot = slot(words)?;
     let from = words.name()?;
+    let kinds = kinds(words)?;
     let to = words.name()?;
     words.end()?;
-    let holder = named(table, holder)?;
+    named_cap(table, slot, kinds, from, to)
+}
+
+/// The line of a thread's root slot, by the names in it.
+#[tactic(auto, unfolding(crate::specs::Reading::line_named, words::specs::Reading::bind))]
+fn named_space(table: &Table, slot: (&str, Place), from: &str, to: &str) -> Result<Line, Wrong>
+    ensures { result ≡ reading.line_named table.now
+        (reading.NamedSpace ((slot.entry.0.now, slot.entry.1), (from.now, to.now))) }
+{
+    let Some(holder) = table.object_named(slot.0) else {
+        return Err(Wrong::UnknownName);
+    };
     let (from, to) = labels_named(table, from, to)?;
-    if !is_root(table.kind(holder), place) {
+    if !is_root(table.kind(holder), slot.1) {
         return Err(Wrong::WrongKind);
     }
-    let slot = declared(table, holder, place)?;
+    let slot = declared(table, holder, slot.1)?;
     Ok(Line::Space { slot, from, to })
 }
 
-/// Reads `SLOT SLOT LABEL LABEL`, after the word `derive`.
-#[tactic(auto, unfolding(crate::specs::Reading::derive_at, crate::specs::Reading::line_by, crate::specs::Reading::line_named, words::specs::Parts::in_turn, words::specs::Parts::read_as, words::specs::Reading::bind))]
-fn derive_line(table: &Table, words: &mut Words<'_>) -> Result<Line, Wrong>
-    ensures { result ≡ reading.line_by reading.derive_at table.now words.old }
+/// Reads `SLOT LABEL LABEL`, after the word `space`.
+#[tactic(auto, unfolding(crate::specs::Reading::space_at, crate::specs::Reading::line_by, words::specs::Parts::in_turn, words::specs::Parts::read_as, words::specs::Reading::bind))]
+fn space_line(table: &Table, words: &mut Words<'_>) -> Result<Line, Wrong>
+    ensures { result ≡ reading.line_by reading.space_at table.now words.old }
 {
-    let (above, parent) = slot(words)?;
-    let (below, child) = slot(words)?;
-    let from = words.name()?;
-    let to = words.name()?;
-    words.end()?;
-    let above = named(table, above)?;
-    let below = named(table, below)?;
+    let slot = slot(words)?;
+    let (from, to) = last_names(words)?;
+    named_space(table, slot, from, to)
+}
+
+/// The line of a pair of the derivation tree, by the names in it.
+#[tactic(auto, unfolding(crate::specs::Reading::line_named, words::specs::Reading::bind))]
+fn named_derive(
+    table: &Table,
+    parent: (&str, Place),
+    child: (&str, Place),
+    from: &str,
+    to: &str,
+) -> Result<Line, Wrong>
+    ensures { result ≡ reading.line_named table.now (reading.NamedDerive
+        ((parent.entry.0.now, parent.entry.1), ((child.entry.0.now, child.entry.1), (from.now, to.now)))) }
+{
+    let Some(above) = table.object_named(parent.0) else {
+        return Err(Wrong::UnknownName);
+    };
+    let Some(below) = table.object_named(child.0) else {
+        return Err(Wrong::UnknownName);
+    };
     let (from, to) = labels_named(table, from, to)?;
-    let fit = fits_holder(table.kind(above), parent);
-    if !(fit && fits_holder(table.kind(below), child)) {
+    let fit = fits_holder(table.kind(above), parent.1);
+    if !(fit && fits_holder(table.kind(below), child.1)) {
         return Err(Wrong::WrongKind);
     }
-    let parent = declared(table, above, parent)?;
-    let child = declared(table, below, child)?;
+    let parent = declared(table, above, parent.1)?;
+    let child = declared(table, below, child.1)?;
     Ok(Line::Derive {
         parent,
         child,
@@ -126,18 +167,35 @@ fn derive_line(table: &Table, words: &mut Words<'_>) -> Result<Line, Wrong>
     })
 }
 
-/// Reads `TCB CONTEXT LABEL LABEL`, after the word `runs`.
-#[tactic(auto, unfolding(crate::specs::Reading::runs_at, crate::specs::Reading::line_by, crate::specs::Reading::line_named, words::specs::Parts::in_turn, words::specs::Parts::read_as, words::specs::Reading::bind))]
-fn runs_line(table: &Table, words: &mut Words<'_>) -> Result<Line, Wrong>
-    ensures { result ≡ reading.line_by reading.runs_at table.now words.old }
+/// Reads `SLOT SLOT LABEL LABEL`, after the word `derive`.
+#[tactic(auto, unfolding(crate::specs::Reading::derive_at, crate::specs::Reading::line_by, words::specs::Parts::in_turn, words::specs::Parts::read_as, words::specs::Reading::bind))]
+fn derive_line(table: &Table, words: &mut Words<'_>) -> Result<Line, Wrong>
+    ensures { result ≡ reading.line_by reading.derive_at table.now words.old }
 {
-    let thread = words.name()?;
-    let context = words.name()?;
-    let from = words.name()?;
-    let to = words.name()?;
-    words.end()?;
-    let thread = named(table, thread)?;
-    let context = named(table, context)?;
+    let parent = slot(words)?;
+    let child = slot(words)?;
+    let (from, to) = last_names(words)?;
+    named_derive(table, parent, child, from, to)
+}
+
+/// The line of a binding, by the names in it.
+#[tactic(auto, unfolding(crate::specs::Reading::line_named, words::specs::Reading::bind))]
+fn named_runs(
+    table: &Table,
+    thread: &str,
+    context: &str,
+    from: &str,
+    to: &str,
+) -> Result<Line, Wrong>
+    ensures { result ≡ reading.line_named table.now
+        (reading.NamedRuns (thread.now, (context.now, (from.now, to.now)))) }
+{
+    let Some(thread) = table.object_named(thread) else {
+        return Err(Wrong::UnknownName);
+    };
+    let Some(context) = table.object_named(context) else {
+        return Err(Wrong::UnknownName);
+    };
     let (from, to) = labels_named(table, from, to)?;
     if !is_thread_and_context(table.kind(thread), table.kind(context)) {
         return Err(Wrong::WrongKind);
@@ -148,6 +206,17 @@ fn runs_line(table: &Table, words: &mut Words<'_>) -> Result<Line, Wrong>
         from,
         to,
     })
+}
+
+/// Reads `TCB CONTEXT LABEL LABEL`, after the word `runs`.
+#[tactic(auto, unfolding(crate::specs::Reading::runs_at, crate::specs::Reading::line_by, words::specs::Parts::in_turn, words::specs::Parts::read_as, words::specs::Reading::bind))]
+fn runs_line(table: &Table, words: &mut Words<'_>) -> Result<Line, Wrong>
+    ensures { result ≡ reading.line_by reading.runs_at table.now words.old }
+{
+    let thread = words.name()?;
+    let context = words.name()?;
+    let (from, to) = last_names(words)?;
+    named_runs(table, thread, context, from, to)
 }
 
 /// Reads a line, by its first word.

@@ -1,8 +1,9 @@
 //! The reading of the text of claims.
-ghost use Rattle.std.specs.Prelude.{[], ℕ, ◌≡◌, ◌≢◌, Err, IfErr, List, Option, map, option_map};
-ghost use Rattle.words.specs.{declared.faults.Wrong.Wrong, Fault.{fault_at, no_memory}, FirstFault.{IsFirstFault, TellsFirst}};
-ghost use Rattle.{words.specs.{Reading.{Gives, GivesOrStops, Reads}, Text.lines_of}, machine.specs.Layout.Layout};
-ghost use Rattle.{captext.specs.Policies.kind_at, claims.specs.{declared.claim.Claim.Claim as ClaimOf, Claims.is_one_of}};
+ghost use Rattle.std.specs.Prelude.{[], ℕ, ◌≡◌, ◌≢◌, Err, IfErr, List, Option, bytes_eq, codes, if◌then◌else◌, map, option_map};
+ghost use Rattle.words.specs.{declared.faults.Wrong.{TheVariants.Syntax, Wrong}, Fault.{fault_at, no_memory}};
+ghost use Rattle.words.specs.{FirstFault.{IsFirstFault, TellsFirst}, Reading.{Gives, GivesOrStops, Reads}, Text.lines_of};
+ghost use Rattle.{machine.specs.Layout.Layout, captext.specs.Policies.kind_at};
+ghost use Rattle.claims.specs.{declared.claim.Claim.Claim as ClaimOf, Claims.is_one_of};
 ghost use Rattle.claims.specs.Reading as reading;
 
 use crate::claim::{Claim, LabelList, Most, Who};
@@ -22,7 +23,9 @@ fn end<'a>(words: &mut Words<'a>) -> Result<Option<&'a str>, Wrong>
     if word == b"*".as_slice() {
         return Ok(None);
     }
-    let name = name_of(word).ok_or(Wrong::Syntax)?;
+    let Some(name) = name_of(word) else {
+        return Err(Wrong::Syntax);
+    };
     Ok(Some(name))
 }
 
@@ -93,7 +96,9 @@ fn names<'a>(alloc: Global, words: &mut Words<'a>) -> Result<Vec<&'a str>, LineE
 {
     let mut names = Vec::new(alloc);
     while let Some(word) = words.next_word() {
-        let name = name_of(word).ok_or(Wrong::Syntax)?;
+        let Some(name) = name_of(word) else {
+            return Err(LineError::Text(Wrong::Syntax));
+        };
         names.push(name)?;
     }
     Ok(names)
@@ -290,6 +295,23 @@ fn claim_by(
     if word == b"within".as_slice() {
         return within(alloc, table, words);
     }
+    other_claim_by(alloc, table, word, words)
+}
+
+/// Reads the claim of a line that begins with this word, if it isn't a claim on pairs.
+fn other_claim_by(
+    alloc: Global,
+    table: &Table,
+    word: &[u8],
+    words: &mut Words<'_>,
+) -> Result<Claim, LineError>
+    ensures { GivesOrStops (λ claim. claim) result
+        (if bytes_eq word.now (codes "readers") then reading.readers_claim table.now words.old else
+        (if bytes_eq word.now (codes "apart") then reading.apart_claim table.now words.old else
+        (if bytes_eq word.now (codes "through") then reading.through_claim table.now words.old else
+        (if bytes_eq word.now (codes "without") then reading.without_claim table.now words.old else
+        Err Syntax)))) }
+{
     if word == b"readers".as_slice() {
         return readers(alloc, table, words);
     }

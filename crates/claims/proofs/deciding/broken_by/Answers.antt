@@ -1,6 +1,6 @@
 -- Each turn adds the claim of one line more, if it doesn't hold.
 use Rattle.std.proofs.Common.{[], ◌++◌, ◌+◌, ◌∙◌, ◌∷◌, ◌≡◌, ap, arith, get_or, refl, subst, sym, take}
-use Rattle.{std.proofs.lemmas.{Grind.common_steps, List.append-nil}, reach.specs.Extents.limits_of}
+use Rattle.{std.proofs.lemmas.{Grind.common_steps, List.{append-nil, take_all}}, reach.specs.Extents.limits_of}
 use Rattle.claims.specs.{declared.deciding.Broken.Broken, Holding.{AreBroken, AreBroken.{broke, ended, held, silent}}}
 use Rattle.claims.proofs.{Gathered.one_line, Promised.fails_breaks}
 use Rattle.claims.proofs.deciding.broken_by.Goals.{in-Some+in-Some-failure_of+in_ok-push, in-Some+in_default-failure_of, in_default}
@@ -49,3 +49,8 @@ loop-index-preserved c =
           (append-nil all ∙ sym (ap (λ b. b.items) w.broken-is))
           (one_line t limits ClaimLines.FIRST i lines entry all [] (omega arith) c.loop-index.invariant here)
     ]
+
+pub returns : goal.returns
+returns c =
+    subst (λ entries. AreBroken c.args.reach.now.table (limits_of c.args.reach.now) ClaimLines.FIRST entries c.loop-index.broken.items)
+    (take_all _ _ c.loop-index-test.false) c.loop-index.invariant
