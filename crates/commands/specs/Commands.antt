@@ -85,9 +85,14 @@ pub record TellsFinding (told : List ℕ) (IsFinding : Finding → Type 0) (answ
   pub made : answer.made ≡ None
   pub script : answer.script ≡ None
 
+-- a finding is this denial of a table and a policy, or of a certificate
+abbrev pub IsDenied : Denial → Finding → Type 0
+IsDenied denial (finding.Denied told) = told.value ≡ denial
+IsDenied denial _ = ⊥
+
 -- an answer tells of a denial
 abbrev pub Denies : Layout → Denial → Answer → Type 0
-Denies t denial = TellsFinding (denial_report (rule_name denial) (place_names t denial)) (λ told. told ≡ finding.Denied denial)
+Denies t denial = TellsFinding (denial_report (rule_name denial) (place_names t denial)) (IsDenied denial)
 
 -- a text and a status are the answer to what the files hold, where that is known: the report of the first fault, or what the
 -- command judges of the values

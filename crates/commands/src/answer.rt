@@ -66,5 +66,5 @@ pub fn denied(alloc: Global, table: &Table, denial: Denial) -> Result<Answer, Al
     ensures { IfOk result (Denies table.now denial) }
 {
     let text = denial_text(alloc, table, &denial)?;
-    Ok(Answer::found(text, Finding::Denied(denial)))
+    Ok(Answer::found(text, Finding::Denied(Box::new(alloc, denial)?)))
 }

@@ -12,9 +12,9 @@ use verdict::Denial;
 #[derive(Debug, Drop)]
 pub enum Finding {
     /// A table and a policy, or a certificate, are denied.
-    Denied(Denial),
+    Denied(Box<Denial>),
     /// The last state of a legal log lies outside the policy.
-    Outside(Denial),
+    Outside(Box<Denial>),
     /// A log isn't legal: the entry, from 1, that is no step.
     Illegal(usize),
     /// Claims don't hold.

@@ -7,20 +7,20 @@ use crate::{Answer, End, Fault, File, Listener, Loaded, Sink, Stop};
 use reptext::fault_report;
 use std::alloc::Global;
 
-/// Has the listener hear of the answer to what was loaded, and writes the answer. If there is no
-/// answer because of a fault, writes the report of the fault.
+/// Has the listener hear of the answer to what was loaded, which is let go, and writes the answer. If
+/// there is no answer because of a fault, writes the report of the fault.
 pub fn tell<X: Loaded, L: Listener, O: Sink>(
     alloc: Global,
-    loaded: &Result<X, Stop>,
+    loaded: Result<X, Stop>,
     answer: Result<Answer, Stop>,
     listener: &mut L,
     out: &mut O,
 ) -> End
     requires { O.failed out.old ≡ false }
     ensures told { IsTold answer (output O.contents O.failed O.is_flushed out.old out.new) result }
-    ensures heard { HearsAnswer L.Hears X.layout X.held loaded.now answer listener.old listener.new }
+    ensures heard { HearsAnswer L.Hears X.layout X.held loaded answer listener.old listener.new }
 {
-    announce(loaded, &answer, listener);
+    announce(&loaded, &answer, listener);
     write(alloc, answer, out)
 }
 

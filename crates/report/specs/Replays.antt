@@ -5,7 +5,7 @@ use Rattle.machine.specs.{declared.call.Outcome.Outcome, Boot.IsBoot, Layout.Lay
 use Rattle.{kernel.specs.Legal.{Entry, IsLogBetween, StopsAt}, policy.specs.Policy.allows, integrity.specs.Confined.IsConfined}
 use Rattle.verdict.specs.{declared.denial.Denial.Denial, Rules.Excess, Verdict.{IsOutside, excess_of, rule_name}}
 use Rattle.{evtext.specs.Log.read_log_of, reptext.specs.{Places.place_names_by, Reports.{illegal_data, line_of, outside_data, within_data}}}
-use Rattle.commands.specs.declared.{answer.Answer.Answer, end.End.End, listener.Finding.Finding as finding}
+use Rattle.commands.specs.declared.{answer.Answer.Answer, end.End.End, listener.Finding.{Finding, Finding as finding}}
 use Rattle.commands.specs.Commands.{TellsFinding, Input, IsDoneOnThree, IsPlain, Output}
 
 -- the log is a run from the table's boot state, which leads to its last state
@@ -31,6 +31,11 @@ AnswersAt t entries at None = (slice_get entries at ≡ None) ⊎ ((boot : Machi
 abbrev pub IsFirstOutside : Layout → List Edge → Machine → Denial → Type 0
 IsFirstOutside t edges m denial = (place : Excess) × (excess_of denial ≡ Some place) × IsOutside t (allows edges) m place
 
+-- a finding is that the last state of a log lies outside there
+abbrev pub IsOutsideAt : Denial → Finding → Type 0
+IsOutsideAt denial (finding.Outside told) = told.value ≡ denial
+IsOutsideAt denial _ = ⊥
+
 -- the answer: the log is legal and its last state lies within the policy; or where it lies outside; or the log isn't legal, and which entry
 -- is the first that is no step
 pub data Replays (t : Layout) (edges : List Edge) (entries : List Entry) (answer : Answer) : Type 0 where
@@ -38,7 +43,7 @@ pub data Replays (t : Layout) (edges : List Edge) (entries : List Entry) (answer
       → IsPlain (line_of (within_data (length entries))) 0 answer → Replays t edges entries answer
   outside : (last : Machine) (denial : Denial) → IsReplayedTo t entries last → IsFirstOutside t edges last denial
       → TellsFinding (line_of (outside_data (length entries) (rule_name denial) (place_names_by (kind_of last) t denial)))
-      (λ told. told ≡ finding.Outside denial) answer → Replays t edges entries answer
+      (IsOutsideAt denial) answer → Replays t edges entries answer
   illegal : (boot : Machine) (at : ℕ) → IsBoot t boot → StopsAt boot entries at
       → TellsFinding (line_of (illegal_data (at + 1))) (λ told. told ≡ finding.Illegal (at + 1)) answer → Replays t edges entries answer
 

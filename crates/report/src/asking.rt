@@ -52,7 +52,7 @@ where
 {
     let given = load_given(alloc, taken, system, listener);
     let answer = answered(alloc, asked, &given);
-    tell(alloc, &given, answer, listener, out)
+    tell(alloc, given, answer, listener, out)
 }
 
 /// The answer to a system that was loaded.
@@ -171,7 +171,7 @@ where
 {
     let with = load_with::<X, T, P, L>(alloc, taken, system, policy, listener);
     let answer = answered_of_policy(alloc, asked, &with);
-    tell(alloc, &with, answer, listener, out)
+    tell(alloc, with, answer, listener, out)
 }
 
 /// The answer to a system and a policy that were loaded.

@@ -54,7 +54,7 @@ where
 {
     let with = load_with::<Policy, T, P, L>(alloc, Taken::Table, table, policy, listener);
     let answer = checked(rt, alloc, rules, &with, on_accept, workers, gate);
-    tell(alloc, &with, answer, listener, out)
+    tell(alloc, with, answer, listener, out)
 }
 
 /// The verdict on a table and a policy that were loaded.

@@ -43,7 +43,7 @@ where
 {
     let with = load_with::<ClaimLines, T, S, L>(alloc, taken, system, claims, listener);
     let answer = claims_judged(alloc, &with);
-    tell(alloc, &with, answer, listener, out)
+    tell(alloc, with, answer, listener, out)
 }
 
 fn claims_judged(alloc: Global, loaded: &Result<With<ClaimLines>, Stop>) -> Result<Answer, Stop>

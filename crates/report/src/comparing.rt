@@ -43,7 +43,7 @@ where
 {
     let two = load_two(alloc, taken, old, new, listener);
     let answer = compared(alloc, form, &two);
-    tell(alloc, &two, answer, listener, out)
+    tell(alloc, two, answer, listener, out)
 }
 
 fn compared(alloc: Global, form: Form, loaded: &Result<Two, Stop>) -> Result<Answer, Stop>

@@ -40,7 +40,7 @@ where
 {
     let described = load_description(alloc, on_import.minting, description, listener);
     let answer = imported(alloc, on_import, &described);
-    tell(alloc, &described, answer, listener, out)
+    tell(alloc, described, answer, listener, out)
 }
 
 /// What is asked for of a description that was loaded.

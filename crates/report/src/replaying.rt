@@ -1,7 +1,8 @@
 //! The command `replay`: whether a log is that of a run of a system.
 ghost use Rattle.std.specs.Prelude.{◌≡◌, ◌≤◌, IfOk, None, false};
-ghost use Rattle.{machine.specs.{Boot.IsBoot, WellFormed.IsWellFormed}, evtext.specs.Log.read_log_of};
-ghost use Rattle.commands.specs.{Commands.{ThreeIsJudged, input, output}, Hearing.ThreeIsHeard};
+ghost use Rattle.{machine.specs.{Boot.IsBoot, WellFormed.{IsWellFormed, kind_of}}, evtext.specs.Log.read_log_of, verdict.specs.Verdict.rule_name};
+ghost use Rattle.reptext.specs.{Places.place_names_by, Reports.{line_of, outside_data}};
+ghost use Rattle.commands.specs.{Commands.{TellsFinding, ThreeIsJudged, input, output}, Hearing.ThreeIsHeard};
 ghost use Rattle.forms.specs.declared.file.File.TheVariants as file;
 ghost use Rattle.commands.specs.Hearing as held;
 ghost use Rattle.report.specs.Answers as answers;
@@ -15,9 +16,9 @@ use machine::{Event, Outcome};
 use objects::State;
 use policy::Policy;
 use reptext::{illegal_report, outside_report, place_names, within_report};
-use std::alloc::Global;
+use std::alloc::{AllocError, Global};
 use table::Table;
-use verdict::outside;
+use verdict::{Denial, outside};
 
 /// Replays a log from the boot state of a table, whether that is accepted or not.
 ///
@@ -51,7 +52,7 @@ where
 {
     let three = load_three::<Entries, T, P, S, L>(alloc, table, policy, log, listener);
     let answer = log_replayed(alloc, &three);
-    tell(alloc, &three, answer, listener, out)
+    tell(alloc, three, answer, listener, out)
 }
 
 /// The answer to a log that was loaded with its system.
@@ -96,12 +97,25 @@ fn replayed_from(
     }
     match outside(table, policy, state) {
         None => Ok(Answer::plain(within_report(alloc, entries.len())?, 0)),
-        Some(denial) => {
-            let place = place_names(alloc, table, &*state, &denial)?;
-            let text = outside_report(alloc, entries.len(), denial.rule(), &place)?;
-            Ok(Answer::found(text, Finding::Outside(denial)))
-        }
+        Some(denial) => Ok(outside_answer(alloc, table, &*state, entries.len(), denial)?),
     }
+}
+
+/// The answer to a legal log of this number of entries, whose last state lies outside there.
+fn outside_answer(
+    alloc: Global,
+    table: &Table,
+    state: &State,
+    entries: usize,
+    denial: Denial,
+) -> Result<Answer, AllocError>
+    ensures { IfOk result (TellsFinding
+        (line_of (outside_data entries (rule_name denial) (place_names_by (kind_of state.now) table.now denial)))
+        (replays.IsOutsideAt denial)) }
+{
+    let place = place_names(alloc, table, state, &denial)?;
+    let text = outside_report(alloc, entries, denial.rule(), &place)?;
+    Ok(Answer::found(text, Finding::Outside(Box::new(alloc, denial)?)))
 }
 
 /// Returns what the kernel answers to the event of an entry, from 0, after the steps of the entries

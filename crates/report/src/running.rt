@@ -50,7 +50,7 @@ where
 {
     let three = load_three::<Script, T, P, S, L>(alloc, table, policy, script, listener);
     let answer = ran(rt, alloc, rules, &three);
-    tell(alloc, &three, answer, listener, out)
+    tell(alloc, three, answer, listener, out)
 }
 
 /// The log of a script on a system, both loaded, or why the system is denied.

@@ -53,7 +53,7 @@ where
 {
     let three = load_three::<Script, T, P, S, L>(alloc, table, policy, script, listener);
     let answer = ran_split(rt, alloc, &three, gate);
-    tell(alloc, &three, answer, listener, out)
+    tell(alloc, three, answer, listener, out)
 }
 
 /// The log that workers make of a script on a system, both loaded, or why the system is denied.

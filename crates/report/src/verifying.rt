@@ -48,7 +48,7 @@ where
 {
     let three = load_three::<Certificate, T, P, S, L>(alloc, table, policy, certificate, listener);
     let answer = verified(rt, alloc, rules, &three);
-    tell(alloc, &three, answer, listener, out)
+    tell(alloc, three, answer, listener, out)
 }
 
 /// The verdict on a system and a certificate, both loaded.

@@ -2,6 +2,7 @@
 use Rattle.std.specs.{List.flat_map, Prelude.{[], ℕ, ◌∷◌, Bool, List, None, Option, Some, codes, false, if◌then◌else◌, true}}
 use Rattle.serde_json.specs.{Data.{Data, array, member, no_members, number, object, string, unsigned}, View.items_of}
 use Rattle.{base.specs.declared.edge.Edge.Edge, machine.specs.Layout.Layout, captext.specs.PolicyText.label_name}
+use Rattle.reach.specs.declared.extent.Extent.{Extent}
 use Rattle.claims.specs.declared.{breaches.Breach.Breach, claim.{Claim.{Claim, Claim as claim}, Who.Who as who}}
 use Rattle.claims.specs.{declared.{deciding.{Broken.Broken, Failure.{Failure, Failure as failure}}, keeping.Kept.Kept}, Claims.kept_word}
 use Rattle.{claims.specs.{Lines.claim_at, Text.claim_text}, reptext.specs.{Reasons.edge_data, Reports.{extent_word, names_data}}}
@@ -12,14 +13,25 @@ names_both (claim.AtMost limit (who.One a) (who.One l)) = true
 names_both (claim.Without (who.One a) kind (who.One l)) = true
 names_both _ = false
 
--- a claim on authority is broken by this authority; the two labels are added if the claim doesn't name them
-abbrev pub pair_data : Layout → Claim → ℕ → Breach → Data
-pair_data t claim line breach =
+-- a claim on authority that names the two labels is broken by an authority that goes so far
+abbrev pub named_data : Layout → Claim → ℕ → Extent → Data
+named_data t claim line extent =
+    object (member (codes "authority") (string (extent_word extent))
+    (member (codes "claim") (string (claim_text t claim))
+    (member (codes "line") (number (unsigned line)) no_members)))
+
+-- any other claim on authority is broken by this authority, which is given with its two labels
+abbrev pub found_data : Layout → Claim → ℕ → Breach → Data
+found_data t claim line breach =
     object (member (codes "authority") (string (extent_word breach.extent))
     (member (codes "claim") (string (claim_text t claim))
     (member (codes "line") (number (unsigned line))
-    (if names_both claim then no_members
-    else member (codes "pair") (names_data (label_name t breach.actor ∷ label_name t breach.object ∷ [])) no_members))))
+    (member (codes "pair") (names_data (label_name t breach.actor ∷ label_name t breach.object ∷ [])) no_members))))
+
+-- a claim on authority is broken by this authority; the two labels are added if the claim doesn't name them
+abbrev pub pair_data : Layout → Claim → ℕ → Breach → Data
+pair_data t claim line breach =
+    if names_both claim then named_data t claim line breach.extent else found_data t claim line breach
 
 -- a claim is broken
 abbrev pub plain_data : Layout → Claim → ℕ → Data

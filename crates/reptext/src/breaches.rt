@@ -1,14 +1,16 @@
 //! The report of claims that don't hold.
 ghost use Rattle.std.specs.{List.flat_map, Prelude.{[], ◌++◌, ◌∷◌, ◌≡◌, IfOk, OnOk, map}};
-ghost use Rattle.{serde_json.specs.View.view, captext.specs.PolicyText.label_name as label_name_of};
-ghost use Rattle.reptext.specs.Breaches.{breaches_data, excluded_data, failure_data, names_both, pair_data, plain_data, told};
+ghost use Rattle.serde_json.specs.{Data.string, View.view};
+ghost use Rattle.{captext.specs.PolicyText.label_name as label_name_of, claims.specs.Text.claim_text};
+ghost use Rattle.reptext.specs.Breaches.{breaches_data, excluded_data, failure_data, found_data, named_data, names_both, pair_data, plain_data, told};
 ghost use Rattle.reptext.specs.Reports.{line_of, names_data};
 
-use crate::places::label_name;
 use crate::reasons::edge_value;
 use crate::reports::{extent_word, line_of};
 use base::{Edge, Label};
+use captext::label_name;
 use claims::{Breach, Broken, Claim, ClaimLines, Failure, Kept, Who, claim_text};
+use reach::Extent;
 use serde_json::{Value, json};
 use std::alloc::{AllocError, Global};
 use table::Table;
@@ -40,9 +42,11 @@ fn breaches_value(
 ) -> Result<Value, AllocError>
     ensures { IfOk result (λ value. view value ≡ breaches_data table.now lines.now broken.now kept) }
 {
-    let values = Value::Array(values_of(alloc, table, lines, broken)?);
-    let kept = kept.word();
-    json!(in alloc; {"broken": values, "kept": kept, "verdict": "broken"})
+    json!(in alloc; {
+        "broken": Value::Array(values_of(alloc, table, lines, broken)?),
+        "kept": kept.word(),
+        "verdict": "broken"
+    })
 }
 
 fn values_of(
@@ -100,9 +104,7 @@ fn plain_value(
 ) -> Result<Value, AllocError>
     ensures { IfOk result (λ value. view value ≡ plain_data table.now claim.now line) }
 {
-    let text = Value::String(claim_text(alloc, claim, table)?);
-    let line = line as u64;
-    json!(in alloc; {"claim": text, "line": line})
+    json!(in alloc; {"claim": text_value(alloc, table, claim)?, "line": line as u64})
 }
 
 // A claim that excludes edges and is broken, with the edge if the claim doesn't name it.
@@ -118,10 +120,11 @@ fn excluded_value(
     if names_both(claim) {
         return plain_value(alloc, table, claim, line);
     }
-    let edge = edge_value(alloc, table, edge)?;
-    let text = Value::String(claim_text(alloc, claim, table)?);
-    let line = line as u64;
-    json!(in alloc; {"claim": text, "edge": edge, "line": line})
+    json!(in alloc; {
+        "claim": text_value(alloc, table, claim)?,
+        "edge": edge_value(alloc, table, edge)?,
+        "line": line as u64
+    })
 }
 
 // A claim on authority that is broken, with the authority.
@@ -134,14 +137,53 @@ fn pair_value(
 ) -> Result<Value, AllocError>
     ensures { IfOk result (λ value. view value ≡ pair_data table.now claim.now line breach) }
 {
-    let authority = extent_word(breach.extent);
-    let text = Value::String(claim_text(alloc, claim, table)?);
-    let line = line as u64;
     if names_both(claim) {
-        return json!(in alloc; {"authority": authority, "claim": text, "line": line});
+        named_value(alloc, table, claim, line, breach.extent)
+    } else {
+        found_value(alloc, table, claim, line, breach)
     }
-    let pair = labels_value(alloc, table, breach.actor, breach.object)?;
-    json!(in alloc; {"authority": authority, "claim": text, "line": line, "pair": pair})
+}
+
+// A claim that is broken and names the two labels, with the authority.
+fn named_value(
+    alloc: Global,
+    table: &Table,
+    claim: &Claim,
+    line: usize,
+    extent: Extent,
+) -> Result<Value, AllocError>
+    ensures { IfOk result (λ value. view value ≡ named_data table.now claim.now line extent) }
+{
+    json!(in alloc; {
+        "authority": extent_word(extent),
+        "claim": text_value(alloc, table, claim)?,
+        "line": line as u64
+    })
+}
+
+// Any other claim on authority that is broken, with the authority and its two labels.
+fn found_value(
+    alloc: Global,
+    table: &Table,
+    claim: &Claim,
+    line: usize,
+    breach: Breach,
+) -> Result<Value, AllocError>
+    ensures { IfOk result (λ value. view value ≡ found_data table.now claim.now line breach) }
+{
+    json!(in alloc; {
+        "authority": extent_word(breach.extent),
+        "claim": text_value(alloc, table, claim)?,
+        "line": line as u64,
+        "pair": labels_value(alloc, table, breach.actor, breach.object)?
+    })
+}
+
+// The text of a claim.
+fn text_value(alloc: Global, table: &Table, claim: &Claim) -> Result<Value, AllocError>
+    ensures { IfOk result (λ value. view value ≡ string (claim_text table.now claim.now)) }
+{
+    Ok(Value::String(claim_text(alloc, claim, table)?))
 }
 
 // The names of two labels.
@@ -154,10 +196,7 @@ fn labels_value(
     ensures { IfOk result (λ value.
         view value ≡ names_data (label_name_of table.now actor ∷ label_name_of table.now object ∷ [])) }
 {
-    let mut names = Vec::new(alloc);
-    names.push(Value::String(label_name(alloc, table, actor)?))?;
-    names.push(Value::String(label_name(alloc, table, object)?))?;
-    Ok(Value::Array(names))
+    json!(in alloc; [label_name(table, actor), label_name(table, object)])
 }
 
 // Whether a claim itself names the two labels that it bounds, or the edge that it excludes.

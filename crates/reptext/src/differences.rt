@@ -33,9 +33,10 @@ fn changes_value(
 ) -> Result<Value, AllocError>
     ensures { IfOk result (λ value. view value ≡ changes_data old.now new.now changes.now) }
 {
-    let values = Value::Array(values_of(alloc, old, new, changes)?);
-    let adds = adds_authority(changes);
-    json!(in alloc; {"adds": adds, "changes": values})
+    json!(in alloc; {
+        "adds": adds_authority(changes),
+        "changes": Value::Array(values_of(alloc, old, new, changes)?)
+    })
 }
 
 fn values_of(
@@ -104,11 +105,7 @@ fn standing_value(
 ) -> Result<Value, AllocError>
     ensures { IfOk result (λ value. view value ≡ standing_data sign name.now old new) }
 {
-    let name = word(alloc, name)?;
-    let sign = word(alloc, sign.as_str())?;
-    let old = word(alloc, old.as_str())?;
-    let new = word(alloc, new.as_str())?;
-    json!(in alloc; {"label": name, "new": new, "old": old, "sign": sign})
+    json!(in alloc; {"label": name, "new": new.as_str(), "old": old.as_str(), "sign": sign.as_str()})
 }
 
 fn cell_value(
@@ -121,12 +118,12 @@ fn cell_value(
 ) -> Result<Value, AllocError>
     ensures { IfOk result (λ value. view value ≡ cell_data sign from.now to.now old new) }
 {
-    let from = word(alloc, from)?;
-    let to = word(alloc, to)?;
-    let sign = word(alloc, sign.as_str())?;
-    let old = Value::String(marks_string(alloc, old)?);
-    let new = Value::String(marks_string(alloc, new)?);
-    json!(in alloc; {"cell": [from, to], "new": new, "old": old, "sign": sign})
+    json!(in alloc; {
+        "cell": [from, to],
+        "new": marks_value(alloc, new)?,
+        "old": marks_value(alloc, old)?,
+        "sign": sign.as_str()
+    })
 }
 
 fn use_value(
@@ -138,20 +135,13 @@ fn use_value(
 ) -> Result<Value, AllocError>
     ensures { IfOk result (λ value. view value ≡ use_data sign from.now verb to.now) }
 {
-    let from = word(alloc, from)?;
-    let verb = word(alloc, verb.as_str())?;
-    let to = word(alloc, to)?;
-    let sign = word(alloc, sign.as_str())?;
-    json!(in alloc; {"sign": sign, "use": [from, verb, to]})
+    json!(in alloc; {"sign": sign.as_str(), "use": [from, verb.as_str(), to]})
 }
 
 fn role_value(alloc: Global, sign: Sign, role: Role, name: &str) -> Result<Value, AllocError>
     ensures { IfOk result (λ value. view value ≡ role_data sign role name.now) }
 {
-    let role = word(alloc, role.as_str())?;
-    let name = word(alloc, name)?;
-    let sign = word(alloc, sign.as_str())?;
-    json!(in alloc; {"role": [role, name], "sign": sign})
+    json!(in alloc; {"role": [role.as_str(), name], "sign": sign.as_str()})
 }
 
 fn edge_value(
@@ -163,24 +153,14 @@ fn edge_value(
 ) -> Result<Value, AllocError>
     ensures { IfOk result (λ value. view value ≡ edge_data sign from.now kind to.now) }
 {
-    let from = word(alloc, from)?;
-    let kind = word(alloc, kind.name())?;
-    let to = word(alloc, to)?;
-    let sign = word(alloc, sign.as_str())?;
-    json!(in alloc; {"edge": [from, kind, to], "sign": sign})
+    json!(in alloc; {"edge": [from, kind.name(), to], "sign": sign.as_str()})
 }
 
-// A word as a value.
-fn word(alloc: Global, word: &str) -> Result<Value, AllocError>
-    ensures { IfOk result (λ value. view value ≡ string word.now) }
-{
-    Ok(Value::String(String::from_str(alloc, word)?))
-}
-
-fn marks_string(alloc: Global, marks: Marks) -> Result<String, AllocError>
-    ensures { IfOk result (λ text. string_bytes text ≡ cell_text marks) }
+// The marks of a cell, as a value.
+fn marks_value(alloc: Global, marks: Marks) -> Result<Value, AllocError>
+    ensures { IfOk result (λ value. view value ≡ string (cell_text marks)) }
 {
     let mut text = String::new(alloc);
     write_cell_marks(&mut text, marks)?;
-    Ok(text)
+    Ok(Value::String(text))
 }

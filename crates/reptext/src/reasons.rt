@@ -2,9 +2,9 @@
 ghost use Rattle.std.specs.Prelude.{◌≡◌, IfOk, map};
 ghost use Rattle.{serde_json.specs.View.view, reptext.specs.{Reasons.{edge_data, reason_data, why_data}, Reports.line_of}};
 
-use crate::places::label_name;
 use crate::reports::{extent_word, line_of};
 use base::{Edge, Label};
+use captext::label_name;
 use policy::Why;
 use reach::Extent;
 use serde_json::{Value, json};
@@ -53,11 +53,12 @@ fn reason_value(
 ) -> Result<Value, AllocError>
     ensures { IfOk result (λ value. view value ≡ reason_data table.now actor object extent edges.now) }
 {
-    let authority = extent_word(extent);
-    let edges = Value::Array(edge_values(alloc, table, edges)?);
-    let actor = Value::String(label_name(alloc, table, actor)?);
-    let object = Value::String(label_name(alloc, table, object)?);
-    json!(in alloc; {"actor": actor, "authority": authority, "edges": edges, "object": object})
+    json!(in alloc; {
+        "actor": label_name(table, actor),
+        "authority": extent_word(extent),
+        "edges": Value::Array(edge_values(alloc, table, edges)?),
+        "object": label_name(table, object)
+    })
 }
 
 fn edge_values(alloc: Global, table: &Table, edges: &[Edge]) -> Result<Vec<Value>, AllocError>
@@ -74,7 +75,5 @@ fn edge_values(alloc: Global, table: &Table, edges: &[Edge]) -> Result<Vec<Value
 pub(crate) fn edge_value(alloc: Global, table: &Table, edge: Edge) -> Result<Value, AllocError>
     ensures { IfOk result (λ value. view value ≡ edge_data table.now edge) }
 {
-    let from = Value::String(label_name(alloc, table, edge.from)?);
-    let to = Value::String(label_name(alloc, table, edge.to)?);
-    json!(in alloc; [from, edge.kind.name(), to])
+    json!(in alloc; [label_name(table, edge.from), edge.kind.name(), label_name(table, edge.to)])
 }

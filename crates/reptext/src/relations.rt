@@ -5,8 +5,9 @@ ghost use Rattle.{policy.specs.Policy.allows, reptext.specs.Relations.{Decides, 
 ghost use Rattle.captext.specs.PolicyText as policy_text;
 ghost use Rattle.reptext.specs.Reports as reports;
 
-use crate::places::label_name;
+use crate::places;
 use base::{Label, Labels};
+use captext::label_name;
 use policy::Policy;
 use serde_json::{Map, Value};
 use std::alloc::{AllocError, Global};
@@ -91,7 +92,7 @@ fn put_label(
     ensures { OnOk result (members_view members.new.entries
         ≡ reports.with_related table.now (relation_of sets.now) (members_view members.old.entries) label) }
 {
-    let name = label_name(alloc, table, label)?;
+    let name = places::label_name(alloc, table, label)?;
     let names = names_in(alloc, table, sets[usize::from(label.number())])?;
     members.insert(name, names)?;
     Ok(())
@@ -128,6 +129,6 @@ fn push_name(
     if !set.has(label) {
         return Ok(());
     }
-    names.push(Value::String(label_name(alloc, table, label)?))?;
+    names.push(Value::try_from_str(alloc, label_name(table, label))?)?;
     Ok(())
 }

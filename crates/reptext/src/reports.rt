@@ -114,8 +114,7 @@ fn check_value(alloc: Global, table: &Table, cut: Value, full: Value) -> Result<
     ensures { IfOk result (λ value. (cuts fulls : ℕ → ℕ → Bool) → view cut ≡ reports.relation_data table.now cuts
         → view full ≡ reports.relation_data table.now fulls → view value ≡ reports.check_data table.now cuts fulls) }
 {
-    let caps = table.caps().len() as u64;
-    json!(in alloc; {"caps": caps, "cut": cut, "full": full, "verdict": "accept"})
+    json!(in alloc; {"caps": table.caps().len() as u64, "cut": cut, "full": full, "verdict": "accept"})
 }
 
 fn accept_value(alloc: Global) -> Result<Value, AllocError>
@@ -127,8 +126,7 @@ fn accept_value(alloc: Global) -> Result<Value, AllocError>
 fn within_value(alloc: Global, entries: usize) -> Result<Value, AllocError>
     ensures { IfOk result (λ value. view value ≡ reports.within_data entries) }
 {
-    let entries = entries as u64;
-    json!(in alloc; {"entries": entries, "state": "within", "verdict": "legal"})
+    json!(in alloc; {"entries": entries as u64, "state": "within", "verdict": "legal"})
 }
 
 fn outside_value(
@@ -140,24 +138,25 @@ fn outside_value(
     ensures { IfOk result (λ value.
         view value ≡ reports.outside_data entries rule.now (map string_bytes place.now)) }
 {
-    let entries = entries as u64;
-    let names = names_value(alloc, place)?;
-    json!(in alloc; {"entries": entries, "place": names, "rule": rule, "state": "outside", "verdict": "legal"})
+    json!(in alloc; {
+        "entries": entries as u64,
+        "place": names_value(alloc, place)?,
+        "rule": rule,
+        "state": "outside",
+        "verdict": "legal"
+    })
 }
 
 fn illegal_value(alloc: Global, entry: usize) -> Result<Value, AllocError>
     ensures { IfOk result (λ value. view value ≡ reports.illegal_data entry) }
 {
-    let entry = entry as u64;
-    json!(in alloc; {"entry": entry, "verdict": "illegal"})
+    json!(in alloc; {"entry": entry as u64, "verdict": "illegal"})
 }
 
 fn hold_value(alloc: Global, claims: usize, kept: Kept) -> Result<Value, AllocError>
     ensures { IfOk result (λ value. view value ≡ reports.hold_data claims kept) }
 {
-    let claims = claims as u64;
-    let kept = kept.word();
-    json!(in alloc; {"claims": claims, "kept": kept, "verdict": "hold"})
+    json!(in alloc; {"claims": claims as u64, "kept": kept.word(), "verdict": "hold"})
 }
 
 fn impossible_value(alloc: Global) -> Result<Value, AllocError>
@@ -169,8 +168,7 @@ fn impossible_value(alloc: Global) -> Result<Value, AllocError>
 fn unfound_value(alloc: Global, bound: Extent, steps: u64) -> Result<Value, AllocError>
     ensures { IfOk result (λ value. view value ≡ reports.unfound_data bound steps) }
 {
-    let bound = extent_word(bound);
-    json!(in alloc; {"bound": bound, "run": "none found", "steps": steps})
+    json!(in alloc; {"bound": extent_word(bound), "run": "none found", "steps": steps})
 }
 
 /// Returns the word for how far an authority goes.
@@ -194,8 +192,7 @@ fn denial_value(alloc: Global, rule: &str, place: &[String]) -> Result<Value, Al
     ensures { IfOk result (λ value.
         view value ≡ reports.denial_data rule.now (map string_bytes place.now)) }
 {
-    let names = names_value(alloc, place)?;
-    json!(in alloc; {"place": names, "rule": rule, "verdict": "deny"})
+    json!(in alloc; {"place": names_value(alloc, place)?, "rule": rule, "verdict": "deny"})
 }
 
 fn names_value(alloc: Global, names: &[String]) -> Result<Value, AllocError>

@@ -4,9 +4,9 @@ ghost use Rattle.{serde_json.specs.View.view, summary.specs.Marks.marks};
 ghost use Rattle.reptext.specs.{Reports.line_of, Summaries.{IsSummaryReport, cell_data, cells_of}};
 ghost use Rattle.reptext.specs.Summaries.{labels_data, region_data, summary_data, told_cell};
 
-use crate::places::label_name;
 use crate::reports::line_of;
 use base::Label;
+use captext::label_name;
 use reach::Reach;
 use serde_json::{Value, json};
 use std::alloc::{AllocError, Global};
@@ -35,12 +35,11 @@ fn summary_line(alloc: Global, table: &Table, rows: &[Row]) -> Result<Vec<u8>, A
 fn summary_value(alloc: Global, table: &Table, rows: &[Row]) -> Result<Value, AllocError>
     ensures { IfOk result (λ value. view value ≡ summary_data table.now rows.now) }
 {
-    let cells = Value::Array(cells(alloc, table, rows)?);
-    let others = others(alloc, table)?;
-    let memory = Value::Array(regions(alloc, table, rows, &others)?);
-    let programs = programs(alloc, table)?;
-    let programs = labels_value(alloc, table, &programs)?;
-    json!(in alloc; {"cells": cells, "memory": memory, "programs": programs})
+    json!(in alloc; {
+        "cells": Value::Array(cells(alloc, table, rows)?),
+        "memory": Value::Array(regions(alloc, table, rows, &others(alloc, table)?)?),
+        "programs": labels_value(alloc, table, &programs(alloc, table)?)?
+    })
 }
 
 // The cells that have an entry, row by row.
@@ -105,10 +104,11 @@ fn cell_value(
     requires { string_bytes letters ≡ marks row.now other.now.label }
     ensures { IfOk result (λ value. view value ≡ cell_data table.now row.now other.now) }
 {
-    let row = Value::String(label_name(alloc, table, row.label)?);
-    let column = Value::String(label_name(alloc, table, other.label)?);
-    let letters = Value::String(letters);
-    json!(in alloc; [row, column, letters])
+    json!(in alloc; [
+        label_name(table, row.label),
+        label_name(table, other.label),
+        Value::String(letters)
+    ])
 }
 
 // The labels without a thread, each with those who change it, read it, and may only take from it.
@@ -135,14 +135,12 @@ fn region_value(
 ) -> Result<Value, AllocError>
     ensures { IfOk result (λ value. view value ≡ region_data table.now rows.now label) }
 {
-    let changers = changers(alloc, rows, label)?;
-    let changed_by = labels_value(alloc, table, &changers)?;
-    let readers = readers(alloc, rows, label)?;
-    let read_by = labels_value(alloc, table, &readers)?;
-    let takers = takers(alloc, rows, label)?;
-    let taken_by = labels_value(alloc, table, &takers)?;
-    let label = Value::String(label_name(alloc, table, label)?);
-    json!(in alloc; {"changed_by": changed_by, "label": label, "read_by": read_by, "taken_by": taken_by})
+    json!(in alloc; {
+        "changed_by": labels_value(alloc, table, &changers(alloc, rows, label)?)?,
+        "label": label_name(table, label),
+        "read_by": labels_value(alloc, table, &readers(alloc, rows, label)?)?,
+        "taken_by": labels_value(alloc, table, &takers(alloc, rows, label)?)?
+    })
 }
 
 fn labels_value(alloc: Global, table: &Table, labels: &[Label]) -> Result<Value, AllocError>
@@ -150,7 +148,7 @@ fn labels_value(alloc: Global, table: &Table, labels: &[Label]) -> Result<Value,
 {
     let mut names = Vec::with_capacity(alloc, labels.len())?;
     for label in labels {
-        names.push(Value::String(label_name(alloc, table, *label)?))?;
+        names.push(Value::try_from_str(alloc, label_name(table, *label))?)?;
     }
     Ok(Value::Array(names))
 }
