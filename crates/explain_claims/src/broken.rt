@@ -207,38 +207,47 @@ fn push_breach(
     breach: Breach,
 ) -> Result<Vec<Edge>, Refusal> {
     let why = reach.why(alloc, breach.actor, breach.object)?;
-    let does = match &why {
-        Why::Full(_) => "may change objects of",
-        Why::Take(_) => "may take from",
-        Why::Nothing => "has no authority on",
-    };
+    push_deed(lines, reach.table(), breach, &why)?;
     let edges = edges_of(alloc, why);
-    let table = reach.table();
-    let places = origins.places(alloc, &edges)?;
-    let ways = OtherWays {
-        sheet: judged.sheet,
-        places: &places,
-    };
-    push_deed(lines, table, breach, does, &edges, &ways)?;
+    push_reason(alloc, lines, judged, origins, &edges)?;
     Ok(edges)
 }
 
-/// Adds what a label may do to another, by these edges, and what may be changed.
+/// Adds what a label may do to another.
 fn push_deed(
     lines: &mut String,
     table: &Table,
     breach: Breach,
-    does: &str,
-    edges: &[Edge],
-    ways: &OtherWays<'_>,
+    why: &Why,
 ) -> Result<(), AllocError> {
+    let does = match why {
+        Why::Full(_) => "may change objects of",
+        Why::Take(_) => "may take from",
+        Why::Nothing => "has no authority on",
+    };
     let actor = label_name(table, breach.actor);
     let object = label_name(table, breach.object);
-    let list = EdgeList { table, edges };
-    writeln!(
-        lines,
-        "`{actor}` {does} `{object}`, by {list}. Change the claim{ways}."
-    )
+    write!(lines, "`{actor}` {does} `{object}`")
+}
+
+/// Adds the edges by which a label may do something, and what may be changed.
+fn push_reason(
+    alloc: Global,
+    lines: &mut String,
+    judged: &Judged<'_>,
+    origins: &Origins<'_>,
+    edges: &[Edge],
+) -> Result<(), Refusal> {
+    let places = origins.places(alloc, edges)?;
+    let list = EdgeList {
+        table: judged.sheet.table,
+        edges,
+    };
+    let ways = OtherWays {
+        sheet: judged.sheet,
+        places: &places,
+    };
+    Ok(writeln!(lines, ", by {list}. Change the claim{ways}.")?)
 }
 
 /// Adds that the reach has an edge, and gives it.

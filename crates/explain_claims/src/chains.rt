@@ -272,19 +272,35 @@ pub(crate) fn push_chain(
     to: Label,
     filters: Labels,
 ) -> Result<(), Refusal> {
-    let flows = Flows::of(alloc, reach)?;
-    let mut separator = "";
-    if let Some(links) = flows.chain(alloc, from, to, filters)? {
-        for link in &links {
-            lines.push_str(separator)?;
-            push_link(lines, reach.table(), *link)?;
-            separator = ", ";
-        }
+    if let Some(links) = chain(alloc, reach, from, to, filters)? {
+        push_links(lines, reach.table(), &links)?;
     }
     Ok(lines.push_str(
         ". Change the claim, or change what makes one of these steps possible. \
          `confine why` prints the edges of a step.\n",
     )?)
+}
+
+/// A shortest chain from one label to another that goes through no filter.
+fn chain(
+    alloc: Global,
+    reach: &Reach<'_>,
+    from: Label,
+    to: Label,
+    filters: Labels,
+) -> Result<Option<Vec<Link>>, AllocError> {
+    Flows::of(alloc, reach)?.chain(alloc, from, to, filters)
+}
+
+/// Adds the flows of a chain.
+fn push_links(lines: &mut String, table: &Table, links: &[Link]) -> Result<(), AllocError> {
+    let mut separator = "";
+    for link in links {
+        lines.push_str(separator)?;
+        push_link(lines, table, *link)?;
+        separator = ", ";
+    }
+    Ok(())
 }
 
 /// Adds by whose objects what a label does may come to another.

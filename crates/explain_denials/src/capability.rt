@@ -1,7 +1,7 @@
 //! The sentence on a capability that gives more than the policy has.
-use crate::sentences::{EdgeList, Lets, comes_by_right, separator, verb};
 use base::{Edge, Kind, Label, Refusal, SlotRef};
 use captext::label_name;
+use explain_rules::{EdgeList, Lets, comes_by_right, separator, verb};
 use labels::slot_edges;
 use policy::Policy;
 use std::alloc::{AllocError, Global};

@@ -1,10 +1,7 @@
 //! The lines on the edges that closing adds to a policy.
-use crate::asked::asked_edge;
-use crate::lines::line_of_place;
-use crate::place_words::PlaceWords;
-use crate::sentences::{EdgeLine, PlaceNames};
 use base::{Edge, Kind, Label, Refusal};
 use deal::Open;
+use explain_rules::{EdgeLine, PlaceNames, PlaceWords, asked_edge, line_of_place};
 use policy::{Broken, Policy};
 use sources::{Sheet, Start};
 use std::alloc::{AllocError, Global};

@@ -1,14 +1,12 @@
 //! The sentences on denials: where a table and a policy, or the end of a log, break a rule, and what may be done.
-use crate::asked::asked_edge;
 use crate::capability::push_capability;
 use crate::closing::mending_edge;
-use crate::domains::ReasonIn;
-use crate::grounds::first_premise;
-use crate::lines::{line_of_edge, line_of_place};
-use crate::premises::premises;
-use crate::sentences::{EdgeAfter, EdgeLine, OtherWay, Reason};
 use crate::sharp_denials::push_sharp;
 use base::{Edge, Refusal};
+use explain_rules::{
+    EdgeAfter, EdgeLine, OtherWay, Reason, ReasonIn, asked_edge, first_premise, line_of_edge,
+    line_of_place, premises,
+};
 use policy::{Broken, Policy};
 use sources::{Sheet, Start};
 use std::alloc::{AllocError, Global};

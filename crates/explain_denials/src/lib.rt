@@ -5,32 +5,22 @@
 //! run, no device and no command.
 #![tactic(auto)]
 
-mod asked;
 mod capability;
 mod closing;
 mod denials;
-mod domains;
-mod grounds;
-mod label_sets;
-mod lines;
-mod nothing;
 mod origins;
-mod place_words;
-mod premises;
 mod reach_origins;
 mod rounds;
-mod sentences;
 mod sharp_denials;
 mod surplus;
 mod unlabelled;
 
-pub use asked::{an_asked_edge_is_missing, asked_edge};
 pub use closing::explain_closing;
 pub use denials::{Names, Pasted, explain_denial, explain_outside};
-pub use label_sets::LabelNames;
-pub use lines::line_of_edge;
+pub use explain_rules::{
+    EdgeLine, EdgeList, LabelNames, Reason, an_asked_edge_is_missing, asked_edge, line_of_edge,
+};
 pub use origins::explain_why_allowed;
 pub use reach_origins::{Origins, OtherWays, explain_why};
-pub use sentences::{EdgeLine, EdgeList, Reason};
 pub use surplus::explain_surplus;
 pub use unlabelled::explain_unlabelled;

@@ -1,13 +1,10 @@
 //! The sentences on where the edges of a reason come from that a policy has: a place of the table, by a rule of closed policies from other
 //! edges, or the policy alone; and, for labels with no reason, why there is none.
-use crate::asked::asked_edge;
 use crate::closing::{MOST_EDGES, mending_edge};
-use crate::lines::line_of_place;
-use crate::nothing::push_not_allowed;
-use crate::place_words::PlaceWords;
-use crate::premises::premises;
-use crate::sentences::{EdgeLine, EdgeList};
 use base::{Edge, Kind, Label, Refusal, SlotRef};
+use explain_rules::{
+    EdgeLine, EdgeList, PlaceWords, asked_edge, line_of_place, premises, push_not_allowed,
+};
 use labels::{authority, filled_edges};
 use policy::{Broken, Policy, Why, first_broken};
 use sources::{Sheet, Start};

@@ -1,16 +1,15 @@
 //! The sentences on where the edges of the reach of a table come from: a place of the table, or a sharp rule; and on
 //! what in the table, or in its description, may be changed.
 use crate::closing::MOST_EDGES;
-use crate::grounds::{Grounds, Way, WayWords};
-use crate::lines::line_of_place;
-use crate::nothing::push_nothing;
 use crate::origins::{line_of_origin, place_of, push_edge, push_new, push_place_of};
-use crate::place_words::remedy_at;
 use crate::rounds::Rounds;
-use crate::sentences::{EdgeLine, EdgeList, comes_by_right, name_of_label};
 use crate::sharp_denials::edges_of;
 use base::{Edge, Label, Labels, Refusal, SlotRef};
 use captext::{SlotName, label_name};
+use explain_rules::{
+    EdgeLine, EdgeList, Grounds, Way, WayWords, comes_by_right, line_of_place, name_of_label,
+    push_nothing, remedy_at,
+};
 use labels::declared_label;
 use machine::ObjectKind;
 use policy::Why;

@@ -1,8 +1,8 @@
 //! The edges of the reach of a table in rounds: first those that the table gives, and in each later round those that the sharp rules
 //! require by the rounds before.
 use crate::closing::MOST_EDGES;
-use crate::grounds::{Grounds, View, first_grounds};
 use base::{Edge, Kind, Label, Labels, Refusal};
+use explain_rules::{Grounds, View, first_grounds};
 use labels::authority;
 use policy::Policy;
 use reach::{Reach, node_holders};

@@ -1,9 +1,8 @@
 //! The sentences on denials by the sharp rules: why a rule is broken, and what may be done.
-use crate::grounds::{Grounds, View, WayWords, grounds_at};
 use crate::origins::push_edge;
-use crate::sentences::{EdgeLine, EdgeList, verb};
 use base::{Edge, Kind};
 use captext::label_name;
+use explain_rules::{EdgeLine, EdgeList, Grounds, View, WayWords, grounds_at, verb};
 use policy::Policy;
 use sharp::SharpBroken;
 use std::alloc::{AllocError, Global};

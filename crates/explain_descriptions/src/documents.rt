@@ -341,48 +341,80 @@ impl<'t> Scan<'t> {
     // Takes what is left of the tag that begins an element.
     fn begin(&mut self, alloc: Global) -> Result<Option<Slip<'t>>, AllocError> {
         let line = self.line;
-        let name = self.name();
-        if name.is_empty() {
-            return Ok(Some(Slip::Nameless));
+        let tag = Open {
+            name: self.name(),
+            line,
+        };
+        if let Some(slip) = self.unopened(tag.name) {
+            return Ok(Some(slip));
         }
-        if name == b"xmlns".as_slice() {
-            return Ok(Some(Slip::Namespace));
-        }
-        if let Some(limit) = self.limit() {
-            return Ok(Some(Slip::Limit(limit)));
-        }
-        if self.rest.starts_with(b":") {
-            return Ok(Some(Slip::Prefix(name)));
-        }
-        let tag = Open { name, line };
         self.begun = self.begun.saturating_add(1);
         self.root = Some(self.root.unwrap_or(tag));
+        self.attributes(alloc, tag)
+    }
+
+    // Why no element of this name can begin.
+    fn unopened(&self, name: &'t [u8]) -> Option<Slip<'t>> {
+        if name.is_empty() {
+            Some(Slip::Nameless)
+        } else if name == b"xmlns".as_slice() {
+            Some(Slip::Namespace)
+        } else if let Some(limit) = self.limit() {
+            Some(Slip::Limit(limit))
+        } else if self.rest.starts_with(b":") {
+            Some(Slip::Prefix(name))
+        } else {
+            None
+        }
+    }
+
+    // Takes the attributes of a tag, and its end.
+    fn attributes(&mut self, alloc: Global, tag: Open<'t>) -> Result<Option<Slip<'t>>, AllocError> {
         let mut given = Vec::new(alloc);
         for _ in 0..self.rest.len() {
             let is_apart = self.spaces();
-            if self.has_taken(b"/>") {
+            if self.has_ended(tag)? {
                 return Ok(None);
             }
-            if self.has_taken(b">") {
-                self.open.push(tag)?;
-                return Ok(None);
-            }
-            if self.rest.is_empty() {
-                return Ok(Some(Slip::EndsInTag(tag)));
-            }
-            if !is_apart {
-                return Ok(Some(Slip::Tag(name)));
-            }
-            let attribute = self.name();
-            if let Some(slip) = refused(&given, name, attribute) {
+            let name = self.name();
+            if let Some(slip) = self.misplaced(tag, is_apart, &given, name) {
                 return Ok(Some(slip));
             }
-            given.push(attribute)?;
-            if let Some(slip) = self.attribute(attribute) {
+            given.push(name)?;
+            if let Some(slip) = self.attribute(name) {
                 return Ok(Some(slip));
             }
         }
         Ok(Some(Slip::EndsInTag(tag)))
+    }
+
+    // Takes the end of a tag, if it comes next. The element is open then, unless the tag ends it too.
+    fn has_ended(&mut self, tag: Open<'t>) -> Result<bool, AllocError> {
+        if self.has_taken(b"/>") {
+            return Ok(true);
+        }
+        let has_ended = self.has_taken(b">");
+        if has_ended {
+            self.open.push(tag)?;
+        }
+        Ok(has_ended)
+    }
+
+    // Why the name that was taken last can't begin an attribute of a tag.
+    fn misplaced(
+        &self,
+        tag: Open<'t>,
+        is_apart: bool,
+        given: &[&'t [u8]],
+        name: &'t [u8],
+    ) -> Option<Slip<'t>> {
+        if name.is_empty() && self.rest.is_empty() {
+            Some(Slip::EndsInTag(tag))
+        } else if !is_apart {
+            Some(Slip::Tag(tag.name))
+        } else {
+            refused(given, tag.name, name)
+        }
     }
 
     // Takes what follows the name of an attribute.

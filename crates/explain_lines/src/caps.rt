@@ -5,19 +5,29 @@ use forms::{Form, decimal, hexadecimal};
 
 /// An object of a kind that doesn't fit.
 #[derive(Clone, Copy)]
-pub(crate) enum KindFlaw<'a> {
+pub(crate) struct KindFlaw<'a> {
+    /// The object's name, or a slot.
+    pub name: &'a str,
+    /// The form of the object, or of the slot's holder.
+    pub form: Form,
+    pub misfit: Misfit,
+}
+
+/// The way in which an object doesn't fit.
+#[derive(Clone, Copy)]
+pub(crate) enum Misfit {
     /// A slot that its holder doesn't have.
-    Slot(&'a str, Form),
+    Slot,
     /// A root that isn't a CNode's capability.
-    Root(&'a str, Form),
+    Root,
     /// Terms after a capability's object that aren't those of its kind.
-    Terms(&'a str, Form),
+    Terms,
     /// Rights that the kind of the object doesn't have.
-    Rights(&'a str, Form),
-    NoThread(&'a str, Form),
-    NoContext(&'a str, Form),
-    /// A slot that another kind of line in a certificate takes, and its holder's form.
-    SlotOf(&'a str, Form),
+    Rights,
+    NoThread,
+    NoContext,
+    /// A slot that another kind of line in a certificate takes.
+    SlotOf,
 }
 
 /// A slot or a guard past a limit.
@@ -62,10 +72,11 @@ fn pair_flaw<'a>(declared: Declared<'_>, name: &'a str, wanted: Form) -> Option<
     if form == wanted {
         return None;
     }
-    match wanted {
-        Form::Tcb => Some(KindFlaw::NoThread(name, form)),
-        _ => Some(KindFlaw::NoContext(name, form)),
-    }
+    let misfit = match wanted {
+        Form::Tcb => Misfit::NoThread,
+        _ => Misfit::NoContext,
+    };
+    Some(KindFlaw { name, form, misfit })
 }
 
 // Whether a holder has the slot.
@@ -73,45 +84,62 @@ fn holder_flaw<'a>(declared: Declared<'_>, slot: &'a str) -> Option<KindFlaw<'a>
     let form = declared.object(holder_of(slot))?.form;
     match (form, slot.ends_with(".root")) {
         (Form::CNode, false) | (Form::Tcb, true) => None,
-        _ => Some(KindFlaw::Slot(slot, form)),
+        _ => Some(KindFlaw {
+            name: slot,
+            form,
+            misfit: Misfit::Slot,
+        }),
     }
 }
 
 // Whether a slot of a certificate's line exists and has a holder of the line's form.
 fn certified_flaw<'a>(declared: Declared<'_>, slot: &'a str, wanted: Form) -> Option<KindFlaw<'a>> {
-    let form = declared.object(holder_of(slot))?.form;
     if let Some(flaw) = holder_flaw(declared, slot) {
         return Some(flaw);
     }
+    let form = declared.object(holder_of(slot))?.form;
     if form == wanted {
-        None
-    } else {
-        Some(KindFlaw::SlotOf(slot, form))
+        return None;
     }
+    Some(KindFlaw {
+        name: slot,
+        form,
+        misfit: Misfit::SlotOf,
+    })
 }
 
 // Whether a capability fits its slot, and its terms fit its object.
 fn cap_flaw<'a>(declared: Declared<'_>, row: Row<'a>) -> Option<KindFlaw<'a>> {
-    let (slot, name) = (row.word(1), row.word(2));
+    let name = row.word(2);
     let form = declared.object(name)?.form;
-    if slot.ends_with(".root") && form != Form::CNode {
-        return Some(KindFlaw::Root(name, form));
+    let misfit = cap_misfit(form, row)?;
+    Some(KindFlaw { name, form, misfit })
+}
+
+// The way in which a capability for an object of a form doesn't fit.
+fn cap_misfit(form: Form, row: Row<'_>) -> Option<Misfit> {
+    if form != Form::CNode && row.word(1).ends_with(".root") {
+        return Some(Misfit::Root);
     }
-    let (one, two) = (row.word(3), row.word(4));
-    let fits = match form {
+    let terms = row.word(3);
+    if !has_terms(form, terms, row.word(4)) {
+        return Some(Misfit::Terms);
+    }
+    match form {
+        Form::Notification | Form::Frame if terms.contains('g') || terms.contains('y') => {
+            Some(Misfit::Rights)
+        }
+        _ => None,
+    }
+}
+
+// Whether two words are the terms of a capability for an object of a form.
+fn has_terms(form: Form, one: &str, two: &str) -> bool {
+    match form {
         Form::CNode => decimal(one).is_some() && hexadecimal(two).is_some(),
         Form::Endpoint | Form::Notification => is_rights(one) && decimal(two).is_some(),
         Form::Frame => is_rights(one) && two.is_empty(),
         _ => one.is_empty(),
-    };
-    if !fits {
-        return Some(KindFlaw::Terms(name, form));
-    }
-    match form {
-        Form::Notification | Form::Frame if one.contains('g') || one.contains('y') => {
-            Some(KindFlaw::Rights(name, form))
-        }
-        _ => None,
     }
 }
 
@@ -154,9 +182,14 @@ fn guard_flaw<'a>(rows: Rows<'_>, row: Row<'a>) -> Option<SlotFlaw<'a>> {
     if bits > 64 {
         return Some(SlotFlaw::Bits(bits));
     }
-    let value = hexadecimal(row.word(4))?;
+    value_flaw(row.word(4), size)
+}
+
+// A guard's value that doesn't fit into so many bits.
+fn value_flaw<'a>(word: &'a str, size: u64) -> Option<SlotFlaw<'a>> {
+    let value = hexadecimal(word)?;
     if size < 64 && value >= power(size) {
-        return Some(SlotFlaw::Guard(row.word(4), size));
+        return Some(SlotFlaw::Guard(word, size));
     }
     None
 }

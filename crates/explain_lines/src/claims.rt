@@ -1,8 +1,6 @@
 //! The condition that a line of claims doesn't meet.
-use crate::declared::{Declared, Row};
-use crate::flaws::Flaw;
-use crate::names::known_flaw;
-use forms::{Form, Lines, WordFlaw, shape_flaw, text_of};
+use crate::declared::Row;
+use forms::{Form, Lines, text_of};
 
 /// The flaw of a line that begins with the word of a claim.
 #[derive(Clone, Copy)]
@@ -23,62 +21,35 @@ pub(crate) enum ClaimFlaw<'a> {
     Twice(u64),
 }
 
-/// The condition that a line of a claim doesn't meet, in the order of the reader's tests.
-pub(crate) fn claim_flaw<'a>(
-    text: &[u8],
-    declared: Option<Declared<'a>>,
-    number: u64,
-    form: Form,
-    row: Row<'a>,
-) -> Option<Flaw<'a>> {
-    match number {
-        50 => syntax_flaw(form, row),
-        51 => unknown_flaw(declared, form, row),
-        _ => twice_flaw(text, form, row),
-    }
-}
-
-// Flaws of the form, and equal labels that must differ: fault 50.
-fn syntax_flaw<'a>(form: Form, row: Row<'a>) -> Option<Flaw<'a>> {
-    match shape_flaw(form, row.text) {
-        Some(WordFlaw::Name("*", _)) => return Some(Flaw::Claim(ClaimFlaw::Others)),
-        Some(flaw) => return Some(Flaw::Word(form, flaw)),
-        None => {}
-    }
+/// Which labels of a claim are equal.
+pub(crate) fn equal_labels<'a>(form: Form, row: Row<'a>) -> ClaimFlaw<'a> {
     let first = row.word(1);
-    Some(Flaw::Claim(match form {
+    match form {
         Form::ClaimOnly | Form::ClaimWithin | Form::ClaimReaders => ClaimFlaw::Among(first),
         Form::ClaimThrough if first != row.word(2) => ClaimFlaw::End(end_among(row)),
         _ if first == "*" => ClaimFlaw::OthersTwice,
         _ => ClaimFlaw::Itself(first),
-    }))
+    }
 }
 
 // The end of a line of `through` that is also among the labels that follow.
 fn end_among<'a>(row: Row<'a>) -> &'a str {
     let first = row.word(1);
-    if row.text.split(' ').skip(3).any(|label| label == first) {
+    if has_label(row.text, 3, usize::MAX, first) {
         first
     } else {
         row.word(2)
     }
 }
 
-// Flaws of names: fault 51.
-fn unknown_flaw<'a>(declared: Option<Declared<'a>>, form: Form, row: Row<'a>) -> Option<Flaw<'a>> {
-    Some(Flaw::Known(known_flaw(declared?, form, row)?))
-}
-
-// Repetitions: fault 52.
-fn twice_flaw<'a>(text: &[u8], form: Form, row: Row<'a>) -> Option<Flaw<'a>> {
-    let twice = match form {
-        form if has_list(form) => label_twice(row.text),
-        _ => None,
-    };
-    Some(Flaw::Claim(match twice {
-        Some(label) => ClaimFlaw::LabelTwice(label),
-        None => ClaimFlaw::Twice(same_line(text, row)?),
-    }))
+/// The repetition in a line of a claim: fault 52.
+pub(crate) fn claim_twice<'a>(text: &[u8], form: Form, row: Row<'a>) -> Option<ClaimFlaw<'a>> {
+    if has_list(form) {
+        if let Some(label) = label_twice(row.text) {
+            return Some(ClaimFlaw::LabelTwice(label));
+        }
+    }
+    Some(ClaimFlaw::Twice(same_line(text, row)?))
 }
 
 /// Whether lines of this form have any number of labels.
@@ -93,17 +64,22 @@ pub(crate) fn has_list(form: Form) -> bool {
 fn label_twice(line: &str) -> Option<&str> {
     let mut before = 0usize;
     for label in line.split(' ').skip(1) {
-        if line
-            .split(' ')
-            .skip(1)
-            .take(before)
-            .any(|other| other == label)
-        {
+        if has_label(line, 1, before, label) {
             return Some(label);
         }
         before = before.saturating_add(1);
     }
     None
+}
+
+// Whether a label is one of `count` words of a line, from the word of this number on.
+fn has_label(line: &str, first: usize, count: usize, label: &str) -> bool {
+    for word in line.split(' ').skip(first).take(count) {
+        if word == label {
+            return true;
+        }
+    }
+    false
 }
 
 // The first line with the same claim. It is spelled the same; only `apart` equals `through` without
@@ -119,7 +95,10 @@ fn same_line(text: &[u8], row: Row<'_>) -> Option<u64> {
 }
 
 fn is_same(one: &str, other: &str) -> bool {
-    one == other || (kept_apart(one).is_some() && kept_apart(one) == kept_apart(other))
+    match (kept_apart(one), kept_apart(other)) {
+        (Some(one), Some(other)) => one == other,
+        _ => one == other,
+    }
 }
 
 // The labels of a line of `apart` or `through`.

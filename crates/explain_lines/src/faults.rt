@@ -1,24 +1,43 @@
 //! The sentence on a fault of a file: the line that has it, and the condition that this line doesn't meet.
 use crate::caps::{kind_flaw, slot_flaw};
-use crate::claims::claim_flaw;
+use crate::claims::{ClaimFlaw, claim_twice, equal_labels};
 use crate::declared::{Declared, Row, Rows};
 use crate::edges::edge_flaw;
-use crate::flaws::Flaw;
+use crate::flaws::{push, push_layout, push_other, push_word};
 use crate::limits::{event_flaw, limit_flaw};
 use crate::memory::placed_flaw;
-use crate::mending::Mending;
+use crate::mending::push_mending;
 use crate::names::{known_flaw, twice_flaw};
-use crate::near::near_flaw;
-use crate::numbers::event_word_flaw;
+use crate::numbers::{EventFlaw, number_flaw};
 use crate::order::order_flaw;
 use crate::tree::tree_flaw;
+use crate::unknown::push_known;
 use forms::{
-    File, Form, LayoutFlaw, Line, Shown, before_of, bytes_flaw, form_of, formless_flaw,
-    header_flaw, line_at, outcome_flaw, section_flaw, shape_flaw, text_of,
+    File, Form, LayoutFlaw, Line, NumberFlaw, OfLayout, Shown, WordFlaw, before_of, bytes_flaw,
+    form_of, formless_flaw, header_flaw, line_at, outcome_flaw, section_flaw, shape_flaw, text_of,
 };
 use std::alloc::{AllocError, Global};
 use table::Table;
 use words::Fault;
+
+/// A line with a fault.
+#[derive(Clone, Copy)]
+struct Faulty<'a> {
+    file: File,
+    /// The names of the file and of the system's file.
+    name: &'a str,
+    system: &'a str,
+    /// The whole text of the file.
+    text: &'a [u8],
+    /// The source of the names of the line.
+    declared: Option<Declared<'a>>,
+    /// The number of the fault.
+    number: u64,
+    line: Line<'a>,
+    row: Row<'a>,
+    /// The line before.
+    before: &'a str,
+}
 
 /// Says which line of a file has a fault, and which condition the line doesn't meet.
 ///
@@ -40,26 +59,28 @@ pub fn explain_fault(
         return format!(in alloc; "{name}: no memory");
     }
     let number = fault.line;
+    let mut lines = format!(in alloc; "{name}:{number}: ")?;
     match line_at(text, number) {
         Some(line) => {
-            let shown = Shown { bytes: line.bytes };
-            let declared = declared(file, text, table, fault);
-            let before = before_of(line_at(text, number.saturating_sub(1)));
-            let flaw = flaw_of(file, text, declared, fault, line, before);
-            let flaw = near_flaw(alloc, flaw)?;
-            let mending = Mending {
+            let faulty = Faulty {
                 file,
-                flaw,
+                name,
                 system,
-                policy: name,
+                text,
+                declared: declared(file, text, table, fault),
+                number: fault.number,
+                line,
+                row: Row {
+                    line: number,
+                    text: text_of(line.bytes),
+                },
+                before: before_of(line_at(text, number.saturating_sub(1))),
             };
-            format!(in alloc; "{name}:{number}: `{shown}`: {flaw}{mending}")
+            push_line(alloc, &mut lines, &faulty)?;
         }
-        None => {
-            let flaw = Flaw::NoLine(file, number);
-            format!(in alloc; "{name}:{number}: {flaw}")
-        }
+        None => push_missing(&mut lines, file, number)?,
     }
+    Ok(lines)
 }
 
 // The source of the names of a line: for a table the lines above it, or all lines once the text has ended.
@@ -84,95 +105,217 @@ fn declared<'a>(
     }
 }
 
-// The condition that a line doesn't meet.
-fn flaw_of<'a>(
-    file: File,
-    text: &[u8],
-    declared: Option<Declared<'a>>,
-    fault: Fault,
-    line: Line<'a>,
-    before: &'a str,
-) -> Flaw<'a> {
-    let row = Row {
-        line: fault.line,
-        text: text_of(line.bytes),
-    };
-    if fault.line == 1 {
-        return Flaw::Layout(file, header_flaw(file, line.bytes));
+// Adds that the text ends before a line.
+fn push_missing(lines: &mut String, file: File, number: u64) -> Result<(), AllocError> {
+    if number == 1 {
+        let flaw = LayoutFlaw::Empty;
+        let flaw = OfLayout { file, flaw };
+        return write!(lines, "{flaw}");
     }
-    if fault.number == 50 {
-        if let Some(flaw) = bytes_flaw(file, line, before) {
-            return Flaw::Layout(file, flaw);
+    lines.push_str("the line is missing: the text ends without the line `end`")
+}
+
+// Adds a line, and the condition that it doesn't meet.
+fn push_line(alloc: Global, lines: &mut String, faulty: &Faulty<'_>) -> Result<(), AllocError> {
+    let shown = Shown {
+        bytes: faulty.line.bytes,
+    };
+    write!(lines, "`{shown}`: ")?;
+    if let Some(flaw) = bare_flaw(faulty) {
+        return push_layout(alloc, lines, faulty.file, flaw);
+    }
+    match form_of(faulty.file, faulty.row.text) {
+        Some(form) => push_flaw(alloc, lines, faulty, form),
+        None => {
+            let flaw = formless_flaw(faulty.file, faulty.row.text, faulty.before);
+            push_layout(alloc, lines, faulty.file, flaw)
         }
     }
-    let Some(form) = form_of(file, row.text) else {
-        return Flaw::Layout(file, formless_flaw(file, row.text, before));
-    };
-    let flaw = match (file, fault.number) {
-        (File::Claims, number) => claim_flaw(text, declared, number, form, row),
-        (_, 50) => syntax_flaw(file, declared, form, row, before),
-        (_, number) => meaning_flaw(declared, number, form, row),
-    };
+}
+
+// The flaw of a header, or of the bytes of a line.
+fn bare_flaw<'a>(faulty: &Faulty<'a>) -> Option<LayoutFlaw<'a>> {
+    if faulty.row.line == 1 {
+        return Some(header_flaw(faulty.file, faulty.line.bytes));
+    }
+    if faulty.number != 50 {
+        return None;
+    }
+    bytes_flaw(faulty.file, faulty.line, faulty.before)
+}
+
+// Adds the condition that a line of a form doesn't meet.
+fn push_flaw(
+    alloc: Global,
+    lines: &mut String,
+    faulty: &Faulty<'_>,
+    form: Form,
+) -> Result<(), AllocError> {
+    match (faulty.file, faulty.number) {
+        (File::Claims, 50) => push_claim_words(alloc, lines, faulty.row, form),
+        (_, 50) => push_syntax(alloc, lines, faulty, form),
+        (File::Script | File::Log, _) => push(lines, form, event_flaw(faulty.row)),
+        (_, 51) => push_unknown(alloc, lines, faulty, form),
+        (File::Claims, _) => push(lines, form, claim_twice(faulty.text, form, faulty.row)),
+        _ => push_meaning(lines, faulty, form),
+    }
+}
+
+// Adds the flaw of a word of a claim, or which labels are equal that must differ: fault 50.
+fn push_claim_words(
+    alloc: Global,
+    lines: &mut String,
+    row: Row<'_>,
+    form: Form,
+) -> Result<(), AllocError> {
+    match shape_flaw(form, row.text) {
+        Some(WordFlaw::Name("*", _)) => push(lines, form, Some(ClaimFlaw::Others)),
+        Some(flaw) => push_word(alloc, lines, form, flaw),
+        None => push(lines, form, Some(equal_labels(form, row))),
+    }
+}
+
+// Adds the flaw of the words of a line, or of the order of lines: fault 50.
+fn push_syntax(
+    alloc: Global,
+    lines: &mut String,
+    faulty: &Faulty<'_>,
+    form: Form,
+) -> Result<(), AllocError> {
+    if let Some(flaw) = place_flaw(faulty, form) {
+        return push_layout(alloc, lines, faulty.file, flaw);
+    }
+    match shape_flaw(form, event_of(faulty)) {
+        Some(flaw) => push_shape(alloc, lines, faulty, form, flaw),
+        None => push_order(lines, faulty, form),
+    }
+}
+
+// The flaw of an entry without its outcome, or of a line below one of a later section.
+fn place_flaw<'a>(faulty: &Faulty<'a>, form: Form) -> Option<LayoutFlaw<'a>> {
+    if faulty.file == File::Log && faulty.row.text.split_once(" = ").is_none() {
+        return Some(LayoutFlaw::NoEntry);
+    }
+    section_flaw(faulty.file, form, faulty.before)
+}
+
+// The words of a line that have its form: for an entry of a log those of its event.
+fn event_of<'a>(faulty: &Faulty<'a>) -> &'a str {
+    match (faulty.file, faulty.row.text.split_once(" = ")) {
+        (File::Log, Some((event, _))) => event,
+        _ => faulty.row.text,
+    }
+}
+
+// Adds the flaw of a word, with more detail if it is in place of a number of an event.
+fn push_shape(
+    alloc: Global,
+    lines: &mut String,
+    faulty: &Faulty<'_>,
+    form: Form,
+    flaw: WordFlaw<'_>,
+) -> Result<(), AllocError> {
+    match event_word(faulty, form, &flaw) {
+        Some(flaw) => push(lines, form, Some(flaw)),
+        None => push_word(alloc, lines, form, flaw),
+    }
+}
+
+// The flaw of a word in place of a number of an event, if more can be said of it.
+fn event_word<'a>(faulty: &Faulty<'a>, form: Form, flaw: &WordFlaw<'a>) -> Option<EventFlaw<'a>> {
     match flaw {
-        Some(flaw) => flaw,
-        None => Flaw::Other(form),
+        WordFlaw::Number(word, NumberFlaw::NoDecimal) if form.file() == File::Script => {
+            number_flaw(faulty.file, faulty.declared, faulty.row, word)
+        }
+        _ => None,
     }
 }
 
-// Flaws of the form and of the order of lines: fault 50.
-fn syntax_flaw<'a>(
-    file: File,
-    declared: Option<Declared<'a>>,
+// Adds the flaw of an outcome, or of the order of lines.
+fn push_order(lines: &mut String, faulty: &Faulty<'_>, form: Form) -> Result<(), AllocError> {
+    match (faulty.file, faulty.declared) {
+        (File::Log, _) => push(lines, form, outcome_flaw(outcome_of(faulty.row.text))),
+        (File::Policy, Some(Declared::Table(table))) => push_edge(lines, faulty, form, table),
+        (_, Some(Declared::Rows(rows))) => push(lines, form, order_flaw(rows, form, faulty.row)),
+        _ => push_other(lines, form),
+    }
+}
+
+// The words of an entry's outcome.
+fn outcome_of(entry: &str) -> &str {
+    match entry.split_once(" = ") {
+        Some((_, outcome)) => outcome,
+        None => "",
+    }
+}
+
+// Adds why an edge doesn't come after the one before, which `confine close` mends.
+fn push_edge(
+    lines: &mut String,
+    faulty: &Faulty<'_>,
     form: Form,
-    row: Row<'a>,
-    before: &'a str,
-) -> Option<Flaw<'a>> {
-    let event = match file {
-        File::Log => match row.text.split_once(" = ") {
-            Some((event, _)) => event,
-            None => return Some(Flaw::Layout(file, LayoutFlaw::NoEntry)),
-        },
-        _ => row.text,
-    };
-    if let Some(flaw) = section_flaw(file, form, before) {
-        return Some(Flaw::Layout(file, flaw));
-    }
-    if let Some(flaw) = shape_flaw(form, event) {
-        return Some(event_word_flaw(file, declared, form, row, flaw));
-    }
+    table: &Table,
+) -> Result<(), AllocError> {
     let above = Row {
-        line: row.line.saturating_sub(1),
-        text: before,
+        line: faulty.row.line.saturating_sub(1),
+        text: faulty.before,
     };
-    Some(match (file, declared) {
-        (File::Log, _) => Flaw::Outcome(outcome_flaw(row.text.split_once(" = ")?.1)?),
-        (File::Policy, Some(Declared::Table(table))) => Flaw::Edge(edge_flaw(table, row, above)?),
-        (_, Some(Declared::Rows(rows))) => Flaw::Order(order_flaw(rows, form, row)?),
-        _ => return None,
-    })
+    let Some(flaw) = edge_flaw(table, faulty.row, above) else {
+        return push_other(lines, form);
+    };
+    write!(lines, "{flaw}")?;
+    push_mending(lines, faulty.system, faulty.name, "mends it")
 }
 
-// Flaws of what a line's words mean: faults 51 to 56; for an event, a number past its limit.
-// Without a table nothing is said of names.
-fn meaning_flaw<'a>(
-    declared: Option<Declared<'a>>,
-    number: u64,
+// Adds which name of a line isn't known: fault 51. Without a table nothing is said of names. `confine close` drops such a
+// line of a policy.
+fn push_unknown(
+    alloc: Global,
+    lines: &mut String,
+    faulty: &Faulty<'_>,
     form: Form,
-    row: Row<'a>,
-) -> Option<Flaw<'a>> {
-    if form.file() == File::Script {
-        return Some(Flaw::Limit(event_flaw(row)?));
+) -> Result<(), AllocError> {
+    let Some(declared) = faulty.declared else {
+        return push_other(lines, form);
+    };
+    let Some(flaw) = known_flaw(declared, form, faulty.row) else {
+        return push_other(lines, form);
+    };
+    push_known(alloc, lines, declared, &flaw)?;
+    match faulty.file {
+        File::Policy => push_mending(lines, faulty.system, faulty.name, "drops the line"),
+        _ => Ok(()),
     }
-    Some(match (number, declared?) {
-        (51, declared) => Flaw::Known(known_flaw(declared, form, row)?),
-        (52, Declared::Rows(rows)) => Flaw::Twice(twice_flaw(rows, form, row)?),
-        (53, Declared::Rows(rows)) => Flaw::Placed(placed_flaw(rows, form, row)?),
-        (54, declared) if has_slots(form) => Flaw::Slot(slot_flaw(declared, form, row)?),
-        (54, Declared::Rows(rows)) => Flaw::Limit(limit_flaw(rows, form, row)?),
-        (55, declared) => Flaw::Kind(kind_flaw(declared, form, row)?),
-        (56, Declared::Rows(rows)) => Flaw::Tree(tree_flaw(rows, row)?),
-        _ => return None,
-    })
+}
+
+// Adds the flaw of what a line's words mean: faults 52 to 56.
+fn push_meaning(lines: &mut String, faulty: &Faulty<'_>, form: Form) -> Result<(), AllocError> {
+    let row = faulty.row;
+    match (faulty.number, faulty.declared) {
+        (54, Some(declared)) if has_slots(form) => {
+            push(lines, form, slot_flaw(declared, form, row))
+        }
+        (55, Some(declared)) => push(lines, form, kind_flaw(declared, form, row)),
+        (number, Some(Declared::Rows(rows))) => push_of_table(lines, number, rows, form, row),
+        _ => push_other(lines, form),
+    }
+}
+
+// Adds the flaw of a line of a table that only the other lines show.
+fn push_of_table(
+    lines: &mut String,
+    number: u64,
+    rows: Rows<'_>,
+    form: Form,
+    row: Row<'_>,
+) -> Result<(), AllocError> {
+    match number {
+        52 => push(lines, form, twice_flaw(rows, form, row)),
+        53 => push(lines, form, placed_flaw(rows, form, row)),
+        54 => push(lines, form, limit_flaw(rows, form, row)),
+        56 => push(lines, form, tree_flaw(rows, row)),
+        _ => push_other(lines, form),
+    }
 }
 
 fn has_slots(form: Form) -> bool {

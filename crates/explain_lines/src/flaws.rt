@@ -1,81 +1,72 @@
 //! The sentences on lines that don't meet a condition.
-use crate::caps::{KindFlaw, SlotFlaw};
+use crate::caps::{KindFlaw, Misfit, SlotFlaw};
 use crate::claims::ClaimFlaw;
-use crate::declared::Declared;
 use crate::edges::{EdgeFlaw, Numbered};
 use crate::limits::LimitFlaw;
 use crate::memory::PlacedFlaw;
-use crate::names::{KnownFlaw, TwiceFlaw};
+use crate::names::{Twice, TwiceFlaw};
 use crate::numbers::EventFlaw;
 use crate::order::{OrderFlaw, Ranked};
 use crate::tree::TreeFlaw;
-use forms::{File, Form, LayoutFlaw, OfLayout, OutcomeFlaw, WordFlaw};
+use forms::{File, Form, LayoutFlaw, OfLayout, WordFlaw, near_layout, near_word};
+use std::alloc::{AllocError, Global};
 use std::fmt::{self, Display};
 
-/// The condition that a line doesn't meet.
-#[derive(Clone, Copy)]
-pub(crate) enum Flaw<'a> {
-    /// The text ends before this line.
-    NoLine(File, u64),
-    Layout(File, LayoutFlaw<'a>),
-    Word(Form, WordFlaw<'a>),
-    Outcome(OutcomeFlaw<'a>),
-    Event(EventFlaw<'a>),
-    Order(OrderFlaw<'a>),
-    Edge(EdgeFlaw<'a>),
-    Claim(ClaimFlaw<'a>),
-    Known(KnownFlaw<'a>),
-    Twice(TwiceFlaw<'a>),
-    Placed(PlacedFlaw<'a>),
-    Limit(LimitFlaw),
-    Slot(SlotFlaw<'a>),
-    Kind(KindFlaw<'a>),
-    Tree(TreeFlaw<'a>),
-    /// Another condition of the form.
-    Other(Form),
+/// Adds the sentence on a flaw, or, if there is none, the words that a line of the form has.
+pub(crate) fn push<F: Display + Drop>(
+    lines: &mut String,
+    form: Form,
+    flaw: Option<F>,
+) -> Result<(), AllocError> {
+    match flaw {
+        Some(flaw) => write!(lines, "{flaw}"),
+        None => push_other(lines, form),
+    }
 }
 
-impl fmt::Display for Flaw<'_> {
-    fn fmt<W: fmt::Write>(&self, f: &mut fmt::Formatter<W>) -> fmt::Result {
-        match *self {
-            Flaw::NoLine(file, 1) => {
-                let flaw = LayoutFlaw::Empty;
-                OfLayout { file, flaw }.fmt(f)
-            }
-            Flaw::NoLine(_, _) => {
-                f.write_str("the line is missing: the text ends without the line `end`")
-            }
-            Flaw::Layout(file, flaw) => OfLayout { file, flaw }.fmt(f),
-            Flaw::Word(form, flaw) => match flaw {
-                WordFlaw::Missing(_) | WordFlaw::TooMany(_) => {
-                    let words = form.words();
-                    write!(f, "{flaw}: expected {words}")
-                }
-                _ => flaw.fmt(f),
-            },
-            Flaw::Outcome(flaw) => flaw.fmt(f),
-            Flaw::Event(flaw) => flaw.fmt(f),
-            Flaw::Order(flaw) => flaw.fmt(f),
-            Flaw::Edge(flaw) => flaw.fmt(f),
-            Flaw::Claim(flaw) => flaw.fmt(f),
-            Flaw::Known(flaw) => flaw.fmt(f),
-            Flaw::Twice(flaw) => flaw.fmt(f),
-            Flaw::Placed(flaw) => flaw.fmt(f),
-            Flaw::Limit(flaw) => flaw.fmt(f),
-            Flaw::Slot(flaw) => flaw.fmt(f),
-            Flaw::Kind(flaw) => flaw.fmt(f),
-            Flaw::Tree(flaw) => flaw.fmt(f),
-            Flaw::Other(form) => {
-                let words = form.words();
-                write!(f, "expected {words}")
-            }
+/// Adds the words that a line of the form has.
+pub(crate) fn push_other(lines: &mut String, form: Form) -> Result<(), AllocError> {
+    let words = form.words();
+    write!(lines, "expected {words}")
+}
+
+/// Adds the sentence on a flaw of a line whatever its words are, with the nearest word to an unknown one.
+pub(crate) fn push_layout(
+    alloc: Global,
+    lines: &mut String,
+    file: File,
+    flaw: LayoutFlaw<'_>,
+) -> Result<(), AllocError> {
+    let flaw = near_layout(alloc, file, flaw)?;
+    let flaw = OfLayout { file, flaw };
+    write!(lines, "{flaw}")
+}
+
+/// Adds the sentence on a flaw of a word in a line of the form, with the nearest word to an unknown one.
+pub(crate) fn push_word(
+    alloc: Global,
+    lines: &mut String,
+    form: Form,
+    flaw: WordFlaw<'_>,
+) -> Result<(), AllocError> {
+    let flaw = near_word(alloc, flaw)?;
+    write!(lines, "{flaw}")?;
+    match flaw {
+        WordFlaw::Missing(_) | WordFlaw::TooMany(_) => {
+            lines.push_str(": ")?;
+            push_other(lines, form)
         }
+        _ => Ok(()),
     }
 }
 
 impl fmt::Display for EventFlaw<'_> {
     fn fmt<W: fmt::Write>(&self, f: &mut fmt::Formatter<W>) -> fmt::Result {
         match *self {
+            EventFlaw::Misplaced(file, call) => {
+                let flaw = LayoutFlaw::Misplaced(call);
+                OfLayout { file, flaw }.fmt(f)
+            }
             EventFlaw::NoCore(word) => write!(
                 f,
                 "`{word}` isn't a decimal number: the first word is the number of a core"
@@ -154,12 +145,8 @@ impl fmt::Display for EdgeFlaw<'_> {
     fn fmt<W: fmt::Write>(&self, f: &mut fmt::Formatter<W>) -> fmt::Result {
         match *self {
             EdgeFlaw::Twice(line) => write!(f, "line {line} has the same edge"),
-            EdgeFlaw::Labels(here, before, line) => {
-                f.write_str("edges must be in rising order, but the label ")?;
-                write_numbers(f, here, before, line)
-            }
-            EdgeFlaw::Kinds(here, before, line) => {
-                f.write_str("edges must be in rising order, but the kind ")?;
+            EdgeFlaw::Falls(what, here, before, line) => {
+                write!(f, "edges must be in rising order, but the {what} ")?;
                 write_numbers(f, here, before, line)
             }
         }
@@ -181,85 +168,48 @@ fn write_numbers<W: fmt::Write>(
 
 impl fmt::Display for ClaimFlaw<'_> {
     fn fmt<W: fmt::Write>(&self, f: &mut fmt::Formatter<W>) -> fmt::Result {
-        match *self {
-            ClaimFlaw::Itself(label) => {
-                write!(
-                    f,
-                    "a claim needs two different labels, but both are `{label}`"
-                )
+        let (before, label, after) = match *self {
+            ClaimFlaw::Itself(label) => (
+                "a claim needs two different labels, but both are `",
+                label,
+                "`",
+            ),
+            ClaimFlaw::Others => {
+                return f.write_str("`*` can only stand in a `none`, `take` or `without` line");
             }
-            ClaimFlaw::Others => f.write_str(
-                "`*` can only stand in a `none`, `take` or `without` line",
-            ),
-            ClaimFlaw::OthersTwice => f.write_str(
-                "`*` can stand for one of the two labels, but not for both",
-            ),
-            ClaimFlaw::Among(label) => write!(
-                f,
-                "the first label, `{label}`, can't be among those that follow"
-            ),
-            ClaimFlaw::End(label) => write!(
-                f,
-                "`{label}`, one of the first two labels, can't be among those that follow"
-            ),
-            ClaimFlaw::LabelTwice(label) => write!(f, "the label `{label}` is given twice"),
-            ClaimFlaw::Twice(line) => write!(f, "line {line} has the same claim"),
-        }
-    }
-}
-
-impl fmt::Display for KnownFlaw<'_> {
-    fn fmt<W: fmt::Write>(&self, f: &mut fmt::Formatter<W>) -> fmt::Result {
-        match *self {
-            KnownFlaw::NoLabel(name, declared) => write_unknown(f, "label", name, declared),
-            KnownFlaw::NoObject(name, declared) => write_unknown(f, "object", name, declared),
-            KnownFlaw::NearLabel(name, declared, near) => {
-                write_unknown(f, "label", name, declared)?;
-                write!(f, ": did you mean `{near}`?")
+            ClaimFlaw::OthersTwice => {
+                return f.write_str("`*` can stand for one of the two labels, but not for both");
             }
-            KnownFlaw::NearObject(name, declared, near) => {
-                write_unknown(f, "object", name, declared)?;
-                write!(f, ": did you mean `{near}`?")
-            }
-            KnownFlaw::ObjectForLabel(name) => write!(
-                f,
-                "`{name}` is an object, but a label is expected here"
+            ClaimFlaw::Among(label) => (
+                "the first label, `",
+                label,
+                "`, can't be among those that follow",
             ),
-            KnownFlaw::LabelForObject(name, line) => write!(
-                f,
-                "`{name}` is a label (line {line} of the table), but an object is expected here"
+            ClaimFlaw::End(label) => (
+                "`",
+                label,
+                "`, one of the first two labels, can't be among those that follow",
             ),
-        }
-    }
-}
-
-// The sentence on an unknown label or object.
-fn write_unknown<W: fmt::Write>(
-    f: &mut fmt::Formatter<W>,
-    what: &str,
-    name: &str,
-    declared: Declared<'_>,
-) -> fmt::Result {
-    match declared {
-        Declared::Rows(_) => write!(f, "no {what} above this line is called `{name}`"),
-        Declared::Table(_) => write!(f, "the system has no {what} `{name}`"),
+            ClaimFlaw::LabelTwice(label) => ("the label `", label, "` is given twice"),
+            ClaimFlaw::Twice(line) => return write!(f, "line {line} has the same claim"),
+        };
+        write!(f, "{before}{label}{after}")
     }
 }
 
 impl fmt::Display for TwiceFlaw<'_> {
     fn fmt<W: fmt::Write>(&self, f: &mut fmt::Formatter<W>) -> fmt::Result {
-        let (before, word, after, line) = match *self {
-            TwiceFlaw::Label(name, line) => ("a label is already called `", name, "`", line),
-            TwiceFlaw::Object(name, line) => ("an object is already called `", name, "`", line),
-            TwiceFlaw::Control(core, line) => ("core ", core, " already has a control", line),
-            TwiceFlaw::Untyped(name, line) => (
+        let (before, after) = match self.what {
+            Twice::Label => ("a label is already called `", "`"),
+            Twice::Object => ("an object is already called `", "`"),
+            Twice::Control => ("core ", " already has a control"),
+            Twice::Untyped => (
                 "`",
-                name,
                 "` is untyped memory and already has its one capability",
-                line,
             ),
-            TwiceFlaw::Bound(name, line) => ("the context `", name, "` is already bound", line),
+            Twice::Bound => ("the context `", "` is already bound"),
         };
+        let (word, line) = (self.word, self.line);
         write!(f, "{before}{word}{after}, in line {line}")
     }
 }
@@ -389,30 +339,26 @@ fn slots(form: Form) -> &'static str {
 
 impl fmt::Display for KindFlaw<'_> {
     fn fmt<W: fmt::Write>(&self, f: &mut fmt::Formatter<W>) -> fmt::Result {
-        let (name, form, rest) = match *self {
-            KindFlaw::Slot(slot, form) => {
-                let (noun, slots) = (noun(form), slots(form));
+        let (name, form) = (self.name, self.form);
+        let noun = noun(form);
+        let rest = match self.misfit {
+            Misfit::Slot => {
+                let slots = slots(form);
                 return write!(
                     f,
-                    "there is no slot `{slot}`: its holder is {noun}, {slots}"
+                    "there is no slot `{name}`: its holder is {noun}, {slots}"
                 );
             }
-            KindFlaw::SlotOf(slot, form) => {
+            Misfit::SlotOf => {
                 let (words, place) = of_another_line(form);
-                return write!(f, "{words}, but `{slot}` is {place}");
+                return write!(f, "{words}, but `{name}` is {place}");
             }
-            KindFlaw::Root(name, form) => {
-                let noun = noun(form);
-                return write!(f, "a root must be a CNode, but `{name}` is {noun}");
-            }
-            KindFlaw::Terms(name, form) => (name, form, terms(form)),
-            KindFlaw::Rights(name, form) => {
-                (name, form, ": it can only have the rights `r` and `w`")
-            }
-            KindFlaw::NoThread(name, form) => (name, form, ", not a thread"),
-            KindFlaw::NoContext(name, form) => (name, form, ", not a context"),
+            Misfit::Root => return write!(f, "a root must be a CNode, but `{name}` is {noun}"),
+            Misfit::Terms => terms(form),
+            Misfit::Rights => ": it can only have the rights `r` and `w`",
+            Misfit::NoThread => ", not a thread",
+            Misfit::NoContext => ", not a context",
         };
-        let noun = noun(form);
         write!(f, "`{name}` is {noun}{rest}")
     }
 }

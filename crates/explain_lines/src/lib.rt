@@ -17,6 +17,7 @@ mod near;
 mod numbers;
 mod order;
 mod tree;
+mod unknown;
 
 pub use faults::explain_fault;
 pub use mending::{DroppedEdge, explain_dropped};

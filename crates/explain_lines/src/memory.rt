@@ -25,6 +25,11 @@ pub(crate) fn placed_flaw<'a>(rows: Rows<'a>, form: Form, row: Row<'_>) -> Optio
     if range.first.checked_rem(size) != Some(0) {
         return Some(PlacedFlaw::Misaligned(range.first, size));
     }
+    meeting(rows, range)
+}
+
+// The first object that shares bytes with this range.
+fn meeting<'a>(rows: Rows<'a>, range: Range) -> Option<PlacedFlaw<'a>> {
     let mut lines = Lines::new(rows.text);
     for line in 1..rows.end {
         let text = text_of(lines.next_line()?);

@@ -1,34 +1,18 @@
 //! The words on a policy that `confine close` mends: which command does, and what it dropped.
-use crate::flaws::Flaw;
-use crate::names::KnownFlaw;
 use base::Kind;
-use forms::File;
 use std::alloc::{AllocError, Global};
-use std::fmt;
 use table::Table;
 
-/// The way to mend the flaw of a line, if `confine close` mends it.
-#[derive(Clone, Copy)]
-pub(crate) struct Mending<'a> {
-    pub file: File,
-    pub flaw: Flaw<'a>,
-    /// The names of the files.
-    pub system: &'a str,
-    pub policy: &'a str,
-}
-
-impl fmt::Display for Mending<'_> {
-    fn fmt<W: fmt::Write>(&self, f: &mut fmt::Formatter<W>) -> fmt::Result {
-        let (system, policy) = (self.system, self.policy);
-        let (stop, what) = match (self.file, self.flaw) {
-            (File::Policy, Flaw::Edge(_)) => (".", "mends it"),
-            // After a question.
-            (File::Policy, Flaw::Known(KnownFlaw::NearLabel(..))) => ("", "drops the line"),
-            (File::Policy, Flaw::Known(_)) => (".", "drops the line"),
-            _ => return Ok(()),
-        };
-        write!(f, "{stop} `confine close {system} {policy}` {what}.")
-    }
+/// Adds behind the sentence on a flaw what `confine close` does to the policy.
+pub(crate) fn push_mending(
+    lines: &mut String,
+    system: &str,
+    policy: &str,
+    does: &str,
+) -> Result<(), AllocError> {
+    // A question has no full stop.
+    let stop = if lines.ends_with("?") { "" } else { "." };
+    write!(lines, "{stop} `confine close {system} {policy}` {does}.")
 }
 
 /// A line of a policy that was dropped: its number, and what it names.

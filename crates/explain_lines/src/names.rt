@@ -3,33 +3,41 @@ use crate::claims::has_list;
 use crate::declared::{Declared, Row, Rows, Sought};
 use forms::Form;
 
-/// A name that isn't known, or isn't new.
+/// A name that isn't known.
 #[derive(Clone, Copy)]
 pub(crate) enum KnownFlaw<'a> {
-    NoLabel(&'a str, Declared<'a>),
-    /// A name that no label has, and the nearest one that a label has.
-    NearLabel(&'a str, Declared<'a>, &'a str),
+    NoLabel(&'a str),
     /// An object's name in place of a label's. Its line isn't named: the table may be one of a description.
     ObjectForLabel(&'a str),
-    NoObject(&'a str, Declared<'a>),
-    /// A name that no object has, and the nearest one that an object has.
-    NearObject(&'a str, Declared<'a>, &'a str),
+    NoObject(&'a str),
+    /// A label's name in place of an object's, and the label's line.
     LabelForObject(&'a str, u64),
 }
 
-/// A repetition, with the line that has it first.
+/// A repetition: the word that is there twice, and the line that has it first.
 #[derive(Clone, Copy)]
-pub(crate) enum TwiceFlaw<'a> {
-    Label(&'a str, u64),
-    Object(&'a str, u64),
-    Control(&'a str, u64),
-    Untyped(&'a str, u64),
-    Bound(&'a str, u64),
+pub(crate) struct TwiceFlaw<'a> {
+    pub what: Twice,
+    pub word: &'a str,
+    pub line: u64,
+}
+
+/// The kind of a repetition.
+#[derive(Clone, Copy)]
+pub(crate) enum Twice {
+    Label,
+    Object,
+    /// The control of a core.
+    Control,
+    /// The capability for untyped memory.
+    Untyped,
+    /// The binding of a context.
+    Bound,
 }
 
 /// The first name of a line that isn't known.
 pub(crate) fn known_flaw<'a>(
-    declared: Declared<'a>,
+    declared: Declared<'_>,
     form: Form,
     row: Row<'a>,
 ) -> Option<KnownFlaw<'a>> {
@@ -65,7 +73,7 @@ fn roles(form: Form) -> &'static str {
 }
 
 // The flaw of a line with only labels after its first word.
-fn labels_flaw<'a>(declared: Declared<'a>, line: &'a str) -> Option<KnownFlaw<'a>> {
+fn labels_flaw<'a>(declared: Declared<'_>, line: &'a str) -> Option<KnownFlaw<'a>> {
     for name in line.split(' ').skip(1) {
         let flaw = label_flaw(declared, name);
         if flaw.is_some() {
@@ -76,25 +84,25 @@ fn labels_flaw<'a>(declared: Declared<'a>, line: &'a str) -> Option<KnownFlaw<'a
 }
 
 // The flaw of a label's name; `*` stands for all other labels.
-fn label_flaw<'a>(declared: Declared<'a>, name: &'a str) -> Option<KnownFlaw<'a>> {
+fn label_flaw<'a>(declared: Declared<'_>, name: &'a str) -> Option<KnownFlaw<'a>> {
     if name == "*" || declared.label(name).is_some() {
         return None;
     }
     match declared.object(name) {
         Some(_) => Some(KnownFlaw::ObjectForLabel(name)),
-        None => Some(KnownFlaw::NoLabel(name, declared)),
+        None => Some(KnownFlaw::NoLabel(name)),
     }
 }
 
 // The flaw of an object's name, or of a slot's holder.
-fn object_flaw<'a>(declared: Declared<'a>, word: &'a str) -> Option<KnownFlaw<'a>> {
+fn object_flaw<'a>(declared: Declared<'_>, word: &'a str) -> Option<KnownFlaw<'a>> {
     let name = holder_of(word);
     if declared.object(name).is_some() {
         return None;
     }
     match declared.label(name) {
         Some(line) => Some(KnownFlaw::LabelForObject(name, line)),
-        None => Some(KnownFlaw::NoObject(name, declared)),
+        None => Some(KnownFlaw::NoObject(name)),
     }
 }
 
@@ -110,25 +118,26 @@ pub(crate) fn holder_of(word: &str) -> &str {
 pub(crate) fn twice_flaw<'a>(rows: Rows<'_>, form: Form, row: Row<'a>) -> Option<TwiceFlaw<'a>> {
     let (one, two) = (row.word(1), row.word(2));
     match form {
-        Form::Label => {
-            let first = rows.row(Sought::Label(one))?;
-            Some(TwiceFlaw::Label(one, first.line))
-        }
-        Form::Cap => {
-            let first = rows.row(Sought::CapFor(two))?;
-            Some(TwiceFlaw::Untyped(two, first.line))
-        }
-        Form::Bind => {
-            let first = rows.row(Sought::Bound(two))?;
-            Some(TwiceFlaw::Bound(two, first.line))
-        }
-        _ => match rows.row(Sought::Object(one)) {
-            Some(first) => Some(TwiceFlaw::Object(one, first.line)),
+        Form::Label => first_flaw(rows, Sought::Label(one), Twice::Label, one),
+        Form::Cap => first_flaw(rows, Sought::CapFor(two), Twice::Untyped, two),
+        Form::Bind => first_flaw(rows, Sought::Bound(two), Twice::Bound, two),
+        _ => match first_flaw(rows, Sought::Object(one), Twice::Object, one) {
+            Some(flaw) => Some(flaw),
             None => {
                 let core = row.word(3);
-                let first = rows.row(Sought::Control(core))?;
-                Some(TwiceFlaw::Control(core, first.line))
+                first_flaw(rows, Sought::Control(core), Twice::Control, core)
             }
         },
     }
+}
+
+// The repetition of a word, if an earlier line has what is sought.
+fn first_flaw<'a>(
+    rows: Rows<'_>,
+    sought: Sought<'_>,
+    what: Twice,
+    word: &'a str,
+) -> Option<TwiceFlaw<'a>> {
+    let line = rows.row(sought)?.line;
+    Some(TwiceFlaw { what, word, line })
 }

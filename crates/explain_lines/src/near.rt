@@ -1,36 +1,12 @@
 //! The nearest known name to an unknown one.
 use crate::declared::{Declared, Row, Rows};
-use crate::flaws::Flaw;
-use crate::names::KnownFlaw;
 use base::ObjId;
-use forms::{File, Form, Lines, form_of, near_layout, near_word, nearest_name, text_of};
+use forms::{File, Form, Lines, form_of, nearest_name, text_of};
 use std::alloc::{AllocError, Global};
 use table::Table;
 
-/// Returns the flaw with the name that is nearest to an unknown one, if one is near.
-pub(crate) fn near_flaw<'a>(alloc: Global, flaw: Flaw<'a>) -> Result<Flaw<'a>, AllocError> {
-    Ok(match flaw {
-        Flaw::Layout(file, flaw) => Flaw::Layout(file, near_layout(alloc, file, flaw)?),
-        Flaw::Word(form, flaw) => Flaw::Word(form, near_word(alloc, flaw)?),
-        Flaw::Known(flaw) => Flaw::Known(near_known(alloc, flaw)?),
-        flaw => flaw,
-    })
-}
-
-fn near_known<'a>(alloc: Global, flaw: KnownFlaw<'a>) -> Result<KnownFlaw<'a>, AllocError> {
-    let near = match flaw {
-        KnownFlaw::NoLabel(name, declared) => near_label(alloc, declared, name)?.map(
-            |near| KnownFlaw::NearLabel(name, declared, near),
-        ),
-        KnownFlaw::NoObject(name, declared) => near_object(alloc, declared, name)?.map(
-            |near| KnownFlaw::NearObject(name, declared, near),
-        ),
-        _ => None,
-    };
-    Ok(near.unwrap_or(flaw))
-}
-
-fn near_label<'a>(
+/// Returns the label's name that is nearest to an unknown one, if one is near.
+pub(crate) fn near_label<'a>(
     alloc: Global,
     declared: Declared<'a>,
     name: &str,
@@ -42,7 +18,8 @@ fn near_label<'a>(
     nearest_name(alloc, name, &labels)
 }
 
-fn near_object<'a>(
+/// Returns the object's name that is nearest to an unknown one, if one is near.
+pub(crate) fn near_object<'a>(
     alloc: Global,
     declared: Declared<'a>,
     name: &str,

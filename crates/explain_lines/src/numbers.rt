@@ -1,11 +1,12 @@
 //! Words of an event in place of numbers (fault 50).
 use crate::declared::{Declared, Row};
-use crate::flaws::Flaw;
-use forms::{File, Form, LayoutFlaw, NumberFlaw, WordFlaw, call_named};
+use forms::{File, Form, call_named};
 
 /// The word of an event in place of a number.
 #[derive(Clone, Copy)]
 pub(crate) enum EventFlaw<'a> {
+    /// A call that stands before its place.
+    Misplaced(File, Form),
     /// No number of a core.
     NoCore(&'a str),
     /// A thread's name in place of its number.
@@ -18,50 +19,31 @@ pub(crate) enum EventFlaw<'a> {
     Operand(&'a str),
 }
 
-/// The flaw of a word of an event, with more detail if it is in place of a number.
-pub(crate) fn event_word_flaw<'a>(
+/// The flaw of the first word that isn't a number, by its place, if more can be said of it.
+pub(crate) fn number_flaw<'a>(
     file: File,
-    declared: Option<Declared<'a>>,
-    form: Form,
-    row: Row<'a>,
-    flaw: WordFlaw<'a>,
-) -> Flaw<'a> {
-    match flaw {
-        WordFlaw::Number(word, NumberFlaw::NoDecimal) if form.file() == File::Script => {
-            match number_flaw(file, declared, row, word) {
-                Some(flaw) => flaw,
-                None => Flaw::Word(form, flaw),
-            }
-        }
-        _ => Flaw::Word(form, flaw),
-    }
-}
-
-// The flaw of the first word that isn't a number, by its place, if more can be said of it.
-fn number_flaw<'a>(
-    file: File,
-    declared: Option<Declared<'a>>,
+    declared: Option<Declared<'_>>,
     row: Row<'a>,
     word: &'a str,
-) -> Option<Flaw<'a>> {
-    let is_core = word == row.word(0);
-    if is_core || word == row.word(1) {
-        if let Some(call) = call_named(word) {
-            return Some(Flaw::Layout(file, LayoutFlaw::Misplaced(call)));
-        }
-    }
-    Some(Flaw::Event(if is_core {
-        EventFlaw::NoCore(word)
+) -> Option<EventFlaw<'a>> {
+    if word == row.word(0) {
+        Some(match call_named(word) {
+            Some(call) => EventFlaw::Misplaced(file, call),
+            None => EventFlaw::NoCore(word),
+        })
     } else if word == row.word(1) {
-        thread_flaw(file, declared, word)
+        Some(match call_named(word) {
+            Some(call) => EventFlaw::Misplaced(file, call),
+            None => thread_flaw(file, declared, word),
+        })
     } else {
         declared?.object(word)?;
-        EventFlaw::Operand(word)
-    }))
+        Some(EventFlaw::Operand(word))
+    }
 }
 
 // A word in place of a thread's number.
-fn thread_flaw<'a>(file: File, declared: Option<Declared<'a>>, word: &'a str) -> EventFlaw<'a> {
+fn thread_flaw<'a>(file: File, declared: Option<Declared<'_>>, word: &'a str) -> EventFlaw<'a> {
     match declared {
         Some(declared) => match (declared.object(word), declared.number_of(word)) {
             (Some(object), Some(number)) if object.form == Form::Tcb => {

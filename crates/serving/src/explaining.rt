@@ -15,8 +15,8 @@ use explain_denials::{
     Names, explain_closing, explain_denial, explain_outside, explain_surplus, explain_unlabelled,
     explain_why, explain_why_allowed,
 };
-use explain_descriptions::{Note, explain_notes as explain_left_out, notes_of, notes_on_label};
 use explain_lines::{DroppedEdge, explain_dropped, explain_fault};
+use explain_notes::{Note, explain_notes as explain_left_out, notes_of, notes_on_label};
 use explain_refusals::{Caller, explain_illegal, explain_refusal};
 use explain_systems::{explain_changes, explain_notes};
 use machine::{Event, Outcome};

@@ -1,6 +1,6 @@
 //! The sentences on denials: why a rule is broken, and what mends it beside the edge.
+use crate::closed_rules::{domain_of, premises};
 use crate::domains::{tell_domain_exit, tell_domain_way};
-use crate::premises::{domain_of, premises};
 use base::{Edge, Kind, Label, ObjId, SlotRef};
 use captext::{SlotName, label_name, object_name};
 use labels::declared_label;
@@ -28,7 +28,7 @@ impl fmt::Display for EdgeLine<'_> {
 
 /// An edge after some words, if there is one.
 #[derive(Clone, Copy)]
-pub(crate) struct EdgeAfter<'a> {
+pub struct EdgeAfter<'a> {
     pub words: &'a str,
     pub table: &'a Table,
     pub edge: Option<Edge>,
@@ -69,7 +69,7 @@ impl fmt::Display for EdgeList<'_> {
 }
 
 /// Returns what stands before an item of a list of so many.
-pub(crate) fn separator(number: usize, count: usize) -> &'static str {
+pub fn separator(number: usize, count: usize) -> &'static str {
     if number == 0 {
         ""
     } else if number < count.saturating_sub(1) {
@@ -80,7 +80,7 @@ pub(crate) fn separator(number: usize, count: usize) -> &'static str {
 }
 
 /// The label of an object, by its name.
-pub(crate) fn name_of_label<'a>(table: &'a Table, id: ObjId) -> &'a str {
+pub fn name_of_label<'a>(table: &'a Table, id: ObjId) -> &'a str {
     match declared_label(table, id) {
         Some(label) => label_name(table, label),
         None => "",
@@ -88,7 +88,7 @@ pub(crate) fn name_of_label<'a>(table: &'a Table, id: ObjId) -> &'a str {
 }
 
 /// What an edge of the kind lets a label do, before the name of another label.
-pub(crate) fn verb(kind: Kind) -> &'static str {
+pub fn verb(kind: Kind) -> &'static str {
     match kind {
         Kind::Control => "control",
         Kind::Reset => "reset",
@@ -111,7 +111,7 @@ pub(crate) fn verb(kind: Kind) -> &'static str {
 }
 
 /// Whether a capability gives the kind by its rights, and not whatever they are.
-pub(crate) fn comes_by_right(kind: Kind) -> bool {
+pub fn comes_by_right(kind: Kind) -> bool {
     matches!(
         kind,
         Kind::Send
@@ -258,7 +258,7 @@ fn tell_certificate<W: fmt::Write>(f: &mut fmt::Formatter<W>, line: usize) -> fm
 
 /// The beginning of what the capability in a slot lets the label of its holder do.
 #[derive(Clone, Copy)]
-pub(crate) struct Lets<'a> {
+pub struct Lets<'a> {
     pub table: &'a Table,
     pub slot: SlotRef,
 }
@@ -424,7 +424,7 @@ fn tell_rule_end<W: fmt::Write>(
 
 /// Where a rule is broken, by names.
 #[derive(Clone, Copy)]
-pub(crate) struct PlaceNames<'a> {
+pub struct PlaceNames<'a> {
     pub table: &'a Table,
     pub denial: &'a Denial,
 }
@@ -514,7 +514,7 @@ pub(crate) fn ends(broken: &Broken) -> (Label, Label) {
 
 /// What mends a denial in place of the edge.
 #[derive(Clone, Copy)]
-pub(crate) struct OtherWay<'a> {
+pub struct OtherWay<'a> {
     pub table: &'a Table,
     pub policy: &'a Policy,
     pub denial: &'a Denial,

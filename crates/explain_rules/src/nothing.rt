@@ -15,7 +15,7 @@ const BY_REACH: &str = "no authority that the table can lead to lets";
 const BY_POLICY: &str = "no edges of the policy let";
 
 /// Adds why threads of `actor` can neither change objects of `object` nor make them smaller in any run of a table.
-pub(crate) fn push_nothing(
+pub fn push_nothing(
     alloc: Global,
     lines: &mut String,
     reach: &Reach<'_>,
@@ -51,7 +51,7 @@ fn push_unkept(lines: &mut String, keepers: Labels) -> Result<(), AllocError> {
 }
 
 /// Adds why a policy allows threads of `actor` neither to change objects of `object` nor to make them smaller.
-pub(crate) fn push_not_allowed(
+pub fn push_not_allowed(
     alloc: Global,
     lines: &mut String,
     table: &Table,

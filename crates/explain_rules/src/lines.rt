@@ -18,7 +18,7 @@ pub fn line_of_edge(alloc: Global, policy: &Policy, edge: Edge) -> Result<Option
 }
 
 /// Returns the line of the place that a denial by A1 to A4 names, from 1.
-pub(crate) fn line_of_place(sheet: Sheet<'_>, denial: &Denial) -> Option<usize> {
+pub fn line_of_place(sheet: Sheet<'_>, denial: &Denial) -> Option<usize> {
     match *denial {
         Denial::Capability { slot, .. } | Denial::Root { slot, .. } => sheet.line_of_slot(slot),
         Denial::Pair { child, .. } => sheet.line_of_child(child),

@@ -9,7 +9,7 @@ use verdict::Denial;
 /// Why the place of a denial gives an edge. Of a table that was made of a description, the words name no slot and no
 /// object of the table.
 #[derive(Clone, Copy)]
-pub(crate) struct PlaceWords<'a> {
+pub struct PlaceWords<'a> {
     pub sheet: Sheet<'a>,
     pub denial: &'a Denial,
 }
@@ -40,7 +40,7 @@ fn element_of<'a>(sheet: Sheet<'a>, denial: &Denial) -> Option<Element<'a>> {
 }
 
 /// Returns what to change in a description so that the place of a denial gives no edge.
-pub(crate) fn remedy_at<'a>(sheet: Sheet<'a>, denial: &Denial) -> Option<Remedy<'a>> {
+pub fn remedy_at<'a>(sheet: Sheet<'a>, denial: &Denial) -> Option<Remedy<'a>> {
     match *denial {
         Denial::Capability { slot, kind, .. } => sheet.element_at(slot)?.remedy(kind),
         _ => None,

@@ -9,7 +9,7 @@ use table::Table;
 
 /// Edges, with what the sharp rules need to know of them and of a table.
 #[derive(Clone, Copy)]
-pub(crate) struct View<'a> {
+pub struct View<'a> {
     pub policy: &'a Policy,
     /// The labels that keep a capability for a CNode.
     pub keepers: Labels,
@@ -30,14 +30,14 @@ impl<'a> View<'a> {
 
 /// On which grounds a sharp rule requires an edge: other edges, and how it comes from these.
 #[derive(Clone, Copy)]
-pub(crate) struct Grounds {
+pub struct Grounds {
     pub edges: [Option<Edge>; 4],
     pub way: Way,
 }
 
 /// How an edge comes from others by a sharp rule.
 #[derive(Clone, Copy)]
-pub(crate) enum Way {
+pub enum Way {
     /// The first label finds capabilities in CNodes of the second.
     Finds(Label, Label),
     /// The first label controls the second.
@@ -91,7 +91,7 @@ impl Way {
 
 /// How an edge comes from others, as the end of a sentence that names them.
 #[derive(Clone, Copy)]
-pub(crate) struct WayWords<'a> {
+pub struct WayWords<'a> {
     pub table: &'a Table,
     pub way: Way,
 }
@@ -237,7 +237,7 @@ fn tell_called<W: fmt::Write>(
 }
 
 /// The first sharp rule that requires an edge by these, and the first of its grounds.
-pub(crate) fn first_grounds(view: &View<'_>, edge: Edge) -> Option<Grounds> {
+pub fn first_grounds(view: &View<'_>, edge: Edge) -> Option<Grounds> {
     if !edge.kind.is_structural() {
         return grounds_of_use(view, &edge);
     }
@@ -271,7 +271,7 @@ fn grounds_of_use(view: &View<'_>, edge: &Edge) -> Option<Grounds> {
 }
 
 /// The first edge by which a sharp rule requires the edge that is missing at a place.
-pub(crate) fn first_premise(table: &Table, policy: &Policy, broken: &SharpBroken) -> Option<Edge> {
+pub fn first_premise(table: &Table, policy: &Policy, broken: &SharpBroken) -> Option<Edge> {
     match grounds_at(&View::of(table, policy), broken) {
         Some(grounds) => grounds.edges[0],
         None => None,
@@ -279,7 +279,7 @@ pub(crate) fn first_premise(table: &Table, policy: &Policy, broken: &SharpBroken
 }
 
 /// The grounds on which a sharp rule requires the edge that is missing at a place.
-pub(crate) fn grounds_at(view: &View<'_>, broken: &SharpBroken) -> Option<Grounds> {
+pub fn grounds_at(view: &View<'_>, broken: &SharpBroken) -> Option<Grounds> {
     let edge = broken.edge();
     match *broken {
         SharpBroken::SubjectLacks { other, .. } => shared(view, &edge, Labels::only(other)),

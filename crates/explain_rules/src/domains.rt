@@ -1,5 +1,5 @@
 //! The sentences on denials by P1 and P4: in whose domain labels are, and which edges put them there.
-use crate::premises::{domain_of, there};
+use crate::closed_rules::{domain_of, there};
 use crate::sentences::{EdgeAfter, Reason};
 use base::{Edge, Kind, Label};
 use captext::label_name;
@@ -10,7 +10,7 @@ use verdict::Denial;
 
 /// Why a rule is broken, where the policy shows in whose domain labels are.
 #[derive(Clone, Copy)]
-pub(crate) struct ReasonIn<'a> {
+pub struct ReasonIn<'a> {
     pub table: &'a Table,
     pub policy: &'a Policy,
     pub denial: &'a Denial,

@@ -3,7 +3,7 @@ use base::{Edge, Kind, Label, Labels};
 use policy::{Broken, Policy};
 
 /// The edges of a policy by which a rule asks for the edge that is missing: of several ways the first.
-pub(crate) fn premises(policy: &Policy, broken: Broken) -> [Option<Edge>; 4] {
+pub fn premises(policy: &Policy, broken: Broken) -> [Option<Edge>; 4] {
     match broken {
         Broken::SubjectsDisagree {
             subject,
