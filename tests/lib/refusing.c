@@ -1,8 +1,8 @@
 /* Refuses one allocation of the program that it is loaded into, and counts the allocations that the program asks for.
  *
- * REFUSED is the number of the allocation that is refused, counted from 1. Without it none is refused. COUNTED names a file of eight bytes,
- * in which the number of allocations stands at any time, as a `long`: the program may end by `_exit`. A program that still runs after 20
- * seconds is ended by SIGALRM. */
+ * REFUSED is the number of the allocation that is refused, counted from 1. Without it none is refused. COUNTED names a file. It begins
+ * with the number of allocations at any time, as a `long`: the program may end by `_exit`. A program that still runs after 20 seconds is
+ * ended by SIGALRM. */
 #include <errno.h>
 #include <fcntl.h>
 #include <stdatomic.h>
