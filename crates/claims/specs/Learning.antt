@@ -1,8 +1,8 @@
 -- Calls in fixed systems in which `apart` or `through` holds: what they return (confine's own; compare noninterference).
 use Rattle.std.specs.Prelude.{[], ℕ, ◌∷◌, List}
 use Rattle.machine.specs.{declared.call.{Event.Event, Outcome.Outcome}, Boot.IsBoot, Layout.Layout, Machine.Machine, Run.Run}
-use Rattle.{fixed.specs.Fixed.IsFixed, reach.specs.Extents.Limits, flows.specs.Flowing.{FilterTest, IsClosedOff}}
-use Rattle.noninterference.specs.Sets.{AreAlikeTo, DifferBeside, EndAlike, IsOfSet, RunsBeside, SetTest}
+use Rattle.{reach.specs.Extents.Limits, flows.specs.Flowing.{FilterTest, IsClosedOff}}
+use Rattle.noninterference.specs.{Fixed.IsFixed, Sets.{AreAlikeTo, DifferBeside, EndAlike, IsOfSet, RunsBeside, SetTest}}
 use Rattle.claims.specs.{declared.{claim.Claim.{Claim, Claim as claim}, keeping.Kept.{Kept, Kept as kept}}, Claims.is_one_of}
 
 -- two runs, of which these are the scripts' events, or those of the first, the outcomes and the last machines, look the same to threads of

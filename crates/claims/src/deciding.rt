@@ -1,7 +1,8 @@
 //! The claims that don't hold of a table, and why.
 ghost use Rattle.std.specs.{List.Contains, Prelude.{[], ℕ, ◌≡◌, IfNone, IfOk, IfSome, Some}};
 ghost use Rattle.{machine.specs.Layout.Layout, table.specs.Names.AreLabelsOf, policy.specs.Policy.allows};
-ghost use Rattle.{fixed.specs.Fixed.IsFixed, reach.specs.Extents.{Limits, limits_of}, flows.specs.Flowing.{IsClosedOff, FlowLeads}};
+ghost use Rattle.{reach.specs.Extents.{Limits, limits_of}, flows.specs.Flowing.{IsClosedOff, FlowLeads}};
+ghost use Rattle.noninterference.specs.Fixed.{IsFixed};
 ghost use Rattle.claims.specs.{declared.claim.Claim.Claim as ClaimOf, Claims.is_one_of, Holding.{AreBroken, ClaimFails, FailsOnEdge}};
 ghost use Rattle.claims.specs.{Holding.{FailsOnPair, Holds, HoldsOnEdges, HoldsOnPairs, ClaimIsKept}, Learning.IsKeptInCalls, Rows.AreRowsByLabel};
 ghost use Rattle.claims.specs.declared.lines.TheConstants.ClaimLines as ClaimLines;

@@ -2,7 +2,7 @@
 ghost use Rattle.std.specs.Prelude.{◌≡◌};
 ghost use Rattle.claims.specs.{Claims.kept_word, Learning.IsKeptSo};
 
-use fixed::is_fixed;
+use noninterference::is_fixed;
 use table::Table;
 
 /// What the claims `apart` and `through` bound in every run, where they hold.

@@ -3,7 +3,7 @@ use importing::Minting;
 use verdict::Rules;
 
 /// What `check` writes where a table and a policy are accepted.
-#[derive(Clone, Copy, PartialEq, Eq, Debug)]
+#[derive(Clone, Copy, PartialEq, Eq)]
 pub enum OnAccept {
     /// The report, with each label's cut and full authority.
     Report,
@@ -12,7 +12,7 @@ pub enum OnAccept {
 }
 
 /// What `close` writes.
-#[derive(Clone, Copy, PartialEq, Eq, Debug)]
+#[derive(Clone, Copy, PartialEq, Eq)]
 pub enum OnClose {
     /// The text of the least policy, with status 0.
     Policy,
@@ -25,7 +25,7 @@ pub enum OnClose {
 }
 
 /// What `import` writes.
-#[derive(Clone, Copy, PartialEq, Eq, Debug)]
+#[derive(Clone, Copy, PartialEq, Eq)]
 pub enum Imported {
     /// The capability table.
     Table,
@@ -34,7 +34,7 @@ pub enum Imported {
 }
 
 /// How `import` reads a description, and what it writes of it.
-#[derive(Clone, Copy, Debug)]
+#[derive(Clone, Copy)]
 pub struct OnImport {
     /// Which rights the capabilities have.
     pub minting: Minting,
@@ -42,7 +42,7 @@ pub struct OnImport {
 }
 
 /// Which labels a drawing has.
-#[derive(Clone, Copy, PartialEq, Eq, Debug)]
+#[derive(Clone, Copy, PartialEq, Eq)]
 pub enum Picture {
     /// Those of programs; memory stands in the arrows' words.
     Programs,
@@ -51,7 +51,7 @@ pub enum Picture {
 }
 
 /// In which form `why`, `summary` and `diff` answer.
-#[derive(Clone, Copy, PartialEq, Eq, Debug)]
+#[derive(Clone, Copy, PartialEq, Eq)]
 pub enum Form {
     /// As text.
     Text,
@@ -60,7 +60,7 @@ pub enum Form {
 }
 
 /// Which users of a label `why` lists.
-#[derive(Clone, Copy, PartialEq, Eq, Debug)]
+#[derive(Clone, Copy, PartialEq, Eq)]
 pub enum Use {
     /// The labels that may change it.
     Changes,
@@ -69,7 +69,7 @@ pub enum Use {
 }
 
 /// What `show` looks for, and how long.
-#[derive(Clone, Copy, PartialEq, Eq, Debug)]
+#[derive(Clone, Copy, PartialEq, Eq)]
 pub struct Search {
     /// Whether the object only has to shrink.
     pub takes: bool,
@@ -78,7 +78,7 @@ pub struct Search {
 }
 
 /// As what the first file of a command is read.
-#[derive(Clone, Copy, Debug)]
+#[derive(Clone, Copy)]
 pub enum Taken {
     /// As a capability table.
     Table,

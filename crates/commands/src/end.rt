@@ -5,7 +5,7 @@ ghost use Rattle.commands.specs.Ends.{message_of, misuse_message, status_of, unl
 use reptext::File;
 
 /// A label that a command asks about, as the command line names it.
-#[derive(Clone, Copy, PartialEq, Eq, Debug)]
+#[derive(Clone, Copy, PartialEq, Eq)]
 pub enum Asked {
     /// The label whose authority is asked for: `A`.
     Actor,
@@ -26,7 +26,7 @@ impl Asked {
 }
 
 /// Why a system isn't read as the command line has it.
-#[derive(Clone, Copy, PartialEq, Eq, Debug)]
+#[derive(Clone, Copy, PartialEq, Eq)]
 pub enum Misuse {
     /// It is a description, and `--rights` wasn't given.
     NoRights,
@@ -65,7 +65,7 @@ fn unread_message(file: File) -> &'static str
 }
 
 /// How an engine ends.
-#[derive(Clone, Copy, PartialEq, Eq, Debug)]
+#[derive(Clone, Copy, PartialEq, Eq)]
 pub enum End {
     /// The answer was written: 0 for a yes, 1 for a denial or a no, 2 for a fault of a text.
     Status(u8),

@@ -9,7 +9,7 @@ use table::Table;
 use verdict::Denial;
 
 /// What is found wrong with a system or a log.
-#[derive(Debug, Drop)]
+#[derive(Drop)]
 pub enum Finding {
     /// A table and a policy, or a certificate, are denied.
     Denied(Box<Denial>),

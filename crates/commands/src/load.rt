@@ -19,7 +19,7 @@ use std::alloc::{AllocError, Global};
 use table::Table;
 
 /// Why a command has no answer.
-#[derive(Clone, Copy, PartialEq, Eq, Debug)]
+#[derive(Clone, Copy, PartialEq, Eq)]
 pub enum Stop {
     /// Memory was refused.
     NoMemory,

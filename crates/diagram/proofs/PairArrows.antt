@@ -9,7 +9,7 @@ use Rattle.policy.specs.Change.{MayChangeContext.{binds, configures, lends, retu
 use Rattle.policy.specs.Change.WayToChange.{grants, links, modifies, notifies, own, receives, replies, sends, shares}
 use Rattle.policy.specs.NarrowTake.{TakesByControl.{drops, releases, removes, wakes}, WayToShrink}
 use Rattle.policy.specs.{NarrowTake.WayToShrink.{controls, ends, frees, halts, stops, unbinds}, Places.IsLeast, Reasons.reason_place}
-use Rattle.{reach.specs.Extents.{Limits, MayChangeIn, MayShrinkIn}, matrix.proofs.Pieces.range_more}
+use Rattle.{reach.specs.Extents.{Limits, MayChangeIn, MayShrinkIn}, summary.proofs.OneMore.range_more}
 use Rattle.diagram.specs.Drawing.{AddsArrows, Draws, IsDrawnArrow, IsDrawnArrow.{dashed, itself, nothing, solid}, arrow_line, pairs_with}
 
 with_more : (a n : ℕ) → pairs_with (n + 1) a ≡ pairs_with n a ++ (a, n) ∷ []

@@ -3,7 +3,7 @@
 -- uses (compare the integrity of 'seL4 Enforces Integrity', section 4; the drawing is confine's own).
 use Rattle.std.specs.{Fmt.decimal, List.flat_map, Prelude.{[], ℕ, ◌++◌, ◌==◌, ◌∷◌, ◌≡◌, Bool, List, codes, if◌then◌else◌, length, map, not}}
 use Rattle.{machine.specs.Layout.Layout, policy.specs.Domain.EdgeTest, reach.specs.Extents.Limits, captext.specs.PolicyText.label_name}
-use Rattle.{matrix.specs.Padding.given, summary.specs.{declared.rows.Row.Row, Labelled.others_of, Regions.names_text}}
+use Rattle.summary.specs.{declared.rows.Row.Row, Labelled.others_of, Padding.given, Regions.names_text}
 use Rattle.diagram.specs.declared.{drawing.TheConstants.HEAD, verbs.Verb.{TheVariants.{Changes, Takes, Writes}, Verb}}
 use Rattle.diagram.specs.{Programs.{ArePrograms, Program, program_of}, Regions.{between, does, inside}}
 

@@ -1,6 +1,6 @@
 //! The arrows between programs: what one may do to objects of the other, and to labels without a thread that it uses.
 ghost use Rattle.std.specs.{List.flat_map, Prelude.{◌++◌, ◌≡◌, IfOk, OnOk, string_bytes}};
-ghost use Rattle.{base.specs.Labels.is_in, policy.specs.Policy.allows, matrix.specs.Padding.given};
+ghost use Rattle.{base.specs.Labels.is_in, policy.specs.Policy.allows, summary.specs.Padding.given};
 ghost use Rattle.diagram.specs.Folded.{arrow_text, between_text, more_text, phrase_text, reasons_text};
 ghost use Rattle.diagram.specs.{Folded.{style_text, worded_text, words_text}, Programs.program_of};
 
@@ -13,7 +13,7 @@ use summary::Row;
 use table::Table;
 
 /// Writes the arrows from each program.
-#[tactic(auto, using(matrix::proofs::Pieces::piece_more))]
+#[tactic(auto, using(summary::proofs::OneMore::piece_more))]
 pub(crate) fn write_arrows(
     alloc: Global,
     text: &mut String,
@@ -32,7 +32,7 @@ pub(crate) fn write_arrows(
     Ok(())
 }
 
-#[tactic(auto, using(matrix::proofs::Pieces::piece_more))]
+#[tactic(auto, using(summary::proofs::OneMore::piece_more))]
 fn write_arrows_from(
     alloc: Global,
     text: &mut String,

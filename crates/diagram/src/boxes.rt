@@ -12,7 +12,7 @@ use summary::{Row, write_names};
 use table::Table;
 
 /// Writes a box for each program.
-#[tactic(auto, using(matrix::proofs::Pieces::piece_more))]
+#[tactic(auto, using(summary::proofs::OneMore::piece_more))]
 pub(crate) fn write_boxes(
     alloc: Global,
     text: &mut String,

@@ -31,7 +31,7 @@ pub fn write_drawing(
     Ok(text.into_bytes())
 }
 
-#[tactic(auto, using(matrix::proofs::Pieces::piece_more))]
+#[tactic(auto, using(summary::proofs::OneMore::piece_more))]
 fn write_labels(text: &mut String, table: &Table) -> Result<(), AllocError>
     ensures { OnOk result (string_bytes text.new ≡ string_bytes text.old ++ flat_map label_line table.now.labels) }
 {

@@ -1,6 +1,6 @@
 -- Lists that grow by the piece of one value more.
 use Rattle.std.{specs.List.{flat_map, range_with_len}, proofs.Common.{ℕ, ◌++◌, ◌+◌, ◌<◌, ◌∙◌, ◌≡◌, List, ap, get_or, length, sym, take}}
-use Rattle.{std.proofs.lemmas.List.{flat_map_more, take_more}, matrix.proofs.Pieces.range_more}
+use Rattle.{std.proofs.lemmas.List.{flat_map_more, take_more}, summary.proofs.OneMore.range_more}
 
 -- the piece of the next of some values
 pub change_more : {X Y : Type 0} (f : X → List Y) (xs : List X) (i : ℕ) (d : X) (before list longer : List Y) → i < length xs

@@ -1,7 +1,7 @@
 -- The lines on the changes from one system to another (confine's own).
 use Rattle.std.specs.{List.flat_map, Prelude.{ℕ, ◌++◌, ◌∷◌, ◌≡◌, List, None, Option, Some, codes, if◌then◌else◌}}
 use Rattle.{base.specs.Kinds.kind_name, machine.specs.Layout.Layout, reach.specs.Reach.TableReach}
-use Rattle.{captext.specs.PolicyText.label_name, matrix.specs.Padding.given}
+use Rattle.{captext.specs.PolicyText.label_name, summary.specs.Padding.given}
 use Rattle.diff.specs.declared.change.{Change.{Change, Change as change}, Marks.Marks, Role.{Role, Role as role}, Sign.{Sign, Sign as sign}}
 use Rattle.diff.specs.declared.{change.{Standing.{Standing, Standing as stands}, Verb.{Verb, Verb as verb}}, names.Named.Named}
 use Rattle.diff.specs.Changes.{AreChanges, has_marks, sign_of, sign_of_marks, sign_of_standing}

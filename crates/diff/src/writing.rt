@@ -1,6 +1,6 @@
 //! The lines on the changes from one system to another.
 ghost use Rattle.std.specs.{List.{flat_map, list_any}, Prelude.{◌++◌, ◌≡◌, IfOk, OnOk, string_bytes}};
-ghost use Rattle.matrix.specs.Padding.{given};
+ghost use Rattle.summary.specs.Padding.{given};
 ghost use Rattle.diff.specs.Changes.{adds, sign_of_marks, sign_of_standing};
 ghost use Rattle.diff.specs.Text.{cell_line, cell_text, change_line, change_text, changes_text, extent_text, marks_text, standing_line};
 
@@ -30,7 +30,7 @@ pub fn changes_text(
     Ok(text)
 }
 
-#[tactic(auto, using(matrix::proofs::Pieces::piece_more))]
+#[tactic(auto, using(summary::proofs::OneMore::piece_more))]
 fn write_changes(
     text: &mut String,
     old: &Table,

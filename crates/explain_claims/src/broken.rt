@@ -5,11 +5,11 @@ use base::{Edge, Label, Refusal};
 use captext::label_name;
 use claims::{Breach, Broken, Claim, ClaimLines, Failure, claim_text};
 use explain_denials::{EdgeLine, EdgeList, Origins, OtherWays};
+use explain_rules::{Sheet, Start};
 use policy::Why;
 use reach::{Extent, Reach};
 use runs::Question;
 use search::{edges_of, find};
-use sources::{Sheet, Start};
 use std::alloc::{AllocError, Global};
 use table::Table;
 

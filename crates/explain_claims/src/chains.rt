@@ -2,11 +2,11 @@
 use base::{Edge, Kind, Label, Labels, Refusal};
 use captext::label_name;
 use explain_denials::{EdgeList, Origins};
+use explain_rules::Sheet;
 use flows::{Flows, Link};
 use policy::Why;
 use reach::Reach;
 use search::edges_of;
-use sources::Sheet;
 use std::alloc::{AllocError, Global};
 use table::Table;
 

@@ -4,11 +4,11 @@ use base::{Edge, Kind, Label, Refusal};
 use captext::label_name;
 use diff::{Change, Named, Verb, changes_text};
 use explain_denials::{EdgeList, Origins};
+use explain_rules::Sheet;
 use policy::Why;
 use reach::Reach;
 use runs::Question;
 use search::{edges_of, find};
-use sources::Sheet;
 use std::alloc::Global;
 use table::Table;
 

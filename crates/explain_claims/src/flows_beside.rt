@@ -5,10 +5,9 @@ use base::{Kind, Label, Labels, Refusal};
 use captext::label_name;
 use claims::{Claim, ClaimLines, Most, Who, claim_text};
 use explain_denials::LabelNames;
-use filters::{FlowGraph, Smallest};
-use flows::{Flows, Link};
+use explain_rules::Start;
+use flows::{FlowGraph, Flows, Link, Smallest};
 use reach::Reach;
-use sources::Start;
 use std::alloc::{AllocError, Global};
 use table::Table;
 

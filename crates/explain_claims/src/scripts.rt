@@ -2,12 +2,12 @@
 use base::{ObjId, Refusal, SlotRef};
 use captext::{label_name, object_name};
 use evtext::write_script;
+use explain_rules::{Element, Sheet};
 use forms::{line_at, text_of};
 use labels::label_of;
 use machine::{Call, Event};
 use objects::State;
 use runs::{changes, reach};
-use sources::{Element, Sheet};
 use std::alloc::Global;
 use std::fmt;
 

@@ -4,10 +4,10 @@ use base::{Edge, Kind, Label, Labels};
 use captext::label_name;
 use claims::{Claim, ClaimLines, Who, claim_text};
 use explain_denials::LabelNames;
+use explain_rules::Start;
 use machine::ObjectKind;
 use policy::Policy;
 use reach::Reach;
-use sources::Start;
 use std::alloc::{AllocError, Global};
 use table::Table;
 

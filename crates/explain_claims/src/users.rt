@@ -1,9 +1,9 @@
 //! The words on where the edges come from by which labels use another.
 use base::{Edge, Kind, Label, Refusal};
 use explain_denials::Origins;
+use explain_rules::Sheet;
 use reach::Reach;
 use search::edges_of;
-use sources::Sheet;
 use std::alloc::{AllocError, Global};
 
 /// Returns for each label that may change objects of the label of this name, or take something away from them, where

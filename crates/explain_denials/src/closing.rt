@@ -1,9 +1,8 @@
 //! The lines on the edges that closing adds to a policy.
 use base::{Edge, Kind, Label, Refusal};
 use deal::Open;
-use explain_rules::{EdgeLine, PlaceNames, PlaceWords, asked_edge, line_of_place};
+use explain_rules::{EdgeLine, PlaceNames, PlaceWords, Sheet, Start, asked_edge, line_of_place};
 use policy::{Broken, Policy};
-use sources::{Sheet, Start};
 use std::alloc::{AllocError, Global};
 use std::thread::Threads;
 use table::Table;

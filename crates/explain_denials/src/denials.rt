@@ -4,11 +4,10 @@ use crate::closing::mending_edge;
 use crate::sharp_denials::push_sharp;
 use base::{Edge, Refusal};
 use explain_rules::{
-    EdgeAfter, EdgeLine, OtherWay, Reason, ReasonIn, asked_edge, first_premise, line_of_edge,
-    line_of_place, premises,
+    EdgeAfter, EdgeLine, OtherWay, Reason, ReasonIn, Sheet, Start, asked_edge, first_premise,
+    line_of_edge, line_of_place, premises,
 };
 use policy::{Broken, Policy};
-use sources::{Sheet, Start};
 use std::alloc::{AllocError, Global};
 use std::fmt;
 use table::Table;

@@ -3,11 +3,11 @@
 use crate::closing::{MOST_EDGES, mending_edge};
 use base::{Edge, Kind, Label, Refusal, SlotRef};
 use explain_rules::{
-    EdgeLine, EdgeList, PlaceWords, asked_edge, line_of_place, premises, push_not_allowed,
+    EdgeLine, EdgeList, PlaceWords, Sheet, Start, asked_edge, line_of_place, premises,
+    push_not_allowed,
 };
 use labels::{authority, filled_edges};
 use policy::{Broken, Policy, Why, first_broken};
-use sources::{Sheet, Start};
 use std::alloc::{AllocError, Global};
 use std::thread::Threads;
 use table::Table;

@@ -7,14 +7,13 @@ use crate::sharp_denials::edges_of;
 use base::{Edge, Label, Labels, Refusal, SlotRef};
 use captext::{SlotName, label_name};
 use explain_rules::{
-    EdgeLine, EdgeList, Grounds, Way, WayWords, comes_by_right, line_of_place, name_of_label,
-    push_nothing, remedy_at,
+    At, EdgeLine, EdgeList, Grounds, Sheet, Start, Way, WayWords, comes_by_right, line_of_place,
+    name_of_label, push_nothing, remedy_at,
 };
 use labels::declared_label;
 use machine::ObjectKind;
 use policy::Why;
 use reach::Reach;
-use sources::{At, Sheet, Start};
 use std::alloc::{AllocError, Global};
 use std::fmt;
 use table::Table;

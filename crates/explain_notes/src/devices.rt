@@ -4,7 +4,7 @@ use microkit::{Description, Map, User, Variable};
 use std::fmt;
 
 /// The use of a region by devices.
-#[derive(Clone, Copy, Debug)]
+#[derive(Clone, Copy)]
 pub(crate) enum DeviceUse {
     /// Registers of a device: the region has a fixed address, and somebody maps it uncached.
     Registers,
@@ -39,7 +39,7 @@ fn is_uncached(map: &Map, region: usize) -> bool {
 }
 
 /// The domains and virtual machines that may write to a region, as words for a person: `a`, `b`.
-#[derive(Clone, Copy, Debug)]
+#[derive(Clone, Copy)]
 pub struct Writers<'a> {
     pub(crate) description: &'a Description,
     /// The number of the region.

@@ -11,7 +11,7 @@ use std::fmt;
 use table::Table;
 
 /// What the table of a description doesn't show, or shows otherwise, and the line of the element.
-#[derive(Clone, Copy, Debug)]
+#[derive(Clone, Copy)]
 pub struct Note<'a> {
     /// 0 if the note is on the whole description.
     pub line: u64,
@@ -19,7 +19,7 @@ pub struct Note<'a> {
 }
 
 /// The matter of a note.
-#[derive(Clone, Copy, Debug)]
+#[derive(Clone, Copy)]
 pub enum Matter<'a> {
     /// The monitor and the initial task.
     Monitor,

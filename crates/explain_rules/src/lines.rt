@@ -1,7 +1,7 @@
 //! The line of a file that an edge of a policy has, and the line of the place that a denial names.
+use crate::sheet::Sheet;
 use base::{Edge, Refusal};
 use policy::Policy;
-use sources::Sheet;
 use std::alloc::Global;
 use verdict::Denial;
 

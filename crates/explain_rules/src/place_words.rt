@@ -1,8 +1,10 @@
 //! The words on what gives an edge: of a description an element, of a table a slot or an object.
+use crate::elements::Element;
+use crate::remedies::Remedy;
 use crate::sentences::{Deed, Reason, name_of_label};
+use crate::sheet::Sheet;
 use base::ObjId;
 use captext::label_name;
-use sources::{Element, Remedy, Sheet};
 use std::fmt;
 use verdict::Denial;
 

@@ -2,9 +2,9 @@
 use base::{Kind, Label, Labels, ObjId, Rights, SlotRef};
 use bitflags::Flags;
 use captext::{SlotName, label_name, object_name};
+use explain_rules::{Sheet, Start};
 use machine::{Detail, Filled, Initial, Object, ObjectKind};
 use reach::Reach;
-use sources::{Sheet, Start};
 use std::alloc::{AllocError, Global};
 use std::fmt;
 use table::Table;

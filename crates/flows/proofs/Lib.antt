@@ -4,4 +4,11 @@ pub mod RowByRow
 pub mod FlowSets
 pub mod Chains
 pub mod Leading
-pub mod Searching
+pub mod FoundLinks
+pub mod Counting
+pub mod Ordering
+pub mod Arrows
+pub mod Walking
+pub mod Staging
+pub mod Adding
+pub mod Fewest

@@ -82,24 +82,6 @@ impl<'a> Flows<'a> {
         affected.intersection(needed).difference(filters)
     }
 
-    /// Returns the labels to which a chain of flows leads from this one, and the label itself.
-    ///
-    /// No label between the ends of the chain is a filter, and no flow of it is by an object of a filter.
-    pub fn reached_beside(&self, from: Label, filters: Labels) -> Labels
-        ensures { (l : ℕ) → (is_in result l ≡ true) ↔ FlowLeads (limits_of self.now) (is_in filters) from l }
-    {
-        // `reached` has all labels to which those of `done` flow, unless a chain ends with them.
-        let mut done = filters.difference(Labels::only(from));
-        let mut reached = Labels::only(from);
-        while let Some(label) = reached.difference(done).first() {
-            // A label's number is below `Label::COUNT`.
-            label.number();
-            done = done.union(Labels::only(label));
-            reached = reached.union(self.next_beside(label, filters));
-        }
-        reached
-    }
-
     /// Returns the labels from which a chain of flows leads to this one, and the label itself.
     ///
     /// No label between the ends of the chain is a filter, and no flow of it is by an object of a filter.

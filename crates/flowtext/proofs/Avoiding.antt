@@ -1,8 +1,8 @@
 -- Chains that avoid programs: one avoids none if nothing flows beside the programs that it avoids.
 use Rattle.std.proofs.{Common.{ℕ, ◌&&◌, ◌==◌, ◌∙◌, ◌≡◌, Bool, ap, false, not, refl, sym, true}, lemmas.Bool.{and_parts, eq-eqb}}
-use Rattle.{base.specs.{declared.labels.Labels.Labels, Labels.is_in}, reach.specs.Extents.Limits, flows.specs.Flowing.GoesThrough}
-use Rattle.filters.specs.{declared.smallest.Smallest.{Smallest, Smallest as smallest}, Smallest.{IsFilterSet, IsSmallest}}
-use Rattle.flowtext.specs.FlowText.{AreAvoided}
+use Rattle.{base.specs.{declared.labels.Labels.Labels, Labels.is_in}, reach.specs.Extents.Limits}
+use Rattle.flows.specs.{declared.smallest.Smallest.{Smallest, Smallest as smallest}, Flowing.GoesThrough, Smallest.IsFilterSet}
+use Rattle.{flows.specs.Smallest.IsSmallest, flowtext.specs.FlowText.AreAvoided}
 
 -- a test that fails
 

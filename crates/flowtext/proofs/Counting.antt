@@ -2,7 +2,7 @@
 use Rattle.std.{specs.List.{filter, range_with_len}, proofs.Common.{[], ℕ, ◌+◌, ◌∙◌, ◌∷◌, ◌≡◌, Bool, ap, arith, cond}}
 use Rattle.std.proofs.{Common.{false, length, refl, suc, true, zero}, lemmas.List.{Elements.filter-append, length-append}}
 use Rattle.base.specs.{declared.labels.Labels.Labels, Labels.{is_in, members_of}}
-use Rattle.{filters.specs.Sets.{count_below, size_of}, matrix.proofs.Pieces.range_more}
+use Rattle.{flows.specs.Sets.{count_below, size_of}, summary.proofs.OneMore.range_more}
 use Rattle.base.specs.declared.label.TheConstants.Label as Label
 
 count_is : (p : ℕ → Bool) (n : ℕ) → length (filter p (range_with_len 0 n)) ≡ count_below p n

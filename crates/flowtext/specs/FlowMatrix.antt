@@ -3,8 +3,8 @@ use Rattle.std.specs.{Fmt.decimal, List.range_with_len, Prelude.{[], ℕ, ◌++�
 use Rattle.std.specs.Prelude.{◌∷◌, ◌≡◌, All, List, codes, get_or, if◌then◌else◌, length, map}
 use Rattle.{base.specs.declared.labels.Labels.Labels, machine.specs.Layout.Layout}
 use Rattle.reach.specs.{Extents.{Limits, limits_of}, Reach.TableReach}
-use Rattle.filters.specs.{declared.smallest.Smallest.{Smallest, Smallest as smallest}, Sets.size_of, Smallest.{IsFilterSet, IsSmallest}}
-use Rattle.{matrix.specs.Matrix.{Cells, matrix_text}, summary.specs.Labelled.programs_of}
+use Rattle.flows.specs.{declared.smallest.Smallest.{Smallest, Smallest as smallest}, Sets.size_of, Smallest.{IsFilterSet, IsSmallest}}
+use Rattle.summary.specs.{Labelled.programs_of, Matrix.{Cells, matrix_text}}
 use Rattle.flowtext.specs.declared.{every_pair.TheConstants.HEAD, rows.{FlowRow.FlowRow, Size.{Size, Size as size}}}
 
 -- how many programs the first of some sets has

@@ -2,9 +2,9 @@
 use Rattle.std.specs.{List.flat_map, Prelude.{[], ℕ, ◌++◌, ◌∷◌, ◌≡◌, List, codes, false, if◌then◌else◌}}
 use Rattle.base.specs.{declared.labels.Labels.Labels, Labels.{is_in, members_of}}
 use Rattle.{machine.specs.Layout.Layout, reach.specs.{Extents.{Limits, limits_of}, Reach.TableReach}}
-use Rattle.flows.specs.{declared.links.Link.Link, Chains.IsChain, Flowing.{FilterTest, GoesThrough}}
-use Rattle.filters.specs.{declared.smallest.{Sets.Sets, Smallest.{Smallest, Smallest as smallest}}, Smallest.{IsFilterSet, IsSmallest}}
-use Rattle.{filters.specs.Ways.programs_beside, captext.specs.PolicyText.label_name, flowtext.specs.declared.flow.TheConstants.MOST_SETS}
+use Rattle.flows.specs.{declared.{links.Link.Link, smallest.{Sets.Sets, Smallest.{Smallest, Smallest as smallest}}}, Chains.IsChain}
+use Rattle.flows.specs.{Flowing.{FilterTest, GoesThrough}, Smallest.{IsFilterSet, IsSmallest}, Ways.programs_beside}
+use Rattle.{captext.specs.PolicyText.label_name, flowtext.specs.declared.flow.TheConstants.MOST_SETS}
 
 -- a label's name, behind a space
 abbrev pub spaced : Layout → ℕ → List ℕ

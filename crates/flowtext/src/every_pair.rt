@@ -3,10 +3,10 @@ ghost use Rattle.std.specs.Prelude.{◌≡◌, IfOk, string_bytes};
 ghost use Rattle.flowtext.specs.FlowMatrix.{IsFlowMatrix, flow_matrix_text};
 
 use crate::rows::{FlowRow, flow_rows};
-use filters::FlowGraph;
-use matrix::write_matrix;
+use flows::FlowGraph;
 use reach::Reach;
 use std::alloc::{AllocError, Global};
+use summary::write_matrix;
 use table::Table;
 
 /// What the matrix begins with.

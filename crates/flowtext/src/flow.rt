@@ -4,8 +4,7 @@ ghost use Rattle.{reach.specs.Extents.limits_of, flowtext.specs.FlowText.{AreAvo
 
 use crate::lines::{write_links, write_smallest};
 use base::{Label, Labels};
-use filters::{FlowGraph, Smallest};
-use flows::{Flows, Link};
+use flows::{FlowGraph, Flows, Link, Smallest};
 use reach::Reach;
 use std::alloc::{AllocError, Global};
 use table::Table;

@@ -4,8 +4,7 @@ ghost use Rattle.{base.specs.Labels.members_of, flowtext.specs.FlowText.{link_li
 
 use base::{Label, Labels};
 use captext::label_name;
-use filters::Smallest;
-use flows::Link;
+use flows::{Link, Smallest};
 use std::alloc::{AllocError, Global};
 use table::Table;
 

@@ -1,15 +1,14 @@
 //! The rows of the matrix of flows: through how many programs all flows from one program to each other one go.
 ghost use Rattle.std.specs.Prelude.{◌≡◌, IfOk, string_bytes};
-ghost use Rattle.{reach.specs.Extents.limits_of, filters.specs.Sets.size_of, summary.specs.Labelled.programs_of};
+ghost use Rattle.{reach.specs.Extents.limits_of, flows.specs.Sets.size_of, summary.specs.Labelled.programs_of};
 ghost use Rattle.flowtext.specs.FlowMatrix.{AreToldRows, AreSizes, IsSize, cells, count_text};
 ghost use Rattle.flowtext.specs.FlowMatrix.{first_size, size_at, size_of_smallest, size_text};
 
 use crate::lines::members;
 use base::{Label, Labels};
-use filters::{FlowGraph, Smallest};
-use matrix::MatrixRow;
+use flows::{FlowGraph, Smallest};
 use std::alloc::{AllocError, Global};
-use summary::programs;
+use summary::{MatrixRow, programs};
 use table::Table;
 
 /// How many programs the smallest sets have through which all flows from one label to another go.

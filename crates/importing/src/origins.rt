@@ -8,7 +8,7 @@ use microkit::Description;
 use std::alloc::{AllocError, Global};
 
 /// The parts of a description that the objects and capabilities of its table come from.
-#[derive(Debug, Drop)]
+#[derive(Drop)]
 pub struct Origins {
     /// What each object is for, in the order of the table's objects.
     pub pieces: Vec<Piece>,

@@ -9,7 +9,7 @@ use microkit::{Channel, Description, Domain, Machine, Map};
 use std::alloc::{AllocError, Global};
 
 /// Which rights capabilities have.
-#[derive(Clone, Copy, Debug)]
+#[derive(Clone, Copy)]
 pub enum Minting {
     /// The rights that the description needs.
     Least,
@@ -18,7 +18,7 @@ pub enum Minting {
 }
 
 /// The purpose of an object.
-#[derive(Clone, Copy, Debug)]
+#[derive(Clone, Copy)]
 pub enum Form {
     /// The CNode of a domain.
     Space,
@@ -64,14 +64,14 @@ impl Form {
 
 /// An object that a description becomes: what it is for, and the number of the domain, virtual
 /// machine, virtual processor or region that it belongs to.
-#[derive(Clone, Copy, Debug)]
+#[derive(Clone, Copy)]
 pub struct Piece {
     pub form: Form,
     pub number: usize,
 }
 
 /// A capability that a CNode has.
-#[derive(Clone, Copy, Debug)]
+#[derive(Clone, Copy)]
 pub struct Grant {
     pub holder: Piece,
     pub index: u64,

@@ -15,7 +15,7 @@ use machine::{Badged, Detail};
 use microkit::{Channel, Description, Domain, End, Id, Processor};
 
 /// A capability: the object that it is for, and its detail.
-#[derive(Clone, Copy, Debug)]
+#[derive(Clone, Copy)]
 pub struct Held {
     pub target: Piece,
     pub detail: Detail,

@@ -23,7 +23,7 @@ use table::{Draft, Table};
 use words::{Fault, Wrong};
 
 /// A thread and the context that it is bound to.
-#[derive(Clone, Copy, Debug)]
+#[derive(Clone, Copy)]
 pub(crate) struct Bond {
     pub thread: Piece,
     pub context: Piece,

@@ -6,7 +6,7 @@ ghost use Rattle.microkit.specs.Pages.{page_bytes};
 ///
 /// Every list is in the order of the text. A domain stands before its children. Regions, domains
 /// and virtual machines are named by their numbers in these lists, from 0.
-#[derive(Debug, Drop)]
+#[derive(Drop)]
 pub struct Description {
     pub regions: Vec<Region>,
     pub domains: Vec<Domain>,
@@ -20,7 +20,7 @@ pub struct Description {
 }
 
 /// A memory region.
-#[derive(Debug, Drop)]
+#[derive(Drop)]
 pub struct Region {
     pub name: Vec<u8>,
     /// The number of bytes, all of them in whole pages.
@@ -32,7 +32,7 @@ pub struct Region {
 }
 
 /// The pages of a region.
-#[derive(Clone, Copy, Debug)]
+#[derive(Clone, Copy)]
 pub enum Page {
     Small,
     Large,
@@ -54,7 +54,7 @@ impl Page {
 /// The priority, budget and period by which the kernel schedules a thread.
 ///
 /// Times are in microseconds.
-#[derive(Clone, Copy, Debug)]
+#[derive(Clone, Copy)]
 pub struct Schedule {
     pub priority: u64,
     pub budget: u64,
@@ -63,7 +63,7 @@ pub struct Schedule {
 }
 
 /// An id, by which a domain knows a child, a virtual processor, an interrupt or a channel.
-#[derive(Clone, Copy, Debug)]
+#[derive(Clone, Copy)]
 pub struct Id {
     /// The number of the domain.
     pub domain: usize,
@@ -72,7 +72,7 @@ pub struct Id {
 }
 
 /// A protection domain.
-#[derive(Debug, Drop)]
+#[derive(Drop)]
 pub struct Domain {
     pub name: Vec<u8>,
     /// For a child, its parent and the id by which the parent knows it.
@@ -88,7 +88,7 @@ pub struct Domain {
 }
 
 /// A virtual machine.
-#[derive(Debug, Drop)]
+#[derive(Drop)]
 pub struct Machine {
     pub name: Vec<u8>,
     /// The number of its domain, which has no other virtual machine.
@@ -98,7 +98,7 @@ pub struct Machine {
 }
 
 /// A virtual processor.
-#[derive(Clone, Copy, Debug)]
+#[derive(Clone, Copy)]
 pub struct Processor {
     /// The number of its virtual machine.
     pub machine: usize,
@@ -108,14 +108,14 @@ pub struct Processor {
 }
 
 /// The domain or virtual machine into which a region is mapped, by its number.
-#[derive(Clone, Copy, Debug)]
+#[derive(Clone, Copy)]
 pub enum User {
     Domain(usize),
     Machine(usize),
 }
 
 /// A map of a region.
-#[derive(Clone, Copy, Debug)]
+#[derive(Clone, Copy)]
 pub struct Map {
     pub user: User,
     /// The number of the region.
@@ -129,7 +129,7 @@ pub struct Map {
 }
 
 /// An interrupt.
-#[derive(Clone, Copy, Debug)]
+#[derive(Clone, Copy)]
 pub struct Interrupt {
     pub id: Id,
     /// The number of the interrupt, which no other domain has.
@@ -138,14 +138,14 @@ pub struct Interrupt {
 }
 
 /// A range of I/O ports.
-#[derive(Clone, Copy, Debug)]
+#[derive(Clone, Copy)]
 pub struct Port {
     pub id: Id,
     pub line: u64,
 }
 
 /// A variable of a domain's program that is set to the physical address of a region.
-#[derive(Clone, Copy, Debug)]
+#[derive(Clone, Copy)]
 pub struct Variable {
     /// The number of the domain.
     pub domain: usize,
@@ -155,7 +155,7 @@ pub struct Variable {
 }
 
 /// An end of a channel.
-#[derive(Clone, Copy, Debug)]
+#[derive(Clone, Copy)]
 pub struct End {
     pub id: Id,
     /// Whether the end's domain may call the domain of the other end.
@@ -166,7 +166,7 @@ pub struct End {
 }
 
 /// A channel between two ends.
-#[derive(Clone, Copy, Debug)]
+#[derive(Clone, Copy)]
 pub struct Channel {
     pub first: End,
     pub second: End,

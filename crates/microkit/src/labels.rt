@@ -13,7 +13,7 @@ use std::alloc::{AllocError, Global};
 use words::{Fault, Wrong};
 
 /// A part of a description that has a label, by its number there.
-#[derive(Clone, Copy, Debug)]
+#[derive(Clone, Copy)]
 pub enum Subject {
     Domain(usize),
     Machine(usize),

@@ -13,7 +13,7 @@ pub const MAX_LABEL_LENGTH: usize = 24;
 pub const MAX_TRIES: u64 = 512;
 
 /// The part of a label that an object is.
-#[derive(Clone, Copy, Debug)]
+#[derive(Clone, Copy)]
 pub enum Part {
     Space,
     Main,

@@ -7,10 +7,10 @@ use Rattle.machine.specs.{Boot.IsBoot, Layout.Layout, Lookup.lookup_of, Machine.
 use Rattle.machine.specs.{Refusing.◌>>=◌, Step.Find.{find, find_cap, of_kind}, WellFormed.{IsWellFormed, kind_of}}
 use Rattle.{table.specs.Rules.IsLawful, policy.specs.{Change.ActorTest, Domain.EdgeTest, Sharp.UsesRise}}
 use Rattle.integrity.{specs.{Acting.HoldsOfActors, Invariant.IsSound, Keeping.IsSharp, Safe.IsReached, Shrinks.IsSame}, proofs.Runs.IsKept}
-use Rattle.fixed.{specs.Fixed.{IsFixed, IsStill, StaysFixed}, proofs.{Finds.IsFixedAt, SameFinds.{find_alike, lookup_alike}}}
+use Rattle.noninterference.{specs.{Alike.IsAlikeTo, Fixed.{IsFixed, IsStill, StaysFixed}}, proofs.{Finds.IsFixedAt, Kept.kept_of}}
+use Rattle.noninterference.proofs.{Kept.sound_of, Reaching.{fixed_at, labels_alike, stays_from, still_alike}, SameFinds.find_alike}
+use Rattle.noninterference.proofs.SameFinds.{lookup_alike}
 use Rattle.{reach.specs.{Extents.Limits, Reach.HasBootAuthority}, flows.specs.Seeing.WayToSee}
-use Rattle.noninterference.{specs.Alike.IsAlikeTo, proofs.Kept.{kept_of, sound_of}}
-use Rattle.noninterference.proofs.Reaching.{fixed_at, labels_alike, stays_from, still_alike}
 
 -- the edges and the labels that act, as limits
 abbrev pub limits : EdgeTest → ActorTest → Limits

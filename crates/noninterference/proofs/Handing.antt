@@ -11,9 +11,9 @@ use Rattle.machine.specs.Step.{Bind.{with_handed, without_thread}, Deliver.{answ
 use Rattle.machine.{specs.{Step.Send.with_lent, WellFormed.{IsThread, LinksAgree, kind_of}}, proofs.{Ids.at_other, Leaving.holding_is}}
 use Rattle.machine.proofs.{Leaving.{rest-with_object, rest_itself}, LookUps.{object_of-with_object, one_id, queue_of-with_object}}
 use Rattle.steps.proofs.{Beside.leaver_now, ContextsFormed.bound_is, FoundObjects.{context_of_kind, tcb_of_kind}}
-use Rattle.{integrity.{specs.Shrinks.IsSame, proofs.Shrinking.{same_context, same_tcb}}, fixed.proofs.Staying.unbound_stays}
-use Rattle.noninterference.proofs.Carries.{Carries, Turns, carries_along, object_carries, released_carries}
-use Rattle.noninterference.proofs.{Carries.{tcb_carries, turns_carry}, Unbinding.unbinding_carries}
+use Rattle.integrity.{specs.Shrinks.IsSame, proofs.Shrinking.{same_context, same_tcb}}
+use Rattle.noninterference.proofs.Carries.{Carries, Turns, carries_along, object_carries, released_carries, tcb_carries, turns_carry}
+use Rattle.noninterference.proofs.{Staying.unbound_stays, Unbinding.unbinding_carries}
 use Rattle.machine.specs.declared.object.ReplyState.TheVariants as reply
 
 -- nothing changes in either machine

@@ -1,3 +1,9 @@
+pub mod LooseSlots
+pub mod Finds
+pub mod Staying
+pub mod CallsStay
+pub mod RunsStay
+pub mod SameFinds
 pub mod Carries
 pub mod Reaching
 pub mod Kept

@@ -3,10 +3,10 @@ use Rattle.std.proofs.Common.{ℕ, ◌≡◌, Bool, Some, false, refl, true}
 use Rattle.machine.specs.{declared.call.{Event.Event, Outcome.Outcome}, Authority.label_of, Boot.IsBoot}
 use Rattle.machine.specs.{Layout.Layout, Machine.Machine, Step.{Step, made_by}, WellFormed.IsWellFormed}
 use Rattle.{table.specs.Rules.IsLawful, policy.specs.{Change.ActorTest, Domain.EdgeTest}}
-use Rattle.integrity.specs.{Acting.HoldsOfActors, Keeping.IsSharp, Safe.IsReached, Shrinks.IsSame}
-use Rattle.{fixed.specs.Fixed.IsFixed, reach.specs.Reach.HasBootAuthority}
-use Rattle.noninterference.{specs.Alike.{IsAlikeTo, KeepsAlike}, proofs.{Both.{AreBoth, both_of, limits}, Calls.call_alike}}
-use Rattle.noninterference.proofs.{Ends.EndsAlike, Kept.{kept_of, sound_of}, Reaching.fixed_at, Steps.{idle_alike, made_alike, steps_alike}}
+use Rattle.{integrity.specs.{Acting.HoldsOfActors, Keeping.IsSharp, Safe.IsReached, Shrinks.IsSame}, reach.specs.Reach.HasBootAuthority}
+use Rattle.noninterference.{specs.{Alike.{IsAlikeTo, KeepsAlike}, Fixed.IsFixed}, proofs.Both.{AreBoth, both_of, limits}}
+use Rattle.noninterference.proofs.{Calls.call_alike, Ends.EndsAlike, Kept.{kept_of, sound_of}, Reaching.fixed_at, Steps.idle_alike}
+use Rattle.noninterference.proofs.Steps.{made_alike, steps_alike}
 
 pub looks_alike :
     (t : Layout) (allowed : EdgeTest) (acts : ActorTest) → IsLawful t → IsFixed t → IsSharp t allowed → HasBootAuthority t allowed

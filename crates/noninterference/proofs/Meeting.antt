@@ -9,7 +9,7 @@ use Rattle.machine.specs.{Releasing.{with_given, with_released}, Step.Deliver.{a
 use Rattle.machine.specs.{Step.Receive.{received_or_waits, with_reply_ended}, WellFormed.{IsSending, IsThread, LinksAgree}}
 use Rattle.machine.{specs.WellFormed.{WaitsAt, WaitsAtKind, kind_of}, proofs.{Ids.one_or_two, Leaving.freed, Queues.first_in}}
 use Rattle.steps.proofs.{Arrival.arrives, Beside.holder_leaves, Releases.{released_elsewhere, released_is, released_thread}}
-use Rattle.{integrity.proofs.Shrinking.same_tcb, fixed.proofs.Finds.{IsFixedAt, leads_nowhere}}
+use Rattle.{integrity.proofs.Shrinking.same_tcb, noninterference.proofs.Finds.{IsFixedAt, leads_nowhere}}
 
 -- the thread that waits first at an endpoint
 pub record IsFirstAt (m : Machine) (id first : ObjId) : Type 0 where

@@ -7,10 +7,10 @@ use Rattle.machine.specs.{Authority.label_of, Boot.IsBoot, Layout.Layout, Machin
 use Rattle.{machine.specs.WellFormed.{IsSending, IsWellFormed}, steps.proofs.Steps.refused_changes_nothing}
 use Rattle.{table.specs.Rules.IsLawful, policy.specs.{Change.ActorTest, Domain.EdgeTest}}
 use Rattle.integrity.specs.{Acting.{HoldsOfActors, MayAct}, Keeping.IsSharp, Safe.{IsReached, IsSafe}, Shrinks.IsSame}
-use Rattle.{integrity.proofs.{Aparts.never_changes, Runs.safe_from, Shrinking.same_tcb, Starting.starts_kept}, fixed.specs.Fixed.IsFixed}
+use Rattle.integrity.proofs.{Aparts.never_changes, Runs.safe_from, Shrinking.same_tcb, Starting.starts_kept}
 use Rattle.{reach.specs.Reach.HasBootAuthority, flows.specs.Flowing.{DependsOn, FilterTest, IsClosedOff, MayAffect}}
-use Rattle.noninterference.specs.{Alike.KeepsAlike, Sets.{AreAlikeTo, AreBeside, DifferBeside, EndAlike, FiltersShowAlike}}
-use Rattle.noninterference.specs.Sets.{IsClosedBeside, FlowsOnlyWithin, IsOfFilter, IsOfSet, IsPosition, RunsBeside, SetTest}
+use Rattle.noninterference.specs.{Alike.KeepsAlike, Fixed.IsFixed, Sets.{AreAlikeTo, AreBeside, DifferBeside, EndAlike, FiltersShowAlike}}
+use Rattle.noninterference.specs.Sets.{FlowsOnlyWithin, IsClosedBeside, IsOfFilter, IsOfSet, IsPosition, RunsBeside, SetTest}
 use Rattle.noninterference.proofs.{Both.limits, Carries.same_around, Closed.{alike_at, alike_to}, Kept.{kept_of, sound_of}}
 use Rattle.noninterference.proofs.{Looking.looks_alike, Reaching.{boot_reached, labels_alike, reached_next}}
 

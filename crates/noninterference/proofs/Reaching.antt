@@ -6,8 +6,8 @@ use Rattle.machine.specs.{declared.object.ObjectKind.{ObjectKind, ObjectKind as 
 use Rattle.machine.specs.{Layout.Layout, Machine.{Machine, object_of}, Objects.{address_of, kind_of_object}}
 use Rattle.machine.{specs.{Run.Run, Step.Step, WellFormed.IsWellFormed}, proofs.LookUps.same_machine}
 use Rattle.{table.specs.Rules.IsLawful, integrity.{specs.Safe.IsReached, proofs.ObjectLabels.label_stays}}
-use Rattle.fixed.specs.Fixed.{IsFixed, IsStill, StaysFixed}
-use Rattle.fixed.proofs.{Finds.IsFixedAt, RunsStay.{boot_fixed, run_stays}, Staying.fixed_stays}
+use Rattle.noninterference.{specs.Fixed.{IsFixed, IsStill, StaysFixed}, proofs.{Finds.IsFixedAt, RunsStay.{boot_fixed, run_stays}}}
+use Rattle.noninterference.proofs.Staying.{fixed_stays}
 
 -- one more event
 run_more :

@@ -13,13 +13,12 @@ use Rattle.machine.specs.{Step.Receive.{received_or_waits, with_reply_ended}, We
 use Rattle.steps.proofs.{Admission.IsCaller, Beside.{ended_endpoint, ended_formed, ended_idle}, Conditions.{both_done, same_ok}}
 use Rattle.steps.proofs.{EndpointRow.IsSender, Finding.is_permitted, FoundObjects.endpoint_of_kind, MessageRows.caller_idle}
 use Rattle.{policy.specs.{Change.ActorTest, Domain.EdgeTest}, integrity.{specs.Shrinks.IsSame, proofs.Shrinking.same_tcb}}
-use Rattle.fixed.{specs.Fixed.StaysFixed, proofs.Staying.{fixed_stays, holder_halted_stays, stays_itself}}
-use Rattle.flows.specs.Seeing.WayToSee.{receives}
-use Rattle.noninterference.proofs.{Answering.used_same, Both.{AreBoth, same_find}, Carries.{Carries, blocked_carries, carries_along}}
-use Rattle.noninterference.proofs.Ends.{AreMadeAlike, EndsAlike, follows_alike, follows_same}
-use Rattle.noninterference.proofs.Handing.{ended_carries, named_carries, sent_carries}
-use Rattle.noninterference.proofs.Meeting.{IsFirstAt, IsWay, Meets, Meets.{nobody, somebody}, meet, sender_before, taken_plain, way_of}
-use Rattle.noninterference.proofs.{Rows.{caller_too, carried, found_same, found_there, to_found}, Waiters.{sender_same, sender_same_too}}
+use Rattle.noninterference.{specs.Fixed.StaysFixed, proofs.{Answering.used_same, Both.{AreBoth, same_find}, Carries.Carries}}
+use Rattle.noninterference.proofs.{Carries.{blocked_carries, carries_along}, Ends.{AreMadeAlike, EndsAlike, follows_alike, follows_same}}
+use Rattle.noninterference.proofs.{Handing.{ended_carries, named_carries, sent_carries}, Meeting.{IsFirstAt, IsWay, Meets, Meets.nobody}}
+use Rattle.noninterference.proofs.{Meeting.{Meets.somebody, meet, sender_before, taken_plain, way_of}, Rows.{caller_too, carried}}
+use Rattle.noninterference.proofs.{Rows.{found_same, found_there, to_found}, Staying.{fixed_stays, holder_halted_stays, stays_itself}}
+use Rattle.{noninterference.proofs.Waiters.{sender_same, sender_same_too}, flows.specs.Seeing.WayToSee.receives}
 use Rattle.machine.specs.declared.object.ReplyState.TheVariants as reply
 
 -- a machine stays fixed when a reply lets go of its thread

@@ -9,8 +9,8 @@ use Rattle.machine.specs.Step.{Bind.bind_of, Copy.copy_of, Delete.delete_of, Fin
 use Rattle.machine.specs.Step.{Retype.{a_few, find_taker, find_untyped, memory_in, retype_of, sized, taker}, Revoke.revoke_of}
 use Rattle.machine.specs.Step.{Space.{clear_space_of, set_space_of}, Suspend.{resume_of, suspend_of}, Target.{ends_of, target_of}, call_of}
 use Rattle.{steps.proofs.Finding.{finds, found_kind}, policy.specs.{Change.ActorTest, Domain.EdgeTest}}
-use Rattle.fixed.{specs.Fixed.NeedsNodeOrThread, proofs.Finds.{finds_no_taker, finds_no_thread, found_apart}}
-use Rattle.noninterference.proofs.{Both.{AreBoth, same_find}, Ends.{EndsAlike, follows_same}}
+use Rattle.noninterference.{specs.Fixed.NeedsNodeOrThread, proofs.{Both.{AreBoth, same_find}, Ends.{EndsAlike, follows_same}}}
+use Rattle.noninterference.proofs.Finds.{finds_no_taker, finds_no_thread, found_apart}
 
 abbrev AreRefused : {A : Type 0} → Result A Cause → Result A Cause → Type 0
 AreRefused {A} r s = (s ≡ r) × ((x : A) → r ≢ Ok x)

@@ -9,10 +9,9 @@ use Rattle.machine.{specs.{Step.{takes_memory, thread_in}, WellFormed.{IsThread,
 use Rattle.steps.proofs.{Admission.{IsCaller, admits}, Calls.event_done, Conditions.both_done}
 use Rattle.policy.specs.{Change.ActorTest, Domain.EdgeTest}
 use Rattle.integrity.specs.{Acting.HoldsOfActors, Awake.{IsAsleep, SleepsOrActs}, Invariant.IsSound, Shrinks.IsSame}
-use Rattle.integrity.proofs.{Awake.has_threads, Keeps.some_event, MessageParts.thread_edge, Runs.IsKept}
-use Rattle.{fixed.{specs.Fixed.NeedsNodeOrThread, proofs.{CallsStay.none_done, Finds.IsFixedAt}}, flows.specs.Seeing.WayToSee.runs}
-use Rattle.noninterference.{specs.Alike.KeepsAlike, proofs.Both.{AreBoth, own_same, seen_same}}
-use Rattle.noninterference.proofs.Ends.{EndsAlike, follows_alike, follows_same, settled_alike}
+use Rattle.{integrity.proofs.{Awake.has_threads, Keeps.some_event, MessageParts.thread_edge, Runs.IsKept}, flows.specs.Seeing.WayToSee.runs}
+use Rattle.noninterference.{specs.{Alike.KeepsAlike, Fixed.NeedsNodeOrThread}, proofs.Both.{AreBoth, own_same, seen_same}}
+use Rattle.noninterference.proofs.{CallsStay.none_done, Ends.{EndsAlike, follows_alike, follows_same, settled_alike}, Finds.IsFixedAt}
 
 thread_there : (object : Option Object) (thread : Tcb) → thread_in object ≡ Ok thread → object ≡ Some (o.Tcb thread)
 thread_there (Some (o.Tcb tcb)) thread e = cc

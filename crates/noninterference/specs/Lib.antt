@@ -1,2 +1,4 @@
+pub mod Fixed
+pub mod Loose
 pub mod Alike
 pub mod Sets

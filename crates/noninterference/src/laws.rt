@@ -3,11 +3,11 @@ ghost use Rattle.std.specs.Prelude.{ℕ, ◌≡◌, List, Some, false};
 ghost use Rattle.machine.specs.{declared.call.{Event.Event, Outcome.Outcome}, Authority.label_of};
 ghost use Rattle.machine.specs.{Boot.IsBoot, Layout.Layout, Machine.Machine, Run.Run, Step.Step};
 ghost use Rattle.{table.specs.Rules.IsLawful, policy.specs.{Change.ActorTest, Domain.EdgeTest}};
-ghost use Rattle.{integrity.specs.{Acting.HoldsOfActors, Keeping.IsSharp, Safe.IsReached}, fixed.specs.Fixed.IsFixed};
+ghost use Rattle.integrity.specs.{Acting.HoldsOfActors, Keeping.IsSharp, Safe.IsReached};
 ghost use Rattle.reach.specs.{Extents.limits_of, Reach.{HasBootAuthority, IsTableReach, TableReach}};
 ghost use Rattle.flows.specs.Flowing.{FilterTest, IsClosedOff};
-ghost use Rattle.noninterference.specs.{Alike.{IsAlikeTo, KeepsAlike}, Sets.{AreAlikeTo, DifferBeside}};
-ghost use Rattle.noninterference.specs.Sets.{EndAlike, IsClosedBeside, FlowsOnlyWithin, IsOfSet, RunsBeside, SetTest};
+ghost use Rattle.noninterference.specs.{Alike.{IsAlikeTo, KeepsAlike}, Fixed.IsFixed, Sets.{AreAlikeTo, DifferBeside, EndAlike}};
+ghost use Rattle.noninterference.specs.Sets.{FlowsOnlyWithin, IsClosedBeside, IsOfSet, RunsBeside, SetTest};
 
 use table::boot_states_are_well_formed;
 

@@ -2,7 +2,7 @@
 -- Integrity', section 4, restated).
 use Rattle.std.specs.{declared.alloc.Global.Global, List.{Contains, filter}, Prelude.{[], ℕ, ◌∷◌, ◌≡◌, List, None, Option, Some}}
 use Rattle.{std.specs.Prelude.{Vec, is_some, length}, forms.specs.declared.file.File.File as file, machine.specs.Layout.Layout}
-use Rattle.{fixed.specs.Fixed.IsFixed, reach.specs.{Extents.{Limits, limits_of}, Reach.{IsReachOf, TableReach}}}
+use Rattle.{noninterference.specs.Fixed.IsFixed, reach.specs.{Extents.{Limits, limits_of}, Reach.{IsReachOf, TableReach}}}
 use Rattle.claims.specs.{declared.{claim.Claim.Claim, deciding.Broken.Broken, keeping.Kept.Kept}, Holding.{AreBroken, Holds, ClaimIsKept}}
 use Rattle.claims.specs.{Learning.{IsKeptInCalls, IsKeptSo}, Reading.read_claims_of, Strongest.AreStrongest, Text.lines_text}
 use Rattle.reptext.specs.{Breaches.breaches_data, Reports.{hold_data, line_of}}

@@ -1,7 +1,7 @@
 -- The answer of `why` about all users of a label (confine's own).
 use Rattle.std.specs.Prelude.{ℕ, ◌≡◌, List, None, Option, Some}
 use Rattle.{machine.specs.Layout.Layout, table.specs.Names.label_named, reach.specs.{Extents.limits_of, Reach.{IsReachOf, TableReach}}}
-use Rattle.usertext.specs.UsersText.{IsChangersText, IsReadersText}
+use Rattle.summary.specs.UsersText.{IsChangersText, IsReadersText}
 use Rattle.{commands.specs.declared.{choices.Use.{Use, Use as usage}, end.Asked.{Asked, Asked as asked}}, report.specs.Questions.ReachIsKept}
 
 -- the name asked about, if it is no label

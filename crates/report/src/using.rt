@@ -8,8 +8,8 @@ use base::Label;
 use commands::{Answer, Stop};
 use reach::Reach;
 use std::alloc::{AllocError, Global};
+use summary::{changers_text, readers_text};
 use table::Table;
-use usertext::{changers_text, readers_text};
 
 /// The labels that use a named one in this way; or that its name is no label of the table.
 pub(crate) fn users_told(

@@ -1,8 +1,8 @@
 //! Workers that check at the same time, and numbers of workers that aren't allowed.
+use crate::systems::TWO_CORES;
 use base::Refusal;
 use captext::{read_policy, read_table};
 use checker::{CheckError, Gate, Open};
-use fixtures::{TWO_CORES_POLICY, TWO_CORES_TABLE};
 use policy::Policy;
 use report::{End, OnAccept, Rules, Silence, Watched};
 use std::alloc::Global;
@@ -124,7 +124,7 @@ fn gate_check(rt: HostRuntime) {
         &mut out,
     );
     meeting.took_place(&rt);
-    assert_eq!(rt; end, End::Status(0));
+    assert!(rt; end == End::Status(0));
 }
 
 /// The contexts of the table of two cores, which name the cores.
@@ -132,7 +132,7 @@ const CONTEXTS: &str = "context xa a 0x4000 1 10 10\ncontext xb b 0x4100 0 10 10
 
 /// A system of two threads on two cores, and a script in which the first signals and the other polls twice.
 fn texts_on(alloc: Global, signals: u64, polls: u64) -> Result<(String, String), Fail> {
-    let (before, after) = TWO_CORES_TABLE.split_once(CONTEXTS).ok_or("no contexts")?;
+    let (before, after) = TWO_CORES.table.split_once(CONTEXTS).ok_or("no contexts")?;
     let table = format!(in alloc;
         "{before}context xa a 0x4000 {signals} 10 10\ncontext xb b 0x4100 {polls} 10 10\n{after}"
     )?;
@@ -152,7 +152,7 @@ fn gate_split_on<R: Abort + AllocGlobal + Threads + Wait + Sync>(
     let meeting = Meeting::new();
     let (table, script) = texts_on(rt.alloc(), signals, polls)?;
     let mut table = Watched::new(table.as_bytes());
-    let mut policy = Watched::new(TWO_CORES_POLICY.as_bytes());
+    let mut policy = Watched::new(TWO_CORES.policy.as_bytes());
     let mut script = Watched::new(script.as_bytes());
     let mut out = Watched::new(Vec::new(rt.alloc()));
     let end = report::run_split(
@@ -166,7 +166,7 @@ fn gate_split_on<R: Abort + AllocGlobal + Threads + Wait + Sync>(
         &mut out,
     );
     meeting.took_place(rt);
-    assert_eq!(rt; end, End::Status(0));
+    assert!(rt; end == End::Status(0));
     Ok(())
 }
 

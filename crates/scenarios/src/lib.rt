@@ -1,22 +1,36 @@
-//! Devices that fail or move few bytes at a time, engines over such devices, workers that share work, and elements of
-//! documents: what no text can say, so that it is no case.
+//! Threads of the host that call one kernel, each by a seat of its own, seats that don't fit, workers that share work, and
+//! elements of documents: what no text can say, so that it is no case.
 //!
 //! The crate has only tests. It knows no command line, and no words of `--explain`.
 #![tactic(auto)]
 
 #[cfg(test)]
+mod callers;
+#[cfg(test)]
 mod documents;
 #[cfg(test)]
-mod ends;
-#[cfg(test)]
-mod failing;
+mod eight_cores;
 #[cfg(test)]
 mod gate;
 #[cfg(test)]
-mod reading;
+mod legal;
 #[cfg(test)]
-mod session;
+mod limits;
+#[cfg(test)]
+mod memory;
+#[cfg(test)]
+mod rounds;
+#[cfg(test)]
+mod same;
+#[cfg(test)]
+mod scenes;
 #[cfg(test)]
 mod sharing;
+#[cfg(test)]
+mod strangers;
+#[cfg(test)]
+mod systems;
+#[cfg(test)]
+mod two_cores;
 #[cfg(test)]
 mod uncalled;

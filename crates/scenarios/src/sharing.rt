@@ -1,10 +1,11 @@
-//! Work that is dealt to several workers: a plain map, refused memory, and workers that are busy at
-//! the same time.
+//! Work that is dealt to several workers: a plain map, refused memory, workers that are busy at the
+//! same time, and the gate that each passes first.
 ghost use Rattle.std.specs.Prelude.{◌*◌};
 
 use crate::gate::Meeting;
 use base::Refusal;
-use deal::{Open, Work, shares};
+use deal::{Gate, Open, Work, shares};
+use std::sync::atomic::{AtomicU64, Ordering};
 use std::test::Fail;
 
 // Work that doubles an item.
@@ -45,6 +46,32 @@ impl Work<u32> for Meeting {
 
     fn of(&self, item: &u32) -> Result<u64, Refusal> {
         self.wait();
+        Ok(2 * u64::from(*item))
+    }
+}
+
+// A gate, and work that notes whether nobody has arrived there yet.
+#[derive(Drop)]
+struct Passed {
+    arrived: AtomicU64,
+    early: AtomicU64,
+}
+
+impl Gate for Passed {
+    fn arrive(&self, _worker: usize) {
+        self.arrived.fetch_add(1, Ordering::SeqCst);
+    }
+}
+
+impl Work<u32> for Passed {
+    type Out = u64;
+
+    ghost answer = { λ work item. 2 * item };
+
+    fn of(&self, item: &u32) -> Result<u64, Refusal> {
+        if self.arrived.load(Ordering::SeqCst) == 0 {
+            self.early.fetch_add(1, Ordering::SeqCst);
+        }
         Ok(2 * u64::from(*item))
     }
 }
@@ -97,4 +124,16 @@ fn workers_pass_the_gate(rt: HostRuntime) {
     let outs = shares(&rt, rt.alloc(), &[3, 4, 5], 3, &gate, &Twice);
     assert!(rt; outs.is_ok());
     gate.took_place(&rt);
+}
+
+#[test]
+fn nothing_is_worked_before_the_gate(rt: HostRuntime) {
+    let passed = Passed {
+        arrived: AtomicU64::new(0),
+        early: AtomicU64::new(0),
+    };
+    let outs = shares(&rt, rt.alloc(), &[3, 4], 1, &passed, &passed);
+    assert!(rt; outs.is_ok());
+    assert_eq!(rt; passed.arrived.load(Ordering::SeqCst), 1);
+    assert_eq!(rt; passed.early.load(Ordering::SeqCst), 0);
 }

@@ -5,7 +5,7 @@ use crate::swapped::{Swapped, is_description};
 use base::Refusal;
 use captext::{PolicyDraft, object_name};
 use claims::{Broken, ClaimLines, Failure};
-use diff::changes;
+use diff::{Change, changes};
 use explain_claims::{
     Judged, Lead, breach_lines, explain_breach, explain_breaches, explain_changers,
     explain_difference, explain_differences, explain_escape, explain_flows, explain_flows_beside,
@@ -18,6 +18,7 @@ use explain_denials::{
 use explain_lines::{DroppedEdge, explain_dropped, explain_fault};
 use explain_notes::{Note, explain_notes as explain_left_out, notes_of, notes_on_label};
 use explain_refusals::{Caller, explain_illegal, explain_refusal};
+use explain_rules::Sheet;
 use explain_systems::{explain_changes, explain_notes};
 use machine::{Event, Outcome};
 use policy::Policy;
@@ -27,7 +28,6 @@ use report::{
     OfPolicy, OfSystem, OnClose, Open, Rules, Use, answer_at,
 };
 use requests::{Format, Invocation, OfThree, Request};
-use sources::Sheet;
 use std::alloc::{AllocError, Global};
 use std::fmt;
 use std::io::{self, ErrorKind};
@@ -487,20 +487,19 @@ impl<'a, R: AllocGlobal + Clock + Eprint> Explainer<'a, R> {
         }
     }
 
-    /// Returns notes on memory, of which the claims that hold say nothing.
-    fn shared_memory_told(&self, given: &Given, lines: &ClaimLines) -> Result<String, Refusal> {
-        let alloc = self.rt.alloc();
+    /// Tells what claims that hold don't say.
+    fn tell_held(&self, given: &Given, lines: &ClaimLines) -> Result<(), Refusal> {
         let system = self.sourced(given)?;
-        let reach = Reach::of(alloc, given.table())?;
-        Ok(explain_shared_memory(alloc, &reach, &self.judged(system.sheet(), lines))?)
+        let reach = Reach::of(self.rt.alloc(), given.table())?;
+        self.tell_unsaid(&reach, &self.judged(system.sheet(), lines));
+        Ok(())
     }
 
-    /// Returns notes on flows between labels of which claims that hold say that the one changes nothing of the other.
-    fn flows_beside_told(&self, given: &Given, lines: &ClaimLines) -> Result<String, Refusal> {
+    /// Tells notes on memory, and on flows between labels of which claims say that the one changes nothing of the other.
+    fn tell_unsaid(&self, reach: &Reach<'_>, judged: &Judged<'_>) {
         let alloc = self.rt.alloc();
-        let system = self.sourced(given)?;
-        let reach = Reach::of(alloc, given.table())?;
-        explain_flows_beside(alloc, &reach, &self.judged(system.sheet(), lines))
+        self.tell_lines(explain_shared_memory(alloc, reach, judged));
+        self.tell_lines(explain_flows_beside(alloc, reach, judged));
     }
 
     /// Tells more of a system that has no fault.
@@ -518,14 +517,8 @@ impl<'a, R: AllocGlobal + Clock + Eprint> Explainer<'a, R> {
                 self.tell_closing(leave, rules, sheet, &policy);
                 drop(policy);
             }
-            OfSystem::Why { actor, object, .. } => {
-                self.tell_lines(self.why_told(sheet, actor, object));
-            }
-            OfSystem::Users { usage, object } => {
-                self.tell_lines(self.users_told(sheet, usage, object));
-            }
-            OfSystem::Flows { from, to } => {
-                self.tell_lines(self.flows_told(sheet, from, to));
+            OfSystem::Why { .. } | OfSystem::Users { .. } | OfSystem::Flows { .. } => {
+                self.tell_lines(self.edges_told(asked, sheet));
             }
             OfSystem::Show { .. } => {
                 if let Some(script) = &answer.script {
@@ -548,14 +541,42 @@ impl<'a, R: AllocGlobal + Clock + Eprint> Explainer<'a, R> {
         self.tell_lines(explain_closing(leave, alloc, rules, sheet, policy));
     }
 
-    /// Returns where the edges of a reason come from, by the reach of the table. Without a reason,
-    /// notes on devices follow.
-    fn why_told(&self, sheet: Sheet<'_>, actor: &str, object: &str) -> Result<String, Refusal> {
+    /// Returns where the edges of an answer come from, by the reach of the table.
+    fn edges_told(&self, asked: OfSystem<'_>, sheet: Sheet<'_>) -> Result<String, Refusal> {
+        let reach = Reach::of(self.rt.alloc(), sheet.table)?;
+        self.reach_told(asked, sheet, &reach)
+    }
+
+    /// Returns where the edges of an answer come from: of a reason, of those by which labels use another, or of flows.
+    fn reach_told(
+        &self,
+        asked: OfSystem<'_>,
+        sheet: Sheet<'_>,
+        reach: &Reach<'_>,
+    ) -> Result<String, Refusal> {
         let alloc = self.rt.alloc();
-        let reach = Reach::of(alloc, sheet.table)?;
-        let mut lines = explain_why(alloc, sheet, &reach, actor, object)?;
+        match asked {
+            OfSystem::Why { actor, object, .. } => self.why_told(sheet, reach, actor, object),
+            OfSystem::Users { usage, object } => match usage {
+                Use::Changes => explain_changers(alloc, sheet, reach, object),
+                Use::Reads => explain_readers(alloc, sheet, reach, object),
+            },
+            OfSystem::Flows { from, to } => explain_flows(alloc, sheet, reach, from, to),
+            _ => Ok(String::new(alloc)),
+        }
+    }
+
+    /// Returns where the edges of a reason come from. Without a reason, notes on devices follow.
+    fn why_told(
+        &self,
+        sheet: Sheet<'_>,
+        reach: &Reach<'_>,
+        actor: &str,
+        object: &str,
+    ) -> Result<String, Refusal> {
+        let mut lines = explain_why(self.rt.alloc(), sheet, reach, actor, object)?;
         if !self.invocation.manner.is_quiet {
-            lines.push_str(&self.devices_told(sheet, &reach, actor, object)?)?;
+            lines.push_str(&self.devices_told(sheet, reach, actor, object)?)?;
         }
         Ok(lines)
     }
@@ -581,23 +602,6 @@ impl<'a, R: AllocGlobal + Clock + Eprint> Explainer<'a, R> {
             }
         }
         Ok(String::new(alloc))
-    }
-
-    /// Returns where the edges come from by which labels use another, by the reach of the table.
-    fn users_told(&self, sheet: Sheet<'_>, usage: Use, object: &str) -> Result<String, Refusal> {
-        let alloc = self.rt.alloc();
-        let reach = Reach::of(alloc, sheet.table)?;
-        match usage {
-            Use::Changes => explain_changers(alloc, sheet, &reach, object),
-            Use::Reads => explain_readers(alloc, sheet, &reach, object),
-        }
-    }
-
-    /// Returns the edges by which the flows of a chain go, and where they come from.
-    fn flows_told(&self, sheet: Sheet<'_>, from: &str, to: &str) -> Result<String, Refusal> {
-        let alloc = self.rt.alloc();
-        let reach = Reach::of(alloc, sheet.table)?;
-        explain_flows(alloc, sheet, &reach, from, to)
     }
 
     /// Tells what may be unintended in an accepted system, and whom each label may change.
@@ -670,8 +674,7 @@ impl<'a, R: AllocGlobal + Clock + Eprint> Explainer<'a, R> {
             }
             (_, Files::Claims(given, lines)) => {
                 if !self.invocation.manner.is_quiet {
-                    self.tell_lines(self.shared_memory_told(given, lines));
-                    self.tell_lines(self.flows_beside_told(given, lines));
+                    let _ = self.tell_held(given, lines);
                 }
             }
             (_, Files::Compared(old, new)) => {
@@ -681,25 +684,42 @@ impl<'a, R: AllocGlobal + Clock + Eprint> Explainer<'a, R> {
         }
     }
 
-    /// Tells by which edges the new system adds to the old one, and runs that show it, each as it is found,
-    /// while there is time.
+    /// Tells what the new system adds to the old one.
     fn tell_compared(&self, old: &Given, new: &Given) -> Result<(), Refusal> {
         let alloc = self.rt.alloc();
         let request = self.invocation.request;
         let system = Sourced::of(alloc, &request, request.name_of(File::New), new)?;
         let before = Reach::of(alloc, old.table())?;
-        let reach = Reach::of(alloc, new.table())?;
-        let found = changes(alloc, &before, &reach)?;
-        self.tell_lines(explain_differences(alloc, &before, system.sheet(), &reach, &found));
+        self.tell_added(&before, system.sheet())
+    }
+
+    /// Tells by which edges a system adds to an earlier one, and runs that show it.
+    fn tell_added(&self, before: &Reach<'_>, sheet: Sheet<'_>) -> Result<(), Refusal> {
+        let alloc = self.rt.alloc();
+        let reach = Reach::of(alloc, sheet.table)?;
+        let found = changes(alloc, before, &reach)?;
+        self.tell_lines(explain_differences(alloc, before, sheet, &reach, &found));
+        self.tell_shown(before, sheet, &reach, &found);
+        Ok(())
+    }
+
+    /// Tells runs that show changes, each as it is found, while there is time.
+    fn tell_shown(
+        &self,
+        before: &Reach<'_>,
+        sheet: Sheet<'_>,
+        reach: &Reach<'_>,
+        found: &[Change],
+    ) {
+        let alloc = self.rt.alloc();
         let begun = Instant::now(self.rt);
         let mut searched: usize = 0;
-        for change in &found {
+        for change in found {
             if may_be_shown(change) && searched < SEARCHES && !self.is_late(&begun) {
-                self.tell_lines(explain_difference(alloc, &before, system.sheet(), &reach, change));
+                self.tell_lines(explain_difference(alloc, before, sheet, reach, change));
                 searched = searched.saturating_add(1);
             }
         }
-        Ok(())
     }
 }
 

@@ -1,8 +1,8 @@
 //! Systems with what their tables come from.
+use explain_rules::{Made, Sheet};
 use importing::{Minting, Origins, origins_of};
 use report::{Given, Taken};
 use requests::Request;
-use sources::{Made, Sheet};
 use std::alloc::{AllocError, Global};
 
 /// A system, and, if a description was given, what its table comes from.

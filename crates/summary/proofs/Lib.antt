@@ -1,4 +1,7 @@
+pub mod OneMore
 pub mod Pieces
 mod LetterSets
 mod Waiting
 mod Written
+pub mod Memory
+pub mod ReadEdges

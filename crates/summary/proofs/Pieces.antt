@@ -1,7 +1,7 @@
 -- Lists that grow by one piece: one that passes a test, or one that doesn't.
 use Rattle.std.specs.List.{filter, range_with_len}
 use Rattle.std.proofs.Common.{[], ℕ, ◌++◌, ◌+◌, ◌<◌, ◌∙◌, ◌∷◌, ◌≡◌, Bool, List, ap, false, get_or, length, map, sym, take, true}
-use Rattle.{std.proofs.lemmas.List.{Elements.filter-append, append-nil, map-append, map-id, take_more}, matrix.proofs.Pieces.range_more}
+use Rattle.{std.proofs.lemmas.List.{Elements.filter-append, append-nil, map-append, map-id, take_more}, summary.proofs.OneMore.range_more}
 
 pub filter_more : (p : ℕ → Bool) (n : ℕ) → filter p (range_with_len 0 (n + 1)) ≡ filter p (range_with_len 0 n) ++ filter p (n ∷ [])
 filter_more p n = ap (filter p) (range_more n) ∙ filter-append p (range_with_len 0 n) (n ∷ [])

@@ -1,7 +1,7 @@
 -- Texts that are written piece by piece: groups of labels, and lists of names.
-use Rattle.std.proofs.Common.{ℕ, ◌++◌, ◌∙◌, ◌≡◌, List, ap, append_assoc, sym, true}
-use Rattle.{machine.specs.Layout.Layout, matrix.specs.Padding.given}
-use Rattle.summary.specs.{declared.rows.Row.Row, Regions.{changers, group_of, group_text, leads, names_text, readers, takers, users_text}}
+use Rattle.{std.proofs.Common.{ℕ, ◌++◌, ◌∙◌, ◌≡◌, List, ap, append_assoc, sym, true}, machine.specs.Layout.Layout}
+use Rattle.summary.specs.{declared.rows.Row.Row, Padding.given, Regions.{changers, group_of, group_text, leads, names_text, readers}}
+use Rattle.summary.specs.Regions.{takers, users_text}
 
 -- the group of a label that is the first of its group
 pub group_there : (t : Layout) (rows : List Row) (others : List ℕ) (l : ℕ) (group changing taking reading old text longer : List ℕ)

@@ -1,3 +1,5 @@
+pub mod Matrix
+pub mod Padding
 pub mod Labelled
 pub mod Letters
 pub mod Marks
@@ -7,3 +9,5 @@ pub mod Sharing
 pub mod Sources
 pub mod Ways
 pub mod Whole
+pub mod Reading
+pub mod UsersText

@@ -1,6 +1,6 @@
 -- The cell of a row and a label in the summary's matrix (confine's own).
 use Rattle.std.specs.Prelude.{ℕ, ◌++◌, List, codes, if◌then◌else◌, not}
-use Rattle.{base.specs.Labels.is_in, matrix.specs.{Matrix.Cells, Padding.given}, summary.specs.declared.rows.Row.Row}
+use Rattle.{base.specs.Labels.is_in, summary.specs.{declared.rows.Row.Row, Matrix.Cells, Padding.given}}
 
 -- the letters of the reasons by which the row's label may change the other
 abbrev pub letters : Row → ℕ → List ℕ

@@ -2,7 +2,7 @@
 use Rattle.std.specs.List.{filter, flat_map, list_all, list_any}
 use Rattle.std.specs.Prelude.{[], ℕ, ◌&&◌, ◌++◌, ◌∷◌, Bool, List, codes, false, if◌then◌else◌, map, nat_lt, not, true}
 use Rattle.{base.specs.Labels.is_in, machine.specs.Layout.Layout, captext.specs.PolicyText.label_name}
-use Rattle.{matrix.specs.Padding.given, summary.specs.declared.rows.Row.Row}
+use Rattle.summary.specs.{declared.rows.Row.Row, Padding.given}
 
 abbrev pub is_same : Bool → Bool → Bool
 is_same true b = b

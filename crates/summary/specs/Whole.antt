@@ -1,8 +1,8 @@
 -- The summary of the reach of a table (confine's own).
 use Rattle.std.specs.Prelude.{[], ℕ, ◌++◌, ◌∷◌, ◌≡◌, List, codes}
-use Rattle.{machine.specs.Layout.Layout, reach.specs.Reach.TableReach, matrix.specs.Matrix.matrix_text}
-use Rattle.summary.specs.declared.{rows.Row.Row, writing.TheConstants.HEAD}
-use Rattle.summary.specs.{Labelled.others_of, Marks.cells, Regions.regions_text, Rows.AreRows}
+use Rattle.{machine.specs.Layout.Layout, reach.specs.Reach.TableReach}
+use Rattle.summary.specs.{declared.{rows.Row.Row, writing.TheConstants.HEAD}, Labelled.others_of, Marks.cells, Matrix.matrix_text}
+use Rattle.summary.specs.{Regions.regions_text, Rows.AreRows}
 
 -- an empty line and the labels without a thread, if there are any
 abbrev pub others_text : Layout → List Row → List ℕ → List ℕ

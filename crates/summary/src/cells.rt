@@ -1,10 +1,10 @@
 //! The cells of the matrix: the letters of the reasons, `t`, a dot, and an `m` for memory.
 ghost use Rattle.std.specs.Prelude.{◌++◌, ◌≡◌, IfOk, OnOk, string_bytes};
-ghost use Rattle.{matrix.specs.Padding.given, summary.specs.Marks.{cells, extent_text, letters, marks}};
+ghost use Rattle.summary.specs.{Marks.{cells, extent_text, letters, marks}, Padding.given};
 
+use crate::matrix_rows::MatrixRow;
 use crate::rows::Row;
 use base::Label;
-use matrix::MatrixRow;
 use std::alloc::{AllocError, Global};
 
 impl MatrixRow for Row {

@@ -11,7 +11,7 @@ use std::alloc::{AllocError, Global};
 use table::Table;
 
 /// Writes the labels without a thread: one line for those with the same users, and who these users are.
-#[tactic(auto, using(matrix::proofs::Pieces::piece_more))]
+#[tactic(auto, using(crate::proofs::OneMore::piece_more))]
 pub(crate) fn write_regions(
     alloc: Global,
     text: &mut String,
@@ -254,7 +254,7 @@ pub fn write_names(text: &mut String, table: &Table, labels: &[Label]) -> Result
     }
 }
 
-#[tactic(auto, using(matrix::proofs::Pieces::piece_more))]
+#[tactic(auto, using(crate::proofs::OneMore::piece_more))]
 fn write_more_names(text: &mut String, table: &Table, labels: &[Label]) -> Result<(), AllocError>
     ensures { OnOk result (string_bytes text.new ≡ string_bytes text.old ++ flat_map (more_name table.now) labels.now) }
 {

@@ -3,9 +3,9 @@ ghost use Rattle.std.specs.Prelude.{◌++◌, ◌≡◌, IfOk, OnOk, string_byte
 ghost use Rattle.summary.specs.{Labelled.others_of, Whole.{IsSummary, others_text, summary_text}};
 
 use crate::labelled::others;
+use crate::matrix::write_matrix;
 use crate::regions::write_regions;
 use crate::rows::{Row, rows_of};
-use matrix::write_matrix;
 use reach::Reach;
 use std::alloc::{AllocError, Global};
 use table::Table;

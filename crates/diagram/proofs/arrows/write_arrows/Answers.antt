@@ -1,7 +1,6 @@
 -- Each turn writes the arrows from one program more.
-use Rattle.std.{specs.List.flat_map, proofs.Common.{ℕ, ◌++◌, ◌∙◌, List, ap, string_bytes}}
-use Rattle.{policy.specs.Policy.allows, matrix.proofs.Pieces.piece_more}
-use Rattle.{summary.specs.declared.rows.Row.Row, diagram.specs.{Folded.arrow_text, Programs.program_of}}
+use Rattle.{std.{specs.List.flat_map, proofs.Common.{ℕ, ◌++◌, ◌∙◌, List, ap, string_bytes}}, policy.specs.Policy.allows}
+use Rattle.{summary.{specs.declared.rows.Row.Row, proofs.OneMore.piece_more}, diagram.specs.{Folded.arrow_text, Programs.program_of}}
 use Rattle.diagram.proofs.arrows.write_arrows.Goals as goal
 
 pub loop-row-preserved : goal.loop-row-preserved

@@ -1,7 +1,6 @@
 -- Each turn goes one link back, from the last one on.
 use Rattle.std.proofs.{Common.{[], ◌++◌, ◌+◌, ◌-◌, ◌<◌, ◌∷◌, ◌≡◌, ◌≢◌, Some, arith, length, refl, slice_get, subst}, lemmas.Grind.common_steps}
-use Rattle.std.proofs.lemmas.Option.{slice_get_read}
-use Rattle.flows.proofs.Searching.{IsOnTheWay, arrived, begun, link_left, link_taken}
+use Rattle.{std.proofs.lemmas.Option.slice_get_read, flows.proofs.FoundLinks.{IsOnTheWay, arrived, begun, link_left, link_taken}}
 use Rattle.flows.proofs.links.links_from.Goals as goal
 
 pub loop-left-init : goal.loop-left-init

@@ -1,6 +1,6 @@
 -- The links so far lead to where the way is, and from there the first of the links lead on.
 use Rattle.std.proofs.Common.{ℕ, ◌≤◌, length}
-use Rattle.{reach.specs.Extents.Limits, flows.{specs.{Chains.{AreFoundLinks, IsLinked}, Flowing.FilterTest}, proofs.Searching.IsOnTheWay}}
+use Rattle.{reach.specs.Extents.Limits, flows.{specs.{Chains.{AreFoundLinks, IsLinked}, Flowing.FilterTest}, proofs.FoundLinks.IsOnTheWay}}
 use Rattle.flows.proofs.links.links_from.Given as goal
 
 abbrev pub invariant-loop-left : goal.invariant-loop-left

@@ -1,7 +1,7 @@
 -- The text says that nothing flows, or tells the smallest sets and a chain.
 use Rattle.std.{specs.Option.MatchOption, proofs.Common.{◌≡◌, codes, rules, subst}}
 use Rattle.{base.specs.Labels.is_in, reach.specs.{Extents.limits_of, Reach.TableReach}}
-use Rattle.{flows.specs.{Chains.IsChain, Flowing.GoesThrough}, filters.specs.Smallest.{IsFilterSet, IsSmallest}}
+use Rattle.flows.specs.{Chains.IsChain, Flowing.GoesThrough, Smallest.{IsFilterSet, IsSmallest}}
 use Rattle.flowtext.specs.declared.flow.TheConstants.{MOST_SETS}
 use Rattle.flowtext.{specs.FlowText.{IsFlowText.{none, some}, reached_text}, proofs.Avoiding.none_avoided}
 use Rattle.flowtext.proofs.flow.flow_text.Goals as goal

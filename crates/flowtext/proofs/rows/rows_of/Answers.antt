@@ -1,6 +1,6 @@
 -- Each turn adds one row more.
 use Rattle.std.proofs.Common.{◌+◌, arith, refl}
-use Rattle.{reach.specs.Extents.limits_of, matrix.proofs.Pieces.{each_more, labels_more, numbers_more}}
+use Rattle.{reach.specs.Extents.limits_of, summary.proofs.OneMore.{each_more, labels_more, numbers_more}}
 use Rattle.flowtext.specs.{declared.rows.FlowRow.FlowRow, FlowMatrix.IsFlowRow}
 use Rattle.flowtext.proofs.rows.rows_of.Goals as goal
 

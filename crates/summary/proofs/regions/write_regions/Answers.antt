@@ -1,5 +1,4 @@
-use Rattle.std.proofs.Common.{◌++◌, ◌∙◌, ap, string_bytes}
-use Rattle.{matrix.proofs.Pieces.piece_more, summary.specs.Regions.group_text}
+use Rattle.{std.proofs.Common.{◌++◌, ◌∙◌, ap, string_bytes}, summary.{specs.Regions.group_text, proofs.OneMore.piece_more}}
 use Rattle.summary.proofs.regions.write_regions.Goals as goal
 
 pub loop-label-preserved : goal.loop-label-preserved

@@ -1,6 +1,6 @@
 -- That the loop makes the row of each label with a thread.
 use Rattle.{std.proofs.Common.arith, reach.specs.Extents.limits_by}
-use Rattle.{matrix.proofs.Pieces.{each_more, labels_more, numbers_more}, summary.specs.{declared.rows.Row.Row, Rows.IsRowOf}}
+use Rattle.summary.{specs.{declared.rows.Row.Row, Rows.IsRowOf}, proofs.OneMore.{each_more, labels_more, numbers_more}}
 use Rattle.summary.proofs.rows.rows_of.Goals as goal
 
 pub loop-index-preserved : goal.loop-index-preserved

@@ -3,7 +3,7 @@ use Rattle.std.proofs.Common.{[], ℕ, ◌&&◌, ◌++◌, ◌+◌, ◌<◌, ◌
 use Rattle.std.proofs.lemmas.{Bool.{and_parts, eq-eqb, eqb-true, or_left, or_right}, Grind.common_steps}
 use Rattle.{base.specs.Labels.is_in, sharp.proofs.Missing.{fewer_missing, missing_below}, reach.specs.Extents.limits_of}
 use Rattle.flows.{specs.{Chains.{AreFoundLinks, IsLinked}, Flowing.{FlowsBeside, FlowsBy}}, proofs.{Chains.was_not, Leading.all_leading}}
-use Rattle.flows.proofs.{Leading.first_leading, Searching.{found_more, links_more, new_link, none_found, one_done, one_leading}}
+use Rattle.flows.proofs.{Leading.first_leading, FoundLinks.{found_more, links_more, new_link, none_found, one_done, one_leading}}
 use Rattle.flows.proofs.flowing.Flows.search.Goals as goal
 
 pub loop-label-init : goal.loop-label-init

@@ -1,4 +1,0 @@
-pub mod Ways
-pub mod Sets
-pub mod Smallest
-pub mod Stages

@@ -1,2 +1,0 @@
-pub mod Matrix
-pub mod Padding
