@@ -7,8 +7,7 @@ ghost use Rattle.std.specs.Prelude.{◌≡◌, ◌≤◌, IfOk, IsErr, OnErr, fa
 ghost use Rattle.{devices.specs.Watched.failed_of, requests.specs.Requests.{HasFewWorkers, OnInTurn}};
 
 use clap::error::ErrorKind;
-use invocation::{help, read_request};
-use requests::{CommandLine, Format};
+use requests::{CommandLine, Format, help, read_request};
 use serving::{
     End, Open, Watched, answer, answer_short, answer_split, answer_split_short, open, tell,
 };

@@ -2,9 +2,9 @@
 ghost use Rattle.std.specs.{List.{AllByRecursion, AllPairs}, Option.option_copied};
 ghost use Rattle.std.specs.Prelude.{◌&&◌, ◌<◌, ◌≡◌, ◌≢◌, ◌≤◌, IfOk, OnOk, false, is_some, length, nat_le, true};
 ghost use Rattle.{base.specs.declared.limits.TheConstants.ADDRESS_END, words.specs.{Name.is_name, Reading.Reads}};
-ghost use Rattle.{microkit.specs.{LabelView.bytes_of, Names.IsLabelName}, machine.specs.Objects.{end_of, size_bits, size_of}};
+ghost use Rattle.{microkit.specs.{LabelView.bytes_of, Names.IsLabelName}, machine.specs.{Layout.empty_layout, Objects.{end_of, size_bits, size_of}}};
 ghost use Rattle.table.specs.{Building.{AdmitsLabel, has_room, with_label}, Names.object_named};
-ghost use Rattle.importing.specs.Built.{object_added, object_placed, piece_added, piece_label, piece_name};
+ghost use Rattle.importing.specs.Built.{labelled, object_added, object_placed, piece_added, piece_label, piece_name};
 ghost use Rattle.importing.specs.Built.{piece_subject, pieces_added, started, version_for, with_object};
 ghost use Rattle.importing.specs.{Groups.{labels_at, name_at}, Objects.{FitsFrom, IsSmall}, PlanView.plan_of};
 ghost use Rattle.base.specs.declared.label.TheConstants.Label as LabelLimits;
@@ -68,13 +68,16 @@ impl Builder {
             ≡ started (labels_at (bytes_of plan.now.names.items) plan.now.places.items)) }
     {
         let mut draft = Draft::new(alloc, version_for(plan.places.len()));
-        for place in &plan.places {
-            add_name(&mut draft, place_name(plan, *place))?;
+        match add_labels(&mut draft, plan) {
+            Ok(()) => Ok(Builder {
+                draft,
+                next: 0x1000,
+            }),
+            Err(error) => {
+                drop(draft);
+                Err(error)
+            }
         }
-        Ok(Builder {
-            draft,
-            next: 0x1000,
-        })
     }
 
     /// Returns the table so far.
@@ -181,6 +184,23 @@ fn is_within(draft: &Draft, object: &Object) -> bool
     ensures { result ≡ (has_room draft.now object.now && nat_le (end_of object.now) ADDRESS_END) }
 {
     draft.has_room(object) && is_addressable(object)
+}
+
+// Adds the labels of a plan to a table that has none.
+fn add_labels(draft: &mut Draft, plan: &Plan<'_>) -> Result<(), AllocError>
+    requires names { AllByRecursion IsLabelName
+        (labels_at (bytes_of plan.now.names.items) plan.now.places.items) }
+    requires distinct { AllPairs (λ one other. one ≢ other)
+        (labels_at (bytes_of plan.now.names.items) plan.now.places.items) }
+    requires few { length plan.now.places.items ≤ LabelLimits.COUNT }
+    requires empty { draft.old ≡ empty_layout (version_for (length plan.now.places.items)) }
+    ensures { OnOk result (draft.new
+        ≡ labelled (labels_at (bytes_of plan.now.names.items) plan.now.places.items)) }
+{
+    for place in &plan.places {
+        add_name(draft, place_name(plan, *place))?;
+    }
+    Ok(())
 }
 
 #[tactic(auto, unfolding(words::specs::Name::name_of))]

@@ -11,3 +11,14 @@ pub mod Clearing
 pub mod Dropped
 pub mod Swept
 pub mod Finds
+pub mod Linked
+pub mod LinksStep
+pub mod Part
+pub mod PartSteps
+pub mod Passes
+pub mod Reached
+pub mod Releases
+pub mod ReplyStep
+pub mod Tests
+pub mod Waiters
+pub mod WaitersStep

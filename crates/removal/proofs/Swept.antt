@@ -8,8 +8,8 @@ use Rattle.machine.specs.{Removal.{removed, vanishes}, Tree.IsAlone, WellFormed.
 use Rattle.machine.proofs.{Ids.itself, LookUps.{one_id, same_machine}, RemovalLooks.{cap_of-removed, going-removed}}
 use Rattle.machine.proofs.RemovalLooks.{next-removed, object_of-removed, parent_of-removed, queue_of-removed, words_of-removed}
 use Rattle.derivation.{specs.{OwnSlots.is_going_slot, Removing.HaveLeft}, proofs.Leavings.{alone_where_left, left_alone}}
-use Rattle.{derivation.proofs.TreeAfter.{any_listed, listed_any, there_or_alone, tree_after}, finalising.specs.Pass.IsFinalised}
-use Rattle.removal.{specs.{Dropping.{IsCutOff, dropped}, Sweeping.IsSwept}, proofs.Dropped.{IsWithout, dropped_looks}}
+use Rattle.derivation.proofs.TreeAfter.{any_listed, listed_any, there_or_alone, tree_after}
+use Rattle.removal.{specs.{Dropping.{IsCutOff, dropped}, Pass.IsFinalised, Sweeping.IsSwept}, proofs.Dropped.{IsWithout, dropped_looks}}
 use Rattle.std.specs.FinMap as map
 
 -- links between objects agree whatever the capabilities and the tree

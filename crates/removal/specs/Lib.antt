@@ -1,3 +1,5 @@
 pub mod UnderWay
+pub mod Finalised
+pub mod Pass
 pub mod Dropping
 pub mod Sweeping

@@ -4,8 +4,8 @@ ghost use Rattle.base.specs.declared.ids.SlotRef.{SlotRef as Slot};
 ghost use Rattle.{machine.specs.{Machine.Machine, Removal.removed}, removal.specs.Sweeping.IsSwept};
 
 use crate::dropping::drop_going;
+use crate::pass::finalise;
 use derivation::leave_tree;
-use finalising::finalise;
 use objects::State;
 
 /// Ends a removal whose slots are all empty. What still is in the derivation tree leaves it. Threads that

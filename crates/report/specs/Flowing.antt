@@ -1,7 +1,7 @@
 -- The answers of `flows` to a table (confine's own).
 use Rattle.std.specs.Prelude.{ℕ, ◌≡◌, List, Some}
 use Rattle.{machine.specs.Layout.Layout, table.specs.Names.label_named, reach.specs.Reach.{IsReachOf, TableReach}}
-use Rattle.flowtext.specs.{FlowMatrix.IsFlowMatrix, FlowText.IsFlowText}
+use Rattle.summary.specs.{FlowMatrix.IsFlowMatrix, FlowText.IsFlowText}
 
 -- a text lists what flows from the label of one name to that of another, by the table's reach
 pub record TellsFlows (from to : List ℕ) (t : Layout) (text : List ℕ) : Type 0 where

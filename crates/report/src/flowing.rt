@@ -6,9 +6,9 @@ ghost use Rattle.report.specs.{Flowing.{TellsAllFlows, TellsFlows}, Questions.un
 use crate::Asked;
 use base::Refusal;
 use commands::{Answer, Stop};
-use flowtext::{flow_matrix, flow_text};
 use reach::Reach;
 use std::alloc::Global;
+use summary::{flow_matrix, flow_text};
 use table::Table;
 
 /// The flows from one label to another; or the first of the two names that is no label of the table.

@@ -1,10 +1,14 @@
-//! What the program `confine` may be asked for, and which request the words of a command line make.
+//! What the program `confine` may be asked for, and its command line: how its words are read, which request they make,
+//! and its help texts.
 //!
-//! The crate knows no library for command lines, and no engine.
+//! The crate carries no request out: it opens no file, and knows no engine.
 #![tactic(auto)]
 
+pub mod help;
 mod meaning;
+mod reading;
 mod request;
 
 pub use meaning::{Verb, Words};
+pub use reading::read_request;
 pub use request::{Check, CommandLine, Format, Invocation, Manner, OfThree, Request, SplitRun};

@@ -99,7 +99,7 @@ impl<J: Naming> Caller<J> {
         call: Call,
         outcome: Outcome,
     ) {
-        assert_eq!(rt; self.call(rt, kernel, thread, call), outcome);
+        assert!(rt; self.call(rt, kernel, thread, call) == outcome);
     }
 
     /// Meets another caller of the same kernel.

@@ -56,10 +56,10 @@ fn each_finds_it_full<J: Naming, R: Abort + Wait>(
 
 /// Has the first caller meet each other.
 fn first_meets_all<J: Naming, R: Abort>(rt: &R, kernel: &Kernel<J>, callers: &mut [Caller<J>]) {
-    assert_eq!(rt; callers.len(), 8);
+    assert!(rt; callers.len() == 8);
     if let Some((first, others)) = callers.split_first_mut() {
         for other in others {
-            assert_eq!(rt; first.meet(kernel, other), Ok(()));
+            assert!(rt; first.meet(kernel, other).is_ok());
         }
     }
 }
@@ -72,8 +72,8 @@ fn make_calls<J: Naming + Send + Sync, R: Abort + Threads + Wait + Sync>(
 ) {
     all_make_rounds(rt, kernel, callers);
     let (entered, full) = counts(callers);
-    assert_eq!(rt; entered, room);
-    assert_eq!(rt; entered.saturating_add(full), 1_600);
+    assert!(rt; entered == room);
+    assert!(rt; entered.saturating_add(full) == 1_600);
     each_finds_it_full(rt, kernel, callers);
     first_meets_all(rt, kernel, callers);
 }
@@ -82,7 +82,7 @@ fn make_calls<J: Naming + Send + Sync, R: Abort + Threads + Wait + Sync>(
 fn has_all(rt: &impl Abort, room: u64, ended: &Ended) {
     if room == 1_600 {
         for core in 0..8u8 {
-            assert_eq!(rt; entries_on(&ended.log, core), 200);
+            assert!(rt; entries_on(&ended.log, core) == 200);
         }
     }
 }

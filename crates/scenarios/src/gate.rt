@@ -100,8 +100,8 @@ impl Meeting {
 
     /// Asserts that both workers arrived, and neither gave up.
     pub fn took_place(&self, rt: &impl Abort) {
-        assert_eq!(rt; self.arrived.load(Ordering::SeqCst), 2);
-        assert_eq!(rt; self.gave_up.load(Ordering::SeqCst), 0);
+        assert!(rt; self.arrived.load(Ordering::SeqCst) == 2);
+        assert!(rt; self.gave_up.load(Ordering::SeqCst) == 0);
     }
 }
 
@@ -197,8 +197,8 @@ fn are_too_few_or_many<R: Abort + AllocGlobal + Threads + Sync>(
             assert!(rt; false)
         }
         Err(error) => {
-            assert_eq!(rt; error, CheckError::WorkerCount);
-            assert_eq!(rt; Refusal::from(error).code, 45);
+            assert!(rt; error == CheckError::WorkerCount);
+            assert!(rt; Refusal::from(error).code == 45);
         }
     }
 }

@@ -47,12 +47,12 @@ fn replayed<R: AllocGlobal>(rt: &R, system: &System, log: &[u8]) -> (End, Vec<u8
 fn is_replayed_as<R: Abort + AllocGlobal>(rt: &R, system: &System, log: &[u8], report: &str) {
     let (end, written) = replayed(rt, system, log);
     assert!(rt; end == End::Status(0));
-    assert_eq!(rt; written.as_slice(), report.as_bytes());
+    assert!(rt; written.as_slice() == report.as_bytes());
 }
 
 fn is_read_back<R: Abort + AllocGlobal>(rt: &R, log: &[Entry], text: &[u8]) -> Result<(), Fail> {
     let back = made(read_log(rt.alloc(), text))?;
-    assert_eq!(rt; back.as_slice(), log);
+    assert!(rt; back.as_slice() == log);
     Ok(())
 }
 
@@ -78,9 +78,9 @@ fn events_of<R: AllocGlobal>(rt: &R, log: &[Entry]) -> Result<Vec<Event>, Fail> 
 }
 
 fn outcomes_are(rt: &impl Abort, outcomes: &[Outcome], log: &[Entry]) {
-    assert_eq!(rt; outcomes.len(), log.len());
+    assert!(rt; outcomes.len() == log.len());
     for (outcome, (_, logged)) in outcomes.iter().zip(log) {
-        assert_eq!(rt; outcome, logged);
+        assert!(rt; outcome == logged);
     }
 }
 

@@ -1,13 +1,11 @@
-//! Threads of the host that call one kernel, each by a seat of its own, seats that don't fit, workers that share work, and
-//! elements of documents: what no text can say, so that it is no case.
+//! Threads of the host that call one kernel, each by a seat of its own, seats that don't fit, and workers that share work:
+//! what no text can say, so that it is no case.
 //!
 //! The crate has only tests. It knows no command line, and no words of `--explain`.
 #![tactic(auto)]
 
 #[cfg(test)]
 mod callers;
-#[cfg(test)]
-mod documents;
 #[cfg(test)]
 mod eight_cores;
 #[cfg(test)]

@@ -4,8 +4,8 @@ use objects::State;
 use std::process::Abort;
 
 fn have_same_slot(rt: &impl Abort, state: &State, other: &State, slot: SlotRef) {
-    assert_eq!(rt; state.cap(slot), other.cap(slot), "{slot:?}");
-    assert_eq!(rt; state.parent(slot), other.parent(slot), "{slot:?}");
+    assert!(rt; state.cap(slot) == other.cap(slot));
+    assert!(rt; state.parent(slot) == other.parent(slot));
 }
 
 fn have_same_slots(rt: &impl Abort, state: &State, other: &State, id: ObjId, count: u64) {
@@ -16,17 +16,13 @@ fn have_same_slots(rt: &impl Abort, state: &State, other: &State, id: ObjId, cou
 
 fn have_same_words(rt: &impl Abort, state: &State, other: &State, id: ObjId, count: u64) {
     for index in 0..count {
-        assert_eq!(rt;
-            state.word(id, index),
-            other.word(id, index),
-            "{id:?}, word {index}"
-        );
+        assert!(rt; state.word(id, index) == other.word(id, index));
     }
 }
 
 fn have_same_object(rt: &impl Abort, state: &State, other: &State, id: ObjId) {
-    assert_eq!(rt; state.object(id), other.object(id), "{id:?}");
-    assert_eq!(rt; state.cap_count(id), other.cap_count(id), "{id:?}");
+    assert!(rt; state.object(id) == other.object(id));
+    assert!(rt; state.cap_count(id) == other.cap_count(id));
     if let Some(object) = state.object(id) {
         have_same_slots(rt, state, other, id, object.slot_count());
         have_same_words(rt, state, other, id, object.word_count());
@@ -43,10 +39,10 @@ fn have_same_objects(rt: &impl Abort, state: &State, other: &State) {
 // queue is longer than the number of threads.
 fn empty_same_queue(rt: &impl Abort, state: &mut State, other: &mut State, id: ObjId) {
     for _ in 0..state.thread_count() {
-        assert_eq!(rt; state.pop_waiting(id), other.pop_waiting(id), "{id:?}");
+        assert!(rt; state.pop_waiting(id) == other.pop_waiting(id));
     }
-    assert_eq!(rt; state.first_waiting(id), None, "{id:?}");
-    assert_eq!(rt; other.first_waiting(id), None, "{id:?}");
+    assert!(rt; state.first_waiting(id).is_none());
+    assert!(rt; other.first_waiting(id).is_none());
 }
 
 fn empty_same_queues(rt: &impl Abort, state: &mut State, other: &mut State) {
@@ -60,10 +56,10 @@ fn empty_same_queues(rt: &impl Abort, state: &mut State, other: &mut State) {
 /// The function reads a queue by taking the threads out, first to last. So all queues of both
 /// states are empty afterwards.
 pub fn are_same(rt: &impl Abort, state: &mut State, other: &mut State) {
-    assert_eq!(rt; state.next_id(), other.next_id());
-    assert_eq!(rt; state.object_count(), other.object_count());
-    assert_eq!(rt; state.going_count(), 0);
-    assert_eq!(rt; other.going_count(), 0);
+    assert!(rt; state.next_id() == other.next_id());
+    assert!(rt; state.object_count() == other.object_count());
+    assert!(rt; state.going_count() == 0);
+    assert!(rt; other.going_count() == 0);
     have_same_objects(rt, state, other);
     empty_same_queues(rt, state, other);
 }

@@ -134,6 +134,6 @@ fn nothing_is_worked_before_the_gate(rt: HostRuntime) {
     };
     let outs = shares(&rt, rt.alloc(), &[3, 4], 1, &passed, &passed);
     assert!(rt; outs.is_ok());
-    assert_eq!(rt; passed.arrived.load(Ordering::SeqCst), 1);
-    assert_eq!(rt; passed.early.load(Ordering::SeqCst), 0);
+    assert!(rt; passed.arrived.load(Ordering::SeqCst) == 1);
+    assert!(rt; passed.early.load(Ordering::SeqCst) == 0);
 }

@@ -35,9 +35,9 @@ fn is_refused<J: Naming, K: Naming, R: Abort + Wait>(
     requires { K.ticket.name ≢ J.ticket.name }
 {
     let outcome = stranger.call_strange(rt, kernel, SIGNALLER, SIGNAL);
-    assert_eq!(rt; outcome, Outcome::Refused(foreign()));
-    assert_eq!(rt; own.meet_stranger(kernel, stranger), Err(foreign()));
-    assert_eq!(rt; own.be_met(kernel, stranger), Err(foreign()));
+    assert!(rt; outcome == Outcome::Refused(foreign()));
+    assert!(rt; own.meet_stranger(kernel, stranger) == Err(foreign()));
+    assert!(rt; own.be_met(kernel, stranger) == Err(foreign()));
 }
 
 fn are_refused<J: Naming, K: Naming, R: Abort + Wait>(
@@ -64,7 +64,7 @@ fn is_kept<J: Naming + Send + Sync, K: Naming, R: Abort + AllocGlobal + Threads 
 {
     match kept_with(rt, running, stranger) {
         Some((kernel, refusal)) => {
-            assert_eq!(rt; refusal, foreign());
+            assert!(rt; refusal == foreign());
             ends_alone_in(rt, &TWO_CORES, table, kernel, ONE_ENTRY)
         }
         None => Err(Fail::new("it isn't handed back")),

@@ -48,7 +48,7 @@ fn call_and_meet<J: Naming, R: Abort + Wait>(
     second: &mut Caller<J>,
 ) {
     first.is_answered(rt, kernel, SIGNALLER, SIGNAL, DONE);
-    assert_eq!(rt; first.meet(kernel, second), Ok(()));
+    assert!(rt; first.meet(kernel, second).is_ok());
     second.is_answered(rt, kernel, POLLER, POLL, word(4));
 }
 
@@ -63,7 +63,7 @@ fn both_polls<J: Naming, R: Abort + Wait>(
     second.is_answered(rt, kernel, POLLER, POLL, word(0));
     second.is_answered(rt, kernel, POLLER, POLL, full());
     first.is_answered(rt, kernel, SIGNALLER, SIGNAL, full());
-    assert_eq!(rt; second.meet(kernel, first), Ok(()));
+    assert!(rt; second.meet(kernel, first).is_ok());
 }
 
 /// Polls with a log that has room for one of the polls.
@@ -83,7 +83,7 @@ fn make_calls<J: Naming, R: Abort + Wait>(
     kernel: &Kernel<J>,
     callers: &mut [Caller<J>],
 ) {
-    assert_eq!(rt; callers.len(), 2);
+    assert!(rt; callers.len() == 2);
     if let Some((first, others)) = callers.split_first_mut() {
         for second in others {
             if size == 3 {
@@ -151,6 +151,6 @@ fn an_upgraded_table_is_written_with_the_later_header(rt: HostRuntime) -> Result
     let text = upgraded(rt.alloc(), TWO_CORES.table)?;
     let lines = TWO_CORES.table.as_bytes().strip_prefix(b"confine-table 1");
     assert!(rt; lines.is_some());
-    assert_eq!(rt; text.strip_prefix(b"confine-table 2"), lines);
+    assert!(rt; text.strip_prefix(b"confine-table 2") == lines);
     Ok(())
 }

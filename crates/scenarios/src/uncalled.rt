@@ -58,46 +58,23 @@ fn code<T: Drop>(answer: Result<T, Refusal>) -> Option<u64> {
 }
 
 fn lookups_end(rt: &impl Abort, state: &State) {
-    assert_eq!(rt; lookup(state, THREAD, 3), Ok((slot(3), 0)));
-    assert_eq!(rt;
-        code(lookup(state, THREAD, 4)),
-        Some(6),
-        "the guard is another"
-    );
-    assert_eq!(rt;
-        code(lookup(state, ObjId(2), 0)),
-        Some(6),
-        "an endpoint has no root"
-    );
+    assert!(rt; lookup(state, THREAD, 3) == Ok((slot(3), 0)));
+    assert!(rt; code(lookup(state, THREAD, 4)) == Some(6));
+    assert!(rt; code(lookup(state, ObjId(2), 0)) == Some(6));
 }
 
 fn target_lookups_end(rt: &impl Abort, state: &State) {
-    assert_eq!(rt; lookup_target(state, slot(0), 2, 64), Ok(slot(2)));
-    assert_eq!(rt;
-        code(lookup_target(state, slot(0), 2, 65)),
-        Some(4),
-        "65 bits"
-    );
-    assert_eq!(rt;
-        code(lookup_target(state, slot(0), 0, 63)),
-        Some(6),
-        "no bit for the index"
-    );
-    assert_eq!(rt;
-        code(lookup_target(state, slot(1), 2, 64)),
-        Some(6),
-        "no CNode"
-    );
+    assert!(rt; lookup_target(state, slot(0), 2, 64) == Ok(slot(2)));
+    assert!(rt; code(lookup_target(state, slot(0), 2, 65)) == Some(4));
+    assert!(rt; code(lookup_target(state, slot(0), 0, 63)) == Some(6));
+    assert!(rt; code(lookup_target(state, slot(1), 2, 64)) == Some(6));
 }
 
 fn descendants_are_named(rt: &impl Abort, state: &State) {
-    assert_eq!(rt; next_descendant(state, slot(1), None), Some(slot(2)));
-    assert_eq!(rt;
-        next_descendant(state, slot(1), Some(slot(2))),
-        Some(slot(3))
-    );
-    assert_eq!(rt; next_descendant(state, slot(1), Some(slot(3))), None);
-    assert_eq!(rt; next_descendant(state, slot(0), None), None);
+    assert!(rt; next_descendant(state, slot(1), None) == Some(slot(2)));
+    assert!(rt; next_descendant(state, slot(1), Some(slot(2))) == Some(slot(3)));
+    assert!(rt; next_descendant(state, slot(1), Some(slot(3))).is_none());
+    assert!(rt; next_descendant(state, slot(0), None).is_none());
 }
 
 #[test]

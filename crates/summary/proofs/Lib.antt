@@ -5,3 +5,5 @@ mod Waiting
 mod Written
 pub mod Memory
 pub mod ReadEdges
+mod Avoiding
+pub mod Counting

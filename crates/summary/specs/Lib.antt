@@ -11,3 +11,5 @@ pub mod Ways
 pub mod Whole
 pub mod Reading
 pub mod UsersText
+pub mod FlowMatrix
+pub mod FlowText

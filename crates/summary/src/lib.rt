@@ -1,11 +1,21 @@
-//! The summary of a system: a matrix of who may change whom, and the labels without a thread with those who change
-//! and read them; with the texts on those who may change or read one label, and laws on what threads read and write.
+//! Texts on what the programs of a system may do to one another: the summary, the users of one label, and flows.
 //!
-//! A matrix of programs has blocks of columns, each with a head, and a line for each row. The rows say what a cell
-//! says ([`MatrixRow`]). The crate knows no claim, and no code of the kernel's calls.
+//! - The summary is a matrix of who may change whom, and lists the labels without a thread, with those who change and
+//!   read them.
+//! - The users of a label are the labels that may change or read it.
+//! - The text on flows from one label to another names the programs through which they go. The matrix of flows counts
+//!   these programs for each two programs.
+//!
+//! The crate also has laws on what threads read and write. A matrix of programs has blocks of columns, each with a
+//! head, and a line for each row. The rows say what a cell says ([`MatrixRow`]). The crate knows no claim, and no code
+//! of the kernel's calls.
 #![tactic(auto)]
 
 mod cells;
+mod every_pair;
+mod flow;
+mod flow_lines;
+mod flow_sizes;
 mod labelled;
 mod laws;
 mod matrix;
@@ -22,6 +32,8 @@ mod ways;
 mod writing;
 
 pub use cells::marks;
+pub use every_pair::flow_matrix;
+pub use flow::{MOST_SETS, flow_text};
 pub use labelled::{others, programs};
 pub use laws::each_change_has_a_letter;
 pub use matrix::write_matrix;

@@ -6,3 +6,4 @@ pub mod ByRules
 pub mod Slots
 pub mod Outside
 pub mod Acting
+pub mod Counterexamples

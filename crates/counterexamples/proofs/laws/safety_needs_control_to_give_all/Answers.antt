@@ -1,5 +1,0 @@
-use Rattle.counterexamples.proofs.ControlUnsafe.{unsafe_without_control}
-use Rattle.counterexamples.proofs.laws.safety_needs_control_to_give_all.Goals as goal
-
-pub returns : goal.returns
-returns c = unsafe_without_control

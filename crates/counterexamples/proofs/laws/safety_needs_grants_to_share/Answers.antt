@@ -1,5 +1,0 @@
-use Rattle.counterexamples.proofs.GrantUnsafe.{unsafe_without_sharing}
-use Rattle.counterexamples.proofs.laws.safety_needs_grants_to_share.Goals as goal
-
-pub returns : goal.returns
-returns c = unsafe_without_sharing

@@ -1,5 +1,0 @@
-use Rattle.counterexamples.proofs.LendingUnsafe.{unsafe_without_lending}
-use Rattle.counterexamples.proofs.laws.safety_needs_lenders_to_share.Goals as goal
-
-pub returns : goal.returns
-returns c = unsafe_without_lending

@@ -1,5 +1,0 @@
-use Rattle.counterexamples.proofs.GapUnsafe.{unsafe_without_derivation}
-use Rattle.counterexamples.proofs.laws.safety_needs_transitive_derivation.Goals as goal
-
-pub returns : goal.returns
-returns c = unsafe_without_derivation

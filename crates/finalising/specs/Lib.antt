@@ -1,2 +1,0 @@
-pub mod Finalised
-pub mod Pass

@@ -1,2 +1,0 @@
-pub mod FlowMatrix
-pub mod FlowText
