@@ -5,7 +5,7 @@ use std::fmt;
 use std::marker::Model;
 
 /// The number of a processor core, from 0 to 15.
-#[derive(Clone, Copy, PartialEq, Eq, PartialOrd, Ord, Hash, Debug)]
+#[derive(Clone, Copy, PartialEq, Eq, PartialOrd, Ord, Hash)]
 pub struct CoreNo {
     number: u8,
 }

@@ -11,7 +11,7 @@ use std::fmt;
 ///
 /// The first thirteen speak of what may be done to an object; the last four, which are structural,
 /// say how objects hang together.
-#[derive(Clone, Copy, PartialEq, Eq, PartialOrd, Ord, Hash, Debug)]
+#[derive(Clone, Copy, PartialEq, Eq, PartialOrd, Ord, Hash)]
 pub enum Kind {
     /// An untyped, a CNode or a TCB: everything may be done to it.
     Control,
@@ -132,7 +132,7 @@ impl fmt::Display for Kind {
 }
 
 /// A set of kinds of authority: the bit at a kind's number says whether the kind is in it.
-#[derive(Clone, Copy, PartialEq, Eq, Debug)]
+#[derive(Clone, Copy, PartialEq, Eq)]
 pub struct Kinds(u32);
 
 bitflag_items! {

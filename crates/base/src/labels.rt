@@ -11,7 +11,7 @@ pub use members::Members;
 use part::Part;
 
 /// A set of labels, in parts that each have 64 of the labels that there can be.
-#[derive(Clone, Copy, PartialEq, Eq, Debug)]
+#[derive(Clone, Copy, PartialEq, Eq)]
 pub struct Labels {
     parts: [Part; 4],
 }

@@ -6,7 +6,7 @@ ghost use Rattle.base.specs.Refusals.{IsOfCondition, failure_detail, misuse_refu
 use std::alloc::{AllocError, AllocFailed};
 
 /// The reason why the lookup of an address failed (seL4 manual, "Lookup Failure Description").
-#[derive(Clone, Copy, PartialEq, Eq, Debug)]
+#[derive(Clone, Copy, PartialEq, Eq)]
 pub enum LookupFailure {
     /// The thread has no root, or its root is no CNode.
     InvalidRoot,
@@ -21,7 +21,7 @@ pub enum LookupFailure {
 /// The condition of a call that fails, so that the call is refused.
 ///
 /// The first seven are the errors of the seL4 manual, "Error Codes".
-#[derive(Clone, Copy, PartialEq, Eq, Debug)]
+#[derive(Clone, Copy, PartialEq, Eq)]
 pub enum Cause {
     InvalidArgument,
     InvalidCapability,
@@ -42,7 +42,7 @@ pub enum Cause {
 /// The reason why what is asked of a running kernel, or of the checker, isn't begun.
 ///
 /// No call of a thread is refused so.
-#[derive(Clone, Copy, PartialEq, Eq, Debug)]
+#[derive(Clone, Copy, PartialEq, Eq)]
 pub enum Misuse {
     /// The log of a running kernel is full.
     LogFull,

@@ -7,7 +7,7 @@ use bitflags::{Flag, Flags, bitflag_items};
 use std::fmt;
 
 /// The rights of a capability (seL4 manual, "Capability Rights"), spelled `r`, `w`, `g` and `y` in texts.
-#[derive(Clone, Copy, PartialEq, Eq, Debug)]
+#[derive(Clone, Copy, PartialEq, Eq)]
 pub struct Rights(u8);
 
 bitflag_items! {

@@ -7,7 +7,7 @@ use base::Rights;
 use words::{Words, Wrong, decimal_of, hexadecimal_of, name_of};
 
 /// A slot of an object.
-#[derive(Clone, Copy, PartialEq, Eq, Debug)]
+#[derive(Clone, Copy, PartialEq, Eq)]
 pub enum Place {
     /// A slot of a CNode.
     Index(u64),

@@ -7,7 +7,7 @@ use std::marker::Model;
 
 /// A line of a certificate: what a slot, a pair of the derivation tree or a binding gives, from
 /// objects of the label `from` to those of the label `to`.
-#[derive(Clone, Copy, PartialEq, Eq, Debug)]
+#[derive(Clone, Copy, PartialEq, Eq)]
 pub enum Line {
     /// The capability in a slot of a CNode gives these kinds of authority, from the CNode's label to
     /// that of the capability's object.

@@ -23,7 +23,7 @@ pub enum Verdict<'a> {
 }
 
 /// The reason why there is no verdict.
-#[derive(Clone, Copy, PartialEq, Eq, Debug)]
+#[derive(Clone, Copy, PartialEq, Eq)]
 pub enum CheckError {
     /// Memory was refused.
     NoMemory,

@@ -15,7 +15,7 @@ use table::Table;
 use verdict::{Accepted, Denial, Rules, judge, judge_by};
 
 /// The reason why a table, a policy and a certificate aren't accepted.
-#[derive(Clone, Copy, PartialEq, Eq, Debug)]
+#[derive(Clone, Copy)]
 pub enum NotAccepted {
     /// A rule is broken: P1 to P8, S1 to S8 or A1 to A4, or C1 where the certificate isn't the right one.
     Denied(Denial),

@@ -10,7 +10,7 @@ use base::{Label, Labels};
 use reach::Extent;
 
 /// Two labels of which the one has more authority on the other than a claim leaves it.
-#[derive(Clone, Copy, PartialEq, Eq, Debug)]
+#[derive(Clone, Copy)]
 pub struct Breach {
     pub actor: Label,
     pub object: Label,

@@ -7,7 +7,7 @@ use std::alloc::{AllocError, Global};
 use std::marker::Model;
 
 /// The most authority that `none` or `take` leaves to a label on another.
-#[derive(Clone, Copy, PartialEq, Eq, Debug)]
+#[derive(Clone, Copy, PartialEq, Eq)]
 pub enum Most {
     /// Neither full authority nor to take.
     Nothing,
@@ -28,7 +28,7 @@ impl Most {
 }
 
 /// The labels that one end of a claim names.
-#[derive(Clone, Copy, PartialEq, Eq, Debug)]
+#[derive(Clone, Copy, PartialEq, Eq)]
 pub enum Who {
     /// This label.
     One(Label),

@@ -20,7 +20,7 @@ use reach::Reach;
 use std::alloc::{AllocError, Global};
 
 /// Why a claim doesn't hold.
-#[derive(Clone, Copy, PartialEq, Eq, Debug)]
+#[derive(Clone, Copy)]
 pub enum Failure {
     /// The first pair of labels of which the one has more authority on the other than `none`, `take`, `only`
     /// or `within` leaves it.
@@ -32,7 +32,7 @@ pub enum Failure {
 }
 
 /// A claim that doesn't hold.
-#[derive(Clone, Copy, PartialEq, Eq, Debug)]
+#[derive(Clone, Copy)]
 pub struct Broken {
     /// The number of its line in its text.
     pub line: usize,

@@ -6,7 +6,7 @@ use noninterference::is_fixed;
 use table::Table;
 
 /// What the claims `apart` and `through` bound in every run, where they hold.
-#[derive(Clone, Copy, PartialEq, Eq, Debug)]
+#[derive(Clone, Copy)]
 pub enum Kept {
     /// Changes of objects, and what calls return.
     Calls,

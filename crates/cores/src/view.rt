@@ -6,7 +6,7 @@ use objects::State;
 use std::collections::LinkedList;
 
 /// One entry of the history.
-#[derive(Clone, Copy, PartialEq, Eq, Debug)]
+#[derive(Clone, Copy)]
 pub struct Noted {
     /// The number of the seat that made it.
     pub seat: u64,

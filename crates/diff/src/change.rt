@@ -9,7 +9,7 @@ use crate::names::Named;
 use base::Kind;
 
 /// What a name is in a system.
-#[derive(Clone, Copy, PartialEq, Eq, Debug)]
+#[derive(Clone, Copy)]
 pub enum Standing {
     /// No label.
     Absent,
@@ -20,7 +20,7 @@ pub enum Standing {
 }
 
 /// What threads of one program may do to objects of another, as a cell of the summary's matrix says it.
-#[derive(Clone, Copy, PartialEq, Eq, Debug)]
+#[derive(Clone, Copy)]
 pub struct Marks {
     /// Whether they may change them ..
     pub changes: bool,
@@ -121,7 +121,7 @@ fn is_same(old: bool, new: bool) -> bool
 }
 
 /// What a program may do to objects of a label without a thread.
-#[derive(Clone, Copy, PartialEq, Eq, Debug)]
+#[derive(Clone, Copy)]
 pub enum Verb {
     /// It may change them.
     Changes,
@@ -145,7 +145,7 @@ impl Verb {
 }
 
 /// What a label may be, beside what it does to others.
-#[derive(Clone, Copy, PartialEq, Eq, Debug)]
+#[derive(Clone, Copy)]
 pub enum Role {
     /// One that may keep capabilities for CNodes.
     Keeper,
@@ -166,7 +166,7 @@ impl Role {
 }
 
 /// Whether something is new, gone, or another than it was.
-#[derive(Clone, Copy, PartialEq, Eq, Debug)]
+#[derive(Clone, Copy)]
 pub enum Sign {
     Gained,
     Lost,

@@ -26,7 +26,7 @@ pub struct Judged<'a> {
 }
 
 /// What the lines on a broken claim begin with.
-#[derive(Clone, Copy, PartialEq, Eq, Debug)]
+#[derive(Clone, Copy)]
 pub enum Lead {
     /// The sentence on the claim, as [`breach_lines`] has it.
     Sentence,

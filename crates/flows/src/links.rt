@@ -8,7 +8,7 @@ use base::{Label, Labels};
 use std::alloc::{AllocError, Global};
 
 /// A flow from one label to another.
-#[derive(Clone, Copy, PartialEq, Eq, Debug)]
+#[derive(Clone, Copy)]
 pub struct Link {
     pub from: Label,
     /// The label whose objects threads of `from` may change or shrink. They are those of `to`, or it sees them.

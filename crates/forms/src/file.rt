@@ -7,7 +7,7 @@ use crate::lines::{Lines, text_of};
 use std::fmt;
 
 /// A file that an engine reads.
-#[derive(Clone, Copy, PartialEq, Eq, Debug)]
+#[derive(Clone, Copy, PartialEq, Eq)]
 pub enum File {
     Table,
     Policy,

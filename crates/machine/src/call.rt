@@ -6,7 +6,7 @@ use crate::{MemoryKind, Message, SlotAddress};
 use base::{Cause, CoreNo, ObjId, Refusal, Rights};
 
 /// A badge or a guard, which a mint gives to the copy (seL4 manual, seL4_CNode_Mint: "badge or guard").
-#[derive(Clone, Copy, PartialEq, Eq, Debug)]
+#[derive(Clone, Copy, PartialEq, Eq)]
 pub enum CapData {
     Badge(u64),
     /// The low `size` bits of `value`.
@@ -16,7 +16,7 @@ pub enum CapData {
 /// A kernel call.
 ///
 /// Addresses are looked up in the capability space of the thread that calls.
-#[derive(Clone, Copy, PartialEq, Eq, Debug)]
+#[derive(Clone, Copy, PartialEq, Eq)]
 pub enum Call {
     /// Signals the notification at the address (seL4 manual, "Notifications").
     Signal {
@@ -173,7 +173,7 @@ impl Call {
 }
 
 /// A call that a thread makes on a core.
-#[derive(Clone, Copy, PartialEq, Eq, Debug)]
+#[derive(Clone, Copy, PartialEq, Eq)]
 pub struct Event {
     pub core: CoreNo,
     pub thread: ObjId,
@@ -181,7 +181,7 @@ pub struct Event {
 }
 
 /// The answer of a call that is done.
-#[derive(Clone, Copy, PartialEq, Eq, Debug)]
+#[derive(Clone, Copy, PartialEq, Eq)]
 pub enum Answer {
     Nothing,
     Word(u64),
@@ -193,7 +193,7 @@ pub enum Answer {
 }
 
 /// The end of a call that isn't refused.
-#[derive(Clone, Copy, PartialEq, Eq, Debug)]
+#[derive(Clone, Copy, PartialEq, Eq)]
 pub enum Made {
     Done(Answer),
     /// The thread waits, and is answered later.
@@ -201,7 +201,7 @@ pub enum Made {
 }
 
 /// The reason why a call that takes memory isn't made.
-#[derive(Clone, Copy, PartialEq, Eq, Debug)]
+#[derive(Clone, Copy, PartialEq, Eq)]
 pub enum Unmade {
     /// A condition of the call fails, however much memory there is.
     Refused(Cause),
@@ -210,7 +210,7 @@ pub enum Unmade {
 }
 
 /// The end of a call.
-#[derive(Clone, Copy, PartialEq, Eq, Debug)]
+#[derive(Clone, Copy, PartialEq, Eq)]
 pub enum Outcome {
     Done(Answer),
     Blocked,

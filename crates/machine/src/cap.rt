@@ -7,7 +7,7 @@ use crate::ObjectKind;
 use base::{Kind, Kinds, ObjId, Rights, kind_names_are_read_back};
 
 /// The bits that an address must begin with: the low `size` bits of `value` (seL4 manual, "CNode Guards").
-#[derive(Clone, Copy, PartialEq, Eq, Debug)]
+#[derive(Clone, Copy, PartialEq, Eq)]
 pub struct Guard {
     /// 0 to 64.
     pub size: u8,
@@ -15,14 +15,14 @@ pub struct Guard {
 }
 
 /// The rights of a capability, and a badge that tells its users apart (seL4 manual, "Badges").
-#[derive(Clone, Copy, PartialEq, Eq, Debug)]
+#[derive(Clone, Copy, PartialEq, Eq)]
 pub struct Badged {
     pub rights: Rights,
     pub badge: u64,
 }
 
 /// The part of a capability that depends on the kind of its object.
-#[derive(Clone, Copy, PartialEq, Eq, Debug)]
+#[derive(Clone, Copy, PartialEq, Eq)]
 pub enum Detail {
     Untyped,
     CNode(Guard),
@@ -37,7 +37,7 @@ pub enum Detail {
 }
 
 /// A capability.
-#[derive(Clone, Copy, PartialEq, Eq, Debug)]
+#[derive(Clone, Copy, PartialEq, Eq)]
 pub struct Cap {
     pub object: ObjId,
     pub detail: Detail,

@@ -7,7 +7,7 @@ use crate::{Cap, Object};
 use base::{Label, ObjId, SlotRef};
 
 /// The version of a capability table, which its text begins with. The second has more labels.
-#[derive(Clone, Copy, PartialEq, Eq, Debug)]
+#[derive(Clone, Copy, PartialEq, Eq)]
 pub enum Version {
     One,
     Two,
@@ -27,28 +27,28 @@ impl Version {
 }
 
 /// An object that a capability table declares, as it is at boot before threads and contexts are bound.
-#[derive(Clone, Copy, PartialEq, Eq, Debug)]
+#[derive(Clone, Copy, PartialEq, Eq)]
 pub struct Initial {
     pub label: Label,
     pub object: Object,
 }
 
 /// A slot that a capability table fills.
-#[derive(Clone, Copy, PartialEq, Eq, Debug)]
+#[derive(Clone, Copy, PartialEq, Eq)]
 pub struct Filled {
     pub slot: SlotRef,
     pub cap: Cap,
 }
 
 /// A pair of the derivation tree: the capability in `child` was derived from that in `parent`.
-#[derive(Clone, Copy, PartialEq, Eq, Debug)]
+#[derive(Clone, Copy, PartialEq, Eq)]
 pub struct Pair {
     pub parent: SlotRef,
     pub child: SlotRef,
 }
 
 /// A thread and the scheduling context that it runs on.
-#[derive(Clone, Copy, PartialEq, Eq, Debug)]
+#[derive(Clone, Copy, PartialEq, Eq)]
 pub struct Binding {
     pub thread: ObjId,
     pub context: ObjId,

@@ -7,7 +7,7 @@ use crate::{Radix, Tcb};
 use base::{CoreNo, ObjId};
 
 /// The nine kinds of object (seL4 manual, "Kernel Objects").
-#[derive(Clone, Copy, PartialEq, Eq, PartialOrd, Ord, Debug)]
+#[derive(Clone, Copy, PartialEq, Eq, PartialOrd, Ord)]
 pub enum ObjectKind {
     Untyped,
     CNode,
@@ -21,7 +21,7 @@ pub enum ObjectKind {
 }
 
 /// The kinds of object that are made from untyped memory: all but controls.
-#[derive(Clone, Copy, PartialEq, Eq, Debug)]
+#[derive(Clone, Copy, PartialEq, Eq)]
 pub enum MemoryKind {
     Untyped,
     CNode,
@@ -36,7 +36,7 @@ pub enum MemoryKind {
 /// A piece of memory from which objects can be made.
 ///
 /// It is `2^bits` bytes from `base` on, of which those below `watermark` are in use.
-#[derive(Clone, Copy, PartialEq, Eq, Debug)]
+#[derive(Clone, Copy, PartialEq, Eq)]
 pub struct Untyped {
     pub base: u64,
     /// 4 to 47.
@@ -45,7 +45,7 @@ pub struct Untyped {
 }
 
 /// A table of `2^radix` slots, each of which may hold a capability.
-#[derive(Clone, Copy, PartialEq, Eq, Debug)]
+#[derive(Clone, Copy, PartialEq, Eq)]
 pub struct CNode {
     pub address: u64,
     pub radix: Radix,
@@ -54,13 +54,13 @@ pub struct CNode {
 /// An object at which threads send and receive messages.
 ///
 /// The endpoint's queue has either senders or receivers.
-#[derive(Clone, Copy, PartialEq, Eq, Debug)]
+#[derive(Clone, Copy, PartialEq, Eq)]
 pub struct Endpoint {
     pub address: u64,
 }
 
 /// A word that threads signal and wait for.
-#[derive(Clone, Copy, PartialEq, Eq, Debug)]
+#[derive(Clone, Copy, PartialEq, Eq)]
 pub struct Notification {
     pub address: u64,
     /// The badges signalled since the last poll or wait, or'ed together.
@@ -68,7 +68,7 @@ pub struct Notification {
 }
 
 /// The state of a reply object.
-#[derive(Clone, Copy, PartialEq, Eq, Debug)]
+#[derive(Clone, Copy, PartialEq, Eq)]
 pub enum ReplyState {
     Free,
     /// The thread that named it and still waits for a message.
@@ -78,7 +78,7 @@ pub enum ReplyState {
 }
 
 /// An object by which a receiver answers a call.
-#[derive(Clone, Copy, PartialEq, Eq, Debug)]
+#[derive(Clone, Copy, PartialEq, Eq)]
 pub struct Reply {
     pub address: u64,
     pub state: ReplyState,
@@ -87,7 +87,7 @@ pub struct Reply {
 /// The share of a core's time that a scheduling context gives.
 ///
 /// It is `budget` of every `period` microseconds, with `1 <= budget <= period <= 3,600,000,000`.
-#[derive(Clone, Copy, PartialEq, Eq, Debug)]
+#[derive(Clone, Copy, PartialEq, Eq)]
 pub struct Share {
     pub core: CoreNo,
     pub budget: u64,
@@ -95,7 +95,7 @@ pub struct Share {
 }
 
 /// A scheduling context (seL4 manual, "Scheduling Contexts").
-#[derive(Clone, Copy, PartialEq, Eq, Debug)]
+#[derive(Clone, Copy, PartialEq, Eq)]
 pub struct Context {
     pub address: u64,
     /// None until the context is configured.
@@ -105,13 +105,13 @@ pub struct Context {
 }
 
 /// A piece of memory of 512 words of 64 bits each.
-#[derive(Clone, Copy, PartialEq, Eq, Debug)]
+#[derive(Clone, Copy, PartialEq, Eq)]
 pub struct Frame {
     pub address: u64,
 }
 
 /// The leave to configure contexts for one core (seL4 manual, "SchedControl").
-#[derive(Clone, Copy, PartialEq, Eq, Debug)]
+#[derive(Clone, Copy, PartialEq, Eq)]
 pub struct Control {
     pub core: CoreNo,
 }
@@ -119,7 +119,7 @@ pub struct Control {
 /// An object: its address and its content, but for lists.
 ///
 /// Queues, slots and the words of frames are parts of the state of their own.
-#[derive(Clone, Copy, PartialEq, Eq, Debug)]
+#[derive(Clone, Copy, PartialEq, Eq)]
 pub enum Object {
     Untyped(Untyped),
     CNode(CNode),

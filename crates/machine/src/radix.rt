@@ -8,7 +8,7 @@ use std::marker::Model;
 /// The number of bits of an address that a CNode takes to select a slot, from 1 to 12.
 ///
 /// A CNode of a radix has `2^radix` slots.
-#[derive(Clone, Copy, PartialEq, Eq, Debug)]
+#[derive(Clone, Copy, PartialEq, Eq)]
 pub struct Radix {
     bits: u8,
 }

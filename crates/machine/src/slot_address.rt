@@ -9,7 +9,7 @@ use std::fmt;
 ///
 /// It is the address of a CNode's capability, and below it an index, of which `depth` bits are
 /// looked up.
-#[derive(Clone, Copy, PartialEq, Eq, Debug)]
+#[derive(Clone, Copy, PartialEq, Eq)]
 pub struct SlotAddress {
     pub root: u64,
     pub index: u64,
@@ -29,7 +29,7 @@ impl fmt::Display for SlotAddress {
 }
 
 /// The slots between which a capability is copied or moved.
-#[derive(Clone, Copy, PartialEq, Eq, Debug)]
+#[derive(Clone, Copy, PartialEq, Eq)]
 pub struct Ends {
     /// Empty.
     pub target: SlotRef,

@@ -3,7 +3,7 @@ use crate::SlotAddress;
 use base::ObjId;
 
 /// A message as its receiver gets it.
-#[derive(Clone, Copy, PartialEq, Eq, Debug)]
+#[derive(Clone, Copy, PartialEq, Eq)]
 pub struct Message {
     pub badge: u64,
     pub words: [u64; 4],
@@ -12,7 +12,7 @@ pub struct Message {
 }
 
 /// The thing that a thread was given and has not fetched yet.
-#[derive(Clone, Copy, PartialEq, Eq, Debug)]
+#[derive(Clone, Copy, PartialEq, Eq)]
 pub enum Inbox {
     Empty,
     Message(Message),
@@ -23,7 +23,7 @@ pub enum Inbox {
 }
 
 /// The record of a thread that waits to send.
-#[derive(Clone, Copy, PartialEq, Eq, Debug)]
+#[derive(Clone, Copy, PartialEq, Eq)]
 pub struct Sending {
     pub endpoint: ObjId,
     pub badge: u64,
@@ -38,7 +38,7 @@ pub struct Sending {
 }
 
 /// The record of a thread that waits to receive.
-#[derive(Clone, Copy, PartialEq, Eq, Debug)]
+#[derive(Clone, Copy, PartialEq, Eq)]
 pub struct Receiving {
     pub endpoint: ObjId,
     pub reply: Option<ObjId>,
@@ -47,14 +47,14 @@ pub struct Receiving {
 }
 
 /// A scheduling context that a thread lent as it called, and the thread that it was lent to.
-#[derive(Clone, Copy, PartialEq, Eq, Debug)]
+#[derive(Clone, Copy, PartialEq, Eq)]
 pub struct Lent {
     pub context: ObjId,
     pub borrower: ObjId,
 }
 
 /// The record of a thread that called and waits for the answer.
-#[derive(Clone, Copy, PartialEq, Eq, Debug)]
+#[derive(Clone, Copy, PartialEq, Eq)]
 pub struct Calling {
     /// The reply object through which it is answered.
     pub reply: ObjId,
@@ -62,7 +62,7 @@ pub struct Calling {
 }
 
 /// The state of a thread: whether it can run, and what it waits for if it can't (seL4 manual, "Threads and Execution").
-#[derive(Clone, Copy, PartialEq, Eq, Debug)]
+#[derive(Clone, Copy, PartialEq, Eq)]
 pub enum RunState {
     Inactive,
     Ready,
@@ -77,7 +77,7 @@ pub enum RunState {
 /// A thread.
 ///
 /// Its one slot holds the CNode capability where the lookup of addresses begins.
-#[derive(Clone, Copy, PartialEq, Eq, Debug)]
+#[derive(Clone, Copy, PartialEq, Eq)]
 pub struct Tcb {
     pub address: u64,
     pub state: RunState,

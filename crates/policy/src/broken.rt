@@ -20,7 +20,7 @@ use std::thread::Threads;
 /// A rule of closed policies that a policy breaks, and where.
 ///
 /// They are ordered by rule, and then by the labels and kinds that they name, from left to right.
-#[derive(Clone, Copy, PartialEq, Eq, Debug)]
+#[derive(Clone, Copy)]
 pub enum Broken {
     /// P1: `other` is in the domain of `subject`, and only one of the two has the edge of this kind to
     /// `target`.

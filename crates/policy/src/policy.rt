@@ -19,7 +19,7 @@ const ROWS: usize = Label::COUNT as usize * KINDS;
 ///
 /// For each label and kind it keeps the set of the labels to which there is an edge. All of these rows are
 /// made when the first edge is added. An edge is found, and added, in constant time.
-#[derive(Debug, Drop)]
+#[derive(Drop)]
 pub struct Policy {
     rows: Vec<Labels>,
     last: Option<Edge>,

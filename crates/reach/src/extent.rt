@@ -1,7 +1,7 @@
 //! Extents to which a label goes with another.
 
 /// The extent to which a label goes with another: what its threads may do to the other's objects.
-#[derive(Clone, Copy, PartialEq, Eq, Debug)]
+#[derive(Clone, Copy, PartialEq, Eq)]
 pub enum Extent {
     /// Threads of the one may change objects of the other.
     Full,

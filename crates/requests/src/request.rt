@@ -59,7 +59,7 @@ pub struct Manner {
 }
 
 /// The format of reports on standard output.
-#[derive(Clone, Copy, PartialEq, Eq, Debug)]
+#[derive(Clone, Copy, PartialEq, Eq)]
 pub enum Format {
     /// As a JSON object.
     Json,

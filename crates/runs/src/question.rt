@@ -2,7 +2,7 @@
 use base::Label;
 
 /// The question whether a thread of one label can change an object of another.
-#[derive(Clone, Copy, PartialEq, Eq, Debug)]
+#[derive(Clone, Copy)]
 pub struct Question {
     /// The label whose thread makes the last call.
     pub actor: Label,

@@ -9,7 +9,7 @@ use objects::State;
 use std::alloc::{AllocError, Global};
 
 /// All that a state has of an object.
-#[derive(Debug, Drop)]
+#[derive(Drop)]
 pub struct Sight {
     pub content: Object,
     /// The threads that wait at it, the first first.

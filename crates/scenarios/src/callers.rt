@@ -78,16 +78,20 @@ impl<J: Naming> Caller<J> {
         rt: &R,
         kernel: &Kernel<J>,
         thread: ObjId,
-        call: Call,
+        call: &Call,
     ) -> Outcome {
-        let full = Outcome::Refused(Refusal::from(Misuse::LogFull));
-        let outcome = kernel.call(rt, &mut self.seat, thread, call);
-        if outcome == full {
-            self.full = self.full.saturating_add(1);
-            return outcome;
-        }
-        self.entered = self.entered.saturating_add(1);
+        let outcome = kernel.call(rt, &mut self.seat, thread, *call);
+        self.count(&outcome);
         outcome
+    }
+
+    fn count(&mut self, outcome: &Outcome) {
+        match *outcome {
+            Outcome::Refused(refusal) if refusal == Refusal::from(Misuse::LogFull) => {
+                self.full = self.full.saturating_add(1);
+            }
+            _ => self.entered = self.entered.saturating_add(1),
+        }
     }
 
     /// Makes a call, and asserts that it has this outcome.
@@ -96,10 +100,10 @@ impl<J: Naming> Caller<J> {
         rt: &R,
         kernel: &Kernel<J>,
         thread: ObjId,
-        call: Call,
-        outcome: Outcome,
+        call: &Call,
+        outcome: &Outcome,
     ) {
-        assert!(rt; self.call(rt, kernel, thread, call) == outcome);
+        assert!(rt; self.call(rt, kernel, thread, call) == *outcome);
     }
 
     /// Meets another caller of the same kernel.
@@ -112,17 +116,20 @@ impl<J: Naming> Caller<J> {
         Ok(())
     }
 
-    /// Calls a kernel of another number.
+    /// Calls a kernel of another number, and returns its refusal if it refuses the call.
     pub fn call_strange<K: Naming, R: Wait>(
         &mut self,
         rt: &R,
         kernel: &Kernel<K>,
         thread: ObjId,
-        call: Call,
-    ) -> Outcome
+        call: &Call,
+    ) -> Option<Refusal>
         requires { J.ticket.name ≢ K.ticket.name }
     {
-        kernel.call(rt, &mut self.seat, thread, call)
+        match kernel.call(rt, &mut self.seat, thread, *call) {
+            Outcome::Refused(refusal) => Some(refusal),
+            _ => None,
+        }
     }
 
     /// Meets a caller of another kernel, which comes second.

@@ -50,7 +50,7 @@ fn each_finds_it_full<J: Naming, R: Abort + Wait>(
 ) {
     for caller in callers {
         let thread = ObjId(u64::from(caller.core().number()) + 1);
-        caller.is_answered(rt, kernel, thread, SIGNAL, full());
+        caller.is_answered(rt, kernel, thread, &SIGNAL, &full());
     }
 }
 

@@ -91,7 +91,7 @@ fn call_each<J: Naming, R: Wait>(
     calls: &[Call],
 ) {
     for call in calls {
-        caller.call(rt, kernel, thread, *call);
+        caller.call(rt, kernel, thread, call);
     }
 }
 

@@ -10,7 +10,6 @@ use crate::systems::TWO_CORES;
 use crate::two_cores::{DONE, SIGNAL, SIGNALLER};
 use base::{CoreNo, Misuse, Refusal};
 use cores::{Kernel, Naming, Opened, Seat};
-use machine::Outcome;
 use std::marker::Brand;
 use std::process::Abort;
 use std::sync::Wait;
@@ -34,8 +33,7 @@ fn is_refused<J: Naming, K: Naming, R: Abort + Wait>(
 )
     requires { K.ticket.name ≢ J.ticket.name }
 {
-    let outcome = stranger.call_strange(rt, kernel, SIGNALLER, SIGNAL);
-    assert!(rt; outcome == Outcome::Refused(foreign()));
+    assert!(rt; stranger.call_strange(rt, kernel, SIGNALLER, &SIGNAL) == Some(foreign()));
     assert!(rt; own.meet_stranger(kernel, stranger) == Err(foreign()));
     assert!(rt; own.be_met(kernel, stranger) == Err(foreign()));
 }
@@ -72,7 +70,7 @@ fn is_kept<J: Naming + Send + Sync, K: Naming, R: Abort + AllocGlobal + Threads 
 }
 
 fn signals<J: Naming, R: Abort + Wait>(rt: &R, kernel: &Kernel<J>, caller: &mut Caller<J>) {
-    caller.is_answered(rt, kernel, SIGNALLER, SIGNAL, DONE);
+    caller.is_answered(rt, kernel, SIGNALLER, &SIGNAL, &DONE);
 }
 
 fn all_signal<J: Naming, R: Abort + Wait>(rt: &R, kernel: &Kernel<J>, callers: &mut [Caller<J>]) {

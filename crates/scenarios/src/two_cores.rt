@@ -47,9 +47,9 @@ fn call_and_meet<J: Naming, R: Abort + Wait>(
     first: &mut Caller<J>,
     second: &mut Caller<J>,
 ) {
-    first.is_answered(rt, kernel, SIGNALLER, SIGNAL, DONE);
+    first.is_answered(rt, kernel, SIGNALLER, &SIGNAL, &DONE);
     assert!(rt; first.meet(kernel, second).is_ok());
-    second.is_answered(rt, kernel, POLLER, POLL, word(4));
+    second.is_answered(rt, kernel, POLLER, &POLL, &word(4));
 }
 
 /// Polls with a log that has room for both polls: then each call finds it full.
@@ -60,9 +60,9 @@ fn both_polls<J: Naming, R: Abort + Wait>(
     second: &mut Caller<J>,
 ) {
     call_and_meet(rt, kernel, first, second);
-    second.is_answered(rt, kernel, POLLER, POLL, word(0));
-    second.is_answered(rt, kernel, POLLER, POLL, full());
-    first.is_answered(rt, kernel, SIGNALLER, SIGNAL, full());
+    second.is_answered(rt, kernel, POLLER, &POLL, &word(0));
+    second.is_answered(rt, kernel, POLLER, &POLL, &full());
+    first.is_answered(rt, kernel, SIGNALLER, &SIGNAL, &full());
     assert!(rt; second.meet(kernel, first).is_ok());
 }
 
@@ -74,7 +74,7 @@ fn one_poll<J: Naming, R: Abort + Wait>(
     second: &mut Caller<J>,
 ) {
     call_and_meet(rt, kernel, first, second);
-    second.is_answered(rt, kernel, POLLER, POLL, full());
+    second.is_answered(rt, kernel, POLLER, &POLL, &full());
 }
 
 fn make_calls<J: Naming, R: Abort + Wait>(

@@ -19,7 +19,7 @@ const MOST_NAMED: u64 = 5_000;
 const MOST_KEPT: usize = 50_000;
 
 /// The end of a search.
-#[derive(Debug, Drop)]
+#[derive(Drop)]
 pub struct Found {
     /// The script that is as asked, if one was found.
     pub script: Option<Vec<Event>>,

@@ -11,7 +11,7 @@ use microkit::{Description, Subject, User};
 use std::alloc::{AllocError, Global};
 
 /// Two labels that are kept apart, by their numbers.
-#[derive(Clone, Copy, Debug)]
+#[derive(Clone, Copy)]
 pub(crate) struct Pair {
     pub actor: usize,
     pub object: usize,

@@ -17,7 +17,7 @@ use rules::{
 ///
 /// Each names the edge that is missing. They are ordered by rule, and then by what they name, from
 /// left to right.
-#[derive(Clone, Copy, PartialEq, Eq, Debug)]
+#[derive(Clone, Copy)]
 pub enum SharpBroken {
     /// S1: `subject` lacks the edge of this kind to `target` that `other` has. Either `other` is in the
     /// domain of `subject`, or `other` keeps and controls `subject`.

@@ -13,7 +13,7 @@ use std::alloc::{AllocError, Global};
 use table::Table;
 
 /// How many programs the smallest sets have through which all flows from one label to another go.
-#[derive(Clone, Copy, PartialEq, Eq, Debug)]
+#[derive(Clone, Copy)]
 pub(crate) enum Size {
     /// No set of programs is one.
     Direct,

@@ -9,7 +9,7 @@ use sharp::SharpBroken;
 /// The reason why a system is denied.
 ///
 /// Denials are ordered by rule, and then by what they name, from left to right.
-#[derive(Clone, Copy, PartialEq, Eq, Debug)]
+#[derive(Clone, Copy)]
 pub enum Denial {
     /// P1 to P8: the policy isn't closed.
     Policy(Broken),

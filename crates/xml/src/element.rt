@@ -1,7 +1,7 @@
 //! What a document is read as: a list of its elements.
 
 /// An attribute of an element, its references replaced by the characters that they name.
-#[derive(Debug, Drop)]
+#[derive(Drop)]
 pub struct Attribute<'a> {
     pub name: &'a [u8],
     pub value: Vec<u8>,
@@ -11,7 +11,7 @@ pub struct Attribute<'a> {
 ///
 /// The elements are listed in the order of their tags, so an element's children are those of the
 /// next level up to the next element of its own level or a lower one.
-#[derive(Debug, Drop)]
+#[derive(Drop)]
 pub struct Element<'a> {
     /// 1 for the root, and one more than the parent's for any other.
     pub level: usize,

@@ -3,7 +3,7 @@ ghost use Rattle.std.specs.Prelude.{ℕ, ◌&&◌, ◌<◌, ◌==◌, ◌||◌, 
 ghost use Rattle.base.specs.Labels.{is_in_part};
 
 /// A set of numbers below 64, as a word whose bit at a number says whether the number is in it.
-#[derive(Clone, Copy, PartialEq, Eq, Debug)]
+#[derive(Clone, Copy, PartialEq, Eq)]
 pub(super) struct Part {
     word: u64,
 }
